@@ -1,0 +1,77 @@
+//! A plain Rust program that reads facts texts (version 1) and answers as `nllc` does, written by
+//! hand without any proof: the partner of `nllc` in measurements and in differential tests.
+//! Reading order: `main`, `read` (the whole format and its refusals), `tables`, `problem`, `solve`,
+//! `report`.
+//!
+//! `baseline read FILE` prints one line of counts, `baseline values FILE` and `baseline check FILE`
+//! print what `nllc` prints. Status: 0 answered, 1 `check` found faults, 2 words, file or text
+//! refused, 3 output failed.
+
+mod problem;
+mod read;
+mod report;
+mod solve;
+mod tables;
+
+use problem::Problem;
+use std::fs::File;
+use std::io::{self, Read, Write};
+use std::process::exit;
+
+/// The greatest length of a text in bytes.
+const TEXT_LIMIT: u64 = 67_108_864;
+
+/// The bytes of a file, at most one more than a text may have.
+fn bytes_of(path: &str) -> io::Result<Vec<u8>> {
+    let file = File::open(path)?;
+    let length = file.metadata()?.len().min(TEXT_LIMIT + 1) as usize;
+    // One byte for the line feed that the reader adds, one that lets the last read find the end.
+    let mut bytes = Vec::with_capacity(length + 2);
+    file.take(TEXT_LIMIT + 1).read_to_end(&mut bytes)?;
+    Ok(bytes)
+}
+
+/// Writes the answer of a command and gives the status.
+fn answer(command: &str, problem: &Problem) -> io::Result<i32> {
+    let mut out = io::stdout().lock();
+    match command {
+        "read" => report::counts(problem, &mut out).map(|()| 0),
+        "values" => report::values(problem, &solve::solve(problem), &mut out).map(|()| 0),
+        _ => {
+            let faults = report::faults(problem, &solve::solve(problem));
+            report::fault_lines(problem, &faults, &mut out)?;
+            Ok(if faults.is_empty() { 0 } else { 1 })
+        }
+    }
+    .and_then(|status| out.flush().map(|()| status))
+}
+
+/// Prints a line of refusal and ends with status 2.
+fn refuse(line: &str) -> ! {
+    let _ = writeln!(io::stderr(), "{line}");
+    exit(2)
+}
+
+fn main() {
+    let words: Vec<String> = std::env::args().skip(1).collect();
+    let [command, path] = words.as_slice() else {
+        refuse("usage: baseline read|values|check FILE");
+    };
+    if !["read", "values", "check"].contains(&command.as_str()) {
+        refuse("usage: baseline read|values|check FILE");
+    }
+    let Ok(mut text) = bytes_of(path) else {
+        refuse(&format!("nllc: cannot read {path}"));
+    };
+    if text.len() as u64 > TEXT_LIMIT {
+        refuse("nllc: line 1: limit text");
+    }
+    let status = match read::read(&mut text) {
+        Err(fault) => refuse(&format!("nllc: line {}: {}", fault.line, fault.kind)),
+        Ok(problem) => answer(command, &problem).unwrap_or_else(|_| {
+            let _ = writeln!(io::stderr(), "nllc: cannot write");
+            3
+        }),
+    };
+    exit(status)
+}

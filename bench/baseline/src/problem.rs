@@ -1,0 +1,42 @@
+//! The problem that a facts text means, and its counts.
+
+use crate::tables::Lists;
+
+/// `('sup: 'sub) @ at`.
+#[derive(Clone, Copy, PartialEq, Eq, PartialOrd, Ord)]
+pub struct Constraint {
+    pub sub: u32,
+    pub at: u32,
+    pub sup: u32,
+}
+
+/// A set of universal regions, 256 at most.
+pub type Universals = [u64; 4];
+
+/// What a facts text says: points, regions (universals first, `'static` is 0) and facts, each once.
+pub struct Problem<'t> {
+    pub points: u32,
+    pub universals: u32,
+    /// The names of the regions, without the quote.
+    pub names: Vec<&'t [u8]>,
+    pub successors: Lists,
+    /// For each point whether it is a return point.
+    pub returns: Vec<bool>,
+    /// For each region the points of its `base` lines, ascending.
+    pub bases: Vec<Vec<u32>>,
+    /// Ascending by sub-region and point.
+    pub constraints: Vec<Constraint>,
+    /// For each universal those that an `outlives` line puts below it.
+    pub outlives: Vec<Universals>,
+}
+
+impl Problem<'_> {
+    pub fn regions(&self) -> u32 {
+        self.names.len() as u32
+    }
+
+    /// Points and ends together.
+    pub fn elements(&self) -> u32 {
+        self.points + self.universals
+    }
+}

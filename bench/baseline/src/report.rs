@@ -1,0 +1,112 @@
+//! What the program prints: counts, value lines and faults.
+
+use crate::problem::{Problem, Universals};
+use crate::solve::Row;
+use std::io::{self, Write};
+
+/// One line of counts; bases and constraints are counted as distinct facts of the text.
+pub fn counts(problem: &Problem, out: &mut impl Write) -> io::Result<()> {
+    writeln!(
+        out,
+        "points {} edges {} regions {} universals {} bases {} constraints {}",
+        problem.points,
+        problem.successors.items.len(),
+        problem.regions(),
+        problem.universals,
+        problem.bases.iter().map(Vec::len).sum::<usize>(),
+        problem.constraints.len(),
+    )
+}
+
+/// So many bytes are gathered before they are written.
+const CHUNK: usize = 1 << 16;
+
+/// Appends a number as it is printed.
+fn push_number(line: &mut Vec<u8>, mut number: u32) {
+    let mut digits = [0; 10];
+    let mut at = digits.len();
+    loop {
+        at -= 1;
+        digits[at] = b'0' + (number % 10) as u8;
+        number /= 10;
+        if number == 0 {
+            break;
+        }
+    }
+    line.extend_from_slice(&digits[at..]);
+}
+
+/// A line a region: its name, a colon, then points and ends in order, each after a space.
+pub fn values(problem: &Problem, values: &[Row], out: &mut impl Write) -> io::Result<()> {
+    let mut text = Vec::with_capacity(CHUNK + 512);
+    for (name, value) in problem.names.iter().zip(values) {
+        text.push(b'\'');
+        text.extend_from_slice(name);
+        text.push(b':');
+        for e in value.iter() {
+            text.push(b' ');
+            if e < problem.points {
+                push_number(&mut text, e);
+            } else {
+                text.extend_from_slice(b"end('");
+                text.extend_from_slice(problem.names[(e - problem.points) as usize]);
+                text.push(b')');
+            }
+            if text.len() >= CHUNK {
+                out.write_all(&text)?;
+                text.clear();
+            }
+        }
+        text.push(b'\n');
+    }
+    out.write_all(&text)
+}
+
+/// For each universal those that it is known to outlive.
+fn known(problem: &Problem) -> Vec<Universals> {
+    let mut known = problem.outlives.clone();
+    known[0] = [u64::MAX; 4];
+    for via in 0..known.len() {
+        known[via][via / 64] |= 1 << (via % 64);
+        let below = known[via];
+        for row in known.iter_mut().filter(|row| row[via / 64] >> (via % 64) & 1 == 1) {
+            row.iter_mut().zip(below).for_each(|(word, more)| *word |= more);
+        }
+    }
+    known
+}
+
+/// The pairs of universals where the first holds the end of the second and isn't known to outlive
+/// it, by the first, then by the second.
+pub fn faults(problem: &Problem, values: &[Row]) -> Vec<(u32, u32)> {
+    let known = known(problem);
+    let mut faults = Vec::new();
+    for a in 0..problem.universals {
+        let row = &known[a as usize];
+        faults.extend((0..problem.universals).filter_map(|b| {
+            let is_known = row[b as usize / 64] >> (b % 64) & 1 == 1;
+            (values[a as usize].has(problem.points + b) && !is_known).then_some((a, b))
+        }));
+    }
+    faults
+}
+
+/// A line a fault, or `ok`.
+pub fn fault_lines(
+    problem: &Problem,
+    faults: &[(u32, u32)],
+    out: &mut impl Write,
+) -> io::Result<()> {
+    let mut text = Vec::new();
+    for &(a, b) in faults {
+        text.extend_from_slice(b"fault '");
+        text.extend_from_slice(problem.names[a as usize]);
+        text.extend_from_slice(b" must outlive '");
+        text.extend_from_slice(problem.names[b as usize]);
+        text.push(b'\n');
+    }
+    if faults.is_empty() {
+        text.extend_from_slice(b"ok\n");
+    }
+    out.write_all(&text)
+}

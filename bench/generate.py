@@ -1,0 +1,358 @@
+#!/usr/bin/env python3
+"""Makes facts texts (version 1): big ones to measure reading, small ones to compare programs.
+
+Every text depends on its arguments and its seed alone.
+
+    generate.py reading MIB [--shuffled] [--refused] [--seed S]   a big text without constraints
+    generate.py chain POINTS REGIONS                              a chain of regions on a chain
+    generate.py random [--seed S]                                 a small problem
+    generate.py mutations FILE --into DIR                         each small change of a text
+    generate.py limits --into DIR                                 texts at the limits of the format
+
+The first three write to standard output. `differential.py` uses the functions of this file.
+"""
+
+import argparse
+import os
+import random
+import re
+import sys
+
+BYTES = [0, 9, 10, 13, 32, 35, 39, 45, 48, 57, 62, 127, 128, 195, 255]
+NUMBERS = [b"01", b"1000000000", b"4294967296", b"999999999", b"1048576", b"1048577", b"0", b"1_0"]
+NAMES = [b"a", b"b", b"c", b"1", b"01", b"2", b"end", b"Static", b"_", b"a1", b"base", b"x_9"]
+KEYWORDS = [b"points", b"universal", b"outlives", b"region", b"next", b"return", b"base",
+            b"constraint", b"end"]
+
+
+# Big texts
+
+def edge_lines(points, rng):
+    """Mostly a step to the point behind, with some branches, loops back and return points."""
+    for p in range(points - 1):
+        roll = rng.random()
+        if roll < 0.01:
+            yield b"return %d\n" % p
+        else:
+            yield b"next %d %d\n" % (p, p + 1)
+        if roll > 0.86:
+            yield b"next %d %d\n" % (p, min(points - 1, p + 2 + int(rng.random() * 200)))
+        elif roll > 0.83:
+            yield b"next %d %d\n" % (p, max(0, p - int(rng.random() * 500)))
+    yield b"return %d\n" % (points - 1)
+
+
+def base_lines(points, region, budget, rng):
+    """Runs of neighbouring points of one region, up to a number of bytes."""
+    prefix = b"base 'r%d " % region
+    while True:
+        start = rng.randrange(points)
+        for p in range(start, min(points, start + rng.randrange(20, 400))):
+            line = prefix + b"%d\n" % p
+            budget -= len(line)
+            if budget < 0:
+                return
+            yield line
+
+
+def reading(mebibytes, shuffled=False, refused=False, seed=1):
+    """A text of about this size; a refused one ends with a constraint at a point out of range."""
+    rng = random.Random(seed)
+    points = min(1_048_576, 16_384 * mebibytes)
+    regions = max(1_000, 64 * mebibytes)
+    last = b"constraint 'static 'static %d\n" % points if refused else b"end\n"
+    head = [b"nll-facts 1\n", b"points %d\n" % points]
+    head += [b"universal 'u%d\n" % i for i in range(1, 9)]
+    head += [b"outlives 'u%d 'u%d\n" % (i, i + 1) for i in range(1, 8)]
+    head += [b"region 'r%d\n" % i for i in range(regions)]
+    lines = list(edge_lines(points, rng))
+    budget = (mebibytes << 20) - sum(map(len, head)) - sum(map(len, lines)) - len(last)
+    for region in range(regions):
+        share = budget // (regions - region)
+        mine = list(base_lines(points, region, share, rng))
+        budget -= sum(map(len, mine))
+        lines += mine
+    if shuffled:
+        rng.shuffle(lines)
+    return b"".join(head + lines + [last])
+
+
+def chain(points, regions):
+    """A chain of points that returns at its end; region k takes from region k - 1 at point 0."""
+    lines = [b"nll-facts 1", b"points %d" % points, b"universal 'a"]
+    lines += [b"region 'r%d" % k for k in range(regions)]
+    lines += [b"next %d %d" % (p, p + 1) for p in range(points - 1)]
+    lines += [b"return %d" % (points - 1)]
+    lines += [b"base 'r0 %d" % p for p in range(points)]
+    lines += [b"constraint 'r%d 'r%d 0" % (k, k - 1) for k in range(1, regions)]
+    lines += [b"constraint 'r0 'a 0"]
+    return b"\n".join(lines + [b"end", b""])
+
+
+# Small texts
+
+def constraint_lines(rng, points, every, bases):
+    """Constraints, mostly at points that the sub-region has; in some texts many of them."""
+    few = rng.randrange(3 * len(every))
+    for _ in range(few if rng.random() < 0.6 else 8 * len(every)):
+        sup, sub = rng.choice(every), rng.choice(every)
+        inside = [p for _, name, p in bases if name == b"'" + sub]
+        at = rng.choice(inside) if inside and rng.random() < 0.8 else rng.randrange(points)
+        yield [b"constraint", b"'" + sup, b"'" + sub, at]
+
+
+def fact_lines(rng, points, universals, names):
+    """Edges, return points, base elements and constraints of a small problem, in any order."""
+    every = [b"static"] + universals + names
+    facts = []
+    if rng.random() < 0.6:
+        facts += [[b"next", p, p + 1] for p in range(points - 1)]
+    facts += [[b"next", rng.randrange(points), rng.randrange(points)]
+              for _ in range(rng.randrange(points + 1))]
+    facts += [[b"return", rng.randrange(points)] for _ in range(rng.choice([0, 1, 1, 2, 3]))]
+    bases = []
+    for name in names + rng.choices(every, k=2):
+        chance = rng.choice([0.0, 0.2, 0.3, 0.5, 0.9])
+        bases += [[b"base", b"'" + name, p] for p in range(points) if rng.random() < chance]
+    mostly = names if names and rng.random() < 0.6 else every
+    facts += bases + list(constraint_lines(rng, points, mostly, bases))
+    facts += rng.choices(facts, k=rng.choice([0, 0, 3])) if facts else []
+    if rng.random() < 0.8:
+        rng.shuffle(facts)
+    return facts
+
+
+def spelled(rng, tokens, plain):
+    """A line of these tokens; not plain, with other blanks between and round them."""
+    words = [b"%d" % token if isinstance(token, int) else token for token in tokens]
+    if plain:
+        return b" ".join(words)
+    blanks = [b" ", b"  ", b"\t", b" \r", b"\t "]
+    line = rng.choice([b"", b"", b" ", b"\t"]) + words[0]
+    for word in words[1:]:
+        needs = not word.startswith(b"'")
+        line += (rng.choice(blanks) if needs or rng.random() < 0.7 else b"") + word
+    return line + rng.choice([b"", b"", b" ", b"\r", b" \t\r"])
+
+
+def small(rng):
+    """A small text without a fault: universals, outlives facts, constraints, odd layout."""
+    points = rng.choice([1, 2, 3, 4, 5, 6, 8, 10, 12, rng.randrange(55, 80)])
+    names = rng.sample(NAMES, k=len(NAMES))
+    universals = names[:rng.choice([0, 0, 1, 2, 2, 3, 4])]
+    names = names[len(universals):len(universals) + rng.randrange(7)]
+    known = [b"static"] + universals
+    lines = [[b"points", points]] + [[b"universal", b"'" + name] for name in universals]
+    lines += [[b"outlives", b"'" + rng.choice(known), b"'" + rng.choice(known)]
+              for _ in range(rng.randrange(len(known) + 1))]
+    lines += [[b"region", b"'" + name] for name in names]
+    lines += fact_lines(rng, points, universals, names) + [[b"end"]]
+    plain = rng.random() < 0.5
+    out = [spelled(rng, [b"nll-facts", 1], plain)]
+    skipped = [b"", b" \t", b"\r", b"#", b"# next 1 2", b" \t# \xc3\xa9 \xf0\x9f\xa6\x80", b"#\x00"]
+    for tokens in lines:
+        if not plain and rng.random() < 0.1:
+            out.append(rng.choice(skipped))
+        out.append(spelled(rng, tokens, plain))
+    if not plain:
+        out += rng.choices(skipped, k=rng.choice([0, 0, 1, 2]))
+    return b"\n".join(out) + rng.choice([b"\n", b"\n", b""])
+
+
+# Changed texts
+
+def replaced(text, start, end, piece):
+    return text[:start] + piece + text[end:]
+
+
+def spans(pattern, text):
+    return [match.span() for match in re.finditer(pattern, text)]
+
+
+def with_lines(text, change):
+    """The text after a change to its list of lines, given as a function on that list."""
+    lines = text.split(b"\n")
+    change(lines)
+    return b"\n".join(lines)
+
+
+def mutations(text):
+    """Every text that one small change makes of a text."""
+    yield from (text[:k] for k in range(len(text)))
+    for at in range(len(text)):
+        yield replaced(text, at, at + 1, b"")
+        for byte in BYTES:
+            yield replaced(text, at, at + 1, bytes([byte]))
+            yield replaced(text, at, at, bytes([byte]))
+    for start, end in spans(rb"\b\d+\b", text):
+        yield from (replaced(text, start, end, number) for number in NUMBERS)
+    for start, end in spans(rb"'\w+", text):
+        yield from (replaced(text, start, end, b"'" + name) for name in [b"static", b"z"])
+    for start, end in spans(rb"\b[a-z]+\b", text):
+        yield from (replaced(text, start, end, word) for word in KEYWORDS)
+    lines = text.split(b"\n")
+    for i in range(len(lines)):
+        yield b"\n".join(lines[:i] + lines[i + 1:])
+        for j in range(len(lines)):
+            yield b"\n".join(lines[:i] + [lines[j]] + lines[i:])
+        for j in range(i):
+            yield b"\n".join(lines[:j] + [lines[i]] + lines[j + 1:i] + [lines[j]] + lines[i + 1:])
+
+
+def change_bytes(rng, text):
+    at = rng.randrange(len(text) + 1)
+    pieces = [bytes([byte]) for byte in BYTES] + [b"\xc3\xa9", b"\xed\xa0\x80", b"'", b""]
+    piece = rng.choice(pieces)
+    return replaced(text, at, min(len(text), at + rng.randrange(2)), piece)
+
+
+def change_token(rng, text):
+    """Puts another number, name or keyword in the place of one."""
+    pattern, pieces = rng.choice([
+        (rb"\b\d+\b", NUMBERS + [b"%d" % rng.randrange(20)]),
+        (rb"'\w+", [b"'" + name for name in NAMES + [b"static", b"z"]]),
+        (rb"\b[a-z]+\b", KEYWORDS),
+    ])
+    found = spans(pattern, text)
+    if not found:
+        return text
+    start, end = rng.choice(found)
+    return replaced(text, start, end, rng.choice(pieces))
+
+
+def change_lines(rng, text):
+    """Drops, doubles, moves or swaps lines, or puts in a line with several faults."""
+    def change(lines):
+        ends = [0, 1, 2, len(lines) - 2, len(lines) - 1]
+        i, j = rng.choice([ends, range(len(lines))]), rng.choice([ends, range(len(lines))])
+        i, j = rng.choice(i) % len(lines), rng.choice(j) % len(lines)
+        wrong = [b"constraint 'z '1 999", b"next 99 99 ->", b"universal 'static", b"region 'static",
+                 b"outlives 'z 'static", b"base 'z 1048576", b"points 0", b"end", b"end end",
+                 b"# \xff", b"next 0", b"next 01 2", b"region 'a 'b", b"= & ( ) < > , : . * + ?",
+                 b"- >", b"return -> 0", b"''", b"'", b"return 999 \xff"]
+        kind = rng.randrange(6)
+        if kind == 0:
+            del lines[i]
+        elif kind == 1:
+            lines.insert(j, lines[i])
+        elif kind == 5:
+            lines.insert(i, lines[i])
+        elif kind == 2:
+            lines.insert(j, lines.pop(i))
+        elif kind == 3:
+            lines[i], lines[j] = lines[j], lines[i]
+        else:
+            lines.insert(i, rng.choice(wrong))
+    return with_lines(text, change)
+
+
+def mutant(rng, text):
+    """A text with one to three changes."""
+    for _ in range(rng.choice([1, 1, 1, 2, 3])):
+        if rng.random() < 0.1:
+            text = text[:rng.randrange(len(text) + 1)]
+        text = rng.choice([change_bytes, change_token, change_token, change_lines])(rng, text)
+    return text
+
+
+# Texts at the limits
+
+def numbered(form, count, start=0):
+    return b"".join(form % i for i in range(start, start + count))
+
+
+def limits():
+    """Texts at the limits of the format: a name, the text, and the refusal (`ok` for none)."""
+    top = b"nll-facts 1\npoints 1\n"
+    yield "points_at_limit", b"nll-facts 1\npoints 1048576\nend\n", "ok"
+    yield "points_past_limit", b"nll-facts 1\npoints 1048577\n", "line 2: limit points"
+    yield "point_past_the_last", (b"nll-facts 1\npoints 1048576\n"
+                                  b"constraint 'static 'static 1048576\n"), "line 3: range"
+    full = top + numbered(b"universal 'u%d\n", 255)
+    yield "universals_at_limit", full + b"end\n", "ok"
+    yield "universals_past_limit", full + b"universal 'v\nend\n", "line 258: limit universals"
+    yield "universal_again_past_limit", full + b"universal 'u7\nend\n", "line 258: duplicate"
+    regions = numbered(b"region 'r%d\n", 65_535)
+    yield "regions_at_limit", top + regions + b"end\n", "ok"
+    yield "regions_past_limit", top + regions + b"region 'x\nend\n", "line 65538: limit regions"
+    yield "region_again_past_limit", top + regions + b"region 'r5\nend\n", "line 65538: duplicate"
+    both = full + numbered(b"region 'r%d\n", 65_280)
+    yield "regions_beside_universals", both + b"end\n", "ok"
+    yield "regions_past_universals", both + b"region 'x\nend\n", "line 65538: limit regions"
+    yield from edge_limits()
+    yield from constraint_limits()
+    yield from size_limits()
+
+
+def edge_limits():
+    head = b"nll-facts 1\npoints 2049\n"
+    edges = b"".join(b"next %d %d\n" % (i % 2049, i // 2049) for i in range(4_194_304))
+    yield "edges_at_limit", head + edges + b"next 5 7\nend\n", "ok"
+    new = b"next %d %d\n" % (4_194_304 % 2049, 4_194_304 // 2049)
+    yield "edges_past_limit", head + edges + new, "line 4194307: limit edges"
+    yield "edge_out_of_range_past_limit", head + edges + b"next 0 2049\n", "line 4194307: range"
+
+
+def constraint_limits():
+    head = b"nll-facts 1\npoints 1048576\nregion '1\n"
+    lines = numbered(b"constraint '1 '1 %d\n", 1_048_576)
+    yield "constraints_at_limit", head + lines + b"constraint '1 '1 9\nend\n", "ok"
+    yield "constraints_past_limit", (head + lines + b"constraint '1 'static 0\nend\n"
+                                     ), "line 1048580: limit constraints"
+
+
+def size_limits():
+    top = b"nll-facts 1\npoints 1\nend\n#"
+    yield "text_at_limit", top + b"x" * (67_108_864 - len(top)), "ok"
+    yield "text_past_limit", top + b"x" * (67_108_865 - len(top)), "line 1: limit text"
+    yield "no_text_past_limit", b"\xff" * 67_108_865, "line 1: limit text"
+
+
+# The words of the command line
+
+def save(directory, name, text):
+    os.makedirs(directory, exist_ok=True)
+    with open(os.path.join(directory, name + ".facts"), "wb") as file:
+        file.write(text)
+
+
+def words():
+    parser = argparse.ArgumentParser(description=__doc__.split("\n")[0])
+    commands = parser.add_subparsers(dest="command", required=True)
+    command = commands.add_parser("reading")
+    command.add_argument("mebibytes", type=int)
+    command.add_argument("--shuffled", action="store_true")
+    command.add_argument("--refused", action="store_true")
+    command.add_argument("--seed", type=int, default=1)
+    command = commands.add_parser("chain")
+    command.add_argument("points", type=int)
+    command.add_argument("regions", type=int)
+    commands.add_parser("random").add_argument("--seed", type=int, default=1)
+    command = commands.add_parser("mutations")
+    command.add_argument("file")
+    command.add_argument("--into", required=True)
+    commands.add_parser("limits").add_argument("--into", required=True)
+    return parser.parse_args()
+
+
+def main():
+    args = words()
+    if args.command == "reading":
+        out = reading(args.mebibytes, args.shuffled, args.refused, args.seed)
+        sys.stdout.buffer.write(out)
+    elif args.command == "chain":
+        sys.stdout.buffer.write(chain(args.points, args.regions))
+    elif args.command == "random":
+        sys.stdout.buffer.write(small(random.Random(args.seed)))
+    elif args.command == "mutations":
+        with open(args.file, "rb") as file:
+            text = file.read()
+        for number, changed in enumerate(mutations(text)):
+            save(args.into, f"{number:06}", changed)
+    else:
+        for name, text, _ in limits():
+            save(args.into, name, text)
+
+
+if __name__ == "__main__":
+    main()

@@ -1,0 +1,152 @@
+#!/usr/bin/env python3
+"""Times programs and prints Markdown tables; `reading.sh` and `real.sh` call it.
+
+    measure.py reading --nllc PATH --baseline PATH --texts FOLDER [--runs N]
+    measure.py real --nllc PATH --baseline PATH --inputs FOLDER --outputs FOLDER [--runs N]
+
+Wall time is from start to end of a process, user time and peak memory are the system's own figures
+of it (`wait4`). A process that is started counts the memory of the one that starts it as its own
+until its program is loaded, so this program keeps small, makes no text itself, and says what peak
+a process that does nothing shows: smaller peaks can't be told apart.
+"""
+
+import argparse
+import filecmp
+import os
+import signal
+import sys
+import time
+from collections import namedtuple
+
+Run = namedtuple("Run", "wall user peak status err")
+
+
+def median(numbers):
+    ordered = sorted(numbers)
+    return ordered[len(ordered) // 2]
+
+
+def run(command, seconds, out=os.devnull):
+    """One run of a command with its output in a file; past the time its status is None."""
+    err = os.memfd_create("err")
+    target = os.open(out, os.O_WRONLY | os.O_CREAT | os.O_TRUNC, 0o600)
+    actions = [(os.POSIX_SPAWN_DUP2, target, 1), (os.POSIX_SPAWN_DUP2, err, 2)]
+    began = time.perf_counter()
+    pid = os.posix_spawn(command[0], command, os.environ, file_actions=actions)
+    signal.signal(signal.SIGALRM, lambda *_: os.kill(pid, signal.SIGKILL))
+    signal.setitimer(signal.ITIMER_REAL, seconds)
+    _, status, used = os.wait4(pid, 0)
+    wall = time.perf_counter() - began
+    signal.setitimer(signal.ITIMER_REAL, 0)
+    line = os.pread(err, 4096, 0).decode(errors="replace").strip()
+    os.close(target)
+    os.close(err)
+    code = None if wall >= seconds else os.waitstatus_to_exitcode(status)
+    return Run(wall, used.ru_utime, used.ru_maxrss / 1024, code, line)
+
+
+def machine(args):
+    """What the figures were taken on, and of which commit."""
+    least = run(["/bin/true"], args.seconds).peak
+    return (f"nproc {os.cpu_count()}, load at the start {os.getloadavg()[0]:.1f}, commit "
+            f"{args.commit}, peak of a process that does nothing {least:.1f} MiB.\n")
+
+
+def reading_rows(args, size):
+    """The rows of one size: both programs on the refused text, the baseline on the accepted one."""
+    refused, accepted = (os.path.join(args.texts, f"{kind}-{size}.facts")
+                         for kind in ("refused", "accepted"))
+    commands = {
+        "nllc": [args.nllc, "values", refused],
+        "baseline": [args.baseline, "read", refused],
+        "baseline, accepted": [args.baseline, "read", accepted],
+    }
+    runs = {who: [] for who in commands}
+    for _ in range(args.runs + 1):
+        for who, command in commands.items():
+            runs[who].append(run(command, args.seconds))
+    # The first run of each brings the files into memory and isn't counted.
+    runs = {who: found[1:] for who, found in runs.items()}
+    ends = {who: {(one.status, one.err) for one in found} for who, found in runs.items()}
+    fine = ends["nllc"] == ends["baseline"] and len(ends["nllc"]) == 1
+    if not fine or ends["baseline, accepted"] != {(0, "")}:
+        print(f"unlike ends: {ends}", file=sys.stderr)
+        fine = False
+    base = median(one.wall for one in runs["baseline"])
+    for who, found in runs.items():
+        wall = median(one.wall for one in found)
+        user = median(one.user for one in found)
+        peak = max(one.peak for one in found)
+        best = min(one.wall for one in found)
+        print(f"| {size} | {who} | {best:.3f} | {wall:.3f} | {user:.3f} | {peak:.1f} "
+              f"| {wall / base:.2f} |")
+    return fine
+
+
+def reading(args):
+    print(f"Reading a facts text that is refused at its last line, {args.runs} runs of each "
+          f"program in turn; {machine(args)}")
+    print("| MiB | program | best wall s | median wall s | median user s | peak MiB | ratio |")
+    print("|---|---|---|---|---|---|---|")
+    fine = [reading_rows(args, size) for size in args.sizes.split()]
+    return all(fine)
+
+
+def real_row(args, name):
+    """Runs both programs on one input; whether all is the same, and the best wall times."""
+    path = os.path.join(args.inputs, name)
+    programs = {"nllc": args.nllc, "baseline": args.baseline}
+    outs = {who: os.path.join(args.outputs, who) for who in programs}
+    runs = {who: [] for who in programs}
+    for _ in range(args.runs):
+        for who, program in programs.items():
+            runs[who].append(run([program, "values", path], args.seconds, outs[who]))
+    ends = [{(one.status, one.err) for one in found} for found in runs.values()]
+    same = ends[0] == ends[1] == {(0, "")} and filecmp.cmp(*outs.values(), shallow=False)
+    best = {who: min(one.wall for one in found) for who, found in runs.items()}
+    peak = {who: max(one.peak for one in found) for who, found in runs.items()}
+    size = os.path.getsize(outs["baseline"])
+    print(f"| {name} | {os.path.getsize(path)} | {size} | {best['nllc']:.3f} "
+          f"| {best['baseline']:.3f} | {best['nllc'] / best['baseline']:.2f} "
+          f"| {peak['nllc']:.1f} | {peak['baseline']:.1f} | {'same' if same else 'UNLIKE'} |")
+    if not same:
+        print(f"unlike on {name}: {ends}", file=sys.stderr)
+    return same, best
+
+
+def real(args):
+    names = sorted(name for name in os.listdir(args.inputs) if name.endswith(".facts"))
+    print(f"`values` of real functions, best wall seconds of {args.runs} runs of each program in "
+          f"turn; {machine(args)}")
+    print("| input | bytes | bytes out | nllc s | baseline s | ratio | nllc peak MiB "
+          "| baseline peak MiB | output |")
+    print("|---|---|---|---|---|---|---|---|---|")
+    alike = 0
+    sums = {"nllc": 0.0, "baseline": 0.0}
+    for name in names:
+        same, best = real_row(args, name)
+        alike += same
+        sums = {who: sums[who] + best[who] for who in sums}
+    print(f"\n{len(names)} inputs, {len(names) - alike} unlike; all together "
+          f"nllc {sums['nllc']:.3f} s, baseline {sums['baseline']:.3f} s")
+    return 0 < len(names) == alike
+
+
+def main():
+    parser = argparse.ArgumentParser(description=__doc__.split("\n", maxsplit=1)[0])
+    parser.add_argument("what", choices=["reading", "real"])
+    parser.add_argument("--nllc", required=True)
+    parser.add_argument("--baseline", required=True)
+    parser.add_argument("--texts", help="folder of refused-MIB.facts and accepted-MIB.facts")
+    parser.add_argument("--sizes", default="8 64")
+    parser.add_argument("--inputs", help="folder of facts texts")
+    parser.add_argument("--outputs", help="folder for the two outputs that are compared")
+    parser.add_argument("--runs", type=int, default=5)
+    parser.add_argument("--seconds", type=float, default=60.0, help="time limit of a run")
+    parser.add_argument("--commit", default="none", help="told beside the figures")
+    args = parser.parse_args()
+    return 0 if (reading if args.what == "reading" else real)(args) else 1
+
+
+if __name__ == "__main__":
+    sys.exit(main())

@@ -1,0 +1,10 @@
+pub mod BitSetLemmas
+pub mod ElementsLemmas
+pub mod FactLemmas
+pub mod AdjacencyLemmas
+pub mod ProblemLemmas
+pub mod WalkLemmas
+pub mod SpreadingLemmas
+pub mod GrowingLemmas
+pub mod SolverLemmas
+pub mod FaultLemmas

@@ -1,0 +1,163 @@
+-- The solver: the base elements, a round over the constraints, and the least solution at the end of the rounds.
+use Rattle.std.proofs.Common.{◌≡◌, ◌⊎◌, ◌↔◌, ℕ, ◌+◌, ◌<◌, ◌≤◌, Bool, true, false, ◌||◌, List, replicate, Contains, IsTrue, length, get_or, refl, sym, ap, ◌∙◌, subst, inl, inr, ⊎_elim, arith}
+use Rattle.std.proofs.lemmas.Bool.{true≢false, cases_eq, cases_lt}
+use Rattle.std.proofs.lemmas.List.{get_or_default, get_or-replicate, length-replicate}
+use Rattle.nll_core.specs.Graph.{element_count}
+use Rattle.nll_core.specs.Problem.{Problem, IsBase, IsUniversal, end_of, IsSound}
+use Rattle.nll_core.specs.Solution.{Satisfies, Least}
+use Rattle.nll_core.specs.Values.{set_of, holds, IsHeld, with_element, IsShaped}
+use Rattle.nll_core.specs.Growing.{Gains, Tells, IsBelow, StaysBelow, IsAsked, IsMet, IsClosed}
+use Rattle.nll_core.specs.declared.constraint.Constraint.{Constraint}
+use Rattle.nll_core.proofs.WalkLemmas.{reaches_weaker}
+use Rattle.nll_core.proofs.GrowingLemmas.{held_one, gains_none, gains_one, gains_append, gains_weaker, tells_none, tells_append, nothing_held}
+
+-- ---- laws of the least solution
+
+-- the least solution is one
+pub least_satisfies : (q : Problem) → Satisfies q (Least q)
+least_satisfies q = record {
+  base = λ r e b. λ assignment sat. sat.base r e b;
+  each = λ c h e r. λ assignment sat. sat.each c h e (reaches_weaker q.graph (Least q c.sub) c.at (λ f. IsTrue (assignment c.sub f)) (λ x l. l assignment sat) e r);
+}
+
+module _ (q : Problem) where
+  -- ---- shapes
+
+  pub shaped_empty : IsShaped q (replicate q.regions (replicate (element_count q.graph) false))
+  shaped_empty = record {
+    regions = length-replicate q.regions (replicate (element_count q.graph) false);
+    elements = λ r h. ap length (get_or-replicate q.regions r (replicate (element_count q.graph) false) _ h) ∙ length-replicate (element_count q.graph) false;
+  }
+
+  pub shaped_gains : (kind : ℕ → ℕ → Type 0) (old new : List (List Bool)) → IsShaped q old → Gains kind old new → IsShaped q new
+  shaped_gains kind old new s g = record { regions = g.width ∙ s.regions; elements = λ r h. g.widths r ∙ s.elements r h }
+
+  -- ---- the base elements
+
+  -- The universal regions before `count` hold what is theirs from the start.
+  pub record Filling (old new : List (List Bool)) (count : ℕ) : Type 0 where
+    pub gains : Gains (IsBase q) old new
+    pub points : (r e : ℕ) → r < count → e < q.graph.points → IsHeld new r e
+    pub ends : (r : ℕ) → r < count → IsHeld new r (end_of q r)
+
+  pub filling_first : (old : List (List Bool)) → Filling old old 0
+  filling_first old = record {
+    gains = gains_none (IsBase q) old;
+    points = λ r e h. absurd (omega arith);
+    ends = λ r h. absurd (omega arith);
+  }
+
+  -- the points of one more universal region
+  pub filling_points : (old middle new : List (List Bool)) (count points : ℕ) → points ≡ q.graph.points → count < q.graph.universals → Gains (IsBase q) old middle → Gains (λ r e. (r ≡ count) × (e < points)) middle new → Gains (IsBase q) old new
+  filling_points old middle new count points is universal f g = gains_append (IsBase q) old middle new f
+      (gains_weaker _ (IsBase q) (λ r e h. inr (omega (arith, h.0), inl (omega (arith, h.1)))) middle new g)
+
+  -- its end too
+  pub filling_more : (old middle new : List (List Bool)) (count points : ℕ) → points ≡ q.graph.points → count < q.graph.universals → Filling old middle count
+      → Gains (λ r e. (r ≡ count) × (e < points)) middle new → ((e : ℕ) → e < points → IsHeld new count e)
+      → count < length new → points + count < length (set_of new count) → Filling old (with_element new count (points + count)) (count + 1)
+  filling_more old middle new count points is universal f g covers within below =
+      let last : Gains (IsBase q) new (with_element new count (points + count)) = gains_one new count (points + count) within below (IsBase q) (inr (universal, inr (ap (λ n. n + count) is))) in
+      record {
+        gains = gains_append (IsBase q) _ _ _ (filling_points old middle new count points is universal f.gains g) last;
+        points = λ r e h k. last.kept r e (⊎_elim
+            (λ same. subst (λ x. IsHeld new x e) (sym same) (covers e (omega arith)))
+            (λ other. g.kept r e (f.points r e (omega arith) k))
+            (cases_eq r count));
+        ends = λ r h. ⊎_elim
+            (λ same. subst (λ x. IsHeld (with_element new count (points + count)) x (end_of q x)) (sym same) (subst (λ p. IsHeld (with_element new count (points + count)) count (p + count)) is (held_one new count (points + count) within below)))
+            (λ other. last.kept r (end_of q r) (g.kept r (end_of q r) (f.ends r (omega arith))))
+            (cases_eq r count);
+      }
+
+  -- The base facts before `count` are held.
+  pub record Listing (old new : List (List Bool)) (count : ℕ) : Type 0 where
+    pub gains : Gains (IsBase q) old new
+    pub covers : (k r e : ℕ) → k < count → get_or q.bases k (r, e) ≡ (r, e) → IsHeld new r e
+
+  pub listing_first : (old : List (List Bool)) → Listing old old 0
+  listing_first old = record { gains = gains_none (IsBase q) old; covers = λ k r e h is. absurd (omega arith) }
+
+  -- one more of them
+  pub listing_more : (old new : List (List Bool)) (count r e : ℕ) → Contains q.bases (r, e) → ((s f : ℕ) → get_or q.bases count (s, f) ≡ (s, f) → (s ≡ r) × (f ≡ e)) → Listing old new count
+      → r < length new → e < length (set_of new r) → Listing old (with_element new r e) (count + 1)
+  listing_more old new count r e listed only f within below =
+      let last : Gains (IsBase q) new (with_element new r e) = gains_one new r e within below (IsBase q) (inl listed) in
+      record {
+        gains = gains_append (IsBase q) _ _ _ f.gains last;
+        covers = λ k s x h is. ⊎_elim
+            (λ same. let at = only s x (subst (λ i. get_or q.bases i (s, x) ≡ (s, x)) same is) in
+            subst (λ a. IsHeld (with_element new r e) a x) (sym at.0) (subst (IsHeld (with_element new r e) r) (sym at.1) (held_one new r e within below)))
+            (λ other. last.kept s x (f.covers k s x (omega arith) is))
+            (cases_eq k count);
+      }
+
+  -- empty values that gained the base elements hold just these
+  pub base_exact : (first middle new : List (List Bool)) → ((r e : ℕ) → IsHeld first r e → ⊥) → Gains (IsBase q) first middle → Gains (IsBase q) middle new
+      → ((r e : ℕ) → IsUniversal q r → e < q.graph.points → IsHeld middle r e) → ((r : ℕ) → IsUniversal q r → IsHeld middle r (end_of q r)) → ((r e : ℕ) → Contains q.bases (r, e) → IsHeld new r e)
+      → (r e : ℕ) → IsHeld new r e ↔ IsBase q r e
+  base_exact first middle new nothing g k points ends given r e = (
+    λ h. ⊎_elim (λ before. ⊎_elim (λ none. absurd (nothing r e none)) (λ b. b) (g.cause r e before)) (λ b. b) (k.cause r e h),
+    ⊎_elim (given r e) (λ own. k.kept r e (⊎_elim (points r e own.0) (λ is. subst (IsHeld middle r) (sym is) (ends r own.0)) own.1)),
+  )
+
+  -- ---- a round
+
+  -- what a constraint asks is in each assignment that satisfies the problem and has all of the values
+  pub below_gains : (c : Constraint) (old new : List (List Bool)) → Contains q.constraints c → Gains (λ r e. (r ≡ c.sup) × IsAsked q old c e) old new → StaysBelow q old new
+  below_gains c old new of_problem g = λ assignment sat under r e h. ⊎_elim
+      (under r e)
+      (λ asked. subst (λ x. IsTrue (assignment x e)) (sym asked.0) (sat.each c of_problem e (reaches_weaker q.graph (IsHeld old c.sub) c.at _ (λ x k. under c.sub x k) e asked.1)))
+      (g.cause r e h)
+
+  -- The values of a round after the first `count` constraints.
+  pub record Rounding (first now : List (List Bool)) (changed : Bool) (count : ℕ) : Type 0 where
+    pub shaped : IsShaped q now
+    pub kept : (r e : ℕ) → IsHeld first r e → IsHeld now r e
+    pub below : StaysBelow q first now
+    pub tells : Tells changed first now
+    pub met : changed ≡ false → (k : ℕ) (c : Constraint) → k < count → IsMet q first (get_or q.constraints k c)
+
+  pub rounding_first : (values : List (List Bool)) → IsShaped q values → Rounding values values false 0
+  rounding_first values s = record {
+    shaped = s;
+    kept = λ r e h. h;
+    below = λ assignment sat under. under;
+    tells = tells_none values;
+    met = λ h k c l. absurd (omega arith);
+  }
+
+  pub rounding_stays : (first now next : List (List Bool)) (c : Constraint) → StaysBelow q first now → Contains q.constraints c → Gains (λ r e. (r ≡ c.sup) × IsAsked q now c e) now next → StaysBelow q first next
+  rounding_stays first now next c below of_problem g = λ assignment sat under. below_gains c now next of_problem g assignment sat (below assignment sat under)
+
+  neither : (x y : Bool) → (x || y) ≡ false → (x ≡ false) × (y ≡ false)
+  neither true y h = absurd (true≢false h)
+  neither false y h = (refl, h)
+
+  pub rounding_more : (first now next : List (List Bool)) (changed new : Bool) (count : ℕ) (c : Constraint) → count < length q.constraints → get_or q.constraints count c ≡ c → Rounding first now changed count
+      → Gains (λ r e. (r ≡ c.sup) × IsAsked q now c e) now next → ((e : ℕ) → IsAsked q now c e → IsHeld next c.sup e) → Tells new now next → Rounding first next (changed || new) (count + 1)
+  rounding_more first now next changed new count c within is r g asks tells = record {
+    shaped = shaped_gains _ now next r.shaped g;
+    kept = λ s e h. g.kept s e (r.kept s e h);
+    below = rounding_stays first now next c r.below (count, within, is) g;
+    tells = tells_append changed new first now next r.tells tells;
+    met = λ same k d l.
+        let both = neither changed new same in
+        let here : now ≡ first = r.tells.same both.0 in
+        let there : next ≡ now = tells.same both.1 in
+        ⊎_elim
+        (λ at. subst (IsMet q first) (sym (get_or_default q.constraints k d c (omega arith) ∙ (ap (λ j. get_or q.constraints j c) at ∙ is)))
+        (λ e h. subst (λ v. IsHeld v c.sup e) (there ∙ here) (asks e (subst (λ v. IsAsked q v c e) (sym here) h))))
+        (λ other. r.met both.0 k d (omega arith))
+        (cases_eq k count);
+  }
+
+  -- a round over all constraints that changed nothing met each of them
+  pub rounding_closed : (first now : List (List Bool)) (changed : Bool) (count : ℕ) → length q.constraints ≤ count → Rounding first now changed count → changed ≡ false → IsClosed q first
+  rounding_closed first now changed count all r same = λ c h. subst (IsMet q first) h.2 (r.met same h.0 c (omega (arith, h.1)))
+
+  -- ---- the end
+
+  -- values that hold the base elements, are below each assignment that satisfies the problem, and meet each constraint are the least
+  pub least_exact : (values : List (List Bool)) → ((r e : ℕ) → IsBase q r e → IsHeld values r e) → ((assignment : ℕ → ℕ → Bool) → Satisfies q (λ s f. IsTrue (assignment s f)) → IsBelow values assignment) → IsClosed q values → (r e : ℕ) → IsHeld values r e ↔ Least q r e
+  least_exact values base below closed r e = (λ h assignment sat. below assignment sat r e h, λ least. least (holds values) (record { base = base; each = closed }))

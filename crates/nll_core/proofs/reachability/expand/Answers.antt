@@ -1,0 +1,39 @@
+use Rattle.std.proofs.Common.{◌≡◌, ℕ, ◌<◌, ◌≤◌, true, false, get_or, length, sym, ◌∙◌, arith}
+use Rattle.std.proofs.lemmas.Bool.{false≢true}
+use Rattle.std.proofs.lemmas.List.Elements.{Contains-get_or}
+use Rattle.nll_core.proofs.SpreadingLemmas.{no_step_past, next_adds, next_covers, ends_adds, ends_cover}
+use Rattle.nll_core.proofs.reachability.expand.Goals as goal
+
+pub visit_all-requires-clause-in_seen : goal.visit_all-requires-clause-in_seen
+visit_all-requires-clause-in_seen g c = λ k h.
+    let next = c.next_of.result.now in
+    let is_next = (c.next_of.ensures.each (get_or next k 0)).0 (Contains-get_or next k 0 h) in
+    let point = c.points-points.ensures.sound.edges_in_range c.args.number (get_or next k 0) is_next in
+    omega arith
+
+pub returns-then-number-points-clause-covers : goal.returns-then-number-points-clause-covers
+returns-then-number-points-clause-covers g c = λ x step in_seen.
+    absurd (no_step_past c.args.graph.now c.points-points.ensures.sound c.args.number (omega arith) x step)
+
+pub returns-in_err-visit_all-clause-adds : goal.returns-in_err-visit_all-clause-adds
+returns-in_err-visit_all-clause-adds g c = next_adds _ _ _ _ c.next_of.ensures.each _ _ _ _ c.visit_all.ensures.adds
+
+pub returns-in_err-visit_range-clause-adds : goal.returns-in_err-visit_range-clause-adds
+returns-in_err-visit_range-clause-adds g c =
+    ends_adds _ _ _ _ c.next_of.ensures.each _ _ c.points-points.ensures.value (omega arith) (c.is_return.ensures.0 c.if-is_return.true) _ _ _ _ _ _ c.visit_all.ensures.adds c.visit_range.ensures.adds
+
+pub returns-in_ok-visit_range-clause-adds : goal.returns-in_ok-visit_range-clause-adds
+returns-in_ok-visit_range-clause-adds g c =
+    ends_adds _ _ _ _ c.next_of.ensures.each _ _ c.points-points.ensures.value (omega arith) (c.is_return.ensures.0 c.if-is_return.true) _ _ _ _ _ _ c.visit_all.ensures.adds c.visit_range.ensures.adds
+
+pub returns-in_ok-visit_range-clause-covers : goal.returns-in_ok-visit_range-clause-covers
+returns-in_ok-visit_range-clause-covers g c =
+    ends_cover _ _ _ _ c.next_of.ensures.each _ _ c.points-points.ensures.value (omega arith) (c.is_return.ensures.0 c.if-is_return.true) _ _ _ _ _ _ c.visit_all.ensures.adds c.visit_range.ensures.adds
+    c.in_ok-visit_all.ensures.covers c.in_ok-visit_range.ensures.covers
+
+pub returns-else-is_return-clause-adds : goal.returns-else-is_return-clause-adds
+returns-else-is_return-clause-adds g c = next_adds _ _ _ _ c.next_of.ensures.each _ _ _ _ c.visit_all.ensures.adds
+
+pub returns-else-is_return-clause-covers : goal.returns-else-is_return-clause-covers
+returns-else-is_return-clause-covers g c =
+    next_covers _ _ _ _ c.next_of.ensures.each _ (λ h. false≢true (sym c.if-is_return.false ∙ c.is_return.ensures.1 h)) c.in_ok-visit_all.ensures.covers

@@ -1,0 +1,45 @@
+-- How values grow towards the least solution of a problem.
+-- Source: this project's choice.
+use Rattle.std.specs.Prelude.{◌≡◌, ◌⊎◌, ℕ, ◌<◌, Bool, true, false, IsTrue, List, length, Contains, sum_by}
+use Rattle.nll_core.specs.Walks.{Reaches}
+use Rattle.nll_core.specs.Problem.{Problem}
+use Rattle.nll_core.specs.Solution.{Satisfies}
+use Rattle.nll_core.specs.Spreading.{missing}
+use Rattle.nll_core.specs.Values.{set_of, IsHeld}
+use Rattle.nll_core.specs.declared.constraint.Constraint.{Constraint}
+
+-- how many pairs of a region and an element are missing
+abbrev pub missing_pairs : List (List Bool) → ℕ
+missing_pairs values = sum_by missing values
+
+-- Nothing left the values, and each pair of a region and an element that came is of this kind.
+pub record Gains (kind : ℕ → ℕ → Type 0) (old new : List (List Bool)) : Type 0 where
+  pub width : length new ≡ length old
+  pub widths : (r : ℕ) → length (set_of new r) ≡ length (set_of old r)
+  pub kept : (r e : ℕ) → IsHeld old r e → IsHeld new r e
+  pub cause : (r e : ℕ) → IsHeld new r e → IsHeld old r e ⊎ kind r e
+
+-- `changed` says whether something came.
+pub record Tells (changed : Bool) (old new : List (List Bool)) : Type 0 where
+  pub same : changed ≡ false → new ≡ old
+  pub fewer : changed ≡ true → missing_pairs new < missing_pairs old
+
+-- the assignment has all that the values hold
+abbrev pub IsBelow : List (List Bool) → (ℕ → ℕ → Bool) → Type 0
+IsBelow values assignment = (r e : ℕ) → IsHeld values r e → IsTrue (assignment r e)
+
+-- each assignment that satisfies the problem and has all of the old values has all of the new ones
+abbrev pub StaysBelow : Problem → List (List Bool) → List (List Bool) → Type 0
+StaysBelow q old new = (assignment : ℕ → ℕ → Bool) → Satisfies q (λ s f. IsTrue (assignment s f)) → IsBelow old assignment → IsBelow new assignment
+
+-- from the constraint's point e is reached by a walk inside the value of its `sub`
+abbrev pub IsAsked : Problem → List (List Bool) → Constraint → ℕ → Type 0
+IsAsked q values c e = Reaches q.graph (IsHeld values c.sub) c.at e
+
+-- the values hold all that the constraint asks of them
+abbrev pub IsMet : Problem → List (List Bool) → Constraint → Type 0
+IsMet q values c = (e : ℕ) → IsAsked q values c e → IsHeld values c.sup e
+
+-- the values meet each constraint
+abbrev pub IsClosed : Problem → List (List Bool) → Type 0
+IsClosed q values = (c : Constraint) → Contains q.constraints c → IsMet q values c

@@ -1,0 +1,145 @@
+//! The least solution of a problem, by rounds over all constraints until one changes nothing.
+//!
+//! This is the plain solver: it forgets after each constraint what it has reached.
+
+ghost use Rattle.std.specs.Prelude.{◌≡◌, ℕ, ◌+◌, ◌≤◌, ◌<◌, ◌↔◌, false, Contains, length, IfOk, OnOk};
+ghost use Rattle.nll_core.specs.Problem.{IsBase, IsUniversal};
+ghost use Rattle.nll_core.specs.Solution.{Least};
+ghost use Rattle.nll_core.specs.Values.{set_of, IsHeld, IsShaped};
+ghost use Rattle.nll_core.specs.Growing.{Gains, Tells, StaysBelow, IsAsked, IsMet, IsClosed};
+
+use crate::constraint::Constraint;
+use crate::element::{Element, RegionId};
+use crate::error::Memory;
+use crate::problem::Problem;
+use crate::reachability::reached_from;
+use crate::values::Values;
+use std::alloc::Global;
+
+/// Gives each region its least value: the base elements, and what the constraints ask for.
+///
+/// # Errors
+/// - `Memory`.
+///
+/// # Cost
+/// A round goes through the graph once for each constraint whose point is in the value of its `sub`, and each
+/// round but the last adds an element (not proved).
+///
+/// # Source
+/// RFC 2094, "Solving constraints".
+pub fn solve(alloc: Global, problem: &Problem) -> Result<Values, Memory>
+    ensures shaped { IfOk result (IsShaped problem.now) }
+    ensures least { IfOk result (λ values. (r e : ℕ) → IsHeld values r e ↔ Least problem.now r e) }
+{
+    let mut values = base_values(alloc, problem)?;
+    while round(alloc, problem, &mut values)? {}
+    Ok(values)
+}
+
+// The values of just the base elements.
+fn base_values(alloc: Global, problem: &Problem) -> Result<Values, Memory>
+    ensures shaped { IfOk result (IsShaped problem.now) }
+    ensures exact { IfOk result (λ values. (r e : ℕ) → IsHeld values r e ↔ IsBase problem.now r e) }
+{
+    let mut values = Values::empty(alloc, problem)?;
+    insert_universals(problem, &mut values)?;
+    insert_bases(problem, &mut values)?;
+    Ok(values)
+}
+
+// Puts in what the universal regions hold from the start.
+fn insert_universals(problem: &Problem, values: &mut Values) -> Result<(), Memory>
+    requires { IsShaped problem.now values.old }
+    ensures gains { Gains (IsBase problem.now) values.old values.new }
+    ensures points { OnOk result ((r e : ℕ) → IsUniversal problem.now r → e < problem.now.graph.points → IsHeld values.new r e) }
+    ensures ends { OnOk result ((r : ℕ) → IsUniversal problem.now r → IsHeld values.new r (problem.now.graph.points + r)) }
+{
+    let points = problem.points();
+    for number in 0..problem.universals() {
+        let region = RegionId(number);
+        insert_points(values, region, points)?;
+        values.insert(region, Element(points + number))?;
+    }
+    Ok(())
+}
+
+// Puts each point into the set of a region.
+fn insert_points(values: &mut Values, region: RegionId, points: u32) -> Result<(), Memory>
+    requires region { region < length values.old }
+    requires elements { points ≤ length (set_of values.old region) }
+    ensures gains { Gains (λ r e. (r ≡ region) × (e < points)) values.old values.new }
+    ensures covers { OnOk result ((e : ℕ) → e < points → IsHeld values.new region e) }
+{
+    for point in 0..points {
+        values.insert(region, Element(point))?;
+    }
+    Ok(())
+}
+
+// Puts in the base elements that were given.
+fn insert_bases(problem: &Problem, values: &mut Values) -> Result<(), Memory>
+    requires { IsShaped problem.now values.old }
+    ensures gains { Gains (IsBase problem.now) values.old values.new }
+    ensures covers { OnOk result ((r e : ℕ) → Contains problem.now.bases (r, e) → IsHeld values.new r e) }
+{
+    for base in problem.bases() {
+        let (region, point) = *base;
+        values.insert(region, Element(point))?;
+    }
+    Ok(())
+}
+
+// Applies each constraint once. Answers whether something was new.
+fn round(alloc: Global, problem: &Problem, values: &mut Values) -> Result<bool, Memory>
+    requires { IsShaped problem.now values.old }
+    ensures shaped { IsShaped problem.now values.new }
+    ensures kept { (r e : ℕ) → IsHeld values.old r e → IsHeld values.new r e }
+    ensures below { StaysBelow problem.now values.old values.new }
+    ensures tells { IfOk result (λ changed. Tells changed values.old values.new) }
+    ensures closed { IfOk result (λ changed. changed ≡ false → IsClosed problem.now values.old) }
+{
+    let mut changed = false;
+    for constraint in problem.constraints() {
+        let new = apply(alloc, problem, values, *constraint)?;
+        changed |= new;
+    }
+    Ok(changed)
+}
+
+// Puts in what one constraint asks of the values. Answers whether something was new.
+fn apply(
+    alloc: Global,
+    problem: &Problem,
+    values: &mut Values,
+    constraint: Constraint,
+) -> Result<bool, Memory>
+    requires shaped { IsShaped problem.now values.old }
+    requires of_problem { Contains problem.now.constraints constraint }
+    ensures gains { Gains (λ r e. (r ≡ constraint.sup) × IsAsked problem.now values.old constraint e) values.old values.new }
+    ensures asks { OnOk result ((e : ℕ) → IsAsked problem.now values.old constraint e → IsHeld values.new constraint.sup e) }
+    ensures tells { IfOk result (λ changed. Tells changed values.old values.new) }
+{
+    let graph = problem.graph();
+    let at = Element(constraint.at);
+    if !values.has(constraint.sub, at) {
+        return Ok(false);
+    }
+    let found = reached_from(alloc, graph, values.set(constraint.sub), at)?;
+    insert_all(values, constraint.sup, &found)
+}
+
+// Puts elements into the set of a region. Answers whether one of them is new.
+fn insert_all(values: &mut Values, region: RegionId, found: &[Element]) -> Result<bool, Memory>
+    requires region { region < length values.old }
+    requires elements { (x : ℕ) → Contains found.now x → x < length (set_of values.old region) }
+    ensures gains { Gains (λ r e. (r ≡ region) × Contains found.now e) values.old values.new }
+    ensures covers { OnOk result ((x : ℕ) → Contains found.now x → IsHeld values.new region x) }
+    ensures tells { IfOk result (λ changed. Tells changed values.old values.new) }
+{
+    let mut changed = false;
+    for element in found {
+        let new = values.insert(region, *element)?;
+        changed |= new;
+    }
+    Ok(changed)
+}

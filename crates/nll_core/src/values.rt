@@ -1,0 +1,82 @@
+//! The values of regions: a set of elements for each.
+
+ghost use Rattle.std.specs.Prelude.{◌≡◌, ◌<◌, false, not, length, replicate, IfOk, OnOk, OnErr};
+ghost use Rattle.nll_core.specs.Graph.{element_count};
+ghost use Rattle.nll_core.specs.ElementSet.{elements};
+ghost use Rattle.nll_core.specs.Values.{set_of, holds, with_element};
+
+use crate::bit_set::BitSet;
+use crate::element::{Element, RegionId};
+use crate::element_set::ElementSet;
+use crate::elements::Elements;
+use crate::error::Memory;
+use crate::problem::Problem;
+use std::alloc::Global;
+use std::marker::Model;
+
+/// A set of elements for each region. Contracts see it as one flag for each region and element.
+#[derive(Drop)]
+pub struct Values {
+    sets: Vec<BitSet>,
+}
+
+impl Model for Values {
+    ghost use Rattle.std.specs.Prelude.{List, Bool};
+
+    ghost Value = { List (List Bool) };
+
+    ghost view = { λ values. values.sets.items };
+}
+
+impl Values {
+    /// The values of a problem's regions that hold nothing.
+    pub fn empty(alloc: Global, problem: &Problem) -> Result<Values, Memory>
+        ensures { IfOk result (λ values. values ≡ replicate problem.now.regions (replicate (element_count problem.now.graph) false)) }
+    {
+        let len = problem.points() + problem.universals();
+        let mut sets = Vec::new(alloc);
+        for _ in 0..problem.regions() {
+            sets.push(BitSet::empty(alloc, len)?)?;
+        }
+        Ok(Values { sets })
+    }
+
+    /// Whether the value of a region has an element.
+    pub fn has(&self, region: RegionId, element: Element) -> bool
+        requires region { region < length self.now }
+        requires element { element < length (set_of self.now region) }
+        ensures { result ≡ holds self.now region element }
+    {
+        self.sets[region.0 as usize].has(element)
+    }
+
+    /// Puts an element into the value of a region, and answers whether it is new.
+    ///
+    /// # Errors
+    /// - `Memory`: the values are as before.
+    pub fn insert(&mut self, region: RegionId, element: Element) -> Result<bool, Memory>
+        requires region { region < length self.old }
+        requires element { element < length (set_of self.old region) }
+        ensures ok { OnOk result (self.new ≡ with_element self.old region element) }
+        ensures new { IfOk result (λ new. new ≡ not (holds self.old region element)) }
+        ensures err { OnErr result (self.new ≡ self.old) }
+    {
+        self.sets[region.0 as usize].insert(element)
+    }
+
+    /// The elements of the value of a region, ascending: its points, and then its ends.
+    pub fn iter(&self, region: RegionId) -> Elements<'_, BitSet>
+        requires { region < length self.now }
+        ensures { result ≡ elements (set_of self.now region) }
+    {
+        self.sets[region.0 as usize].iter()
+    }
+
+    // The set of a region.
+    pub(crate) fn set(&self, region: RegionId) -> &BitSet
+        requires { region < length self.now }
+        ensures { result.now ≡ set_of self.now region }
+    {
+        &self.sets[region.0 as usize]
+    }
+}

@@ -1,0 +1,5 @@
+pub mod FormLemmas
+pub mod NameLemmas
+pub mod ReaderLemmas
+pub mod SaidLemmas
+pub mod TextLemmas

@@ -1,0 +1,7 @@
+pub mod FileWordLemmas
+pub mod GrammarLemmas
+pub mod LineLemmas
+pub mod PlainLineLemmas
+pub mod ReportLemmas
+pub mod TaskWordLemmas
+pub mod WritingLemmas

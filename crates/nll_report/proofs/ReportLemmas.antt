@@ -1,0 +1,127 @@
+-- What the reports print: the elements of a set as a list, and lines one after another.
+use Rattle.std.proofs.Common.{◌≡◌, ◌⊎◌, ◌↔◌, ℕ, zero, suc, ◌+◌, ◌<◌, Bool, true, false, List, [], ◌∷◌, ◌++◌, All, AllPairs, Contains, get_or, length, inl, inr, Result, Ok, Err, IfErr, ⊎_elim, refl, sym, ap, ◌∙◌, subst, arith}
+use Rattle.std.specs.List.{flat_map, range_with_len}
+use Rattle.std.specs.Result.{IsErrAnd}
+use Rattle.std.proofs.lemmas.Bool.{false≢true}
+use Rattle.std.proofs.lemmas.Grind.{flat_map-append}
+use Rattle.std.proofs.lemmas.List.{append-nil}
+use Rattle.std.proofs.lemmas.List.Elements.{Contains-append_cases, Contains-append_right, Contains-get_or, Contains-push_cases}
+use Rattle.std.proofs.lemmas.List.Kept.{AllPairs-cons}
+use Rattle.nll_core.specs.ElementSet.{flag, elements, elements_from}
+use Rattle.nll_core.specs.Values.{set_of, IsHeld}
+use Rattle.nll_core.proofs.SpreadingLemmas.{flag_within}
+use Rattle.nll_core.specs.Problem.{Problem, IsSound, end_of}
+use Rattle.nll_core.specs.Faults.{AreFaults}
+use Rattle.nll_report.specs.declared.answers.AnswerError.{AnswerError}
+use Rattle.nll_report.specs.declared.answers.AnswerError.TheVariants.{Memory}
+use Rattle.nll_report.specs.Answer.{IsAnswerError, status_of_faults}
+use Rattle.nll_report.specs.Report.{IsListed, IsValuesReport}
+
+cons_cases : (x : ℕ) (xs : List ℕ) (y : ℕ) → Contains (x ∷ xs) y → (x ≡ y) ⊎ Contains xs y
+cons_cases x xs y h = ⊎_elim
+    (λ here. inl (⊎_elim (λ none. absurd (omega (arith, none.1))) (λ is. is) (Contains-push_cases [] x y here)))
+    inr
+    (Contains-append_cases (x ∷ []) xs y h)
+
+-- each number that is listed is the place of a flag that is set
+listed_is_set : (place : ℕ) (flags : List Bool) (e : ℕ) → Contains (elements_from place flags) e
+    → (i : ℕ) × (place + i ≡ e) × (get_or flags i false ≡ true)
+listed_is_set place [] e h = absurd (omega (arith, h.1))
+listed_is_set place (true ∷ flags) e h = ⊎_elim
+    (λ is. (zero, omega (arith, is), refl))
+    (λ later. let w = listed_is_set (place + 1) flags e later in (suc w.0, omega (arith, w.1), w.2))
+    (cons_cases place (elements_from (place + 1) flags) e h)
+listed_is_set place (false ∷ flags) e h =
+    let w = listed_is_set (place + 1) flags e h in (suc w.0, omega (arith, w.1), w.2)
+
+-- each flag that is set is listed
+set_is_listed : (place : ℕ) (flags : List Bool) (i e : ℕ) → get_or flags i false ≡ true → place + i ≡ e → Contains (elements_from place flags) e
+set_is_listed place [] i e set at = absurd (false≢true set)
+set_is_listed place (true ∷ flags) zero e set at = let same : place ≡ e = omega (arith, at) in (zero, omega arith, same)
+set_is_listed place (true ∷ flags) (suc i) e set at =
+    Contains-append_right (place ∷ []) (elements_from (place + 1) flags) e (set_is_listed (place + 1) flags i e set (omega (arith, at)))
+set_is_listed place (false ∷ flags) zero e set at = absurd (false≢true set)
+set_is_listed place (false ∷ flags) (suc i) e set at = set_is_listed (place + 1) flags i e set (omega (arith, at))
+
+ascend : (place : ℕ) (flags : List Bool) → AllPairs (λ d e. d < e) (elements_from place flags)
+ascend place [] = λ i j d lt within. absurd (omega (arith, within))
+ascend place (true ∷ flags) = AllPairs-cons (λ d e. d < e) place (elements_from (place + 1) flags) above (ascend (place + 1) flags)
+  where
+    above : All (λ e. place < e) (elements_from (place + 1) flags)
+    above k d lt =
+        let w = listed_is_set (place + 1) flags (get_or (elements_from (place + 1) flags) k d) (Contains-get_or (elements_from (place + 1) flags) k d lt) in
+        omega (arith, w.1)
+ascend place (false ∷ flags) = ascend (place + 1) flags
+
+-- an element that is listed is in the set
+pub element_is_held : (flags : List Bool) (e : ℕ) → Contains (elements flags) e → flag flags e ≡ true
+element_is_held flags e h =
+    let w = listed_is_set 0 flags e h in let at : w.0 ≡ e = omega (arith, w.1) in subst (λ i. flag flags i ≡ true) at w.2
+
+-- and so below the length of its flags
+pub element_within : (flags : List Bool) (e : ℕ) → Contains (elements flags) e → e < length flags
+element_within flags e h = flag_within flags e (element_is_held flags e h)
+
+-- the elements of a region's set list what the region holds
+pub elements_are_listed : (values : List (List Bool)) (r : ℕ) → IsListed (IsHeld values r) (elements (set_of values r))
+elements_are_listed values r = record {
+  each = λ e. (element_is_held (set_of values r) e, λ held. set_is_listed 0 (set_of values r) e e held (omega arith));
+  ascending = ascend 0 (set_of values r);
+}
+
+range_more : (a n : ℕ) → range_with_len a (suc n) ≡ range_with_len a n ++ (a + n) ∷ []
+range_more a zero = let same : a ≡ a + 0 = omega arith in ap (λ (x : ℕ). x ∷ []) same
+range_more a (suc n) = let same : a + 1 + n ≡ a + suc n = omega arith in ap (λ xs. a ∷ xs) (range_more (a + 1) n ∙ ap (λ (x : ℕ). range_with_len (a + 1) n ++ x ∷ []) same)
+
+-- one line more
+pub lines_more : (line : ℕ → List ℕ) (n : ℕ) → flat_map line (range_with_len 0 (n + 1)) ≡ flat_map line (range_with_len 0 n) ++ line n
+lines_more line n =
+    let on : n + 1 ≡ suc n = omega arith in
+    let here : 0 + n ≡ n = omega arith in
+    ap (λ k. flat_map line (range_with_len 0 k)) on ∙ ap (flat_map line) (range_more 0 n ∙ ap (λ (k : ℕ). range_with_len 0 n ++ k ∷ []) here) ∙ flat_map-append line (range_with_len 0 n) (n ∷ [])
+    ∙ ap (λ last. flat_map line (range_with_len 0 n) ++ last) (append-nil (line n))
+
+-- a report of values is one of any values that hold the same
+pub report_carries : (q : Problem) (names : List (List ℕ)) (old new : ℕ → ℕ → Type 0) → ((r e : ℕ) → old r e ↔ new r e)
+    → (text : List ℕ) → IsValuesReport q names old text → IsValuesReport q names new text
+report_carries q names old new same text report = record {
+  elements = report.elements;
+  listed = λ r within. record {
+    each = λ e. (λ h. (same r e).0 (((report.listed r within).each e).0 h), λ h. ((report.listed r within).each e).1 ((same r e).1 h));
+    ascending = (report.listed r within).ascending;
+  };
+  printed = report.printed;
+}
+
+-- faults of values are those of any values that hold the same
+pub faults_carry : (q : Problem) (old new : ℕ → ℕ → Type 0) → ((r e : ℕ) → old r e ↔ new r e) → (faults : List (ℕ × ℕ)) → AreFaults q old faults → AreFaults q new faults
+faults_carry q old new same faults are = record {
+  each = λ a b. (
+    λ h. let f = (are.each a b).0 h in (f.0, f.1, (same a (end_of q b)).0 f.2, f.3),
+    λ f. (are.each a b).1 (f.0, f.1, (same a (end_of q b)).1 f.2, f.3),
+  );
+  ordered = are.ordered;
+}
+
+-- the regions of a fault are regions of the problem
+pub faults_within : (q : Problem) → IsSound q → (values : ℕ → ℕ → Type 0) (faults : List (ℕ × ℕ)) → AreFaults q values faults
+    → (k : ℕ) (d : ℕ × ℕ) → k < length faults → ((get_or faults k d).0 < q.regions) × ((get_or faults k d).1 < q.regions)
+faults_within q sound values faults are k d lt =
+    let fault = get_or faults k d in
+    let f = (are.each fault.0 fault.1).0 (Contains-get_or faults k d lt) in
+    (omega (arith, f.0, sound.universals_are_regions), omega (arith, f.1, sound.universals_are_regions))
+
+-- the status of no faults is 0
+pub told_none : (faults : List (ℕ × ℕ)) → length faults ≡ 0 → 0 ≡ status_of_faults faults
+told_none [] none = refl
+told_none (fault ∷ faults) none = absurd (omega (arith, none))
+
+-- and of some it is 1
+pub told_some : (faults : List (ℕ × ℕ)) → (length faults ≡ 0 → ⊥) → 1 ≡ status_of_faults faults
+told_some [] some = absurd (some refl)
+told_some (fault ∷ faults) some = refl
+
+-- that memory was refused is always an answer's error
+pub memory_is_told : {A : Type 0} (text : List ℕ) (answer : Result A AnswerError) → IsErrAnd answer (λ error. error ≡ Memory) → IfErr answer (IsAnswerError text)
+memory_is_told text (Ok answer) h = tt
+memory_is_told text (Err error) h = subst (IsAnswerError text) (sym h) tt

@@ -1,0 +1,49 @@
+-- The answer to a text.
+-- Source: project's choice over RFC 2094, "Solving constraints" and "Layer 4: Named lifetimes".
+use Rattle.std.specs.Prelude.{◌≡◌, ℕ, List, [], ◌∷◌}
+use Rattle.nll_core.specs.Problem.{Problem}
+use Rattle.nll_core.specs.Solution.{Least}
+use Rattle.nll_core.specs.Faults.{AreFaults}
+use Rattle.nll_mir.specs.FactsText.{Means, IsFault}
+use Rattle.nll_report.specs.Report.{IsValuesReport, faults_report}
+use Rattle.nll_report.specs.declared.answers.Command.{Command}
+use Rattle.nll_report.specs.declared.answers.Command.TheVariants.{Values, Check}
+use Rattle.nll_report.specs.declared.answers.AnswerError.{AnswerError}
+use Rattle.nll_report.specs.declared.answers.AnswerError.TheVariants.{Text, Memory}
+
+-- 1 where there is a fault, else 0
+abbrev pub status_of_faults : List (ℕ × ℕ) → ℕ
+status_of_faults [] = 0
+status_of_faults (fault ∷ faults) = 1
+
+-- The text means a problem, and the report is that of its least values.
+pub record IsValuesAnswer (text report : List ℕ) (status : ℕ) : Type 0 where
+  pub problem : Problem
+  pub names : List (List ℕ)
+  pub meaning : Means text problem names
+  pub values : IsValuesReport problem names (Least problem) report
+  pub told : status ≡ 0
+
+-- The report is that of the faults of the problem's least values, and the status tells whether there are any.
+pub record IsCheckReport (q : Problem) (names : List (List ℕ)) (report : List ℕ) (status : ℕ) : Type 0 where
+  pub faults : List (ℕ × ℕ)
+  pub exact : AreFaults q (Least q) faults
+  pub printed : report ≡ faults_report names faults
+  pub told : status ≡ status_of_faults faults
+
+-- The text means a problem, and the report and the status are those of its faults.
+pub record IsCheckAnswer (text report : List ℕ) (status : ℕ) : Type 0 where
+  pub problem : Problem
+  pub names : List (List ℕ)
+  pub meaning : Means text problem names
+  pub check : IsCheckReport problem names report status
+
+-- the report and the status answer the command on the text
+abbrev pub IsAnswer : Command → List ℕ → List ℕ → ℕ → Type 0
+IsAnswer Values text report status = IsValuesAnswer text report status
+IsAnswer Check text report status = IsCheckAnswer text report status
+
+-- the error tells the text's fault, or that a growth of memory was refused
+abbrev pub IsAnswerError : List ℕ → AnswerError → Type 0
+IsAnswerError text (Text error) = IsFault text error.line error.kind
+IsAnswerError text Memory = Unit {0}

@@ -1,0 +1,35 @@
+-- Which words make a command line.
+-- Source: this project's own.
+use Rattle.std.specs.Prelude.{◌≡◌, ◌⊎◌, ◌==◌, ℕ, Bool, false, List, [], ◌∷◌, codes}
+use Rattle.nll_report.specs.declared.task.Task.{Task}
+use Rattle.nll_report.specs.declared.task.Task.TheVariants.{Values, Check}
+
+-- the word that names a task
+abbrev pub name_of : Task → List ℕ
+name_of Values = codes "values"
+name_of Check = codes "check"
+
+-- a hyphen (45) and more: an option, or the end of the options
+abbrev pub begins_as_option : List ℕ → Bool
+begins_as_option [] = false
+begins_as_option (b ∷ []) = false
+begins_as_option (b ∷ c ∷ rest) = b == 45
+
+-- the words are the name of the task and those others
+abbrev pub AsksFor : Task → List (List ℕ) → List (List ℕ) → Type 0
+AsksFor task rest words = words ≡ name_of task ∷ rest
+
+-- the words after a command name the file: it stands alone, or with `--` before it or behind it
+abbrev pub NamesFile : List ℕ → List (List ℕ) → Type 0
+NamesFile file words = (words ≡ file ∷ [])
+    ⊎ ((words ≡ codes "--" ∷ file ∷ []) ⊎ (words ≡ file ∷ codes "--" ∷ []))
+
+-- the words name the task and then the file
+abbrev pub IsLine : Task → List ℕ → List (List ℕ) → Type 0
+IsLine task file words = (rest : List (List ℕ)) × AsksFor task rest words × NamesFile file rest
+
+-- the same, of a file that does not begin as an option unless `--` stands before it
+abbrev pub IsPlainLine : Task → List ℕ → List (List ℕ) → Type 0
+IsPlainLine task file words = (AsksFor task (file ∷ []) words × (begins_as_option file ≡ false))
+    ⊎ (AsksFor task (codes "--" ∷ file ∷ []) words
+    ⊎ (AsksFor task (file ∷ codes "--" ∷ []) words × (begins_as_option file ≡ false)))

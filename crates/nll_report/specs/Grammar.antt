@@ -1,0 +1,50 @@
+-- The commands as the parser of the words reads them, and the line that its matches come to.
+-- Source: this project's own, over the words of the crate `clap`.
+use Rattle.std.specs.Prelude.{List, Option, Some, None, true, codes, if◌then◌else◌, option_and_then, option_map}
+use Rattle.std.specs.Str.{bytes_eq}
+use Rattle.clap.specs.Words.{App, Row, Rule, Text, first_of, new_app, new_rule, subcommand_of, with_rule, with_subcommand}
+use Rattle.clap.specs.declared.builder.ArgAction.TheVariants.{Set}
+use Rattle.nll_report.specs.declared.task.Task.{Task}
+use Rattle.nll_report.specs.declared.task.Task.TheVariants.{Values, Check}
+use Rattle.nll_report.specs.CommandLine.{name_of}
+
+-- the place of the file among the words of a command
+abbrev pub file_rule : Rule
+file_rule = record (new_rule (codes "FILE")) { action = Some Set; required = true }
+
+-- the command of a task, with its file
+abbrev pub command_of : Task → App
+command_of task = with_rule (new_app (name_of task)) file_rule
+
+-- the program, before its commands
+abbrev pub bare_program : App
+bare_program = record (new_app (codes "nllc")) {
+  top = record (new_app (codes "nllc")).top {
+    no_binary_name = true;
+    disable_help_subcommand = true;
+    subcommand_required = true;
+  };
+}
+
+-- the program with its two commands
+abbrev pub program : App
+program = with_subcommand (with_subcommand bare_program (command_of Values).top) (command_of Check).top
+
+-- the task of a name
+abbrev pub task_named : Text → Option Task
+task_named name =
+    if bytes_eq name (codes "values") then Some Values
+    else (if bytes_eq name (codes "check") then Some Check else None)
+
+-- the line of a command and what was found for it
+abbrev pub line_of_found : Text × List Row → Option (Task × Text)
+line_of_found found = option_and_then (λ task. option_map (λ file. (task, file))
+    (first_of (codes "FILE") found.1)) (task_named found.0)
+
+-- the line of the matches, where they have one
+abbrev pub line_of_matches : Option (Text × List Row) → Option (Task × Text)
+line_of_matches = option_and_then line_of_found
+
+-- the line that the words come to, where the parser takes them
+abbrev pub line_by_grammar : List Text → Option (Task × Text)
+line_by_grammar words = line_of_matches (subcommand_of program words)

@@ -1,0 +1,134 @@
+//! What the words of the command line ask for.
+ghost use Rattle.std.specs.Prelude.{◌≡◌, ◌⊎◌, ℕ, List, MatchResult, IfErr, IfOk, None, Some, false};
+ghost use Rattle.std.specs.Prelude.{map, string_bytes};
+ghost use Rattle.nll_report.specs.declared.task.Task.{Task};
+ghost use Rattle.nll_report.specs.CommandLine.{IsLine, IsPlainLine};
+ghost use Rattle.clap.specs.Words.{app_of, found_of, kind_of, rows_of, rule_of};
+ghost use Rattle.clap.specs.Words.{new_app, subcommand_rows_of, with_rule};
+ghost use Rattle.clap.specs.declared.builder.Command.TheViews.{out-Command};
+ghost use Rattle.nll_report.specs.Grammar.{bare_program, file_rule, line_of_found};
+ghost use Rattle.nll_report.specs.Grammar.{line_of_matches, program, task_named};
+
+use crate::task::{Line, LineError, Task};
+use clap::error::ErrorKind;
+use clap::{Arg, ArgAction, ArgMatches, Command, Error};
+use std::alloc::{AllocError, Global};
+
+const VALUES: &str = "values";
+
+const CHECK: &str = "check";
+
+const FILE: &str = "FILE";
+
+/// Reads the program's words, without its name.
+///
+/// # Errors
+/// - `Help`: `-h` or `--help` stands before the first word that is refused.
+/// - `Usage`: a word is refused, or one is missing.
+/// - `Memory`: an allocation was refused.
+pub fn line(alloc: Global, words: &[String]) -> Result<Line, LineError>
+    ensures ok { IfOk result (λ l.
+        IsLine l.task (string_bytes l.file) (map string_bytes words.now)) }
+    ensures plain { (task : Task) (file : List ℕ)
+        → IsPlainLine task file (map string_bytes words.now)
+        → MatchResult result (λ l. (l.task ≡ task) × (string_bytes l.file ≡ file))
+        (λ e. e ≡ LineError.Memory) }
+{
+    match grammar(alloc)?.try_get_matches_from(words) {
+        Ok(matches) => line_of(alloc, &matches),
+        Err(error) => Err(refusal(alloc, &error)),
+    }
+}
+
+// The program, with the words that each of its commands takes.
+fn grammar<'a>(alloc: Global) -> Result<Command<'a>, AllocError>
+    ensures { IfOk result (λ c. app_of c ≡ program) }
+{
+    let values = command(alloc, VALUES, "Prints the values of the regions of FILE")?;
+    let check = command(alloc, CHECK, "Checks the universal regions of FILE")?;
+    bare_program(alloc)?.subcommand(values)?.subcommand(check)
+}
+
+// The program, before its commands.
+fn bare_program<'a>(alloc: Global) -> Result<Command<'a>, AllocError>
+    ensures { IfOk result (λ c. app_of c ≡ bare_program) }
+{
+    let program = Command::new(alloc, "nllc")
+        .about("Solves the region constraints of location-aware non-lexical lifetimes")
+        .no_binary_name(true)
+        .disable_help_subcommand(true)
+        .subcommand_required(true);
+    program.bin_name("nllc")
+}
+
+// A command, with its file.
+fn command<'a>(alloc: Global, name: &'a str, about: &'a str) -> Result<Command<'a>, AllocError>
+    ensures shape { IfOk result (λ c. app_of c ≡ with_rule (new_app name.entry.now) file_rule) }
+    ensures local { IfOk result (λ c. (out-Command c).has_globals ≡ false) }
+{
+    Command::new(alloc, name).about(about).arg(file_word(alloc))
+}
+
+fn file_word<'a>(alloc: Global) -> Arg<'a>
+    ensures rule { rule_of result ≡ file_rule }
+    ensures local { result.global ≡ false }
+{
+    Arg::new(alloc, FILE)
+        .help("The facts text")
+        .action(ArgAction::Set)
+        .required(true)
+}
+
+// The line that the words came to.
+fn line_of(alloc: Global, matches: &ArgMatches<'_>) -> Result<Line, LineError>
+    ensures ok { IfOk result (λ l. line_of_matches (subcommand_rows_of matches.now)
+        ≡ Some (l.task, string_bytes l.file)) }
+    ensures err { IfErr result (λ e. (e ≡ LineError.Memory)
+        ⊎ (line_of_matches (subcommand_rows_of matches.now) ≡ None)) }
+{
+    match matches.subcommand() {
+        Some((name, found)) => line_of_command(alloc, name, found),
+        None => Err(LineError::Usage),
+    }
+}
+
+// The line of a command and what was found for it.
+fn line_of_command(alloc: Global, name: &str, found: &ArgMatches<'_>) -> Result<Line, LineError>
+    ensures ok { IfOk result (λ l. line_of_found (name.now, rows_of (found_of found.now))
+        ≡ Some (l.task, string_bytes l.file)) }
+    ensures err { IfErr result (λ e. (e ≡ LineError.Memory)
+        ⊎ (line_of_found (name.now, rows_of (found_of found.now)) ≡ None)) }
+{
+    let Some(task) = task_of(name) else {
+        return Err(LineError::Usage);
+    };
+    let Some(file) = found.get_str(FILE) else {
+        return Err(LineError::Usage);
+    };
+    let file = String::from_str(alloc, file)?;
+    Ok(Line { task, file })
+}
+
+fn task_of(name: &str) -> Option<Task>
+    ensures { result ≡ task_named name.now }
+{
+    match name {
+        VALUES => Some(Task::Values),
+        CHECK => Some(Task::Check),
+        _ => None,
+    }
+}
+
+// What the program makes of words that have no matches.
+fn refusal(alloc: Global, error: &Error) -> LineError
+    ensures { kind_of error.now ≡ ErrorKind.OutOfMemory → result ≡ LineError.Memory }
+{
+    match error.kind() {
+        ErrorKind::OutOfMemory => LineError::Memory,
+        ErrorKind::DisplayHelp => match error.to_string(alloc) {
+            Ok(text) => LineError::Help(text),
+            Err(_) => LineError::Memory,
+        },
+        _ => LineError::Usage,
+    }
+}

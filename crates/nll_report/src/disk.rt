@@ -1,0 +1,48 @@
+//! The files of the system as texts.
+use crate::program::{Texts, Unread};
+use std::alloc::Global;
+use std::fs::OpenFile;
+use std::io::Read;
+use std::rt::Files;
+use std::{fs, io};
+
+/// One byte past the longest text: that many show that a text is too long.
+const READ_LIMIT: u64 = 67_108_865;
+
+/// The files of the runtime.
+///
+/// # Cost
+/// At most 67,108,865 bytes of a file are read, whatever its length; a file whose length is known is
+/// read into one allocation (not proved).
+#[derive(Drop)]
+pub struct Disk<'a, R> {
+    rt: &'a R,
+}
+
+impl<'a, R> Disk<'a, R> {
+    pub fn new(rt: &'a R) -> Self {
+        Disk { rt }
+    }
+}
+
+impl<R: Files + AllocGlobal> Texts for Disk<'_, R> {
+    fn get(&self, path: &str) -> Result<Vec<u8>, Unread> {
+        match read_file(self.rt, path) {
+            Ok(text) => Ok(text),
+            Err(error) if error.kind() == io::ErrorKind::OutOfMemory => Err(Unread::Memory),
+            Err(_) => Err(Unread::Cannot),
+        }
+    }
+}
+
+fn read_file<R: Files + AllocGlobal>(rt: &R, path: &str) -> io::Result<Vec<u8>> {
+    let file = fs::open(rt, path)?;
+    let length = match file.metadata() {
+        Ok(known) => known.len().min(READ_LIMIT),
+        Err(_) => 0,
+    };
+    // The byte more shows the end of the file without another allocation.
+    let mut text = Vec::with_capacity(rt.alloc(), length as usize + 1)?;
+    file.take(READ_LIMIT).read_to_end(&mut text)?;
+    Ok(text)
+}

@@ -1,0 +1,130 @@
+-- Cutting off the first line of a text.
+use Rattle.std.proofs.Common.{◌≡◌, ℕ, ◌+◌, ◌-◌, ◌<◌, ◌≤◌, Bool, true, false, cond, eqb, ltb, List, [], ◌∷◌, ◌++◌, length, get_or, take, drop, refl, sym, ap, ◌∙◌, arith, All, Some, None}
+use Rattle.std.specs.List.{slice_split, position, position_or_len}
+use Rattle.std.proofs.lemmas.List.{take_rest, get_or-take, get_or_default, length-take, take-append-drop, drop_more, nil_from_length}
+use Rattle.std.proofs.lemmas.List.Splits.{length-slice_split, slice_split_at, slice_split_none}
+use Rattle.std.proofs.lemmas.List.Sums.{count_by-le-length, fails_before_first}
+use Rattle.std.proofs.lemmas.List.Quantifiers.{position-Some}
+use Rattle.std.proofs.lemmas.Bool.{ltb-false, eqb-true}
+use Rattle.std.proofs.lemmas.List.Elements.{All-head, All-tail}
+use Rattle.nll_text.specs.Lines.{lines_of, without_last_feed}
+
+abbrev is_feed : ℕ → Bool
+is_feed b = eqb b 10
+
+abbrev HasNoFeed : List ℕ → Type 0
+HasNoFeed bs = All (λ b. is_feed b ≡ false) bs
+
+-- ---- a text without its last line feed
+
+without_last_feed-none : (bs : List ℕ) → HasNoFeed bs → without_last_feed bs ≡ bs
+without_last_feed-none [] clear = refl
+without_last_feed-none (b ∷ []) clear = rw (All-head (λ b. is_feed b ≡ false) b [] clear) refl
+without_last_feed-none (b ∷ c ∷ bs) clear =
+    ap (λ (xs : List ℕ). b ∷ xs)
+    (without_last_feed-none (c ∷ bs) (All-tail (λ b. is_feed b ≡ false) b (c ∷ bs) clear))
+
+without_last_feed-last : (front : List ℕ) → without_last_feed (front ++ 10 ∷ []) ≡ front
+without_last_feed-last [] = refl
+without_last_feed-last (b ∷ []) = refl
+without_last_feed-last (b ∷ c ∷ bs) =
+    ap (λ (xs : List ℕ). b ∷ xs) (without_last_feed-last (c ∷ bs))
+
+feed_inside : (front : List ℕ) (b : ℕ) (bs : List ℕ)
+    → without_last_feed (front ++ 10 ∷ b ∷ bs) ≡ front ++ 10 ∷ without_last_feed (b ∷ bs)
+feed_inside [] b bs = refl
+feed_inside (x ∷ []) b bs = refl
+feed_inside (x ∷ y ∷ front) b bs = ap (λ (xs : List ℕ). x ∷ xs) (feed_inside (y ∷ front) b bs)
+
+without_last_feed-inside : (front rest : List ℕ) → 0 < length rest
+    → without_last_feed (front ++ 10 ∷ rest) ≡ front ++ 10 ∷ without_last_feed rest
+without_last_feed-inside front [] some = absurd (omega arith)
+without_last_feed-inside front (b ∷ bs) some = feed_inside front b bs
+
+-- ---- what the first line feed's place says of the text
+
+not_some : (t : Bool) (n : ℕ) → cond t (Some n) None ≡ None → t ≡ false
+not_some true n e = absurd cc
+not_some false n e = refl
+
+no_feed : (text : List ℕ) → position is_feed text ≡ None → HasNoFeed text
+no_feed text e =
+    let place = position_or_len is_feed text in
+    let past : length text ≤ place =
+    ltb-false _ _ (not_some (ltb place (length text)) place e) in
+    λ k d lt. fails_before_first is_feed text k d (omega arith)
+
+-- the text is the bytes before i, which hold no line feed, one at i, and the bytes behind it
+pub record IsCutAt (text : List ℕ) (i : ℕ) : Type 0 where
+  clear : HasNoFeed (take i text)
+  joined : text ≡ take i text ++ 10 ∷ drop (i + 1) text
+
+cut_at : (text : List ℕ) (i : ℕ) → position is_feed text ≡ Some i → IsCutAt text i
+cut_at text i e =
+    let p = position-Some is_feed text i 0 e in
+    let feed : get_or text i 0 ≡ 10 = eqb-true _ _ p.1 in
+    record {
+      clear = λ k d lt. (
+          let low : k < i = omega (arith, length-take i text) in
+          rw (get_or-take i text k d low)
+          (rw (get_or_default text k d 0 (omega (arith, p.0))) (p.2 k low)));
+      joined = sym (take-append-drop i text)
+          ∙ ap (λ (xs : List ℕ). take i text ++ xs)
+          (drop_more text i 0 p.0 ∙ ap (λ (b : ℕ). b ∷ drop (i + 1) text) feed);
+    }
+
+-- ---- what the code's branches need
+
+-- the bytes from i on, as a slice gives them
+abbrev from : List ℕ → ℕ → List ℕ
+from text i = take (length text - i) (drop i text)
+
+pub one_line : (text : List ℕ) → position is_feed text ≡ None → lines_of text ≡ text ∷ []
+one_line text e =
+    let clear : HasNoFeed text = no_feed text e in
+    ap (slice_split is_feed) (without_last_feed-none text clear)
+    ∙ slice_split_none is_feed text clear
+
+pub last_line : (text : List ℕ) (i : ℕ) → position is_feed text ≡ Some i
+    → length (from text (i + 1)) ≡ 0 → lines_of text ≡ take i text ∷ []
+last_line text i e nothing =
+    let p = cut_at text i e in
+    let front : List ℕ = take i text in
+    let none : drop (i + 1) text ≡ [] = nil_from_length _ (rw take_rest at nothing) in
+    let cut : text ≡ front ++ 10 ∷ [] = p.joined ∙ ap (λ (xs : List ℕ). front ++ 10 ∷ xs) none in
+    ap lines_of cut ∙ ap (slice_split is_feed) (without_last_feed-last front)
+    ∙ slice_split_none is_feed front p.clear
+
+pub first_line : (text : List ℕ) (i : ℕ) → position is_feed text ≡ Some i
+    → 0 < length (from text (i + 1))
+    → lines_of text ≡ take i text ∷ lines_of (from text (i + 1))
+first_line text i e something =
+    let p = cut_at text i e in
+    let front : List ℕ = take i text in
+    let rest : List ℕ = drop (i + 1) text in
+    let some : 0 < length rest = rw take_rest at something in
+    rw take_rest
+    (ap lines_of p.joined ∙ ap (slice_split is_feed) (without_last_feed-inside front rest some)
+    ∙ slice_split_at is_feed front 10 (without_last_feed rest) p.clear refl)
+
+-- ---- how many lines there are
+
+length-picked : (t : Bool) (b : ℕ) → length (cond t [] (b ∷ [])) ≤ 1
+length-picked true b = omega arith
+length-picked false b = omega arith
+
+length-without_last_feed-le : (bs : List ℕ) → length (without_last_feed bs) ≤ length bs
+length-without_last_feed-le [] = omega arith
+length-without_last_feed-le (b ∷ []) = length-picked (eqb b 10) b
+length-without_last_feed-le (b ∷ c ∷ bs) = omega (arith, length-without_last_feed-le (c ∷ bs))
+
+-- a text has at most one line more than it has bytes
+pub length-lines_of-le : (text : List ℕ) → length (lines_of text) ≤ length text + 1
+length-lines_of-le text =
+    let cut = without_last_feed text in
+    omega (
+      arith,
+      length-slice_split is_feed cut,
+      count_by-le-length is_feed cut,
+      length-without_last_feed-le text,
+    )

@@ -1,0 +1,6 @@
+pub mod Lines
+pub mod Header
+pub mod Tokens
+pub mod Number
+pub mod Scan
+pub mod Lexing

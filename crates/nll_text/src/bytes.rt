@@ -1,0 +1,70 @@
+//! The classes of bytes, and the longest front of one class.
+
+ghost use Rattle.std.specs.Prelude.{◌≡◌};
+ghost use Rattle.std.specs.List.{prefix_len};
+ghost use Rattle.nll_text.specs.Lines as lines;
+ghost use Rattle.nll_text.specs.Tokens as tokens;
+ghost use Rattle.nll_text.specs.Lexing.{SplitsWhile, is_no_blank};
+
+// One of the bytes that words are made of.
+fn is_word_byte(byte: u8) -> bool
+    ensures { result ≡ tokens.is_word_byte byte }
+{
+    byte.is_ascii_alphanumeric() || byte == b'_'
+}
+
+// One of the tokens of one byte.
+pub(crate) fn is_sign(byte: u8) -> bool
+    ensures { result ≡ tokens.is_sign byte }
+{
+    matches!(
+        byte,
+        b'=' | b'&' | b'(' | b')' | b'<' | b'>' | b',' | b':' | b'.' | b'*' | b'+' | b'?'
+    )
+}
+
+// A space, a tab or a carriage return.
+fn is_blank(byte: u8) -> bool
+    ensures { result ≡ lines.is_blank byte }
+{
+    matches!(byte, b' ' | b'\t' | b'\r')
+}
+
+fn word_len(bytes: &[u8]) -> usize
+    ensures { result ≡ prefix_len tokens.is_word_byte bytes.now }
+{
+    bytes.iter().take_while(|byte| is_word_byte(**byte)).count()
+}
+
+fn gap_len(bytes: &[u8]) -> usize
+    ensures { result ≡ prefix_len lines.is_blank bytes.now }
+{
+    bytes.iter().take_while(|byte| is_blank(**byte)).count()
+}
+
+fn run_len(bytes: &[u8]) -> usize
+    ensures { result ≡ prefix_len is_no_blank bytes.now }
+{
+    bytes.iter().take_while(|byte| !is_blank(**byte)).count()
+}
+
+// The word bytes at the front, perhaps none, and the rest.
+pub(crate) fn split_word(bytes: &[u8]) -> (&[u8], &[u8])
+    ensures { SplitsWhile tokens.is_word_byte bytes.now result.0.now result.1.now }
+{
+    bytes.split_at(word_len(bytes))
+}
+
+// The blanks at the front, perhaps none, and the rest.
+pub(crate) fn split_gap(bytes: &[u8]) -> (&[u8], &[u8])
+    ensures { SplitsWhile lines.is_blank bytes.now result.0.now result.1.now }
+{
+    bytes.split_at(gap_len(bytes))
+}
+
+// The bytes in front of the first blank, perhaps none, and the rest.
+pub(crate) fn split_run(bytes: &[u8]) -> (&[u8], &[u8])
+    ensures { SplitsWhile is_no_blank bytes.now result.0.now result.1.now }
+{
+    bytes.split_at(run_len(bytes))
+}

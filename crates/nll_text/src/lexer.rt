@@ -1,0 +1,89 @@
+//! A line as tokens.
+
+ghost use Rattle.std.specs.Prelude.{◌≡◌, List, MatchOption, OnOk, IfOk, IfErr, false, ◌<◌, length};
+ghost use Rattle.nll_text.specs.Lines as lines;
+ghost use Rattle.nll_text.specs.Tokens as specs;
+ghost use Rattle.nll_text.specs.Tokens.{AreTokens, IsMadeOf, IsNotMade, view, views, first_passes};
+ghost use Rattle.nll_text.specs.Lexing.{BeginsWith, HasNoToken};
+
+use crate::bytes::{is_sign, split_gap, split_word};
+use crate::token::{LexError, Token};
+
+// The token that a line begins with, where it begins with no blank, and the rest.
+fn token_at(line: &[u8]) -> Option<(Token<'_>, &[u8])>
+    requires some { 0 < length line.now }
+    requires solid { first_passes lines.is_blank line.now ≡ false }
+    ensures { MatchOption result (IsNotMade line.now)
+        (λ p. BeginsWith line.now (view p.0) p.1.now) }
+{
+    let (first, after) = line.split_first()?;
+    match *first {
+        b'\'' => {
+            let (name, rest) = split_word(after);
+            if name.is_empty() {
+                return None;
+            }
+            Some((Token::Region(name), rest))
+        }
+        b'-' => {
+            let (second, rest) = after.split_first()?;
+            if *second != b'>' {
+                return None;
+            }
+            Some((Token::Arrow, rest))
+        }
+        sign if is_sign(sign) => Some((Token::Sign(sign), after)),
+        _ => {
+            let (name, rest) = split_word(line);
+            if name.is_empty() {
+                return None;
+            }
+            Some((Token::Word(name), rest))
+        }
+    }
+}
+
+// The first token of a line, and what stands after it.
+fn next_token(line: &[u8]) -> Result<Option<(Token<'_>, &[u8])>, LexError>
+    ensures ok { IfOk result (λ o.
+        MatchOption o (HasNoToken line.now) (λ p. BeginsWith line.now (view p.0) p.1.now)) }
+    ensures err { IfErr result (λ e. (e ≡ LexError.NoToken) × IsNotMade line.now) }
+{
+    let (_gap, core) = split_gap(line);
+    if core.is_empty() {
+        return Ok(None);
+    }
+    match token_at(core) {
+        Some(found) => Ok(Some(found)),
+        None => Err(LexError::NoToken),
+    }
+}
+
+/// Puts the tokens of a line into a list, in place of what the list held.
+///
+/// A reader hands in one list for all lines, so that a line asks for memory only where it has more
+/// tokens than each line before it.
+///
+/// # Errors
+/// - `NoToken`: no list of tokens makes the line.
+/// - `Memory`: the list could not grow.
+///
+/// What the list holds after an error is left open.
+///
+/// # Cost
+/// The length of the line (not proved).
+pub fn tokens_of<'a>(line: &'a [u8], tokens: &mut Vec<Token<'a>>) -> Result<(), LexError>
+    ensures each { OnOk result (AreTokens (views tokens.new.items)) }
+    ensures made { OnOk result (IsMadeOf line.now (views tokens.new.items)) }
+    ensures only { OnOk result ((ts : List specs.Token)
+        → IsMadeOf line.now ts → ts ≡ views tokens.new.items) }
+    ensures fault { result ≡ Err LexError.NoToken → IsNotMade line.now }
+{
+    tokens.clear();
+    let mut rest = line;
+    while let Some((token, after)) = next_token(rest)? {
+        tokens.push(token)?;
+        rest = after;
+    }
+    Ok(())
+}

@@ -1,0 +1,24 @@
+//! Texts as lines, tokens and numbers: what the readers of all line-based formats share.
+//! It knows no format.
+//!
+//! Reading order: `lines`, `token`, `bytes`, `lexer`, `number`, `header`, `scan`, `laws`.
+#![tactic(auto)]
+
+mod bytes;
+mod header;
+mod laws;
+mod lexer;
+mod lines;
+mod number;
+mod scan;
+#[cfg(test)]
+mod tests;
+mod token;
+
+pub use header::is_header;
+pub use laws::one_token_list;
+pub use lexer::tokens_of;
+pub use lines::next_line;
+pub use number::number_of;
+pub use scan::{ScanError, Scanned, scan_line};
+pub use token::{LexError, Token};
