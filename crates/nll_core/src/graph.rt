@@ -159,6 +159,7 @@ fn index_grown(
     list: &[u32],
     to: u32,
 ) -> Result<(), Memory>
+    requires { SCANNED < length list.now → (q : ℕ) → Contains list.now q → Contains index.old.keys (from, q) }
     ensures ok { OnOk result (Indexes index.old.keys index.new.keys from (list.now ++ to ∷ [])) }
     ensures err { OnErr result (Indexes index.old.keys index.new.keys from list.now) }
     ensures all { OnOk result (SCANNED ≤ length list.now → (q : ℕ) → Contains (list.now ++ to ∷ []) q → Contains index.new.keys (from, q)) }
@@ -170,11 +171,16 @@ fn index_grown(
     Ok(())
 }
 
-// Puts the edges from a point to its successors into the index.
+// Puts the edges from a point to its successors into the index, unless these are so many that they
+// are there.
 fn index_all(index: &mut IndexSet<(u32, u32)>, from: u32, list: &[u32]) -> Result<(), Memory>
+    requires { SCANNED < length list.now → (q : ℕ) → Contains list.now q → Contains index.old.keys (from, q) }
     ensures indexes { Indexes index.old.keys index.new.keys from list.now }
     ensures all { OnOk result ((q : ℕ) → Contains list.now q → Contains index.new.keys (from, q)) }
 {
+    if list.len() > SCANNED {
+        return Ok(());
+    }
     for to in list {
         index.insert((from, *to))?;
     }

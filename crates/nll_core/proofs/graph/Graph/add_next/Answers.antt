@@ -70,3 +70,9 @@ returns-clause-ok c =
 
 pub returns-clause-sound : goal.returns-clause-sound
 returns-clause-sound c = (stored (goal.at.returns-clause-sound c).After-push_reserved).sound
+
+pub index_grown-requires : goal.index_grown-requires
+index_grown-requires c =
+    let d = (goal.at.index_grown-requires c).After-as_slice in
+    subst (λ xs. SCANNED < length xs → (q : ℕ) → Contains xs q → Contains {X = ℕ × ℕ} c.self.inside.index.keys (c.args.from, q)) (sym (is_list d))
+    (λ size q. c.self.invariant.indexed.long c.args.from q size)
