@@ -134,6 +134,3 @@ fn next_place(words: &[u64], from: usize) -> Option<usize>
         None => next_place_from_word(words, index + 1),
     }
 }
-
-#[cfg(test)]
-mod tests;

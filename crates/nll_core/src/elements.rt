@@ -55,6 +55,3 @@ impl<'a, S: ElementSet> Iterator for Elements<'a, S> {
         Some(found)
     }
 }
-
-#[cfg(test)]
-mod tests;

@@ -14,8 +14,6 @@ mod limits;
 mod problem;
 mod reachability;
 mod solver;
-#[cfg(test)]
-mod tests;
 mod values;
 
 pub use bit_set::BitSet;
