@@ -5,7 +5,6 @@ use Rattle.std.proofs.lemmas.List.{map-set, get_or-set_other, get_or-set_same, l
 use Rattle.std.proofs.lemmas.List.Elements.{Contains-push, Contains-push_cases, Contains-append_left, Contains-append_right, Contains-append_cases}
 use Rattle.std.proofs.lemmas.List.Quantifiers.{all_pairs_push}
 use Rattle.std.proofs.lemmas.Bool.{cases_eq, cases_lt}
-use Rattle.nll_core.specs.Graph.{IsSound}
 use Rattle.nll_core.specs.Adjacency.{edges_from, edges_of, next_of, graph_of, Indexes, IsIndexed, IsStored}
 use Rattle.nll_core.specs.Building.{AddsFact}
 use Rattle.nll_core.specs.declared.graph.TheConstants.{SCANNED}

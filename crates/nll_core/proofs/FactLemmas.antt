@@ -1,5 +1,5 @@
 -- Sets of facts that are kept as lists: what a search finds in them, and what an insert adds.
-use Rattle.std.proofs.Common.{◌≡◌, ℕ, ◌+◌, Bool, true, false, cond, nat_eq, ◌&&◌, List, [], ◌∷◌, ◌++◌, ◌<◌, ◌≤◌, ◌⊎◌, inl, inr, Contains, length, refl, sym, ap, ◌∙◌, subst, ◌↔◌, ⊎_elim, length-append, arith}
+use Rattle.std.proofs.Common.{◌≡◌, ℕ, Bool, true, false, cond, nat_eq, ◌&&◌, List, [], ◌∷◌, ◌++◌, ◌<◌, ◌≤◌, ◌⊎◌, inl, Contains, length, refl, sym, ap, ◌∙◌, subst, ◌↔◌, ⊎_elim, length-append, arith}
 use Rattle.std.specs.List.{list_any}
 use Rattle.std.specs.Cmp.{IsEquivalence}
 use Rattle.std.proofs.lemmas.List.Elements.{Contains-push, Contains-push_cases, Contains-append_left}
@@ -105,6 +105,9 @@ number_found = found nat_eq number_is number_same
 -- the same where the test takes the searched number last
 pub number_found_last : (ks : List ℕ) (n : ℕ) → (list_any (λ k. nat_eq k n) ks ≡ true) ↔ Contains ks n
 number_found_last = found (λ n k. nat_eq k n) (λ x y h. sym (eqb-true y x h)) number_same
+
+pub pair_found_last : (ks : List (ℕ × ℕ)) (x : ℕ × ℕ) → (list_any (λ k. same_pair k x) ks ≡ true) ↔ Contains ks x
+pair_found_last = found (λ n k. same_pair k n) (λ x y h. sym (pair_is y x h)) pair_same
 
 -- what an insert adds to pairs, constraints and numbers
 pub adds_pair : (ks : List (ℕ × ℕ)) (x : ℕ × ℕ) → AddsFact ks (cond (list_any (same_pair x) ks) ks (ks ++ x ∷ [])) x

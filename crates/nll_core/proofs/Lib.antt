@@ -1,6 +1,8 @@
 pub mod BitSetLemmas
 pub mod ElementsLemmas
 pub mod FactLemmas
+pub mod SameLemmas
+pub mod BaseLemmas
 pub mod AdjacencyLemmas
 pub mod ProblemLemmas
 pub mod WalkLemmas

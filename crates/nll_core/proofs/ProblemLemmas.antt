@@ -1,7 +1,7 @@
 -- A problem stays sound as facts are added.
-use Rattle.std.proofs.Common.{◌≡◌, ℕ, ◌+◌, ◌<◌, ◌≤◌, List, ◌⊎◌, Contains, length, subst, sym, ⊎_elim, arith}
+use Rattle.std.proofs.Common.{◌≡◌, ℕ, ◌+◌, ◌<◌, ◌≤◌, List, ◌⊎◌, Contains, length, subst, ⊎_elim, arith}
 use Rattle.nll_core.specs.Graph.{Graph, IsSound as IsSoundGraph}
-use Rattle.nll_core.specs.Problem.{Problem, IsSound, IsUniversal}
+use Rattle.nll_core.specs.Problem.{Problem, IsSound, IsUniversal, SameSet}
 use Rattle.nll_core.specs.declared.constraint.Constraint.{Constraint}
 use Rattle.nll_core.specs.declared.limits.TheConstants.{MAX_REGIONS, MAX_CONSTRAINTS}
 
@@ -43,6 +43,19 @@ module _ (q : Problem) (s : IsSound q) where
         (s.bases_in_range x y)
         (λ is. subst (λ (z : ℕ × ℕ). (z.0 < q.regions) × (z.1 < q.graph.points)) is (region, point))
         (only (x, y) h);
+    constraint_regions = s.constraint_regions;
+    constraint_points = s.constraint_points;
+    outlives_in_range = s.outlives_in_range;
+  }
+
+  -- the same base facts in another list
+  pub sound_same_bases : (new : List (ℕ × ℕ)) → SameSet q.bases new → IsSound (record q { bases = new })
+  sound_same_bases new same = record {
+    graph = s.graph;
+    universals_are_regions = s.universals_are_regions;
+    region_limit = s.region_limit;
+    constraint_limit = s.constraint_limit;
+    bases_in_range = λ r e h. s.bases_in_range r e ((same (r, e)).1 h);
     constraint_regions = s.constraint_regions;
     constraint_points = s.constraint_points;
     outlives_in_range = s.outlives_in_range;

@@ -1,24 +1,15 @@
 -- The solver: the base elements, a round over the constraints, and the least solution at the end of the rounds.
-use Rattle.std.proofs.Common.{◌≡◌, ◌⊎◌, ◌↔◌, ℕ, ◌+◌, ◌<◌, ◌≤◌, Bool, true, false, ◌||◌, List, replicate, Contains, IsTrue, length, get_or, refl, sym, ap, ◌∙◌, subst, inl, inr, ⊎_elim, arith}
-use Rattle.std.proofs.lemmas.Bool.{true≢false, cases_eq, cases_lt}
+use Rattle.std.proofs.Common.{◌≡◌, ◌↔◌, ℕ, ◌+◌, ◌<◌, ◌≤◌, Bool, true, false, ◌||◌, List, replicate, Contains, IsTrue, length, get_or, refl, sym, ap, ◌∙◌, subst, inl, inr, ⊎_elim, arith}
+use Rattle.std.proofs.lemmas.Bool.{true≢false, cases_eq}
 use Rattle.std.proofs.lemmas.List.{get_or_default, get_or-replicate, length-replicate}
 use Rattle.nll_core.specs.Graph.{element_count}
-use Rattle.nll_core.specs.Problem.{Problem, IsBase, IsUniversal, end_of, IsSound}
+use Rattle.nll_core.specs.Problem.{Problem, IsBase, IsUniversal, end_of}
 use Rattle.nll_core.specs.Solution.{Satisfies, Least}
 use Rattle.nll_core.specs.Values.{set_of, holds, IsHeld, with_element, IsShaped}
 use Rattle.nll_core.specs.Growing.{Gains, Tells, IsBelow, StaysBelow, IsAsked, IsMet, IsClosed}
 use Rattle.nll_core.specs.declared.constraint.Constraint.{Constraint}
 use Rattle.nll_core.proofs.WalkLemmas.{reaches_weaker}
-use Rattle.nll_core.proofs.GrowingLemmas.{held_one, gains_none, gains_one, gains_append, gains_weaker, tells_none, tells_append, nothing_held}
-
--- ---- laws of the least solution
-
--- the least solution is one
-pub least_satisfies : (q : Problem) → Satisfies q (Least q)
-least_satisfies q = record {
-  base = λ r e b. λ assignment sat. sat.base r e b;
-  each = λ c h e r. λ assignment sat. sat.each c h e (reaches_weaker q.graph (Least q c.sub) c.at (λ f. IsTrue (assignment c.sub f)) (λ x l. l assignment sat) e r);
-}
+use Rattle.nll_core.proofs.GrowingLemmas.{held_one, gains_none, gains_one, gains_append, gains_weaker, tells_none, tells_append}
 
 module _ (q : Problem) where
   -- ---- shapes
@@ -70,23 +61,23 @@ module _ (q : Problem) where
             (cases_eq r count);
       }
 
-  -- The base facts before `count` are held.
-  pub record Listing (old new : List (List Bool)) (count : ℕ) : Type 0 where
+  -- The facts before `count` of a list of base facts are held.
+  pub record Listing (facts : List (ℕ × ℕ)) (old new : List (List Bool)) (count : ℕ) : Type 0 where
     pub gains : Gains (IsBase q) old new
-    pub covers : (k r e : ℕ) → k < count → get_or q.bases k (r, e) ≡ (r, e) → IsHeld new r e
+    pub covers : (k r e : ℕ) → k < count → get_or facts k (r, e) ≡ (r, e) → IsHeld new r e
 
-  pub listing_first : (old : List (List Bool)) → Listing old old 0
-  listing_first old = record { gains = gains_none (IsBase q) old; covers = λ k r e h is. absurd (omega arith) }
+  pub listing_first : (facts : List (ℕ × ℕ)) (old : List (List Bool)) → Listing facts old old 0
+  listing_first facts old = record { gains = gains_none (IsBase q) old; covers = λ k r e h is. absurd (omega arith) }
 
   -- one more of them
-  pub listing_more : (old new : List (List Bool)) (count r e : ℕ) → Contains q.bases (r, e) → ((s f : ℕ) → get_or q.bases count (s, f) ≡ (s, f) → (s ≡ r) × (f ≡ e)) → Listing old new count
-      → r < length new → e < length (set_of new r) → Listing old (with_element new r e) (count + 1)
-  listing_more old new count r e listed only f within below =
+  pub listing_more : (facts : List (ℕ × ℕ)) (old new : List (List Bool)) (count r e : ℕ) → Contains q.bases (r, e) → ((s f : ℕ) → get_or facts count (s, f) ≡ (s, f) → (s ≡ r) × (f ≡ e)) → Listing facts old new count
+      → r < length new → e < length (set_of new r) → Listing facts old (with_element new r e) (count + 1)
+  listing_more facts old new count r e listed only f within below =
       let last : Gains (IsBase q) new (with_element new r e) = gains_one new r e within below (IsBase q) (inl listed) in
       record {
         gains = gains_append (IsBase q) _ _ _ f.gains last;
         covers = λ k s x h is. ⊎_elim
-            (λ same. let at = only s x (subst (λ i. get_or q.bases i (s, x) ≡ (s, x)) same is) in
+            (λ same. let at = only s x (subst (λ i. get_or facts i (s, x) ≡ (s, x)) same is) in
             subst (λ a. IsHeld (with_element new r e) a x) (sym at.0) (subst (IsHeld (with_element new r e) r) (sym at.1) (held_one new r e within below)))
             (λ other. last.kept s x (f.covers k s x (omega arith) is))
             (cases_eq k count);

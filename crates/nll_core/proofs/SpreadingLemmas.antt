@@ -1,5 +1,5 @@
 -- What a search adds, step after step, and what it has reached when nothing is left to expand.
-use Rattle.std.proofs.Common.{◌≡◌, ◌≢◌, ◌⊎◌, ℕ, ◌+◌, ◌<◌, ◌≤◌, Bool, true, false, not, cond, List, [], ◌∷◌, ◌++◌, ◌↔◌, replicate, Contains, length, get_or, set, refl, sym, ap, ◌∙◌, subst, inl, inr, ⊎_elim, arith, length-append}
+use Rattle.std.proofs.Common.{◌≡◌, ◌⊎◌, ℕ, ◌+◌, ◌<◌, ◌≤◌, Bool, true, false, not, cond, List, [], ◌∷◌, ◌++◌, ◌↔◌, replicate, Contains, length, get_or, set, refl, sym, ap, ◌∙◌, subst, inl, inr, ⊎_elim, arith, length-append}
 use Rattle.std.proofs.lemmas.Bool.{cases_lt, cases_eq, false≢true, false_from_ne_true}
 use Rattle.std.proofs.lemmas.List.{get_or-set_other, get_or-set_same, length-set, get_or_append_left, get_or_at, get_or_past, get_or_default, get_or-replicate, length-replicate}
 use Rattle.std.proofs.lemmas.List.Sums.{sum_by-set}
@@ -21,9 +21,6 @@ pub none_in_empty : (n x : ℕ) → flag (replicate n false) x ≡ true → ⊥
 none_in_empty n x h =
     let within : x < n = rw (length-replicate n false) at (flag_within (replicate n false) x h) in
     false≢true (sym (get_or-replicate n x false false within) ∙ h)
-
-pub flag-replicate : (n x : ℕ) → flag (replicate n false) x ≡ false
-flag-replicate n x = false_from_ne_true _ (none_in_empty n x)
 
 -- what holds of the elements of a list, place by place, holds of each that it contains
 pub covers_contained : (holds : ℕ → Type 0) (xs : List ℕ) → ((k : ℕ) → k < length xs → holds (get_or xs k 0)) → (x : ℕ) → Contains xs x → holds x

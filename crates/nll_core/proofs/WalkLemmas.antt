@@ -1,5 +1,5 @@
 -- Walks through a relation: their ends, how they go on, and what carries over from one relation or set to another.
-use Rattle.std.proofs.Common.{◌≡◌, ℕ, List, [], ◌∷◌, ◌++◌, refl, subst, sym}
+use Rattle.std.proofs.Common.{ℕ, List, [], ◌∷◌, ◌++◌, refl, subst, sym}
 use Rattle.nll_core.specs.Graph.{Graph, IsStep}
 use Rattle.nll_core.specs.Walks.{IsWalk, Reaches}
 

@@ -1,5 +1,5 @@
 -- How a graph keeps its edges: a list of successors for each point.
--- Source: this project's choice.
+-- Source: project's choice. Private contracts alone cite this file.
 use Rattle.std.specs.Prelude.{◌≡◌, ◌≢◌, ◌⊎◌, ℕ, ◌+◌, ◌<◌, List, [], ◌∷◌, ◌++◌, map, length, Contains, AllPairs, slice_index_or}
 use Rattle.nll_core.specs.Graph.{Graph, IsSound}
 use Rattle.nll_core.specs.declared.graph.TheConstants.{SCANNED}
@@ -22,6 +22,10 @@ pub record IsIndexed (lists : List (List ℕ)) (index : List (ℕ × ℕ)) : Typ
   pub once : (p : ℕ) → AllPairs (λ q r. q ≢ r) (next_of lists p)
   pub only : (p q : ℕ) → Contains index (p, q) → Contains (next_of lists p) q
   pub long : (p q : ℕ) → SCANNED < length (next_of lists p) → Contains (next_of lists p) q → Contains index (p, q)
+
+-- where the list of successors of the point is long, the index has the edges to all of them
+abbrev pub IsIndexedIfLong : List (ℕ × ℕ) → ℕ → List ℕ → Type 0
+IsIndexedIfLong index point list = SCANNED < length list → (q : ℕ) → Contains list q → Contains index (point, q)
 
 -- The index kept its edges, and got some from a point to successors of the list alone.
 pub record Indexes (old new : List (ℕ × ℕ)) (from : ℕ) (list : List ℕ) : Type 0 where

@@ -1,5 +1,5 @@
 -- What each call of a problem's builder answers, and what it adds.
--- Source: this project's choice.
+-- Source: project's choice.
 use Rattle.std.specs.Prelude.{◌≡◌, ◌⊎◌, ◌↔◌, ℕ, ◌+◌, Bool, not, ◌==◌, ◌&&◌, nat_lt, nat_le, List, [], ◌∷◌, length, Contains, Option, Some, None, Result, Ok, Err, if◌then◌else◌}
 use Rattle.std.specs.List.{list_any}
 use Rattle.nll_core.specs.Problem.{Problem}

@@ -1,5 +1,5 @@
 -- What an iterator over the elements of a set has left.
--- Source: this project's choice.
+-- Source: project's choice.
 use Rattle.std.specs.Prelude.{ℕ, Bool, List, drop}
 use Rattle.nll_core.specs.ElementSet.{elements_from}
 

@@ -1,6 +1,6 @@
 -- The graph of a function body: its points, the ends of its universal regions, and which element may come after which.
 -- Source: RFC 2094, "Layer 0: Definitions" (points) and "Layer 4: Named lifetimes" (ends). The numbers, and the step from
--- a return point to the ends, are this project's choice. The code keeps lists of successors; this speaks of edges.
+-- a return point to the ends, are project's choice. The code keeps lists of successors; this speaks of edges.
 use Rattle.std.specs.Prelude.{◌⊎◌, ℕ, ◌+◌, ◌<◌, ◌≤◌, List, Contains, length}
 use Rattle.nll_core.specs.declared.limits.TheConstants.{MAX_POINTS, MAX_EDGES, MAX_UNIVERSALS}
 

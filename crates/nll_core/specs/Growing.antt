@@ -1,5 +1,5 @@
 -- How values grow towards the least solution of a problem.
--- Source: this project's choice.
+-- Source: project's choice. Private contracts alone cite this file.
 use Rattle.std.specs.Prelude.{◌≡◌, ◌⊎◌, ℕ, ◌<◌, Bool, true, false, IsTrue, List, length, Contains, sum_by}
 use Rattle.nll_core.specs.Walks.{Reaches}
 use Rattle.nll_core.specs.Problem.{Problem}

@@ -8,6 +8,7 @@ pub mod Solution
 pub mod Faults
 pub mod Values
 pub mod Building
+pub mod Bases
 pub mod Adjacency
 pub mod Spreading
 pub mod Growing

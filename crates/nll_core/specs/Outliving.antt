@@ -1,6 +1,6 @@
 -- How the fault check goes through the pairs of universal regions, one after another.
--- Source: this project's choice.
-use Rattle.std.specs.Prelude.{◌≡◌, ◌↔◌, ℕ, ◌+◌, ◌*◌, ◌<◌, ◌≤◌, Bool, List, [], length, Contains, AllPairs}
+-- Source: project's choice. Private contracts alone cite this file.
+use Rattle.std.specs.Prelude.{◌≡◌, ◌↔◌, ℕ, ◌+◌, ◌*◌, ◌≤◌, Bool, List, [], length, Contains, AllPairs}
 use Rattle.nll_core.specs.Graph.{Graph}
 use Rattle.nll_core.specs.Problem.{Problem}
 use Rattle.nll_core.specs.Values.{IsHeld}

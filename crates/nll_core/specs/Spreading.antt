@@ -1,5 +1,5 @@
 -- What a search through a graph adds to the set and the list of the elements that it has reached.
--- Source: this project's choice.
+-- Source: project's choice. Private contracts alone cite this file.
 use Rattle.std.specs.Prelude.{◌≡◌, ◌≢◌, ◌⊎◌, ℕ, ◌+◌, ◌<◌, ◌≤◌, Bool, true, false, not, List, length, count_by, slice_index}
 use Rattle.nll_core.specs.ElementSet.{flag}
 use Rattle.nll_core.specs.Graph.{Graph}

@@ -1,5 +1,5 @@
 -- The values of regions as contracts see them: for each region, one flag for each element.
--- Source: this project's choice.
+-- Source: project's choice.
 use Rattle.std.specs.Prelude.{◌≡◌, ℕ, ◌<◌, Bool, true, List, [], length, slice_index_or, slice_set}
 use Rattle.nll_core.specs.ElementSet.{flag}
 use Rattle.nll_core.specs.Graph.{element_count}

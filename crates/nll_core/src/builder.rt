@@ -1,6 +1,7 @@
 //! The builder of a problem.
 
 ghost use Rattle.std.specs.Prelude.{◌≡◌, ◌+◌, [], OnOk, OnErr, IfOk, IfErr};
+ghost use Rattle.nll_core.specs.Problem.{SameProblem};
 ghost use Rattle.nll_core.specs.Building.{Answers, AddsFact, new_error, region_error, outlives_error, next_error, ret_error, base_error, constraint_error};
 
 use crate::constraint::Constraint;
@@ -191,9 +192,11 @@ impl ProblemBuilder {
 
     /// The problem of the facts that were accepted.
     pub fn finish(self) -> Result<Problem, BuildError>
-        ensures ok { IfOk result (λ q. q ≡ self) }
+        ensures ok { IfOk result (SameProblem self) }
         ensures err { IfErr result (λ error. error ≡ BuildError.Memory) }
     {
-        Ok(self.problem)
+        let mut problem = self.problem;
+        problem.sort_bases();
+        Ok(problem)
     }
 }

@@ -9,7 +9,7 @@ use std::marker::Model;
 ///
 /// # Source
 /// RFC 2094, "Layer 0: Definitions" (points) and "Layer 4: Named lifetimes" (ends); the numbers are
-/// this project's choice.
+/// project's choice.
 #[derive(Clone, Copy, Debug, PartialEq, Eq, PartialOrd, Ord, Hash)]
 pub struct Element(pub u32);
 

@@ -1,11 +1,11 @@
 //! Universal region errors: which universal regions must outlive another and aren't known to.
 //!
-//! What is known is drawn as a graph whose points are the universal regions; a region outlives what walks from
-//! it reach.
+//! What is known is drawn as a graph whose points are the universal regions; a region outlives what
+//! walks from it reach.
 
 ghost use Rattle.std.specs.Prelude.{◌≡◌, ◌↔◌, ℕ, ◌+◌, ◌<◌, true, length, IsTrue, IfOk, OnOk};
 ghost use Rattle.nll_core.specs.ElementSet.{flag};
-ghost use Rattle.nll_core.specs.Problem.{IsUniversal};
+ghost use Rattle.nll_core.specs.Problem.{IsUniversal, IsSound};
 ghost use Rattle.nll_core.specs.Values.{IsHeld, IsShaped};
 ghost use Rattle.nll_core.specs.Faults.{IsAbove, IsKnown, IsFault, AreFaults};
 ghost use Rattle.nll_core.specs.Outliving.{DrawsUpTo, FindsUpTo};
@@ -20,8 +20,8 @@ use crate::reachability::reached_set;
 use crate::values::Values;
 use std::alloc::Global;
 
-/// Finds the universal region errors of the values: the pairs of universal regions of which the first holds
-/// the end of the second and isn't known to outlive it.
+/// Finds the universal region errors of the values, which may be any: the pairs of universal regions
+/// of which the first holds the end of the second and isn't known to outlive it.
 ///
 /// # Errors
 /// - `Memory`.
@@ -34,7 +34,8 @@ pub fn faults(
     values: &Values,
 ) -> Result<Vec<(RegionId, RegionId)>, Memory>
     requires { IsShaped problem.now values.now }
-    ensures { IfOk result (λ faults. AreFaults problem.now (IsHeld values.now) faults.items) }
+    ensures exact { IfOk result (λ faults. AreFaults problem.now (IsHeld values.now) faults.items) }
+    ensures sound { OnOk result (IsSound problem.now) }
 {
     let known = known_graph(alloc, problem)?;
     let all = full_set(alloc, known.points() + known.universals())?;
@@ -114,7 +115,8 @@ fn draw_row(problem: &Problem, known: &mut Graph, longer: u32) -> Result<(), Mem
     Ok(())
 }
 
-// Whether an outlives fact says that one universal region outlives another, or the first is 'static.
+// Whether an outlives fact says that one universal region outlives another, or the first is
+// 'static.
 fn is_above(problem: &Problem, longer: u32, shorter: u32) -> bool
     requires { IsUniversal problem.now shorter }
     ensures { IsTrue result ↔ IsAbove problem.now longer shorter }

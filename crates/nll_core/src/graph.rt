@@ -1,13 +1,13 @@
 //! The control-flow graph of a problem.
 //!
-//! Each point has a list of its successors. A list of up to `SCANNED` successors is searched from end to
-//! end; the edges of points with longer lists also stand in a hashed index. So adding an edge takes
+//! Each point has a list of its successors. A list of up to `SCANNED` successors is searched from end
+//! to end; the edges of points with longer lists also stand in a hashed index. So adding an edge takes
 //! amortised constant time, and a point with few successors costs no more than these.
 
 ghost use Rattle.std.specs.Prelude.{◌≡◌, ◌≢◌, ◌⊎◌, ◌↔◌, ℕ, ◌+◌, ◌<◌, ◌≤◌, List, [], ◌∷◌, ◌++◌, length, Contains, AllPairs, IsTrue, IfOk, OnOk, OnErr};
 ghost use Rattle.nll_core.specs.Graph.{IsNext, IsReturn, IsSound};
 ghost use Rattle.nll_core.specs.Building.{AddsFact};
-ghost use Rattle.nll_core.specs.Adjacency.{Indexes};
+ghost use Rattle.nll_core.specs.Adjacency.{Indexes, IsIndexedIfLong};
 
 use crate::error::Memory;
 use crate::limits::{MAX_EDGES, MAX_POINTS, MAX_UNIVERSALS};
@@ -159,7 +159,7 @@ fn index_grown(
     list: &[u32],
     to: u32,
 ) -> Result<(), Memory>
-    requires { SCANNED < length list.now → (q : ℕ) → Contains list.now q → Contains index.old.keys (from, q) }
+    requires { IsIndexedIfLong index.old.keys from list.now }
     ensures ok { OnOk result (Indexes index.old.keys index.new.keys from (list.now ++ to ∷ [])) }
     ensures err { OnErr result (Indexes index.old.keys index.new.keys from list.now) }
     ensures all { OnOk result (SCANNED ≤ length list.now → (q : ℕ) → Contains (list.now ++ to ∷ []) q → Contains index.new.keys (from, q)) }
@@ -174,7 +174,7 @@ fn index_grown(
 // Puts the edges from a point to its successors into the index, unless these are so many that they
 // are there.
 fn index_all(index: &mut IndexSet<(u32, u32)>, from: u32, list: &[u32]) -> Result<(), Memory>
-    requires { SCANNED < length list.now → (q : ℕ) → Contains list.now q → Contains index.old.keys (from, q) }
+    requires { IsIndexedIfLong index.old.keys from list.now }
     ensures indexes { Indexes index.old.keys index.new.keys from list.now }
     ensures all { OnOk result ((q : ℕ) → Contains list.now q → Contains index.new.keys (from, q)) }
 {

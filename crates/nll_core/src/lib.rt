@@ -1,6 +1,11 @@
-//! Problems of location-aware regions over a control-flow graph.
+//! Problems of location-aware regions over a control-flow graph, their least solution and its faults.
+//! It knows no text and no names.
+//!
+//! Reading order: `element`, `constraint`, `graph`, `problem`, `builder`; then `element_set`, `bit_set`,
+//! `elements`, `values`; then `reachability`, `solver`, `fault_check`. The definitions are in specs/.
 #![tactic(auto)]
 
+mod bases;
 mod bit_set;
 mod builder;
 mod constraint;
@@ -14,6 +19,8 @@ mod limits;
 mod problem;
 mod reachability;
 mod solver;
+#[cfg(test)]
+mod tests;
 mod values;
 
 pub use bit_set::BitSet;

@@ -1,10 +1,11 @@
 //! Problems: regions over a graph, their base elements and the constraints between them.
 
 ghost use Rattle.std.specs.Prelude.{◌≡◌, ◌⊎◌, ◌↔◌, ℕ, ◌+◌, ◌<◌, ◌≤◌, true, false, List, [], Contains, IsTrue, length, IfOk, OnOk, OnErr};
-ghost use Rattle.nll_core.specs.Problem.{IsBase, IsSound};
+ghost use Rattle.nll_core.specs.Problem.{IsBase, IsSound, SameProblem, SameSet};
 ghost use Rattle.nll_core.specs.Building as building;
 ghost use Rattle.nll_core.specs.Building.{AddsFact};
 
+use crate::bases::Bases;
 use crate::constraint::Constraint;
 use crate::element::{Element, RegionId};
 use crate::error::Memory;
@@ -17,13 +18,13 @@ use std::marker::Model;
 /// A problem: what `solve` gives the least values of. A `ProblemBuilder` makes one.
 ///
 /// # Shape
-/// Region 0 is `'static`; the other universal regions follow, and then the region variables. All numbers
-/// are in range, and no limit is passed.
+/// Region 0 is `'static`; the other universal regions follow, and then the region variables. All
+/// numbers are in range, and no limit is passed.
 #[derive(Drop)]
 pub struct Problem {
     graph: Graph,
     regions: u32,
-    bases: IndexSet<(RegionId, u32)>,
+    bases: Bases,
     constraints: IndexSet<Constraint>,
     outlives: IndexSet<(RegionId, RegionId)>,
 }
@@ -33,9 +34,9 @@ impl Model for Problem {
 
     ghost Value = { spec.Problem };
 
-    ghost view = { λ q. record { graph = q.graph; regions = q.regions; bases = q.bases.keys; constraints = q.constraints.keys; outlives = q.outlives.keys } };
+    ghost view = { λ q. record { graph = q.graph; regions = q.regions; bases = q.bases; constraints = q.constraints.keys; outlives = q.outlives.keys } };
 
-    ghost invariant = { λ q. spec.IsSound (record { graph = q.graph; regions = q.regions; bases = q.bases.keys; constraints = q.constraints.keys; outlives = q.outlives.keys }) };
+    ghost invariant = { λ q. spec.IsSound (record { graph = q.graph; regions = q.regions; bases = q.bases; constraints = q.constraints.keys; outlives = q.outlives.keys }) };
 }
 
 impl Problem {
@@ -71,7 +72,7 @@ impl Problem {
         self.regions
     }
 
-    /// The constraints, each once.
+    /// The constraints.
     pub fn constraints(&self) -> &[Constraint]
         ensures value { result.now ≡ self.now.constraints }
         ensures sound { IsSound self.now }
@@ -79,12 +80,15 @@ impl Problem {
         self.constraints.as_slice()
     }
 
-    /// Whether an element is a base element of a region: one that was given, or what a universal region
-    /// holds from the start.
+    /// Whether an element is a base element of a region: one that was given, or what a universal
+    /// region holds from the start.
+    ///
+    /// # Cost
+    /// Logarithmic in the number of base facts (not proved).
     pub fn is_base(&self, region: RegionId, element: Element) -> bool
         ensures { IsTrue result ↔ IsBase self.now region element }
     {
-        if has_pair(&self.bases, region, element.0) {
+        if self.bases.has(region, element.0) {
             return true;
         }
         let points = self.graph.points();
@@ -105,15 +109,15 @@ impl Problem {
         Ok(Problem {
             graph: Graph::new(alloc, points, universals)?,
             regions: universals,
-            bases: IndexSet::new(alloc),
+            bases: Bases::new(alloc),
             constraints: IndexSet::new(alloc),
             outlives: IndexSet::new(alloc),
         })
     }
 
-    // The base facts, each once.
+    // The base facts, some of them perhaps more than once.
     pub(crate) fn bases(&self) -> &[(RegionId, u32)]
-        ensures value { result.now ≡ self.now.bases }
+        ensures each { SameSet result.now self.now.bases }
         ensures sound { IsSound self.now }
     {
         self.bases.as_slice()
@@ -223,8 +227,16 @@ impl Problem {
         ensures others { self.new ≡ record self.old { bases = self.new.bases } }
         ensures err { OnErr result (self.new ≡ self.old) }
     {
-        self.bases.insert((region, point))?;
+        self.bases.insert(region, point)?;
         Ok(())
+    }
+
+    // Sorts the base facts, so that a search among them takes logarithmic time.
+    pub(crate) fn sort_bases(&mut self)
+        ensures same { SameProblem self.old self.new }
+        ensures sound { IsSound self.new }
+    {
+        self.bases.sort();
     }
 
     // Adds a constraint, which is there already or for which there is room.
@@ -240,11 +252,4 @@ impl Problem {
         self.constraints.insert(constraint)?;
         Ok(())
     }
-}
-
-// Whether a base fact is among them.
-fn has_pair(bases: &IndexSet<(RegionId, u32)>, region: RegionId, point: u32) -> bool
-    ensures { IsTrue result ↔ Contains bases.now.keys (region, point) }
-{
-    bases.contains(&(region, point))
 }

@@ -1,7 +1,7 @@
 //! Which elements of a graph the walks from a point reach that stay inside a set.
 //!
-//! A search keeps the elements that it has reached twice: as a set, which tells what is new, and as a list in
-//! the order in which they came, whose end is the work that is left.
+//! A search keeps the elements that it has reached twice: as a set, which tells what is new, and as a
+//! list in the order in which they came, whose end is the work that is left.
 
 ghost use Rattle.std.specs.Prelude.{◌≡◌, ◌⊎◌, ℕ, ◌+◌, ◌≤◌, ◌<◌, ◌↔◌, true, false, [], Contains, length, slice_index, IfOk, OnOk};
 ghost use Rattle.nll_core.specs.ElementSet.{flag};

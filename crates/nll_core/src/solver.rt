@@ -4,7 +4,7 @@
 
 ghost use Rattle.std.specs.Prelude.{◌≡◌, ℕ, ◌+◌, ◌≤◌, ◌<◌, ◌↔◌, false, Contains, length, IfOk, OnOk};
 ghost use Rattle.nll_core.specs.Problem.{IsBase, IsUniversal};
-ghost use Rattle.nll_core.specs.Solution.{Least};
+ghost use Rattle.nll_core.specs.Solution.{Satisfies, Least};
 ghost use Rattle.nll_core.specs.Values.{set_of, IsHeld, IsShaped};
 ghost use Rattle.nll_core.specs.Growing.{Gains, Tells, StaysBelow, IsAsked, IsMet, IsClosed};
 
@@ -22,13 +22,14 @@ use std::alloc::Global;
 /// - `Memory`.
 ///
 /// # Cost
-/// A round goes through the graph once for each constraint whose point is in the value of its `sub`, and each
-/// round but the last adds an element (not proved).
+/// A round goes through the graph once for each constraint whose point is in the value of its `sub`,
+/// and each round but the last adds an element (not proved).
 ///
 /// # Source
 /// RFC 2094, "Solving constraints".
 pub fn solve(alloc: Global, problem: &Problem) -> Result<Values, Memory>
     ensures shaped { IfOk result (IsShaped problem.now) }
+    ensures solution { IfOk result (λ values. Satisfies problem.now (IsHeld values)) }
     ensures least { IfOk result (λ values. (r e : ℕ) → IsHeld values r e ↔ Least problem.now r e) }
 {
     let mut values = base_values(alloc, problem)?;
@@ -82,7 +83,8 @@ fn insert_bases(problem: &Problem, values: &mut Values) -> Result<(), Memory>
     ensures gains { Gains (IsBase problem.now) values.old values.new }
     ensures covers { OnOk result ((r e : ℕ) → Contains problem.now.bases (r, e) → IsHeld values.new r e) }
 {
-    for base in problem.bases() {
+    let facts = problem.bases();
+    for base in facts {
         let (region, point) = *base;
         values.insert(region, Element(point))?;
     }

@@ -1,4 +1,5 @@
 pub mod FormLemmas
+pub mod LawLemmas
 pub mod NameLemmas
 pub mod ReaderLemmas
 pub mod SaidLemmas

@@ -3,7 +3,7 @@ use Rattle.std.proofs.Common.{◌≡◌, false, Option, Some, None, is_some, unw
 use Rattle.nll_core.specs.Problem.{Problem}
 
 -- what a new builder has is what stood for it
-pub made_for_none : (o : Option Problem) (b q : Problem) → is_some o ≡ false → q ≡ b → q ≡ unwrap_or o b
+pub made_for_none : (o : Option Problem) (b q : Problem) → o ≡ None → q ≡ b → q ≡ unwrap_or o b
 made_for_none None b q none e = e
 made_for_none (Some p) b q none e = absurd cc
 

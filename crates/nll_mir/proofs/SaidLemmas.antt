@@ -8,13 +8,14 @@ use Rattle.std.proofs.lemmas.List.Elements.{filter_map-append, Contains-push, Co
 use Rattle.std.proofs.lemmas.Bool.{cases_Bool, false≢true, ltb-true}
 use Rattle.std.proofs.lemmas.Bool.Decides.{nat_tests, same_from_decides}
 use Rattle.indexmap.specs.IndexSet.{insert_all, insert_key}
-use Rattle.nll_core.specs.Problem.{Problem, SameSet, SameProblem}
+use Rattle.nll_core.specs.Problem.{Problem, SameSet}
 use Rattle.nll_core.specs.Building.{AddsFact, same_pair, same_constraint}
 use Rattle.nll_core.specs.declared.constraint.Constraint.{Constraint}
+use Rattle.nll_core.proofs.SameLemmas.{same_problem}
 use Rattle.nll_core.proofs.FactLemmas.{pair_found, constraint_found, adds_pair, adds_constraint}
 use Rattle.nll_mir.specs.Names.{number_of}
 use Rattle.nll_mir.specs.FactsForms.{Name, Form, points, universal, outlives, further, next, return, base, constraint, end}
-use Rattle.nll_mir.specs.FactsSaid.{Said, said, first_fault, is_in_order, group, reached, points_in, universal_in, further_in, outlives_in, edge_in, return_in, base_in, constraint_in, first_or_zero, universals_said, names_said, problem_said}
+use Rattle.nll_mir.specs.FactsSaid.{Said, said, is_universal, first_fault, is_in_order, group, reached, points_in, universal_in, further_in, outlives_in, edge_in, return_in, base_in, constraint_in, first_or_zero, universals_said, names_said, problem_said}
 use Rattle.nll_mir.specs.FactsReading.{bare, Adds, SameSaid}
 use Rattle.nll_mir.specs.declared.error.TextKind.{TextKind}
 use Rattle.nll_mir.specs.declared.error.TextKind.TheVariants.{Syntax, Unknown}
@@ -198,21 +199,6 @@ bare_said forms h =
     )
     refl
 
-same_set : {X : Type 0} (xs : List X) → SameSet xs xs
-same_set xs x = (λ h. h, λ h. h)
-
-same_problem : (p q : Problem) → p ≡ q → SameProblem p q
-same_problem p q e = subst (SameProblem p) e (record {
-  points = refl;
-  universals = refl;
-  regions = refl;
-  edges = same_set p.graph.edges;
-  returns = same_set p.graph.returns;
-  bases = same_set p.bases;
-  constraints = same_set p.constraints;
-  outlives = same_set p.outlives;
-})
-
 -- where the problem is the very one that is said
 exact : (forms : List Form) (t : Said) → t.reached ≡ reached forms → t.names ≡ names_said forms → t.problem ≡ problem_said forms → SameSaid (said forms) t
 exact forms t r n q = record {
@@ -321,7 +307,7 @@ adds_said forms s t (universal x) h fine a =
     same_bare p u q v e k = cc
 adds_said forms s t (outlives x y) h fine a =
     let before : reached forms ≤ 3 = omega (arith, ordered s.reached 3 true (in_order s (outlives x y) fine), h.reached) in
-    let regions = both_universal _ _ _ _ fine in
+    let regions = both_universal (is_in_order s (outlives x y)) (is_universal s x) (is_universal s y) None fine in
     let number : (z : Name) → nat_lt (number_of s.names z) s.problem.graph.universals ≡ true → number_of s.names z ≡ number_of (universals_said forms) z = λ z is.
     subst (λ ns. number_of ns z ≡ number_of (universals_said forms) z) h.names
     (number_front (universals_said forms) (filter_map further_in forms) z

@@ -5,6 +5,7 @@
 
 ghost use Rattle.std.specs.Prelude.{◌≡◌, ◌⊎◌, ◌<◌, ◌≤◌, ◌+◌, ◌∷◌, [], ◌++◌, ℕ, List, OnOk, IfErr, IfOk, IsSome, IsTrue, ◌↔◌, Some, None, true, false, length};
 ghost use Rattle.std.specs.Str.{IsUtf8};
+ghost use Rattle.nll_core.specs.Problem.{SameProblem};
 ghost use Rattle.nll_mir.specs.FactsForms as forms;
 ghost use Rattle.nll_mir.specs.FactsLines.{view};
 ghost use Rattle.nll_mir.specs.FactsSaid as specs;
@@ -100,9 +101,23 @@ impl Reader {
         ensures started { OnOk result (IsSome self.new.builder) }
         ensures err { IfErr result (λ kind. kind ≡ TextKind.Memory) }
     {
-        if self.builder.is_some() {
-            return Ok(());
+        if self.builder.is_none() {
+            self.begin()?;
         }
+        Ok(())
+    }
+
+    // Makes the builder. It is a call of its own so that a line which finds one doesn't pay for the
+    // room that making one takes.
+    fn begin(&mut self) -> Result<(), TextKind>
+        requires kept { IsKept self.old }
+        requires begun { 0 < self.old.reached }
+        requires none { self.old.builder ≡ None }
+        ensures said { OnOk result (said_by self.new ≡ said_by self.old) }
+        ensures kept { OnOk result (IsKept self.new) }
+        ensures started { OnOk result (IsSome self.new.builder) }
+        ensures err { IfErr result (λ kind. kind ≡ TextKind.Memory) }
+    {
         let universals = self.names.len() as u32;
         self.builder = Some(ProblemBuilder::new(self.alloc, self.points, universals)?);
         Ok(())
@@ -334,7 +349,7 @@ impl Reader {
     pub fn finish(mut self) -> Result<(Problem, Names), TextKind>
         requires ready { IsReady self }
         requires begun { 0 < self.reached }
-        ensures problem { IfOk result (λ made. made.0 ≡ (said_by self).problem) }
+        ensures problem { IfOk result (λ made. SameProblem (said_by self).problem made.0) }
         ensures names { IfOk result (λ made. made.1 ≡ (said_by self).names) }
         ensures err { IfErr result (λ kind. kind ≡ TextKind.Memory) }
     {

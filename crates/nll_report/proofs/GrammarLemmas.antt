@@ -8,7 +8,7 @@ use Rattle.clap.proofs.WalkLemmas.{first_value-rows}
 use Rattle.clap.proofs.OnLiterals.{clap_on_literals}
 use Rattle.nll_report.specs.declared.task.Line.{Line}
 use Rattle.nll_report.specs.declared.task.LineError.{LineError}
-use Rattle.nll_report.specs.declared.task.LineError.TheVariants.{Memory}
+use Rattle.nll_report.specs.declared.task.LineError.TheVariants.{Usage, Memory}
 use Rattle.nll_report.specs.declared.task.Task.{Task}
 use Rattle.nll_report.specs.Grammar.{line_of_found, program, task_named}
 
@@ -36,12 +36,12 @@ line_of_found-None name f task named given =
 
 -- the answer of a line that the matches have is that line, or want of memory
 pub plain_result : (r : Result Line LineError) (task : Task) (file : Text) {o : Option (Task × Text)} → Some (task, file) ≡ o
-    → IfOk r (λ l. o ≡ Some (l.task, string_bytes l.file)) → IfErr r (λ e. (e ≡ Memory) ⊎ (o ≡ None))
+    → IfOk r (λ l. o ≡ Some (l.task, string_bytes l.file)) → IfErr r (λ e. (e ≡ Memory) ⊎ ((e ≡ Usage) × (o ≡ None)))
     → MatchResult r (λ l. (l.task ≡ task) × (string_bytes l.file ≡ file)) (λ e. e ≡ Memory)
 plain_result (Ok l) task file is ok err =
     let same : Some (task, file) ≡ Some (l.task, string_bytes l.file) = is ∙ ok in
     (ap (λ (o : Option (Task × Text)). (unwrap_or o (task, file)).0) (sym same), ap (λ (o : Option (Task × Text)). (unwrap_or o (task, file)).1) (sym same))
 plain_result (Err e) task file is ok err = elim err [
   | inl memory ↦ memory
-  | inr none ↦ let bad : ◌≡◌ {A = Option (Task × Text)} (Some (task, file)) None = is ∙ none in cc
+  | inr none ↦ let bad : ◌≡◌ {A = Option (Task × Text)} (Some (task, file)) None = is ∙ none.1 in cc
 ]

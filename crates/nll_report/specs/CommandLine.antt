@@ -33,3 +33,7 @@ abbrev pub IsPlainLine : Task → List ℕ → List (List ℕ) → Type 0
 IsPlainLine task file words = (AsksFor task (file ∷ []) words × (begins_as_option file ≡ false))
     ⊎ (AsksFor task (codes "--" ∷ file ∷ []) words
     ⊎ (AsksFor task (file ∷ codes "--" ∷ []) words × (begins_as_option file ≡ false)))
+
+-- no task and file make a plain line of the words
+abbrev pub IsNoPlainLine : List (List ℕ) → Type 0
+IsNoPlainLine words = (task : Task) (file : List ℕ) → IsPlainLine task file words → ⊥

@@ -1,12 +1,16 @@
--- The commands as the parser of the words reads them, and the line that its matches come to.
+-- The commands as the parser of the words reads them, the line that its matches come to, and the error where it has none.
 -- Source: this project's own, over the words of the crate `clap`.
-use Rattle.std.specs.Prelude.{List, Option, Some, None, true, codes, if◌then◌else◌, option_and_then, option_map}
+use Rattle.std.specs.Prelude.{◌≡◌, List, Option, Some, None, true, codes, if◌then◌else◌, option_and_then, option_map}
 use Rattle.std.specs.Str.{bytes_eq}
-use Rattle.clap.specs.Words.{App, Row, Rule, Text, first_of, new_app, new_rule, subcommand_of, with_rule, with_subcommand}
+use Rattle.clap.specs.Words.{App, IsAmong, Row, Rule, Text, fault_of, first_of, new_app, new_rule, subcommand_of, with_rule, with_subcommand}
 use Rattle.clap.specs.declared.builder.ArgAction.TheVariants.{Set}
+use Rattle.clap.specs.declared.error.kind.ErrorKind.{ErrorKind}
+use Rattle.clap.specs.declared.error.kind.ErrorKind.TheVariants.{DisplayHelp}
+use Rattle.nll_report.specs.declared.task.LineError.{LineError}
+use Rattle.nll_report.specs.declared.task.LineError.TheVariants.{Help, Usage, Memory}
 use Rattle.nll_report.specs.declared.task.Task.{Task}
 use Rattle.nll_report.specs.declared.task.Task.TheVariants.{Values, Check}
-use Rattle.nll_report.specs.CommandLine.{name_of}
+use Rattle.nll_report.specs.CommandLine.{IsNoPlainLine, name_of}
 
 -- the place of the file among the words of a command
 abbrev pub file_rule : Rule
@@ -48,3 +52,19 @@ line_of_matches = option_and_then line_of_found
 -- the line that the words come to, where the parser takes them
 abbrev pub line_by_grammar : List Text → Option (Task × Text)
 line_by_grammar words = line_of_matches (subcommand_of program words)
+
+-- the parser answers the words with help
+abbrev pub AsksForHelp : List Text → Type 0
+AsksForHelp words = IsAmong DisplayHelp (fault_of program words)
+
+-- the error tells why the words are not taken
+abbrev pub IsLineError : List Text → LineError → Type 0
+IsLineError words (Help text) = AsksForHelp words × IsNoPlainLine words
+IsLineError words Usage = IsNoPlainLine words
+IsLineError words Memory = Unit {0}
+
+-- the kind of the parser's error where help is given
+abbrev pub IsHelpKind : LineError → ErrorKind → Type 0
+IsHelpKind (Help text) kind = kind ≡ DisplayHelp
+IsHelpKind Usage kind = Unit {0}
+IsHelpKind Memory kind = Unit {0}

@@ -1,5 +1,7 @@
 pub mod CommandLine
+pub mod Disk
 pub mod Grammar
 pub mod Refusal
 pub mod Report
 pub mod Answer
+pub mod Run

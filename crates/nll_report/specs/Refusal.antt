@@ -1,6 +1,14 @@
--- The status of the program that gives no report.
+-- Why the program gives no report: its status, its line, and how it follows from a text's fault.
 -- Source: this project's own.
-use Rattle.std.specs.Prelude.{ℕ}
+use Rattle.std.specs.Prelude.{ℕ, List, [], ◌∷◌, ◌++◌, codes, string_bytes}
+use Rattle.std.specs.Fmt.{decimal}
+use Rattle.nll_core.specs.declared.error.Kind.{Kind}
+use Rattle.nll_core.specs.declared.error.Kind.TheVariants as limit
+use Rattle.nll_mir.specs.declared.error.TextError.{TextError}
+use Rattle.nll_mir.specs.declared.error.TextKind.{TextKind}
+use Rattle.nll_mir.specs.declared.error.TextKind.TheVariants as kind
+use Rattle.nll_report.specs.declared.answers.AnswerError.{AnswerError}
+use Rattle.nll_report.specs.declared.answers.AnswerError.TheVariants as answer
 use Rattle.nll_report.specs.declared.messages.Refusal.{Refusal}
 use Rattle.nll_report.specs.declared.messages.Refusal.TheVariants.{Usage, CannotRead, Text, Memory, CannotWrite}
 
@@ -11,3 +19,54 @@ status_of (CannotRead path) = 2
 status_of (Text line kind) = 2
 status_of Memory = 3
 status_of CannotWrite = 3
+
+-- the refusal of a text for a fault at this line
+abbrev pub refusal_at : ℕ → TextKind → Refusal
+refusal_at line kind.Memory = Memory
+refusal_at line other = Text line other
+
+-- the refusal of a text
+abbrev pub refusal_of_text : TextError → Refusal
+refusal_of_text error = refusal_at error.line error.kind
+
+-- the refusal of a text that has no answer
+abbrev pub refusal_of : AnswerError → Refusal
+refusal_of (answer.Text error) = refusal_of_text error
+refusal_of answer.Memory = Memory
+
+-- a limit is printed with the word of what it counts
+abbrev pub limit_text : Kind → List ℕ
+limit_text limit.Text = codes "limit text"
+limit_text limit.Points = codes "limit points"
+limit_text limit.Edges = codes "limit edges"
+limit_text limit.Universals = codes "limit universals"
+limit_text limit.Regions = codes "limit regions"
+limit_text limit.Constraints = codes "limit constraints"
+limit_text limit.Variables = codes "limit variables"
+limit_text limit.Structs = codes "limit structs"
+
+-- the kind of a text's fault, as it is printed
+abbrev pub kind_text : TextKind → List ℕ
+kind_text kind.NotUtf8 = codes "not utf-8"
+kind_text kind.Header = codes "header"
+kind_text kind.Syntax = codes "syntax"
+kind_text kind.Unknown = codes "unknown"
+kind_text kind.Duplicate = codes "duplicate"
+kind_text kind.Range = codes "range"
+kind_text kind.Shape = codes "shape"
+kind_text kind.TypeSize = codes "type size"
+kind_text (kind.Limit counted) = limit_text counted
+kind_text kind.End = codes "end"
+kind_text kind.Memory = codes "memory"
+
+-- the line of a refusal, without its end
+abbrev pub refusal_text : Refusal → List ℕ
+refusal_text Usage = codes "usage: nllc values|check|replay FILE [--owners N] [--deal round|blocks] [--cut FILE] [--mail queue|ring] [--schedule FILE]"
+refusal_text (CannotRead path) = codes "nllc: cannot read " ++ string_bytes path
+refusal_text (Text line kind) = codes "nllc: line " ++ decimal line ++ codes ": " ++ kind_text kind
+refusal_text Memory = codes "nllc: memory"
+refusal_text CannotWrite = codes "nllc: cannot write"
+
+-- the line of a refusal, with its end
+abbrev pub refusal_line : Refusal → List ℕ
+refusal_line refusal = refusal_text refusal ++ 10 ∷ []

@@ -1,6 +1,6 @@
 -- The report of values and of faults, as bytes.
 -- Source: project's choice; docs/FORMATS.md says the same in words.
-use Rattle.std.specs.Prelude.{◌≡◌, ◌↔◌, ℕ, ◌-◌, ◌<◌, Bool, nat_lt, List, [], ◌∷◌, ◌++◌, codes, Contains, AllPairs, slice_index_or, if◌then◌else◌}
+use Rattle.std.specs.Prelude.{◌≡◌, ◌↔◌, ℕ, ◌-◌, ◌<◌, nat_lt, List, [], ◌∷◌, ◌++◌, codes, Contains, AllPairs, slice_index_or, if◌then◌else◌}
 use Rattle.std.specs.List.{flat_map, range_with_len}
 use Rattle.std.specs.Fmt.{decimal}
 use Rattle.nll_core.specs.Problem.{Problem}

@@ -97,7 +97,6 @@ fn check_of(alloc: Global, facts: &Facts) -> Result<(Vec<u8>, u8), Memory>
 {
     let values = solve(alloc, &facts.problem)?;
     let faults = faults(alloc, &facts.problem, &values)?;
-    let _regions = facts.problem.regions();
     let report = faults_text(alloc, &facts.labels, &faults)?;
     let status = if faults.is_empty() { 0 } else { 1 };
     Ok((report, status))

@@ -6,7 +6,7 @@ ghost use Rattle.nll_report.specs.CommandLine.{IsLine, IsPlainLine};
 ghost use Rattle.clap.specs.Words.{app_of, found_of, kind_of, rows_of, rule_of};
 ghost use Rattle.clap.specs.Words.{new_app, subcommand_rows_of, with_rule};
 ghost use Rattle.clap.specs.declared.builder.Command.TheViews.{out-Command};
-ghost use Rattle.nll_report.specs.Grammar.{bare_program, file_rule, line_of_found};
+ghost use Rattle.nll_report.specs.Grammar.{IsHelpKind, IsLineError, bare_program, file_rule, line_of_found};
 ghost use Rattle.nll_report.specs.Grammar.{line_of_matches, program, task_named};
 
 use crate::task::{Line, LineError, Task};
@@ -33,6 +33,7 @@ pub fn line(alloc: Global, words: &[String]) -> Result<Line, LineError>
         → IsPlainLine task file (map string_bytes words.now)
         → MatchResult result (λ l. (l.task ≡ task) × (string_bytes l.file ≡ file))
         (λ e. e ≡ LineError.Memory) }
+    ensures err { IfErr result (IsLineError (map string_bytes words.now)) }
 {
     match grammar(alloc)?.try_get_matches_from(words) {
         Ok(matches) => line_of(alloc, &matches),
@@ -84,7 +85,8 @@ fn line_of(alloc: Global, matches: &ArgMatches<'_>) -> Result<Line, LineError>
     ensures ok { IfOk result (λ l. line_of_matches (subcommand_rows_of matches.now)
         ≡ Some (l.task, string_bytes l.file)) }
     ensures err { IfErr result (λ e. (e ≡ LineError.Memory)
-        ⊎ (line_of_matches (subcommand_rows_of matches.now) ≡ None)) }
+        ⊎ ((e ≡ LineError.Usage)
+        × (line_of_matches (subcommand_rows_of matches.now) ≡ None))) }
 {
     match matches.subcommand() {
         Some((name, found)) => line_of_command(alloc, name, found),
@@ -97,7 +99,8 @@ fn line_of_command(alloc: Global, name: &str, found: &ArgMatches<'_>) -> Result<
     ensures ok { IfOk result (λ l. line_of_found (name.now, rows_of (found_of found.now))
         ≡ Some (l.task, string_bytes l.file)) }
     ensures err { IfErr result (λ e. (e ≡ LineError.Memory)
-        ⊎ (line_of_found (name.now, rows_of (found_of found.now)) ≡ None)) }
+        ⊎ ((e ≡ LineError.Usage)
+        × (line_of_found (name.now, rows_of (found_of found.now)) ≡ None))) }
 {
     let Some(task) = task_of(name) else {
         return Err(LineError::Usage);
@@ -121,7 +124,8 @@ fn task_of(name: &str) -> Option<Task>
 
 // What the program makes of words that have no matches.
 fn refusal(alloc: Global, error: &Error) -> LineError
-    ensures { kind_of error.now ≡ ErrorKind.OutOfMemory → result ≡ LineError.Memory }
+    ensures help { IsHelpKind result (kind_of error.now) }
+    ensures memory { kind_of error.now ≡ ErrorKind.OutOfMemory → result ≡ LineError.Memory }
 {
     match error.kind() {
         ErrorKind::OutOfMemory => LineError::Memory,

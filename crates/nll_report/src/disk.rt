@@ -1,4 +1,7 @@
 //! The files of the system as texts.
+ghost use Rattle.std.specs.Prelude.{◌≡◌};
+ghost use Rattle.nll_report.specs.Run.{holds_anything};
+
 use crate::program::{Texts, Unread};
 use std::alloc::Global;
 use std::fs::OpenFile;
@@ -20,12 +23,20 @@ pub struct Disk<'a, R> {
 }
 
 impl<'a, R> Disk<'a, R> {
-    pub fn new(rt: &'a R) -> Self {
+    ghost use Rattle.nll_report.specs.Disk.{runtime_of};
+
+    /// The files of this runtime.
+    pub fn new(rt: &'a R) -> Self
+        ensures { runtime_of result ≡ rt.now }
+    {
         Disk { rt }
     }
 }
 
 impl<R: Files + AllocGlobal> Texts for Disk<'_, R> {
+    // No contract knows what a file holds: this is the weakest relation, and allows all bytes.
+    ghost holds = { λ _. holds_anything };
+
     fn get(&self, path: &str) -> Result<Vec<u8>, Unread> {
         match read_file(self.rt, path) {
             Ok(text) => Ok(text),

@@ -1,12 +1,16 @@
 //! The lines that the program writes on standard error, and their statuses.
-ghost use Rattle.std.specs.Prelude.{◌≡◌};
-ghost use Rattle.nll_report.specs.Refusal.{status_of};
+ghost use Rattle.std.specs.Prelude.{◌≡◌, OnOk, Some};
+ghost use Rattle.std.specs.Io.KnownBytes.{Appends};
+ghost use Rattle.nll_report.specs.Refusal.{kind_text, limit_text, refusal_line, refusal_of};
+ghost use Rattle.nll_report.specs.Refusal.{refusal_of_text, refusal_text, status_of};
+ghost use Rattle.nll_report.specs.declared.messages.Refusal.TheVariants.{Memory};
 
 use crate::answers::AnswerError;
 use nll_core::Kind;
 use nll_mir::{TextError, TextKind};
 use std::alloc::AllocError;
-use std::fmt;
+use std::io::Write;
+use std::{fmt, io};
 
 /// The line that is written where the words are refused.
 pub const USAGE: &str = "usage: nllc values|check|replay FILE [--owners N] \
@@ -38,15 +42,30 @@ impl Refusal {
             Refusal::Memory | Refusal::CannotWrite => 3,
         }
     }
+
+    /// Writes the line of the refusal, with its end, and does not flush.
+    ///
+    /// # Errors
+    /// Where a `write` fails or takes no byte; some of the line may be written then.
+    pub fn print<W: Write>(&self, to: &mut W) -> io::Result<()>
+        ensures { OnOk result
+            (Appends (W.contents to.old) (W.contents to.new) (refusal_line self.now)) }
+    {
+        writeln!(to, "{self}")
+    }
 }
 
 impl From<AllocError> for Refusal {
+    ghost from_gives = { λ _ refusal. refusal ≡ Memory };
+
     fn from(_refused: AllocError) -> Refusal {
         Refusal::Memory
     }
 }
 
 impl From<TextError> for Refusal {
+    ghost from_gives = { λ error refusal. refusal ≡ refusal_of_text error };
+
     fn from(error: TextError) -> Refusal {
         match error.kind {
             TextKind::Memory => Refusal::Memory,
@@ -56,6 +75,8 @@ impl From<TextError> for Refusal {
 }
 
 impl From<AnswerError> for Refusal {
+    ghost from_gives = { λ error refusal. refusal ≡ refusal_of error };
+
     fn from(error: AnswerError) -> Refusal {
         match error {
             AnswerError::Text(error) => Refusal::from(error),
@@ -65,13 +86,12 @@ impl From<AnswerError> for Refusal {
 }
 
 impl fmt::Display for Refusal {
+    ghost output = { λ refusal. Some (refusal_text refusal) };
+
     fn fmt<W: fmt::Write>(&self, f: &mut fmt::Formatter<W>) -> fmt::Result {
         match self {
             Refusal::Usage => f.write_str(USAGE),
             Refusal::CannotRead(path) => write!(f, "nllc: cannot read {path}"),
-            Refusal::Text(line, TextKind::Limit(kind)) => {
-                write!(f, "nllc: line {line}: limit {}", limit_text(*kind))
-            }
             Refusal::Text(line, kind) => write!(f, "nllc: line {line}: {}", kind_text(*kind)),
             Refusal::Memory => f.write_str("nllc: memory"),
             Refusal::CannotWrite => f.write_str("nllc: cannot write"),
@@ -79,8 +99,9 @@ impl fmt::Display for Refusal {
     }
 }
 
-// A limit is printed with the word of what it counts.
-fn kind_text(kind: TextKind) -> &'static str {
+fn kind_text(kind: TextKind) -> &'static str
+    ensures { result.now ≡ kind_text kind }
+{
     match kind {
         TextKind::NotUtf8 => "not utf-8",
         TextKind::Header => "header",
@@ -90,21 +111,23 @@ fn kind_text(kind: TextKind) -> &'static str {
         TextKind::Range => "range",
         TextKind::Shape => "shape",
         TextKind::TypeSize => "type size",
-        TextKind::Limit(_) => "limit",
+        TextKind::Limit(kind) => limit_text(kind),
         TextKind::End => "end",
         TextKind::Memory => "memory",
     }
 }
 
-fn limit_text(kind: Kind) -> &'static str {
+fn limit_text(kind: Kind) -> &'static str
+    ensures { result.now ≡ limit_text kind }
+{
     match kind {
-        Kind::Text => "text",
-        Kind::Points => "points",
-        Kind::Edges => "edges",
-        Kind::Universals => "universals",
-        Kind::Regions => "regions",
-        Kind::Constraints => "constraints",
-        Kind::Variables => "variables",
-        Kind::Structs => "structs",
+        Kind::Text => "limit text",
+        Kind::Points => "limit points",
+        Kind::Edges => "limit edges",
+        Kind::Universals => "limit universals",
+        Kind::Regions => "limit regions",
+        Kind::Constraints => "limit constraints",
+        Kind::Variables => "limit variables",
+        Kind::Structs => "limit structs",
     }
 }

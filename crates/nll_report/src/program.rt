@@ -1,6 +1,11 @@
 //! The whole program, over whatever holds its files and takes its lines.
-ghost use Rattle.std.specs.Prelude.{◌≡◌, ◌<◌, ◌≤◌, IfErr, IfOk};
+ghost use Rattle.std.specs.Prelude.{◌≡◌, ◌⊎◌, ◌<◌, ◌≤◌, ℕ, List, map, string_bytes, take};
+ghost use Rattle.std.specs.Prelude.{IfErr, IfOk, OnErr, OnOk};
+ghost use Rattle.std.specs.Io.KnownBytes.{Appends};
+ghost use Rattle.nll_report.specs.declared.messages.Refusal.{Refusal};
 ghost use Rattle.nll_report.specs.Refusal.{status_of};
+ghost use Rattle.nll_report.specs.Run.{IsBegun, IsFileAnswer, IsFileRefused, IsPrinted};
+ghost use Rattle.nll_report.specs.Run.{IsRefused, IsRun, command_of, holds_anything};
 
 use crate::answers::{Command, answer};
 use crate::command_line::line;
@@ -15,8 +20,12 @@ use std::{env, io};
 
 /// The texts that the program can read, by their paths.
 pub trait Texts {
+    // Which bytes may be given for a path.
+    ghost holds: { Self → List ℕ → List ℕ → Type 0 };
+
     /// Gives the bytes of a text, or its first 67,108,865 where it has more.
-    fn get(&self, path: &str) -> Result<Vec<u8>, Unread>;
+    fn get(&self, path: &str) -> Result<Vec<u8>, Unread>
+        ensures { IfOk result (λ text. holds self.now path.now text.items) };
 }
 
 /// Why a text was not given.
@@ -43,7 +52,14 @@ pub fn drive<R: AllocGlobal, T: Texts, O: Write, E: Write>(
 ) -> u8
     ensures statuses { result ≤ 3 }
     ensures answered { result < 2 → err.new ≡ err.old }
+    ensures printed { result < 2 → IsPrinted (T.holds texts.now) (map string_bytes words.now)
+        result (O.contents out.old) (O.contents out.new) }
     ensures refused { result ≡ 2 → out.new ≡ out.old }
+    ensures begun { result ≡ 3 → (out.new ≡ out.old)
+        ⊎ IsBegun (T.holds texts.now) (map string_bytes words.now)
+        (O.contents out.old) (O.contents out.new) }
+    ensures why { 2 ≤ result → (refusal : Refusal) × (status_of refusal ≡ result)
+        × IsRefused (T.holds texts.now) (map string_bytes words.now) refusal }
 {
     let told = match report(rt.alloc(), words, texts) {
         Ok((bytes, status)) => match deliver(out, bytes.as_slice()) {
@@ -61,7 +77,15 @@ pub fn run_in_process<R: Env + Files + AllocGlobal, O: Write, E: Write>(
     rt: &R,
     out: &mut O,
     err: &mut E,
-) -> u8 {
+) -> u8
+    ensures statuses { result ≤ 3 }
+    ensures answered { result < 2 → err.new ≡ err.old }
+    ensures printed { result < 2 → (words : List (List ℕ))
+        × IsPrinted holds_anything words result (O.contents out.old) (O.contents out.new) }
+    ensures refused { result ≡ 2 → out.new ≡ out.old }
+    ensures begun { result ≡ 3 → (out.new ≡ out.old) ⊎ ((words : List (List ℕ))
+        × IsBegun holds_anything words (O.contents out.old) (O.contents out.new)) }
+{
     match words_of(rt) {
         Ok(words) => drive(rt, words.as_slice(), &Disk::new(rt), out, err),
         Err(refusal) => tell(&refusal, err),
@@ -82,7 +106,11 @@ fn words_of<R: Env + AllocGlobal>(rt: &R) -> Result<Vec<String>, Refusal> {
 
 // What goes to standard output, and the status.
 fn report<T: Texts>(alloc: Global, words: &[String], texts: &T) -> Result<(Vec<u8>, u8), Refusal>
-    ensures { IfOk result (λ r. r.1 ≤ 1) }
+    ensures ok { IfOk result (λ r.
+        IsRun (T.holds texts.now) (map string_bytes words.now) r.0.items r.1) }
+    ensures status { IfOk result (λ r. r.1 ≤ 1) }
+    ensures err { IfErr result
+        (IsRefused (T.holds texts.now) (map string_bytes words.now)) }
 {
     match line(alloc, words) {
         Ok(line) => answered(alloc, line, texts),
@@ -92,8 +120,13 @@ fn report<T: Texts>(alloc: Global, words: &[String], texts: &T) -> Result<(Vec<u
     }
 }
 
+// What the text of the line's file comes to.
 fn answered<T: Texts>(alloc: Global, line: Line, texts: &T) -> Result<(Vec<u8>, u8), Refusal>
-    ensures { IfOk result (λ r. r.1 ≤ 1) }
+    ensures ok { IfOk result (λ r.
+        IsFileAnswer (T.holds texts.now) line.task (string_bytes line.file) r.0.items r.1) }
+    ensures status { IfOk result (λ r. r.1 ≤ 1) }
+    ensures err { IfErr result
+        (IsFileRefused (T.holds texts.now) (string_bytes line.file)) }
 {
     let Line { task, file } = line;
     match texts.get(file.as_str()) {
@@ -103,7 +136,9 @@ fn answered<T: Texts>(alloc: Global, line: Line, texts: &T) -> Result<(Vec<u8>, 
     }
 }
 
-fn command_of(task: Task) -> Command {
+fn command_of(task: Task) -> Command
+    ensures { result ≡ command_of task }
+{
     match task {
         Task::Values => Command::Values,
         Task::Check => Command::Check,
@@ -111,7 +146,10 @@ fn command_of(task: Task) -> Command {
 }
 
 fn deliver<O: Write>(out: &mut O, bytes: &[u8]) -> Result<(), Refusal>
-    ensures { IfErr result (λ e. e ≡ Refusal.CannotWrite) }
+    ensures ok { OnOk result (Appends (O.contents out.old) (O.contents out.new) bytes.now) }
+    ensures err { IfErr result (λ e. e ≡ Refusal.CannotWrite) }
+    ensures begun { OnErr result ((count : ℕ)
+        × Appends (O.contents out.old) (O.contents out.new) (take count bytes.now)) }
 {
     if put(out, bytes).is_err() || out.flush().is_err() {
         return Err(Refusal::CannotWrite);
@@ -123,7 +161,7 @@ fn deliver<O: Write>(out: &mut O, bytes: &[u8]) -> Result<(), Refusal>
 fn tell<E: Write>(refusal: &Refusal, err: &mut E) -> u8
     ensures { result ≡ status_of refusal.now }
 {
-    let _ = writeln!(err, "{refusal}");
+    let _ = refusal.print(err);
     let _ = err.flush();
     refusal.status()
 }

@@ -1,11 +1,12 @@
 -- Cutting off the first line of a text.
-use Rattle.std.proofs.Common.{◌≡◌, ℕ, ◌+◌, ◌-◌, ◌<◌, ◌≤◌, Bool, true, false, cond, eqb, ltb, List, [], ◌∷◌, ◌++◌, length, get_or, take, drop, refl, sym, ap, ◌∙◌, arith, All, Some, None}
+use Rattle.std.proofs.Common.{◌≡◌, ℕ, ◌+◌, ◌-◌, ◌<◌, ◌≤◌, Bool, true, false, cond, eqb, ltb, List, [], ◌∷◌, ◌++◌, length, get_or, take, drop, refl, sym, ap, ◌∙◌, arith, All, Option, Some, None}
 use Rattle.std.specs.List.{slice_split, position, position_or_len}
 use Rattle.std.proofs.lemmas.List.{take_rest, get_or-take, get_or_default, length-take, take-append-drop, drop_more, nil_from_length}
 use Rattle.std.proofs.lemmas.List.Splits.{length-slice_split, slice_split_at, slice_split_none}
-use Rattle.std.proofs.lemmas.List.Sums.{count_by-le-length, fails_before_first}
+use Rattle.std.proofs.lemmas.List.Sums.{count_by-le-length, fails_before_first, position_or_len_is}
 use Rattle.std.proofs.lemmas.List.Quantifiers.{position-Some}
-use Rattle.std.proofs.lemmas.Bool.{ltb-false, eqb-true}
+use Rattle.std.proofs.lemmas.Bool.{ltb-false, eqb-true, lt-ltb, le-ltb, false_from_ne_true}
+use Rattle.memchr.specs.Find.{IsFirstByte}
 use Rattle.std.proofs.lemmas.List.Elements.{All-head, All-tail}
 use Rattle.nll_text.specs.Lines.{lines_of, without_last_feed}
 
@@ -128,3 +129,16 @@ length-lines_of-le text =
       count_by-le-length is_feed cut,
       length-without_last_feed-le text,
     )
+
+-- ---- the first line feed
+
+-- the first byte that passes a test stands at its position
+pub first_place : (test : ℕ → Bool) (bytes : List ℕ) (found : Option ℕ) → IsFirstByte test bytes found → found ≡ position test bytes
+first_place test bytes None nowhere =
+    let none : position_or_len test bytes ≡ length bytes =
+    position_or_len_is test bytes (length bytes) 0 (omega arith) (λ k below. false_from_ne_true _ (nowhere k (omega arith) below)) (λ below. absurd (omega arith)) in
+    rw (none, le-ltb (length bytes) (length bytes) (omega arith)) refl
+first_place test bytes (Some k) first =
+    let here : position_or_len test bytes ≡ k =
+    position_or_len_is test bytes k 0 (omega (arith, first.0.high)) (λ j below. false_from_ne_true _ (first.0.before j (omega arith) below)) (λ below. first.1) in
+    rw (here, lt-ltb k (length bytes) first.0.high) refl

@@ -1,12 +1,13 @@
 -- What a line begins with, and what it is made of.
-use Rattle.std.proofs.Common.{◌≡◌, ◌≢◌, ℕ, ◌<◌, Bool, true, false, eqb, List, [], ◌∷◌, ◌++◌, length, refl, sym, ap, ◌∙◌, subst, append_assoc, arith}
+use Rattle.std.proofs.Common.{◌≡◌, ◌≢◌, ◌⊎◌, inl, inr, ⊎_elim, ℕ, zero, suc, ◌<◌, Bool, true, false, eqb, List, [], ◌∷◌, ◌++◌, length, take, drop, refl, sym, ap, ◌∙◌, subst, append_assoc, arith}
+use Rattle.std.specs.List.{prefix_len}
 use Rattle.std.proofs.lemmas.List.{append-nil, length-append}
-use Rattle.std.proofs.lemmas.Bool.{eqb-true}
+use Rattle.std.proofs.lemmas.Bool.{eqb-true, cases_Bool, cases_eq}
 use Rattle.std.proofs.lemmas.Bool.Decides.{nat_tests}
 use Rattle.nll_text.specs.Lines.{is_blank, is_empty_or_remark}
 use Rattle.nll_text.specs.Tokens.{Token, word, region, arrow, sign, spelling, is_word_byte, is_sign, IsToken, AreTokens, IsWhole, first_passes, IsGap, IsMadeOf, IsNotMade}
 use Rattle.nll_text.specs.Lexing.{BeginsWith, HasNoToken, SplitsWhile}
-use Rattle.nll_text.proofs.ByteLemmas.{Class, letter, quote, dash, mark, other, class_of, class_of-sign, class_of-blank, same_split, first_fails}
+use Rattle.nll_text.proofs.ByteLemmas.{Class, letter, quote, dash, mark, other, class_of, class_of-sign, class_of-blank, same_split, first_fails, splits_while}
 
 -- ---- the first byte of a token
 
@@ -308,3 +309,74 @@ one_token_list_lem line (t ∷ ts) us h k =
     let b = token_after line h.0 core t h.1 s (begins_with core t h.1 refl h.4 h.5) in
     let r = b.only us k in
     ap (λ (vs : List Token). t ∷ vs) (one_token_list_lem h.1 ts r.0 h.6 r.2) ∙ sym r.1
+
+-- ---- a line is made of some list of tokens, or of none
+
+-- the line begins with a token
+abbrev HasFront : List ℕ → Type 0
+HasFront line = (t : Token) × (rest : List ℕ) × BeginsWith line t rest
+
+region_front : (b : ℕ) (bs : List ℕ) → b ≡ 39 → HasFront (b ∷ bs) ⊎ IsNotMade (b ∷ bs)
+region_front b bs q =
+    let name : List ℕ = take (prefix_len is_word_byte bs) bs in
+    let rest : List ℕ = drop (prefix_len is_word_byte bs) bs in
+    let s = splits_while is_word_byte bs in
+    ⊎_elim
+    (λ none. inr (region_none (b ∷ bs) b bs name rest refl q s none))
+    (λ some. inl (region name, rest, region_begins (b ∷ bs) b bs name rest refl q s (omega (arith, some))))
+    (cases_eq (length name) 0)
+
+arrow_front : (b : ℕ) (bs : List ℕ) → b ≡ 45 → HasFront (b ∷ bs) ⊎ IsNotMade (b ∷ bs)
+arrow_front b [] d = inr (arrow_none (b ∷ []) b [] refl d refl)
+arrow_front b (x ∷ bs) d = ⊎_elim
+    (λ h. inl (arrow, bs, begins_with (b ∷ x ∷ bs) arrow bs (rw (d, eqb-true x 62 h) refl) tt tt))
+    (λ h. inr (arrow_none (b ∷ x ∷ bs) b (x ∷ bs) refl d h))
+    (cases_Bool (eqb x 62))
+
+word_front : (b : ℕ) (bs : List ℕ) → is_blank b ≡ false → b ≢ 39 → b ≢ 45 → is_sign b ≡ false
+    → HasFront (b ∷ bs) ⊎ IsNotMade (b ∷ bs)
+word_front b bs solid q d unsigned =
+    let line : List ℕ = b ∷ bs in
+    let name : List ℕ = take (prefix_len is_word_byte line) line in
+    let rest : List ℕ = drop (prefix_len is_word_byte line) line in
+    let s = splits_while is_word_byte line in
+    ⊎_elim
+    (λ none. inr (other_none line b bs name rest refl solid q d unsigned s none))
+    (λ some. inl (word name, rest, word_begins line name rest s (omega (arith, some))))
+    (cases_eq (length name) 0)
+
+front_or_none : (line : List ℕ) → 0 < length line → first_passes is_blank line ≡ false
+    → HasFront line ⊎ IsNotMade line
+front_or_none [] some solid = absurd (omega arith)
+front_or_none (b ∷ bs) some solid = ⊎_elim (region_front b bs)
+    (λ q. ⊎_elim (arrow_front b bs)
+    (λ d. ⊎_elim (λ s. inl (sign b, bs, begins_with (b ∷ bs) (sign b) bs refl s tt))
+    (word_front b bs solid q d)
+    (cases_Bool (is_sign b)))
+    (cases_eq b 45))
+    (cases_eq b 39)
+
+-- the tokens of a line, where some list makes it
+abbrev pub IsSomeMade : List ℕ → Type 0
+IsSomeMade line = (ts : List Token) × IsMadeOf line ts
+
+made_within : (n : ℕ) (line : List ℕ) → length line < n → IsSomeMade line ⊎ IsNotMade line
+made_within zero line short = absurd (omega arith)
+made_within (suc n) line short =
+    let gap : List ℕ = take (prefix_len is_blank line) line in
+    let core : List ℕ = drop (prefix_len is_blank line) line in
+    let s = splits_while is_blank line in
+    ⊎_elim
+    (λ none. inl ([], (nothing_left line gap core s none).made))
+    (λ some. ⊎_elim
+    (λ h. let b = token_after line gap core h.0 h.1 s h.2 in
+    ⊎_elim
+    (λ made. inl (h.0 ∷ made.0, b.made made.0 made.1))
+    (λ not_made. inr (λ ts k. let r = b.only ts k in not_made r.0 r.2))
+    (made_within n h.1 (omega (arith, b.shorter))))
+    (λ not_made. inr (none_after line gap core s not_made))
+    (front_or_none core (omega (arith, some)) s.stops))
+    (cases_eq (length core) 0)
+
+pub made_or_not : (line : List ℕ) → IsSomeMade line ⊎ IsNotMade line
+made_or_not line = made_within (suc (length line)) line (omega arith)

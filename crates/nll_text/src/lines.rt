@@ -3,12 +3,14 @@
 ghost use Rattle.std.specs.Prelude.{◌≡◌, ◌==◌, ◌∷◌, position, length, ◌<◌, IfSome};
 ghost use Rattle.nll_text.specs.Lines.{lines_of, lines_left};
 
+use memchr::memchr;
+
 // Where the first line feed stands.
 fn first_line_feed(text: &[u8]) -> Option<usize>
     ensures place { result ≡ position (λ b. b == 10) text.now }
     ensures within { IfSome result (λ i. i < length text.now) }
 {
-    text.iter().position(|byte| *byte == b'\n')
+    memchr(b'\n', text)
 }
 
 /// Cuts off the first line of a text: the line, and the text of the lines after it, if any.

@@ -1,6 +1,7 @@
 //! Texts that fit, and what they mean.
 use crate::facts::{Facts, read_facts};
 use crate::labels::{Labels, PointName};
+use crate::laws::{not_both, one_meaning, some_meaning_or_fault};
 use nll_core::{Element, Graph, Problem, RegionId, faults, solve};
 use std::alloc::{AllocError, Global};
 use std::test::Fail;
@@ -169,6 +170,9 @@ fn reads_texts(rt: HostRuntime) -> Result<(), Fail> {
             "of {text:?}"
         );
     }
+    one_meaning();
+    not_both();
+    some_meaning_or_fault();
     Ok(())
 }
 

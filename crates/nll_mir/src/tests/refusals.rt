@@ -1,6 +1,8 @@
 //! Texts that are refused: the line and the kind.
+use super::hostile::told;
 use crate::error::{TextError, TextKind};
 use crate::facts::read_facts;
+use crate::laws::one_fault;
 use crate::limits::MAX_TEXT;
 use nll_core::{BuildError, Kind};
 use std::alloc::{AllocError, Global};
@@ -63,15 +65,13 @@ const TEXTS: &[(&[u8], u64, TextKind)] = &[
 ];
 
 #[test]
-fn refuses_texts(rt: HostRuntime) {
+fn refuses_texts(rt: HostRuntime) -> Result<(), Fail> {
     for (text, line, kind) in TEXTS {
-        let error = read_facts(rt.alloc(), text).err();
-        let want = TextError {
-            line: *line,
-            kind: *kind,
-        };
-        assert_eq!(rt; error, Some(want), "of {text:?}");
+        let fault = told(&rt, rt.alloc(), text)?;
+        assert_eq!(rt; fault, Some((*line, *kind)), "of {text:?}");
     }
+    one_fault();
+    Ok(())
 }
 
 // Lines that are faulty as the first line behind the header.
@@ -218,15 +218,15 @@ fn assert_faulty(
     for (line, kind) in rows {
         let mut text = Vec::from_slice(alloc, before)?;
         text.extend_from_slice(line)?;
-        let error = read_facts(alloc, text.as_slice()).err();
-        let want = TextError {
-            line: number,
-            kind: *kind,
-        };
-        assert_eq!(rt; error, Some(want), "of {line:?}");
+        let fault = told(rt, alloc, text.as_slice())?;
+        assert_eq!(rt; fault, Some((number, *kind)), "of {line:?}");
         text.extend_from_slice(b"\r\nend\n")?;
-        let error = read_facts(alloc, text.as_slice()).err();
-        assert_eq!(rt; error, Some(want), "of {line:?} and further lines");
+        let fault = told(rt, alloc, text.as_slice())?;
+        assert_eq!(rt;
+            fault,
+            Some((number, *kind)),
+            "of {line:?} and further lines"
+        );
     }
     Ok(())
 }
@@ -313,12 +313,14 @@ fn blanks(alloc: Global, bytes: usize) -> Result<Vec<u8>, AllocError> {
 // The text's length is judged before its header.
 #[test]
 fn refuses_a_long_text(rt: HostRuntime) -> Result<(), Fail> {
-    let text = blanks(rt.alloc(), MAX_TEXT + 1)?;
-    let want = TextError {
-        line: 1,
-        kind: TextKind::Limit(Kind::Text),
-    };
-    assert_eq!(rt; read_facts(rt.alloc(), text.as_slice()).err(), Some(want));
+    for (bytes, kind) in [
+        (MAX_TEXT, TextKind::Header),
+        (MAX_TEXT + 1, TextKind::Limit(Kind::Text)),
+    ] {
+        let text = blanks(rt.alloc(), bytes)?;
+        let want = TextError { line: 1, kind };
+        assert_eq!(rt; read_facts(rt.alloc(), text.as_slice()).err(), Some(want));
+    }
     Ok(())
 }
 

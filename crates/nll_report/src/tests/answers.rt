@@ -1,12 +1,12 @@
 //! Reports of texts whose answers were found by hand from the definitions.
-use super::fakes::facts_of;
-use crate::answers::{Command, answer};
+use super::fakes::{facts_of, run_on_text};
+use std::alloc::AllocError;
 use std::test::Fail;
 
 // A text, and its report of values.
 fn has_values(rt: &impl AllocGlobal, text: &str, want: &str) -> bool {
-    match answer(rt.alloc(), Command::Values, text.as_bytes()) {
-        Ok((report, status)) => status == 0 && report.as_slice() == want.as_bytes(),
+    match run_on_text(rt, "values", text) {
+        Ok(seen) => seen.is(0, want, ""),
         Err(_) => false,
     }
 }
@@ -14,8 +14,8 @@ fn has_values(rt: &impl AllocGlobal, text: &str, want: &str) -> bool {
 // A text, and its report of faults: status 0 where that is the line `ok`, else 1.
 fn has_faults(rt: &impl AllocGlobal, text: &str, want: &str) -> bool {
     let told = if want == "ok\n" { 0 } else { 1 };
-    match answer(rt.alloc(), Command::Check, text.as_bytes()) {
-        Ok((report, status)) => status == told && report.as_slice() == want.as_bytes(),
+    match run_on_text(rt, "check", text) {
+        Ok(seen) => seen.is(told, want, ""),
         Err(_) => false,
     }
 }
@@ -170,6 +170,17 @@ fn gives_ends(rt: HostRuntime) -> Result<(), Fail> {
             "'static: 0 end('static)\n'b: 0 end('b)\n'a: 0 end('a)\n\
              'r: 0 end('static) end('b) end('a)\n",
         ),
+    ] {
+        let text = facts_of(rt.alloc(), lines)?;
+        assert!(rt; has_values(&rt, text.as_str(), want), "{lines}");
+    }
+    Ok(())
+}
+
+// An end is passed on from region to region as a point behind the return points is.
+#[test]
+fn passes_ends_on(rt: HostRuntime) -> Result<(), Fail> {
+    for (lines, want) in [
         // A plain region passes ends on.
         (
             "points 3|universal 'a|region 'r|region 's|next 0 1|next 1 2|return 2\
@@ -197,6 +208,13 @@ fn gives_ends(rt: HostRuntime) -> Result<(), Fail> {
         assert!(rt; has_values(&rt, text.as_str(), want), "{lines}");
     }
     Ok(())
+}
+
+// Lines below those of two points and of three universal regions, and their report of faults.
+fn has_faults_of_three(rt: &impl AllocGlobal, facts: &str, want: &str) -> Result<bool, AllocError> {
+    let lines = format!(in rt.alloc(); "points 2|universal 'a|universal 'b|universal 'c|{facts}")?;
+    let text = facts_of(rt.alloc(), lines.as_str())?;
+    Ok(has_faults(rt, text.as_str(), want))
 }
 
 // A fault is an end that a universal region holds without being known to outlive its region.
@@ -236,7 +254,16 @@ fn finds_a_fault(rt: HostRuntime) -> Result<(), Fail> {
             "outlives 'b 'c|outlives 'c 'a|return 1|constraint 'a 'b 1",
             "fault 'a must outlive 'b\n",
         ),
-        // 'static outlives all, and nothing is known to outlive it but by a line.
+    ] {
+        assert!(rt; has_faults_of_three(&rt, facts, want)?, "{facts}");
+    }
+    Ok(())
+}
+
+// 'static outlives all, and nothing is known to outlive it but by a line.
+#[test]
+fn knows_what_static_outlives(rt: HostRuntime) -> Result<(), Fail> {
+    for (facts, want) in [
         ("next 0 1|return 1|constraint 'static 'b 0", "ok\n"),
         (
             "next 0 1|return 1|constraint 'a 'static 0",
@@ -255,6 +282,16 @@ fn finds_a_fault(rt: HostRuntime) -> Result<(), Fail> {
             "outlives 'a 'b|outlives 'b 'static|return 1|constraint 'a 'c 1",
             "ok\n",
         ),
+    ] {
+        assert!(rt; has_faults_of_three(&rt, facts, want)?, "{facts}");
+    }
+    Ok(())
+}
+
+// Where a fault might be looked for, and none is.
+#[test]
+fn finds_no_fault(rt: HostRuntime) -> Result<(), Fail> {
+    for (facts, want) in [
         // Each region outlives itself, and two may outlive each other.
         ("outlives 'a 'a|return 1|constraint 'a 'a 1", "ok\n"),
         (
@@ -266,11 +303,7 @@ fn finds_a_fault(rt: HostRuntime) -> Result<(), Fail> {
         ("constraint 'a 'b 1", "ok\n"),
         ("return 0|next 0 1|constraint 'a 'b 1", "ok\n"),
     ] {
-        let lines = format!(in rt.alloc();
-            "points 2|universal 'a|universal 'b|universal 'c|{facts}"
-        )?;
-        let text = facts_of(rt.alloc(), lines.as_str())?;
-        assert!(rt; has_faults(&rt, text.as_str(), want), "{facts}");
+        assert!(rt; has_faults_of_three(&rt, facts, want)?, "{facts}");
     }
     Ok(())
 }

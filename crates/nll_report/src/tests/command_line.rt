@@ -2,6 +2,7 @@
 use super::fakes::words_of;
 use crate::command_line::line;
 use crate::task::{LineError, Task};
+use std::alloc::AllocError;
 use std::test::Fail;
 
 // A command and one file, with `--` before the file or behind it.
@@ -31,9 +32,16 @@ fn takes_a_command_and_a_file(rt: HostRuntime) -> Result<(), Fail> {
     Ok(())
 }
 
-// Whatever is not of that form, an option among it.
+// The words are refused as words, and not as a call for help.
+fn is_refused(rt: &impl AllocGlobal, words: &str) -> Result<bool, AllocError> {
+    let words = words_of(rt.alloc(), words)?;
+    let refused = line(rt.alloc(), words.as_slice());
+    Ok(matches!(&refused, Err(LineError::Usage)))
+}
+
+// Whatever is not of that form.
 #[test]
-fn refuses_all_other_words(rt: HostRuntime) -> Result<(), Fail> {
+fn refuses_other_words(rt: HostRuntime) -> Result<(), Fail> {
     for words in [
         "",
         "values",
@@ -55,6 +63,16 @@ fn refuses_all_other_words(rt: HostRuntime) -> Result<(), Fail> {
         "-",
         "--",
         "--|values|a",
+    ] {
+        assert!(rt; is_refused(&rt, words)?, "{words}");
+    }
+    Ok(())
+}
+
+// Options that there are not, and help that stands behind a word which is refused.
+#[test]
+fn refuses_other_options(rt: HostRuntime) -> Result<(), Fail> {
+    for words in [
         "--version",
         "-V",
         "values|a|--version",
@@ -77,12 +95,7 @@ fn refuses_all_other_words(rt: HostRuntime) -> Result<(), Fail> {
         "values|a|b|--help",
         "replay|--help",
     ] {
-        let words = words_of(rt.alloc(), words)?;
-        let refused = line(rt.alloc(), words.as_slice());
-        assert!(rt;
-            matches!(&refused, Err(LineError::Usage)),
-            "{words:?} gives {refused:?}"
-        );
+        assert!(rt; is_refused(&rt, words)?, "{words}");
     }
     Ok(())
 }

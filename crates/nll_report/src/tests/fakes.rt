@@ -1,7 +1,8 @@
 //! Texts, writers and words for the tests.
 ghost use Rattle.std.specs.Prelude.{◌≡◌, IfOk};
+ghost use Rattle.nll_report.specs.Run.{holds_anything};
 
-use crate::program::{Texts, Unread};
+use crate::program::{Texts, Unread, drive};
 use std::alloc::{AllocError, Global};
 use std::io;
 use std::io::{ErrorKind, Write};
@@ -87,6 +88,8 @@ pub(super) struct Shelf {
 }
 
 impl Texts for Shelf {
+    ghost holds = { λ _. holds_anything };
+
     fn get(&self, path: &str) -> Result<Vec<u8>, Unread> {
         if path == "large" {
             return Err(Unread::Memory);
@@ -96,6 +99,64 @@ impl Texts for Shelf {
             None => Err(Unread::Cannot),
         }
     }
+}
+
+/// One text at each path.
+#[derive(Drop)]
+struct Sheet<'a> {
+    alloc: Global,
+    text: &'a [u8],
+}
+
+impl Texts for Sheet<'_> {
+    ghost holds = { λ _. holds_anything };
+
+    fn get(&self, _path: &str) -> Result<Vec<u8>, Unread> {
+        self.text.to_vec(self.alloc).or(Err(Unread::Memory))
+    }
+}
+
+/// What stands on both streams, and the status.
+#[derive(Drop)]
+pub(super) struct Seen {
+    pub(super) status: u8,
+    pub(super) out: Vec<u8>,
+    pub(super) err: Vec<u8>,
+}
+
+impl Seen {
+    pub(super) fn is(&self, status: u8, out: &str, err: &str) -> bool {
+        self.status == status
+            && self.out.as_slice() == out.as_bytes()
+            && self.err.as_slice() == err.as_bytes()
+    }
+}
+
+/// Runs the program on words and the texts of the shelf.
+pub(super) fn run_on<R: AllocGlobal>(rt: &R, words: &str) -> Result<Seen, AllocError> {
+    let shelf = Shelf { alloc: rt.alloc() };
+    run_over(rt, words, &shelf)
+}
+
+/// Runs the program on a command and one text.
+pub(super) fn run_on_text<R: AllocGlobal>(
+    rt: &R,
+    command: &str,
+    text: &str,
+) -> Result<Seen, AllocError> {
+    let words = format!(in rt.alloc(); "{command}|text")?;
+    let sheet = Sheet {
+        alloc: rt.alloc(),
+        text: text.as_bytes(),
+    };
+    run_over(rt, words.as_str(), &sheet)
+}
+
+fn run_over<R: AllocGlobal, T: Texts>(rt: &R, words: &str, texts: &T) -> Result<Seen, AllocError> {
+    let words = words_of(rt.alloc(), words)?;
+    let (mut out, mut err) = (Vec::new(rt.alloc()), Vec::new(rt.alloc()));
+    let status = drive(rt, words.as_slice(), texts, &mut out, &mut err);
+    Ok(Seen { status, out, err })
 }
 
 /// What a writer does at one of its calls.

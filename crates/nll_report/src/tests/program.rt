@@ -1,24 +1,9 @@
 //! The program over texts and writers of the tests.
-use super::fakes::{Fault, Faulty, Shelf, words_of};
+use super::fakes::{Fault, Faulty, Shelf, facts_of, run_on, run_on_text, words_of};
+use super::refused_texts::declaring;
 use crate::messages::USAGE;
 use crate::program::drive;
 use std::test::Fail;
-
-// What stands on both streams, and the status.
-#[derive(Drop)]
-struct Seen {
-    status: u8,
-    out: Vec<u8>,
-    err: Vec<u8>,
-}
-
-fn run_on(rt: &impl AllocGlobal, words: &str) -> Result<Seen, Fail> {
-    let words = words_of(rt.alloc(), words)?;
-    let (mut out, mut err) = (Vec::new(rt.alloc()), Vec::new(rt.alloc()));
-    let shelf = Shelf { alloc: rt.alloc() };
-    let status = drive(rt, words.as_slice(), &shelf, &mut out, &mut err);
-    Ok(Seen { status, out, err })
-}
 
 // An answer is printed as it is, with its status.
 #[test]
@@ -43,6 +28,59 @@ fn prints_answers(rt: HostRuntime) -> Result<(), Fail> {
         assert_eq!(rt; seen.status, status, "{words}");
         assert!(rt; seen.out.as_slice() == out.as_bytes(), "{words}");
         assert!(rt; seen.err.is_empty(), "{words}");
+    }
+    Ok(())
+}
+
+// What ends hold, what is known and what isn't, from words to output.
+#[test]
+fn checks_texts(rt: HostRuntime) -> Result<(), Fail> {
+    for (lines, status, out) in [
+        // A body that never returns reaches no end.
+        (
+            "points 2|universal 'a|universal 'b|next 0 1|next 1 0|constraint 'a 'b 0",
+            0,
+            "ok\n",
+        ),
+        // By way of a third region it is known.
+        (
+            "points 2|universal 'a|universal 'b|universal 'c|outlives 'a 'c|outlives 'c 'b\
+             |next 0 1|return 1|constraint 'a 'b 0",
+            0,
+            "ok\n",
+        ),
+        (
+            "points 2|universal 'a|universal 'b|next 0 1|return 1|constraint 'a 'static 0",
+            1,
+            "fault 'a must outlive 'static\n",
+        ),
+    ] {
+        let text = facts_of(rt.alloc(), lines)?;
+        let seen = run_on_text(&rt, "check", text.as_str())?;
+        assert!(rt; seen.is(status, out, ""), "{lines}");
+    }
+    Ok(())
+}
+
+// The line and the kind of a fault, from words to standard error.
+#[test]
+fn tells_faults_of_texts(rt: HostRuntime) -> Result<(), Fail> {
+    let many = declaring(rt.alloc(), "region", 65_536)?;
+    for (text, line) in [
+        (
+            "nll-facts 1\npoints 1048576\nconstraint 'static 'static 1048576\n",
+            "nllc: line 3: range\n",
+        ),
+        (many.as_str(), "nllc: line 65538: limit regions\n"),
+        // The point is out of range too.
+        (
+            "nll-facts 1\npoints 3\nregion '1\nregion '2\nnext 0 1\nnext 1 2\nreturn 2\nbase '1 1\n\
+             base '1 2\nconstraint 'z '1 9\nend\n",
+            "nllc: line 10: unknown\n",
+        ),
+    ] {
+        let seen = run_on_text(&rt, "values", text)?;
+        assert!(rt; seen.is(2, "", line), "{line}");
     }
     Ok(())
 }
@@ -117,7 +155,7 @@ fn tells_that_output_failed(rt: HostRuntime) -> Result<(), Fail> {
                 let shelf = Shelf { alloc: rt.alloc() };
                 let status = drive(&rt, words.as_slice(), &shelf, &mut out, &mut err);
                 assert_eq!(rt; status, 3, "{fault:?} after {calls_before} calls");
-                assert!(rt; err.ends_with(b"nllc: cannot write\n"));
+                assert!(rt; err.as_slice() == b"nllc: cannot write\n".as_slice());
             }
         }
     }

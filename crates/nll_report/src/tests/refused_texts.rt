@@ -241,7 +241,7 @@ fn refuses_too_many_points(rt: HostRuntime) -> Result<(), Fail> {
 }
 
 // A text of one point whose next lines declare `count` names.
-fn declaring(alloc: Global, form: &str, count: u32) -> Result<String, AllocError> {
+pub(super) fn declaring(alloc: Global, form: &str, count: u32) -> Result<String, AllocError> {
     let mut text = String::from_str(alloc, "nll-facts 1\npoints 1\n")?;
     for number in 0..count {
         writeln!(text, "{form} 'r{number}")?;
@@ -271,7 +271,7 @@ fn refuses_too_many_bytes(rt: HostRuntime) -> Result<(), Fail> {
     Ok(())
 }
 
-// The names that a limit allows, and the longest number of points, are read.
+// The names that a limit allows are read.
 #[test]
 fn takes_what_is_at_a_limit(rt: HostRuntime) -> Result<(), Fail> {
     for (form, count) in [("universal", 255), ("region", 65_535)] {

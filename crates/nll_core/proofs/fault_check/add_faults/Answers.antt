@@ -1,4 +1,4 @@
-use Rattle.std.proofs.Common.{◌≡◌, true, false, sym, ◌∙◌, subst, arith}
+use Rattle.std.proofs.Common.{◌≡◌, sym, ◌∙◌, subst, arith}
 use Rattle.std.proofs.lemmas.Bool.{false≢true}
 use Rattle.nll_core.specs.Outliving.{FindsUpTo}
 use Rattle.nll_core.proofs.FaultLemmas.{finds_added, finds_skipped, finds_row}

@@ -1,4 +1,4 @@
-use Rattle.std.proofs.Common.{◌≡◌, true, false, sym, ◌∙◌, subst, arith}
+use Rattle.std.proofs.Common.{◌≡◌, sym, ◌∙◌, subst, arith}
 use Rattle.std.proofs.lemmas.Bool.{false≢true}
 use Rattle.nll_core.specs.Outliving.{DrawsUpTo}
 use Rattle.nll_core.proofs.FaultLemmas.{draws_absent, draws_added, draws_skipped, draws_row}

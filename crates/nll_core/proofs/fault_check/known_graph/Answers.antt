@@ -1,4 +1,4 @@
-use Rattle.std.proofs.Common.{◌≡◌, ap, subst, arith}
+use Rattle.std.proofs.Common.{◌≡◌, subst, arith}
 use Rattle.nll_core.specs.Outliving.{DrawsUpTo}
 use Rattle.nll_core.proofs.fault_check.known_graph.Goals as goal
 

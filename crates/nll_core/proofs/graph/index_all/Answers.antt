@@ -1,4 +1,4 @@
-use Rattle.std.proofs.Common.{◌≡◌, ℕ, Contains, slice_index, inl, inr, refl, subst, arith}
+use Rattle.std.proofs.Common.{ℕ, Contains, slice_index, inl, inr, refl, subst, arith}
 use borrow.Author.Count.{below_more}
 use Rattle.std.proofs.lemmas.List.Elements.{Contains-get_or}
 use Rattle.nll_core.proofs.FactLemmas.{adds_pair}
@@ -25,3 +25,6 @@ returns-clause-indexes c = c.loop-to.invariant.indexes
 
 pub returns-clause-all : goal.returns-clause-all
 returns-clause-all c = λ q h. subst (λ z. Contains {X = ℕ × ℕ} c.loop-to.index.keys (c.args.from, z)) (contains_at c.args.list.now q h) (c.loop-to.invariant.all h.0 (omega (arith, h.1)))
+
+pub returns-then-list-gt-SCANNED-clause-all : goal.returns-then-list-gt-SCANNED-clause-all
+returns-then-list-gt-SCANNED-clause-all c = c.requires c.if-list-gt-SCANNED.true

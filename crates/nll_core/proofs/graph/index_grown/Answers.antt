@@ -1,4 +1,4 @@
-use Rattle.std.proofs.Common.{◌≡◌, ℕ, cond, ◌∷◌, [], ◌++◌, Contains, inl, inr, refl, subst, ⊎_elim}
+use Rattle.std.proofs.Common.{ℕ, cond, ◌∷◌, [], ◌++◌, Contains, inl, inr, refl, subst, ⊎_elim}
 use Rattle.std.proofs.lemmas.List.Elements.{Contains-push, Contains-push_cases}
 use Rattle.std.specs.List.{list_any}
 use Rattle.nll_core.specs.Building.{same_pair}

@@ -1,6 +1,5 @@
-use Rattle.std.proofs.Common.{◌≡◌, ℕ, ◌<◌, ◌≤◌, ◌⊎◌, true, false, sym, ◌∙◌, length, inl, ⊎_elim, arith}
+use Rattle.std.proofs.Common.{sym, ◌∙◌, inl, ⊎_elim, arith}
 use Rattle.std.proofs.lemmas.Bool.{false≢true}
-use Rattle.nll_core.specs.ElementSet.{flag}
 use Rattle.nll_core.proofs.SpreadingLemmas.{set_exact, list_exact}
 use Rattle.nll_core.proofs.reachability.reach.Goals as goal
 

@@ -1,4 +1,4 @@
-use Rattle.std.proofs.Common.{ℕ, ◌+◌, ◌-◌, length}
+use Rattle.std.proofs.Common.{◌+◌, ◌-◌, length}
 use Rattle.nll_core.specs.Spreading.{missing}
 use Rattle.nll_core.proofs.SpreadingLemmas.{Spreading}
 use Rattle.nll_core.proofs.reachability.spread.Given as goal

@@ -1,8 +1,7 @@
-use Rattle.std.proofs.Common.{◌≡◌, ℕ, ◌+◌, ◌<◌, ◌≤◌, ◌↔◌, true, false, Contains, length, subst, sym, ◌∙◌, arith}
+use Rattle.std.proofs.Common.{◌≡◌, ℕ, ◌↔◌, true, Contains, subst, sym, ◌∙◌, arith}
 use Rattle.std.proofs.lemmas.Bool.{false≢true}
 use Rattle.std.proofs.lemmas.Result.{on_ok_weaker}
 use Rattle.nll_core.specs.ElementSet.{flag}
-use Rattle.nll_core.specs.Graph.{element_count}
 use Rattle.nll_core.specs.Walks.{Reaches}
 use Rattle.nll_core.specs.Values.{set_of, IsHeld}
 use Rattle.nll_core.specs.Growing.{IsAsked}

@@ -1,4 +1,4 @@
-use Rattle.std.proofs.Common.{◌≡◌, ℕ, ◌+◌, ◌<◌, ◌≤◌, Contains, slice_index, get_or, length, refl, sym, arith}
+use Rattle.std.proofs.Common.{◌≡◌, ◌<◌, Contains, slice_index, get_or, length, refl, sym, arith}
 use borrow.Author.Count.{below_more}
 use Rattle.std.proofs.lemmas.List.{get_or_read}
 use Rattle.nll_core.specs.Values.{set_of, IsHeld}

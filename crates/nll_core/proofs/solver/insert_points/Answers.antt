@@ -1,4 +1,4 @@
-use Rattle.std.proofs.Common.{◌≡◌, ℕ, ◌+◌, ◌<◌, ◌≤◌, length, refl, arith}
+use Rattle.std.proofs.Common.{◌≡◌, ◌<◌, length, refl, arith}
 use borrow.Author.Count.{below_more}
 use Rattle.nll_core.specs.Values.{set_of, IsHeld}
 use Rattle.nll_core.specs.Growing.{Gains}

@@ -1,4 +1,4 @@
-use Rattle.std.proofs.Common.{◌≡◌, ℕ, ◌+◌, ◌<◌, ◌≤◌, length, arith}
+use Rattle.std.proofs.Common.{◌+◌, ◌<◌, length, arith}
 use Rattle.nll_core.specs.Values.{set_of}
 use Rattle.nll_core.proofs.SolverLemmas.{filling_first, filling_more}
 use Rattle.nll_core.proofs.solver.insert_universals.Goals as goal

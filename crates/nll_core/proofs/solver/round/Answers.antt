@@ -1,7 +1,5 @@
-use Rattle.std.proofs.Common.{◌≡◌, ℕ, ◌+◌, ◌<◌, ◌≤◌, length, get_or, sym, ap, ◌∙◌, subst, arith}
-use Rattle.std.proofs.lemmas.List.{get_or_default}
-use Rattle.nll_core.specs.declared.constraint.Constraint.{Constraint}
-use Rattle.nll_core.proofs.SolverLemmas.{Rounding, rounding_first, rounding_more, rounding_closed, rounding_stays, shaped_gains}
+use Rattle.std.proofs.Common.{◌≡◌, ◌<◌, ◌≤◌, length, get_or, sym, subst}
+use Rattle.nll_core.proofs.SolverLemmas.{rounding_first, rounding_more, rounding_closed, rounding_stays, shaped_gains}
 use Rattle.nll_core.proofs.solver.round.Goals as goal
 use Rattle.nll_core.proofs.solver.round.Goals.{After-apply}
 

@@ -1,4 +1,4 @@
-use Rattle.std.proofs.Common.{◌≡◌, ℕ, Bool, sym, subst}
+use Rattle.std.proofs.Common.{sym, subst}
 use Rattle.nll_core.specs.Growing.{IsClosed}
 use Rattle.nll_core.proofs.SolverLemmas.{least_exact}
 use Rattle.nll_core.proofs.solver.solve.Goals as goal
@@ -22,6 +22,14 @@ loop-values-preserved c = record {
   base = λ r e h. c.round.ensures.kept r e (c.loop-values.invariant.base r e h);
   below = λ assignment sat. c.round.ensures.below assignment sat (c.loop-values.invariant.below assignment sat);
 }
+
+pub returns-clause-solution : goal.returns-clause-solution
+returns-clause-solution c =
+    let same = c.in_ok-round.ensures.tells.same c.if-branch.false in
+    record {
+      base = λ r e h. c.round.ensures.kept r e (c.loop-values.invariant.base r e h);
+      each = subst (IsClosed c.args.problem.now) (sym same) (c.in_ok-round.ensures.closed c.if-branch.false);
+    }
 
 pub returns-clause-least : goal.returns-clause-least
 returns-clause-least c =

@@ -3,8 +3,7 @@ use Rattle.std.proofs.lemmas.Result.{err_from_is_err_and}
 use Rattle.nll_text.specs.Lines.{lines_of, lines_left}
 use Rattle.nll_text.proofs.LineLemmas.{length-lines_of-le}
 use Rattle.std.proofs.lemmas.Bool.{false≢true}
-use Rattle.nll_core.specs.Problem.{SameProblem}
-use Rattle.nll_mir.specs.FactsSaid.{problem_said}
+use Rattle.nll_core.proofs.SameLemmas.{same_problem_chain}
 use Rattle.nll_mir.specs.declared.error.TextKind.TheVariants.{End}
 use Rattle.nll_mir.specs.FactsText.{IsCut, IsFault, too_long, no_end}
 use Rattle.nll_mir.proofs.TextLemmas.{header_refused, body_refused, ended, not_ended}
@@ -55,6 +54,6 @@ returns-in-Ok-finish-clause-ok c =
         fine = says.1;
         ended = ended says.0 (says.2.reached ∙ c.has_ended.ensures.0 c.if-not-has_ended.false);
       };
-      same_problem = subst (SameProblem (problem_said says.0)) (sym c.in-Ok-finish.ensures.problem) says.2.problem;
+      same_problem = same_problem_chain _ _ _ says.2.problem c.in-Ok-finish.ensures.problem;
       same_names = c.new-in-Ok-finish.ensures ∙ (c.in-Ok-finish.ensures.names ∙ sym says.2.names);
     }

@@ -1,4 +1,3 @@
-use Rattle.std.proofs.Common.{◌≡◌, rules}
 use Rattle.nll_report.proofs.ReportLemmas.{memory_is_told}
 use Rattle.nll_report.proofs.answers.answer.Goals as goal
 

@@ -1,4 +1,4 @@
-use Rattle.std.proofs.Common.{◌≡◌, ◌<◌, ◌↔◌, ℕ, List, length, get_or, All, subst, sym, ap, ◌∙◌}
+use Rattle.std.proofs.Common.{◌≡◌, ◌<◌, length, All, subst, sym, ap, ◌∙◌}
 use Rattle.std.proofs.lemmas.Bool.{eqb-true, eqb-false}
 use Rattle.std.specs.Vec.{vec_len}
 use Rattle.nll_core.specs.Values.{IsHeld}
@@ -12,12 +12,12 @@ pub faults_text-requires : goal.faults_text-requires
 faults_text-requires c =
     subst (λ n. All (λ fault. (fault.0 < n) × (fault.1 < n)) c.deref.result.now) (sym c.requires)
     (subst (All (λ fault. (fault.0 < c.args.facts.now.problem.regions) × (fault.1 < c.args.facts.now.problem.regions))) (sym c.deref.ensures.value)
-    (faults_within c.args.facts.now.problem c.regions-regions.ensures.sound (IsHeld c.in_ok-values.values) c.in_ok-faults.faults.items c.in_ok-faults.ensures))
+    (faults_within c.args.facts.now.problem c.in_ok-faults.ensures.sound (IsHeld c.in_ok-values.values) c.in_ok-faults.faults.items c.in_ok-faults.ensures.exact))
 
 pub returns-clause-ok : goal.returns-clause-ok
 returns-clause-ok c = record {
   faults = c.in_ok-faults.faults.items;
-  exact = faults_carry c.args.facts.now.problem (IsHeld c.in_ok-values.values) (Least c.args.facts.now.problem) c.in_ok-values.ensures.least c.in_ok-faults.faults.items c.in_ok-faults.ensures;
+  exact = faults_carry c.args.facts.now.problem (IsHeld c.in_ok-values.values) (Least c.args.facts.now.problem) c.in_ok-values.ensures.least c.in_ok-faults.faults.items c.in_ok-faults.ensures.exact;
   printed = c.in_ok-report.ensures ∙ ap (faults_report c.args.facts.now.labels) c.deref.ensures.value;
   told = elim c.if-is_empty.branch [
     | then-is_empty w ↦

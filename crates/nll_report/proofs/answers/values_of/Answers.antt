@@ -1,4 +1,3 @@
-use Rattle.std.proofs.Common.{◌≡◌, ◌↔◌, List, ℕ, rules}
 use Rattle.nll_report.proofs.ReportLemmas.{report_carries}
 use Rattle.nll_report.proofs.answers.values_of.Goals as goal
 

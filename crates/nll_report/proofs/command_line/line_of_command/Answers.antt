@@ -1,11 +1,11 @@
-use Rattle.std.proofs.Common.{inr}
+use Rattle.std.proofs.Common.{inr, refl}
 use Rattle.clap.specs.Words.{found_of}
 use Rattle.nll_report.proofs.GrammarLemmas.{line_of_found-None, line_of_found-Some}
 use Rattle.nll_report.proofs.command_line.line_of_command.Goals as goal
 
 pub returns-in_default-get_str-clause-err : goal.returns-in_default-get_str-clause-err
 returns-in_default-get_str-clause-err c =
-    inr (line_of_found-None c.args.name.now (found_of c.args.found.now) c.in-Some.task c.in-Some.ensures c.in_default-get_str.ensures)
+    inr (refl, line_of_found-None c.args.name.now (found_of c.args.found.now) c.in-Some.task c.in-Some.ensures c.in_default-get_str.ensures)
 
 pub returns-clause-ok : goal.returns-clause-ok
 returns-clause-ok c =

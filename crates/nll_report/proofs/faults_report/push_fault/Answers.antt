@@ -1,4 +1,3 @@
-use Rattle.std.proofs.Common.{◌≡◌, ◌++◌, rules, List, ℕ, string_bytes}
 use Rattle.std.proofs.lemmas.List.{append_assoc}
 use Rattle.nll_report.proofs.faults_report.push_fault.Goals as goal
 

@@ -1,4 +1,4 @@
-use Rattle.std.proofs.Common.{◌≡◌, ◌++◌, ◌<◌, ◌∷◌, Contains, rules, List, ℕ, ap, ◌∙◌, subst, sym, refl, arith}
+use Rattle.std.proofs.Common.{◌++◌, ◌∷◌, Contains, List, ℕ, ap, ◌∙◌, subst, sym, refl, arith}
 use Rattle.std.proofs.lemmas.List.Elements.{Contains-append_right}
 use Rattle.nll_core.specs.Values.{set_of}
 use Rattle.nll_report.proofs.ReportLemmas.{element_within}

@@ -1,4 +1,4 @@
-use Rattle.std.proofs.Common.{◌≡◌, ℕ, ◌<◌, map, Contains, length, subst, sym, ◌∙◌}
+use Rattle.std.proofs.Common.{◌≡◌, ◌<◌, map, Contains, length, subst, sym, ◌∙◌}
 use Rattle.nll_core.specs.Adjacency.{next_of}
 use Rattle.nll_core.specs.declared.graph.TheConstants.{SCANNED}
 use Rattle.nll_core.proofs.FactLemmas.{pair_found, number_found_last}

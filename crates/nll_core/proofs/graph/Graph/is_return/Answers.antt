@@ -1,5 +1,4 @@
-use Rattle.std.proofs.Common.{◌∙◌, sym, ap}
-use Rattle.nll_core.specs.Graph.{Graph}
+use Rattle.std.proofs.Common.{◌∙◌, sym}
 use Rattle.nll_core.proofs.FactLemmas.{number_found}
 use Rattle.nll_core.proofs.graph.Graph.is_return.Goals as goal
 

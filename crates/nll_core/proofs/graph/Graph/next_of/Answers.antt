@@ -1,4 +1,4 @@
-use Rattle.std.proofs.Common.{◌≡◌, ◌≢◌, ℕ, map, Contains, AllPairs, subst, sym, ◌∙◌}
+use Rattle.std.proofs.Common.{◌≡◌, ◌≢◌, map, Contains, AllPairs, subst, sym, ◌∙◌}
 use Rattle.nll_core.specs.Adjacency.{next_of}
 use Rattle.nll_core.proofs.AdjacencyLemmas.{edges_exact, list_at}
 use Rattle.nll_core.proofs.graph.Graph.next_of.Goals as goal

@@ -1,12 +1,10 @@
-use Rattle.nll_core.proofs.FactLemmas.{adds_pair}
 use Rattle.nll_core.proofs.ProblemLemmas.{sound_bases}
 use Rattle.nll_core.proofs.problem.Problem.add_base.Goals as goal
 
 pub invariant_of-self-2 : goal.invariant_of-self-2
 invariant_of-self-2 c =
-    let adds = adds_pair c.self.inside.bases.keys (c.args.region, c.args.point) in
-    rw c.in_ok-insert.ensures.keys
-    (sound_bases _ c.self.invariant _ c.args.region c.args.point (λ x. (adds.each x).0) (rw (← c.self.view_is) at c.requires.region) (rw (← c.self.view_is) at c.requires.point))
+    sound_bases _ c.self.invariant _ c.args.region c.args.point (λ x. (c.in_ok-insert.ensures.ok.each x).0)
+    (rw (← c.self.view_is) at c.requires.region) (rw (← c.self.view_is) at c.requires.point)
 
 pub returns-clause-ok : goal.returns-clause-ok
-returns-clause-ok c = rw (← c.self.view_is, c.in_ok-insert.ensures.keys) (adds_pair _ (c.args.region, c.args.point))
+returns-clause-ok c = rw (← c.self.view_is) c.in_ok-insert.ensures.ok

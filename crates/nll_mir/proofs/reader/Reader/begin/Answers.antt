@@ -1,13 +1,13 @@
-use Rattle.std.proofs.Common.{sym, ap, ◌∙◌}
+use Rattle.std.proofs.Common.{ap, ◌∙◌}
 use Rattle.nll_core.specs.Problem.{Problem}
 use Rattle.nll_mir.specs.FactsReading.{bare}
 use Rattle.nll_mir.proofs.ReaderLemmas.{made_for_none, some_is_not_none}
-use Rattle.nll_mir.proofs.reader.Reader.start.Goals as goal
+use Rattle.nll_mir.proofs.reader.Reader.begin.Goals as goal
 
 pub returns-clause-said : goal.returns-clause-said
 returns-clause-said c =
     ap (λ (q : Problem). record { reached = c.args.self.now.reached; names = c.args.self.now.names; problem = q })
-    (made_for_none c.args.self.now.builder _ _ (sym c.is_some.ensures ∙ c.if-is_some.false) (c.in_ok-new.ensures.ok ∙ ap (bare c.args.self.now.points) c.len-universals.ensures))
+    (made_for_none c.args.self.now.builder _ _ c.requires.none (c.in_ok-new.ensures.ok ∙ ap (bare c.args.self.now.points) c.len-universals.ensures))
 
 pub returns-clause-kept : goal.returns-clause-kept
 returns-clause-kept c = record {

@@ -1,0 +1,92 @@
+#!/usr/bin/env python3
+"""Refuses each growth of memory of nllc in turn.
+
+    memory.py --nllc PATH [FILE..]
+
+Runs `PATH values FILE`, `PATH check FILE` and `PATH --help` again and again, on the examples
+where no FILE is given, and has `refuse.c` refuse the first growth of memory, then the second, to
+the last one that the run asks for. Each run is to end by itself, either as ever, or with status
+3, nothing on standard output and the line `nllc: memory` on standard error. Prints each run that
+ends otherwise, a line for each command, and last `N runs, M refused, W wrong`; status 1 where W
+isn't 0 or a command has no run that is refused.
+"""
+
+import argparse
+import glob
+import os
+import subprocess
+import sys
+import tempfile
+
+HERE = os.path.dirname(os.path.abspath(__file__))
+REFUSED = (3, b"", b"nllc: memory\n")
+
+
+class Allocator:
+    """The library that refuses, and the file of its counts."""
+
+    def __init__(self, folder):
+        self.library = os.path.join(folder, "refuse.so")
+        self.counts = os.path.join(folder, "count")
+        source = os.path.join(HERE, "refuse.c")
+        subprocess.run(["cc", "-O2", "-Wall", "-Werror", "-shared", "-fPIC", "-o", self.library,
+                        source], check=True)
+
+    def run(self, command, at, seconds):
+        """Status, standard output and standard error; and how many growths were asked for."""
+        known = {"LD_PRELOAD": self.library, "REFUSE_AT": str(at), "REFUSE_COUNT": self.counts}
+        if os.path.exists(self.counts):
+            os.remove(self.counts)
+        try:
+            done = subprocess.run(command, stdin=subprocess.DEVNULL, capture_output=True,
+                                  timeout=seconds, check=False, env={**os.environ, **known})
+        except subprocess.TimeoutExpired:
+            return ("no answer in time", b"", b""), 0
+        answer = done.returncode, done.stdout, done.stderr
+        if not os.path.exists(self.counts):
+            return answer, 0
+        with open(self.counts, encoding="ascii") as file:
+            return answer, int(file.read())
+
+
+def refuse_each(allocator, command, seconds):
+    """How many runs there were, how many were refused, and how many ended wrongly."""
+    usual, growths = allocator.run(command, 0, seconds)
+    refused = wrong = 0
+    for at in range(1, growths + 1):
+        answer, asked = allocator.run(command, at, seconds)
+        if answer == REFUSED:
+            refused += 1
+        elif answer != usual or asked < at:
+            wrong += 1
+            print(f"growth {at} of {' '.join(command)}: {answer!r}")
+    print(f"{' '.join(command[1:])}: {growths} growths, {refused} refused, {wrong} wrong",
+          flush=True)
+    return growths, refused, wrong
+
+
+def words():
+    parser = argparse.ArgumentParser(description=__doc__.split("\n")[0])
+    parser.add_argument("--nllc", required=True, help="the program to try")
+    parser.add_argument("--seconds", type=float, default=10.0, help="time limit of a run")
+    parser.add_argument("files", metavar="FILE", nargs="*")
+    args = parser.parse_args()
+    examples = os.path.join(HERE, "..", "examples", "*.facts")
+    args.files = args.files or sorted(map(os.path.normpath, glob.glob(examples)))
+    return args
+
+
+def main():
+    args = words()
+    commands = [["--help"], *([task, file] for file in args.files for task in ("values", "check"))]
+    with tempfile.TemporaryDirectory() as folder:
+        allocator = Allocator(folder)
+        rows = [refuse_each(allocator, [args.nllc, *command], args.seconds)
+                for command in commands]
+    runs, refused, wrong = (sum(column) for column in zip(*rows))
+    print(f"{runs} runs, {refused} refused, {wrong} wrong")
+    return 1 if wrong or any(row[1] == 0 for row in rows) else 0
+
+
+if __name__ == "__main__":
+    sys.exit(main())
