@@ -1,4 +1,4 @@
-//! Worked rows of each public call, with values taken by hand from the definitions.
+//! Worked examples of each public call, with values taken by hand from the definitions.
 mod building;
 mod calls;
 mod sets;

@@ -1,4 +1,4 @@
-//! Worked rows: what each call gives, with values taken by hand from the rules of the formats.
+//! Worked examples: what each call gives, with values taken by hand from the rules of the formats.
 
 use super::*;
 use std::alloc::{AllocError, Global};
