@@ -193,6 +193,7 @@ impl ProblemBuilder {
     /// The problem of the facts that were accepted.
     pub fn finish(self) -> Result<Problem, BuildError>
         ensures ok { IfOk result (SameProblem self) }
+        ensures others { IfOk result (λ q. q ≡ record self { bases = q.bases }) }
         ensures err { IfErr result (λ error. error ≡ BuildError.Memory) }
     {
         let mut problem = self.problem;

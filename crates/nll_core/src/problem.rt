@@ -234,6 +234,7 @@ impl Problem {
     // Sorts the base facts, so that a search among them takes logarithmic time.
     pub(crate) fn sort_bases(&mut self)
         ensures same { SameProblem self.old self.new }
+        ensures others { self.new ≡ record self.old { bases = self.new.bases } }
         ensures sound { IsSound self.new }
     {
         self.bases.sort();
