@@ -3,17 +3,17 @@ use Rattle.std.proofs.Common.{◌≡◌, ℕ, ◌+◌, ◌*◌, ◌<◌, Bool, t
 use Rattle.std.proofs.lemmas.Bool.{cases_eq}
 use Rattle.std.proofs.lemmas.List.Elements.{Contains-push, Contains-push_cases, Contains-append_left, Contains-get_or}
 use Rattle.std.proofs.lemmas.List.Quantifiers.{all_pairs_push}
-use Rattle.nll_core.specs.ElementSet.{flag}
-use Rattle.nll_core.specs.Graph.{Graph, IsStep}
-use Rattle.nll_core.specs.Walks.{Reaches}
-use Rattle.nll_core.specs.Problem.{Problem, IsUniversal, IsSound}
+use Rattle.nll_sets.specs.ElementSet.{flag}
+use Rattle.nll_problem.specs.Graph.{Graph, IsStep}
+use Rattle.nll_problem.specs.Walks.{Reaches}
+use Rattle.nll_problem.specs.Problem.{Problem, IsUniversal, IsSound}
 use Rattle.nll_core.specs.Values.{IsHeld}
-use Rattle.nll_core.specs.Faults.{IsAbove, IsKnown, IsFault, IsEarlier, AreFaults}
-use Rattle.nll_core.specs.Building.{AddsFact}
+use Rattle.nll_problem.specs.Faults.{IsAbove, IsKnown, IsFault, IsEarlier, AreFaults}
+use Rattle.nll_problem.specs.Building.{AddsFact}
 use Rattle.nll_core.specs.Outliving.{ListsUpTo, DrawsUpTo, FindsUpTo}
-use Rattle.nll_core.specs.declared.limits.TheConstants.{MAX_UNIVERSALS}
-use Rattle.nll_core.proofs.AdjacencyLemmas.{none_contained}
-use Rattle.nll_core.proofs.WalkLemmas.{walk_other}
+use Rattle.nll_problem.specs.declared.limits.TheConstants.{MAX_UNIVERSALS}
+use Rattle.nll_problem.proofs.AdjacencyLemmas.{none_contained}
+use Rattle.nll_problem.proofs.WalkLemmas.{walk_other}
 
 -- ---- pairs in order
 

@@ -1,11 +1,3 @@
-pub mod BitSetLemmas
-pub mod ElementsLemmas
-pub mod FactLemmas
-pub mod SameLemmas
-pub mod BaseLemmas
-pub mod AdjacencyLemmas
-pub mod ProblemLemmas
-pub mod WalkLemmas
 pub mod SpreadingLemmas
 pub mod GrowingLemmas
 pub mod SolverLemmas

@@ -3,12 +3,12 @@ use Rattle.std.proofs.Common.{◌≡◌, ◌⊎◌, ℕ, ◌+◌, ◌<◌, ◌�
 use Rattle.std.proofs.lemmas.Bool.{cases_lt, cases_eq, false≢true, false_from_ne_true}
 use Rattle.std.proofs.lemmas.List.{get_or-set_other, get_or-set_same, length-set, get_or_append_left, get_or_at, get_or_past, get_or_default, get_or-replicate, length-replicate}
 use Rattle.std.proofs.lemmas.List.Sums.{sum_by-set}
-use Rattle.nll_core.specs.ElementSet.{flag}
-use Rattle.nll_core.specs.Graph.{Graph, element_count, IsNext, IsReturn, IsStep, IsSound}
-use Rattle.nll_core.specs.Walks.{Reaches}
+use Rattle.nll_sets.specs.ElementSet.{flag}
+use Rattle.nll_problem.specs.Graph.{Graph, element_count, IsNext, IsReturn, IsStep, IsSound}
+use Rattle.nll_problem.specs.Walks.{Reaches}
 use Rattle.nll_core.specs.Spreading.{Adds, IsFrom, OnlyThese, IsCovered, IsLedTo}
-use Rattle.nll_core.proofs.AdjacencyLemmas.{contains_at}
-use Rattle.nll_core.proofs.WalkLemmas.{reaches_first, reaches_more, reaches_carries, reaches_starts}
+use Rattle.nll_problem.proofs.AdjacencyLemmas.{contains_at}
+use Rattle.nll_problem.proofs.WalkLemmas.{reaches_first, reaches_more, reaches_carries, reaches_starts}
 
 -- ---- flags and lists
 

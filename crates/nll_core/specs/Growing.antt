@@ -1,12 +1,12 @@
 -- How values grow towards the least solution of a problem.
 -- Source: project's choice. Private contracts alone cite this file.
 use Rattle.std.specs.Prelude.{◌≡◌, ◌⊎◌, ℕ, ◌<◌, Bool, true, false, IsTrue, List, length, Contains, sum_by}
-use Rattle.nll_core.specs.Walks.{Reaches}
-use Rattle.nll_core.specs.Problem.{Problem}
-use Rattle.nll_core.specs.Solution.{Satisfies}
+use Rattle.nll_problem.specs.Walks.{Reaches}
+use Rattle.nll_problem.specs.Problem.{Problem}
+use Rattle.nll_problem.specs.Solution.{Satisfies}
 use Rattle.nll_core.specs.Spreading.{missing}
 use Rattle.nll_core.specs.Values.{set_of, IsHeld}
-use Rattle.nll_core.specs.declared.constraint.Constraint.{Constraint}
+use Rattle.nll_problem.specs.declared.constraint.Constraint.{Constraint}
 
 -- how many pairs of a region and an element are missing
 abbrev pub missing_pairs : List (List Bool) → ℕ

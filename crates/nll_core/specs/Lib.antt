@@ -1,15 +1,4 @@
-pub mod ElementSet
-pub mod BitSet
-pub mod Elements
-pub mod Graph
-pub mod Walks
-pub mod Problem
-pub mod Solution
-pub mod Faults
 pub mod Values
-pub mod Building
-pub mod Bases
-pub mod Adjacency
 pub mod Spreading
 pub mod Growing
 pub mod Outliving

@@ -1,11 +1,11 @@
 -- How the fault check goes through the pairs of universal regions, one after another.
 -- Source: project's choice. Private contracts alone cite this file.
 use Rattle.std.specs.Prelude.{◌≡◌, ◌↔◌, ℕ, ◌+◌, ◌*◌, ◌≤◌, Bool, List, [], length, Contains, AllPairs}
-use Rattle.nll_core.specs.Graph.{Graph}
-use Rattle.nll_core.specs.Problem.{Problem}
+use Rattle.nll_problem.specs.Graph.{Graph}
+use Rattle.nll_problem.specs.Problem.{Problem}
 use Rattle.nll_core.specs.Values.{IsHeld}
-use Rattle.nll_core.specs.Faults.{IsAbove, IsEarlier, IsFault}
-use Rattle.nll_core.specs.declared.limits.TheConstants.{MAX_UNIVERSALS}
+use Rattle.nll_problem.specs.Faults.{IsAbove, IsEarlier, IsFault}
+use Rattle.nll_problem.specs.declared.limits.TheConstants.{MAX_UNIVERSALS}
 
 -- the list has just the pairs of this kind that stand before (a, b)
 abbrev pub ListsUpTo : (ℕ → ℕ → Type 0) → List (ℕ × ℕ) → ℕ → ℕ → Type 0

@@ -1,9 +1,9 @@
 -- What a search through a graph adds to the set and the list of the elements that it has reached.
 -- Source: project's choice. Private contracts alone cite this file.
 use Rattle.std.specs.Prelude.{◌≡◌, ◌≢◌, ◌⊎◌, ℕ, ◌+◌, ◌<◌, ◌≤◌, Bool, true, false, not, List, length, count_by, slice_index}
-use Rattle.nll_core.specs.ElementSet.{flag}
-use Rattle.nll_core.specs.Graph.{Graph}
-use Rattle.nll_core.specs.Walks.{Reaches}
+use Rattle.nll_sets.specs.ElementSet.{flag}
+use Rattle.nll_problem.specs.Graph.{Graph}
+use Rattle.nll_problem.specs.Walks.{Reaches}
 
 -- how many elements are not in the set
 abbrev pub missing : List Bool → ℕ

@@ -1,9 +1,9 @@
 -- The values of regions as contracts see them: for each region, one flag for each element.
 -- Source: project's choice.
 use Rattle.std.specs.Prelude.{◌≡◌, ℕ, ◌<◌, Bool, true, List, [], length, slice_index_or, slice_set}
-use Rattle.nll_core.specs.ElementSet.{flag}
-use Rattle.nll_core.specs.Graph.{element_count}
-use Rattle.nll_core.specs.Problem.{Problem}
+use Rattle.nll_sets.specs.ElementSet.{flag}
+use Rattle.nll_problem.specs.Graph.{element_count}
+use Rattle.nll_problem.specs.Problem.{Problem}
 
 -- the set of a region
 abbrev pub set_of : List (List Bool) → ℕ → List Bool

@@ -4,18 +4,19 @@
 //! walks from it reach.
 
 ghost use Rattle.std.specs.Prelude.{◌≡◌, ◌↔◌, ℕ, ◌+◌, ◌<◌, true, length, IsTrue, IfOk, OnOk};
-ghost use Rattle.nll_core.specs.ElementSet.{flag};
-ghost use Rattle.nll_core.specs.Problem.{IsUniversal, IsSound};
+ghost use Rattle.nll_sets.specs.ElementSet.{flag};
+ghost use Rattle.nll_problem.specs.Problem.{IsUniversal, IsSound};
 ghost use Rattle.nll_core.specs.Values.{IsHeld, IsShaped};
-ghost use Rattle.nll_core.specs.Faults.{IsAbove, IsKnown, IsFault, AreFaults};
+ghost use Rattle.nll_problem.specs.Faults.{IsAbove, IsKnown, IsFault, AreFaults};
 ghost use Rattle.nll_core.specs.Outliving.{DrawsUpTo, FindsUpTo};
 
-use crate::bit_set::BitSet;
-use crate::element::{Element, RegionId};
-use crate::element_set::ElementSet;
-use crate::error::Memory;
-use crate::graph::Graph;
-use crate::problem::Problem;
+use nll_sets::BitSet;
+use nll_sets::Element;
+use nll_problem::RegionId;
+use nll_sets::ElementSet;
+use nll_sets::Memory;
+use nll_problem::Graph;
+use nll_problem::Problem;
 use crate::reachability::reached_set;
 use crate::values::Values;
 use std::alloc::Global;

@@ -4,15 +4,15 @@
 //! list in the order in which they came, whose end is the work that is left.
 
 ghost use Rattle.std.specs.Prelude.{◌≡◌, ◌⊎◌, ℕ, ◌+◌, ◌≤◌, ◌<◌, ◌↔◌, true, false, [], Contains, length, slice_index, IfOk, OnOk};
-ghost use Rattle.nll_core.specs.ElementSet.{flag};
-ghost use Rattle.nll_core.specs.Graph.{element_count, IsStep};
+ghost use Rattle.nll_sets.specs.ElementSet.{flag};
+ghost use Rattle.nll_problem.specs.Graph.{element_count, IsStep};
 ghost use Rattle.nll_core.specs.Spreading.{Adds, OnlyThese, IsFrom, IsCovered, IsLedTo};
-ghost use Rattle.nll_core.specs.Walks.{Reaches};
+ghost use Rattle.nll_problem.specs.Walks.{Reaches};
 
-use crate::element::Element;
-use crate::element_set::ElementSet;
-use crate::error::Memory;
-use crate::graph::Graph;
+use nll_sets::Element;
+use nll_sets::ElementSet;
+use nll_sets::Memory;
+use nll_problem::Graph;
 use std::alloc::Global;
 
 // Adds an element to the set and to the end of the list, where it is in `seen` and new to the set.

@@ -3,15 +3,16 @@
 //! This is the plain solver: it forgets after each constraint what it has reached.
 
 ghost use Rattle.std.specs.Prelude.{◌≡◌, ℕ, ◌+◌, ◌≤◌, ◌<◌, ◌↔◌, false, Contains, length, IfOk, OnOk};
-ghost use Rattle.nll_core.specs.Problem.{IsBase, IsUniversal};
-ghost use Rattle.nll_core.specs.Solution.{Satisfies, Least};
+ghost use Rattle.nll_problem.specs.Problem.{IsBase, IsUniversal};
+ghost use Rattle.nll_problem.specs.Solution.{Satisfies, Least};
 ghost use Rattle.nll_core.specs.Values.{set_of, IsHeld, IsShaped};
 ghost use Rattle.nll_core.specs.Growing.{Gains, Tells, StaysBelow, IsAsked, IsMet, IsClosed};
 
-use crate::constraint::Constraint;
-use crate::element::{Element, RegionId};
-use crate::error::Memory;
-use crate::problem::Problem;
+use nll_problem::Constraint;
+use nll_sets::Element;
+use nll_problem::RegionId;
+use nll_sets::Memory;
+use nll_problem::Problem;
 use crate::reachability::reached_from;
 use crate::values::Values;
 use std::alloc::Global;

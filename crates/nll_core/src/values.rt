@@ -1,16 +1,17 @@
 //! The values of regions: a set of elements for each.
 
 ghost use Rattle.std.specs.Prelude.{◌≡◌, ◌<◌, false, not, length, replicate, IfOk, OnOk, OnErr};
-ghost use Rattle.nll_core.specs.Graph.{element_count};
-ghost use Rattle.nll_core.specs.ElementSet.{elements};
+ghost use Rattle.nll_problem.specs.Graph.{element_count};
+ghost use Rattle.nll_sets.specs.ElementSet.{elements};
 ghost use Rattle.nll_core.specs.Values.{set_of, holds, with_element};
 
-use crate::bit_set::BitSet;
-use crate::element::{Element, RegionId};
-use crate::element_set::ElementSet;
-use crate::elements::Elements;
-use crate::error::Memory;
-use crate::problem::Problem;
+use nll_sets::BitSet;
+use nll_sets::Element;
+use nll_problem::RegionId;
+use nll_sets::ElementSet;
+use nll_sets::Elements;
+use nll_sets::Memory;
+use nll_problem::Problem;
 use std::alloc::Global;
 use std::marker::Model;
 
@@ -73,7 +74,7 @@ impl Values {
     }
 
     // The set of a region.
-    pub(crate) fn set(&self, region: RegionId) -> &BitSet
+    pub fn set(&self, region: RegionId) -> &BitSet
         requires { region < length self.now }
         ensures { result.now ≡ set_of self.now region }
     {

@@ -7,11 +7,11 @@ use Rattle.std.proofs.lemmas.Grind.{flat_map-append}
 use Rattle.std.proofs.lemmas.List.{append-nil}
 use Rattle.std.proofs.lemmas.List.Elements.{Contains-append_cases, Contains-append_right, Contains-get_or, Contains-push_cases}
 use Rattle.std.proofs.lemmas.List.Kept.{AllPairs-cons}
-use Rattle.nll_core.specs.ElementSet.{flag, elements, elements_from}
+use Rattle.nll_sets.specs.ElementSet.{flag, elements, elements_from}
 use Rattle.nll_core.specs.Values.{set_of, IsHeld}
 use Rattle.nll_core.proofs.SpreadingLemmas.{flag_within}
-use Rattle.nll_core.specs.Problem.{Problem, IsSound, end_of}
-use Rattle.nll_core.specs.Faults.{AreFaults}
+use Rattle.nll_problem.specs.Problem.{Problem, IsSound, end_of}
+use Rattle.nll_problem.specs.Faults.{AreFaults}
 use Rattle.nll_report.specs.declared.answers.AnswerError.{AnswerError}
 use Rattle.nll_report.specs.declared.answers.AnswerError.TheVariants.{Memory}
 use Rattle.nll_report.specs.Answer.{IsAnswerError, status_of_faults}

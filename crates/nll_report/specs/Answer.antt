@@ -1,10 +1,10 @@
 -- The answer to a text.
 -- Source: project's choice over RFC 2094, "Solving constraints" and "Layer 4: Named lifetimes".
 use Rattle.std.specs.Prelude.{◌≡◌, ℕ, List, [], ◌∷◌}
-use Rattle.nll_core.specs.Problem.{Problem}
-use Rattle.nll_core.specs.Solution.{Least}
-use Rattle.nll_core.specs.Faults.{AreFaults}
-use Rattle.nll_mir.specs.FactsText.{Means, IsFault}
+use Rattle.nll_problem.specs.Problem.{Problem}
+use Rattle.nll_problem.specs.Solution.{Least}
+use Rattle.nll_problem.specs.Faults.{AreFaults}
+use Rattle.nll_facts.specs.FactsText.{Means, IsFault}
 use Rattle.nll_report.specs.Report.{IsValuesReport, faults_report}
 use Rattle.nll_report.specs.declared.answers.Command.{Command}
 use Rattle.nll_report.specs.declared.answers.Command.TheVariants.{Values, Check}

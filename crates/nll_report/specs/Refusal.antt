@@ -2,11 +2,11 @@
 -- Source: this project's own.
 use Rattle.std.specs.Prelude.{ℕ, List, [], ◌∷◌, ◌++◌, codes, string_bytes}
 use Rattle.std.specs.Fmt.{decimal}
-use Rattle.nll_core.specs.declared.error.Kind.{Kind}
-use Rattle.nll_core.specs.declared.error.Kind.TheVariants as limit
-use Rattle.nll_mir.specs.declared.error.TextError.{TextError}
-use Rattle.nll_mir.specs.declared.error.TextKind.{TextKind}
-use Rattle.nll_mir.specs.declared.error.TextKind.TheVariants as kind
+use Rattle.nll_problem.specs.declared.error.Kind.{Kind}
+use Rattle.nll_problem.specs.declared.error.Kind.TheVariants as limit
+use Rattle.nll_reading.specs.declared.error.TextError.{TextError}
+use Rattle.nll_reading.specs.declared.error.TextKind.{TextKind}
+use Rattle.nll_reading.specs.declared.error.TextKind.TheVariants as kind
 use Rattle.nll_report.specs.declared.answers.AnswerError.{AnswerError}
 use Rattle.nll_report.specs.declared.answers.AnswerError.TheVariants as answer
 use Rattle.nll_report.specs.declared.messages.Refusal.{Refusal}

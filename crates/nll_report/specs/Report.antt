@@ -3,7 +3,7 @@
 use Rattle.std.specs.Prelude.{◌≡◌, ◌↔◌, ℕ, ◌-◌, ◌<◌, nat_lt, List, [], ◌∷◌, ◌++◌, codes, Contains, AllPairs, slice_index_or, if◌then◌else◌}
 use Rattle.std.specs.List.{flat_map, range_with_len}
 use Rattle.std.specs.Fmt.{decimal}
-use Rattle.nll_core.specs.Problem.{Problem}
+use Rattle.nll_problem.specs.Problem.{Problem}
 
 -- a region is written as its name behind a `'`
 abbrev pub region_text : List (List ℕ) → ℕ → List ℕ

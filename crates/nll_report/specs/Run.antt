@@ -2,8 +2,8 @@
 -- Source: project's choice.
 use Rattle.std.specs.Prelude.{◌≡◌, ◌⊎◌, ℕ, List, Option, take, string_bytes}
 use Rattle.std.specs.Io.KnownBytes.{Appends}
-use Rattle.nll_mir.specs.declared.error.TextKind.{TextKind}
-use Rattle.nll_mir.specs.FactsText.{IsFault}
+use Rattle.nll_reading.specs.declared.error.TextKind.{TextKind}
+use Rattle.nll_facts.specs.FactsText.{IsFault}
 use Rattle.nll_report.specs.declared.answers.Command.{Command}
 use Rattle.nll_report.specs.declared.answers.Command.TheVariants as command
 use Rattle.nll_report.specs.declared.messages.Refusal.{Refusal}

@@ -1,8 +1,8 @@
 //! The answer to a text: read, solve, and print.
 
 ghost use Rattle.std.specs.Prelude.{◌≡◌, ◌≤◌, IfOk, IfErr, length};
-ghost use Rattle.nll_core.specs.Solution.{Least};
-ghost use Rattle.nll_mir.specs.FactsText.{Means};
+ghost use Rattle.nll_problem.specs.Solution.{Least};
+ghost use Rattle.nll_facts.specs.FactsText.{Means};
 ghost use Rattle.nll_report.specs.Answer.{IsAnswer, IsCheckReport, IsAnswerError};
 ghost use Rattle.nll_report.specs.Report.{IsValuesReport};
 

@@ -11,8 +11,6 @@ mod faults_report;
 mod messages;
 mod program;
 mod task;
-#[cfg(test)]
-mod tests;
 mod values_report;
 mod writing;
 

@@ -1,8 +1,8 @@
 //! The report of values.
 
 ghost use Rattle.std.specs.Prelude.{◌≡◌, ◌<◌, ◌≤◌, ◌++◌, ◌∷◌, [], ◌+◌, length, IfOk, OnOk, string_bytes};
-ghost use Rattle.nll_core.specs.ElementSet.{elements};
-ghost use Rattle.nll_core.specs.Graph.{element_count};
+ghost use Rattle.nll_sets.specs.ElementSet.{elements};
+ghost use Rattle.nll_problem.specs.Graph.{element_count};
 ghost use Rattle.nll_core.specs.Values.{set_of, IsHeld, IsShaped};
 ghost use Rattle.nll_report.specs.Report.{region_text, element_text, value_line, IsValuesReport};
 

@@ -11,8 +11,6 @@ mod lexer;
 mod lines;
 mod number;
 mod scan;
-#[cfg(test)]
-mod tests;
 mod token;
 
 pub use header::is_header;

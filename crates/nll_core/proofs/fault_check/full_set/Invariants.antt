@@ -1,5 +1,5 @@
 use Rattle.std.proofs.Common.{◌≡◌, ℕ, ◌<◌, true, length}
-use Rattle.nll_core.specs.ElementSet.{flag}
+use Rattle.nll_sets.specs.ElementSet.{flag}
 use Rattle.nll_core.proofs.fault_check.full_set.Given as goal
 
 abbrev pub invariant-loop-number : goal.invariant-loop-number

@@ -1,7 +1,7 @@
 use Rattle.std.proofs.Common.{◌≡◌, ◌<◌, true, get_or, length, subst, sym, ◌∙◌, ⊎_elim, arith}
 use Rattle.std.proofs.lemmas.List.{get_or_read}
-use Rattle.nll_core.specs.Graph.{IsStep}
-use Rattle.nll_core.specs.ElementSet.{flag}
+use Rattle.nll_problem.specs.Graph.{IsStep}
+use Rattle.nll_sets.specs.ElementSet.{flag}
 use Rattle.nll_core.specs.Spreading.{Adds, IsCovered, IsLedTo}
 use Rattle.nll_core.proofs.SpreadingLemmas.{adds_append, spreading_first, spreading_adds, spreading_more}
 use Rattle.nll_core.proofs.reachability.spread.Goals as goal

@@ -1,7 +1,7 @@
 use Rattle.std.proofs.Common.{◌≡◌, true, Contains, slice_index, subst, sym, arith}
 use borrow.Author.Count.{below_more}
 use Rattle.std.proofs.lemmas.List.Elements.{Contains-get_or}
-use Rattle.nll_core.specs.ElementSet.{flag}
+use Rattle.nll_sets.specs.ElementSet.{flag}
 use Rattle.nll_core.specs.Spreading.{Adds}
 use Rattle.nll_core.proofs.SpreadingLemmas.{adds_none, adds_append, adds_weaker, only_none, only_append, covers_contained}
 use Rattle.nll_core.proofs.reachability.visit_all.Goals as goal

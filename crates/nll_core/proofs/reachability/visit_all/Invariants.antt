@@ -1,5 +1,5 @@
 use Rattle.std.proofs.Common.{◌≡◌, ℕ, ◌<◌, true, Contains, slice_index}
-use Rattle.nll_core.specs.ElementSet.{flag}
+use Rattle.nll_sets.specs.ElementSet.{flag}
 use Rattle.nll_core.specs.Spreading.{Adds, OnlyThese}
 use Rattle.nll_core.proofs.reachability.visit_all.Given as goal
 

@@ -1,6 +1,6 @@
 use Rattle.std.proofs.Common.{◌≡◌, ◌<◌, ◌≤◌, true, subst, sym, ⊎_elim, arith}
 use Rattle.std.proofs.lemmas.Bool.{cases_eq}
-use Rattle.nll_core.specs.ElementSet.{flag}
+use Rattle.nll_sets.specs.ElementSet.{flag}
 use Rattle.nll_core.specs.Spreading.{Adds}
 use Rattle.nll_core.proofs.SpreadingLemmas.{adds_none, adds_append, adds_weaker, only_none, only_append}
 use Rattle.nll_core.proofs.reachability.visit_range.Goals as goal

@@ -1,11 +1,11 @@
 use Rattle.std.proofs.Common.{◌≡◌, ℕ, ◌↔◌, true, Contains, subst, sym, ◌∙◌, arith}
 use Rattle.std.proofs.lemmas.Bool.{false≢true}
 use Rattle.std.proofs.lemmas.Result.{on_ok_weaker}
-use Rattle.nll_core.specs.ElementSet.{flag}
-use Rattle.nll_core.specs.Walks.{Reaches}
+use Rattle.nll_sets.specs.ElementSet.{flag}
+use Rattle.nll_problem.specs.Walks.{Reaches}
 use Rattle.nll_core.specs.Values.{set_of, IsHeld}
 use Rattle.nll_core.specs.Growing.{IsAsked}
-use Rattle.nll_core.proofs.WalkLemmas.{reaches_inside, reaches_starts}
+use Rattle.nll_problem.proofs.WalkLemmas.{reaches_inside, reaches_starts}
 use Rattle.nll_core.proofs.SpreadingLemmas.{flag_within}
 use Rattle.nll_core.proofs.GrowingLemmas.{gains_none, gains_weaker, tells_none}
 use Rattle.nll_core.proofs.solver.apply.Goals as goal

@@ -1,6 +1,6 @@
 use Rattle.std.proofs.Common.{ℕ, Bool, IsTrue}
-use Rattle.nll_core.specs.Problem.{IsBase}
-use Rattle.nll_core.specs.Solution.{Satisfies}
+use Rattle.nll_problem.specs.Problem.{IsBase}
+use Rattle.nll_problem.specs.Solution.{Satisfies}
 use Rattle.nll_core.specs.Values.{IsShaped, IsHeld}
 use Rattle.nll_core.specs.Growing.{IsBelow, missing_pairs}
 use Rattle.nll_core.proofs.solver.solve.Given as goal

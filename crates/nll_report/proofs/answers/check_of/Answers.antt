@@ -2,7 +2,7 @@ use Rattle.std.proofs.Common.{◌≡◌, ◌<◌, length, All, subst, sym, ap, �
 use Rattle.std.proofs.lemmas.Bool.{eqb-true, eqb-false}
 use Rattle.std.specs.Vec.{vec_len}
 use Rattle.nll_core.specs.Values.{IsHeld}
-use Rattle.nll_core.specs.Solution.{Least}
+use Rattle.nll_problem.specs.Solution.{Least}
 use Rattle.nll_report.specs.Report.{faults_report}
 use Rattle.nll_report.proofs.ReportLemmas.{faults_carry, faults_within, told_none, told_some}
 use Rattle.nll_report.proofs.answers.check_of.Goals.{then-is_empty, else-is_empty}

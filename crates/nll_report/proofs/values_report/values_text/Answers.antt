@@ -1,6 +1,6 @@
 use Rattle.std.proofs.Common.{◌≡◌, ◌++◌, ℕ, List, ◌∙◌, sym, ap, arith}
 use Rattle.std.specs.List.{flat_map, range_with_len}
-use Rattle.nll_core.specs.ElementSet.{elements}
+use Rattle.nll_sets.specs.ElementSet.{elements}
 use Rattle.nll_core.specs.Values.{set_of}
 use Rattle.nll_report.specs.Report.{value_line}
 use Rattle.nll_report.proofs.ReportLemmas.{elements_are_listed, lines_more}

@@ -1,7 +1,7 @@
 use Rattle.std.proofs.Common.{◌≡◌}
 use Rattle.std.specs.Prelude.{string_bytes}
 use Rattle.std.specs.List.{flat_map, range_with_len}
-use Rattle.nll_core.specs.ElementSet.{elements}
+use Rattle.nll_sets.specs.ElementSet.{elements}
 use Rattle.nll_core.specs.Values.{set_of}
 use Rattle.nll_report.specs.Report.{value_line}
 use Rattle.nll_report.proofs.values_report.values_text.Given as goal

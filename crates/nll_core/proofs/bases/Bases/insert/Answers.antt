@@ -1,5 +1,0 @@
-use Rattle.nll_core.proofs.BaseLemmas.{adds_distinct}
-use Rattle.nll_core.proofs.bases.Bases.insert.Goals as goal
-
-pub returns-clause-ok : goal.returns-clause-ok
-returns-clause-ok c = rw (← c.self.view_is, c.in_ok-push.ensures.items) (adds_distinct c.self.inside.pairs.items (c.args.region, c.args.point))

@@ -1,6 +1,0 @@
-use Rattle.std.proofs.Common.{sym, ◌∙◌}
-use Rattle.nll_core.proofs.FactLemmas.{adds_repeated, pair_found}
-use Rattle.nll_core.proofs.builder.ProblemBuilder.next.Goals as goal
-
-pub returns-then-has_edge-clause-ok : goal.returns-then-has_edge-clause-ok
-returns-then-has_edge-clause-ok c = adds_repeated _ _ ((pair_found _ c.args.from c.args.to).0 (rw (← c.self.view_is) (sym c.has_edge.ensures ∙ c.if-has_edge.true)))

@@ -1,0 +1,16 @@
+-- What a reader's tables say.
+use Rattle.std.proofs.Common.{◌≡◌, false, Option, Some, None, is_some, unwrap_or, refl}
+use Rattle.nll_problem.specs.Problem.{Problem}
+
+-- what a new builder has is what stood for it
+pub made_for_none : (o : Option Problem) (b q : Problem) → o ≡ None → q ≡ b → q ≡ unwrap_or o b
+made_for_none None b q none e = e
+made_for_none (Some p) b q none e = absurd cc
+
+-- a value is there or not
+pub some_is_not_none : {X : Type 0} {x : X} → Some x ≡ None → ⊥
+some_is_not_none h = cc
+
+pub none_from_test : {X : Type 0} (o : Option X) → is_some o ≡ false → o ≡ None
+none_from_test None e = refl
+none_from_test (Some x) e = absurd cc

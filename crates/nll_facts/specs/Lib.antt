@@ -1,0 +1,6 @@
+pub mod FactsForms
+pub mod FactsLines
+pub mod FactsSaid
+pub mod FactsText
+pub mod FactsReading
+pub mod Refusals

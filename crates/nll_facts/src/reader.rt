@@ -1,0 +1,363 @@
+//! The reader of the lines of a facts text: what they say so far.
+//!
+//! The problem's builder wants the number of universal regions, so it is made at the first line that
+//! stands behind them.
+
+ghost use Rattle.std.specs.Prelude.{◌≡◌, ◌⊎◌, ◌<◌, ◌≤◌, ◌+◌, ◌∷◌, [], ◌++◌, ℕ, List, OnOk, IfErr, IfOk, IsSome, IsTrue, ◌↔◌, Some, None, true, false, length};
+ghost use Rattle.std.specs.Str.{IsUtf8};
+ghost use Rattle.nll_problem.specs.Problem.{SameProblem};
+ghost use Rattle.nll_facts.specs.FactsForms as forms;
+ghost use Rattle.nll_facts.specs.FactsLines.{view};
+ghost use Rattle.nll_facts.specs.FactsSaid as specs;
+ghost use Rattle.nll_facts.specs.FactsSaid.{first_fault, is_in_order, said};
+ghost use Rattle.nll_facts.specs.FactsReading.{said_by, IsKept, IsReady, Adds, HasTexts, ReadsLine};
+ghost use Rattle.nll_facts.specs.FactsText.{IsFaulty};
+ghost use Rattle.nll_reading.specs.Names.{number_of};
+
+use nll_reading::TextKind;
+use crate::line::{Line, line_of};
+use nll_reading::Names;
+use nll_problem::{
+    Constraint, Kind, MAX_POINTS, MAX_REGIONS, MAX_UNIVERSALS, Problem, ProblemBuilder, RegionId,
+};
+use nll_text::{ScanError, Scanned, Token, scan_line};
+use std::alloc::Global;
+
+/// What the lines read so far say.
+#[derive(Drop)]
+pub struct Reader {
+    alloc: Global,
+    reached: u8,
+    points: u32,
+    names: Names,
+    builder: Option<ProblemBuilder>,
+}
+
+// The group of a line.
+fn group(line: &Line<'_>) -> u8
+    ensures { result ≡ specs.group (view line.now) }
+{
+    match line {
+        Line::Points(_) => 1,
+        Line::Universal(_) => 2,
+        Line::Outlives(_, _) => 3,
+        Line::Region(_) => 4,
+        Line::Next(_, _) | Line::Return(_) | Line::Base(_, _) | Line::Constraint(_, _, _) => 5,
+        Line::End => 6,
+    }
+}
+
+// Whether a line's group may have several lines.
+fn is_repeated(line: &Line<'_>) -> bool
+    ensures { result ≡ specs.is_repeated (view line.now) }
+{
+    !matches!(line, Line::Points(_) | Line::End)
+}
+
+impl Reader {
+    /// No line is read yet, and `'static` is declared.
+    pub fn new(alloc: Global) -> Result<Reader, TextKind>
+        ensures said { IfOk result (λ r. said_by r ≡ said []) }
+        ensures ready { IfOk result IsReady }
+        ensures err { IfErr result (λ kind. kind ≡ TextKind.Memory) }
+    {
+        Ok(Reader {
+            alloc,
+            reached: 0,
+            points: 0,
+            names: Names::new(alloc)?,
+            builder: None,
+        })
+    }
+
+    // Whether a line stands in order.
+    fn may_follow(&self, line: &Line<'_>) -> bool
+        ensures { result ≡ is_in_order (said_by self.now) (view line.now) }
+    {
+        let group = group(line);
+        (self.reached < group || (self.reached == group && is_repeated(line)))
+            && (0 < self.reached || group == 1)
+    }
+
+    // The number of a declared name.
+    fn region(&self, name: &[u8]) -> Result<RegionId, TextKind>
+        requires { IsKept self.now }
+        ensures ok { IfOk result (λ r. (r ≡ number_of self.now.names name.now) × (specs.is_declared (said_by self.now) name.now ≡ true)) }
+        ensures err { IfErr result (λ kind. (kind ≡ TextKind.Unknown) × (specs.is_declared (said_by self.now) name.now ≡ false)) }
+    {
+        let number = self.names.number_of(name);
+        if number >= self.names.len() {
+            return Err(TextKind::Unknown);
+        }
+        Ok(RegionId(number as u32))
+    }
+
+    // Makes the builder, where there is none yet.
+    fn start(&mut self) -> Result<(), TextKind>
+        requires kept { IsKept self.old }
+        requires begun { 0 < self.old.reached }
+        ensures said { OnOk result (said_by self.new ≡ said_by self.old) }
+        ensures kept { OnOk result (IsKept self.new) }
+        ensures started { OnOk result (IsSome self.new.builder) }
+        ensures err { IfErr result (λ kind. kind ≡ TextKind.Memory) }
+    {
+        if self.builder.is_none() {
+            self.begin()?;
+        }
+        Ok(())
+    }
+
+    // Makes the builder. It is a call of its own so that a line which finds one doesn't pay for the
+    // room that making one takes.
+    fn begin(&mut self) -> Result<(), TextKind>
+        requires kept { IsKept self.old }
+        requires begun { 0 < self.old.reached }
+        requires none { self.old.builder ≡ None }
+        ensures said { OnOk result (said_by self.new ≡ said_by self.old) }
+        ensures kept { OnOk result (IsKept self.new) }
+        ensures started { OnOk result (IsSome self.new.builder) }
+        ensures err { IfErr result (λ kind. kind ≡ TextKind.Memory) }
+    {
+        let universals = self.names.len() as u32;
+        self.builder = Some(ProblemBuilder::new(self.alloc, self.points, universals)?);
+        Ok(())
+    }
+
+    // Sets the number of points.
+    fn set_points(&mut self, count: u32) -> Result<(), TextKind>
+        requires ready { IsReady self.old }
+        requires order { is_in_order (said_by self.old) (forms.points count) ≡ true }
+        ensures fine { OnOk result (first_fault (said_by self.old) (forms.points count) ≡ None) }
+        ensures adds { OnOk result (Adds (said_by self.old) (forms.points count) (said_by self.new)) }
+        ensures ready { OnOk result (IsReady self.new) }
+        ensures fault { IfErr result (λ kind. first_fault (said_by self.old) (forms.points count) ≡ Some kind) }
+    {
+        if count == 0 {
+            return Err(TextKind::Range);
+        }
+        if count > MAX_POINTS {
+            return Err(TextKind::Limit(Kind::Points));
+        }
+        self.points = count;
+        self.reached = 1;
+        Ok(())
+    }
+
+    // Adds a universal region.
+    fn add_universal(&mut self, name: &[u8]) -> Result<(), TextKind>
+        requires ready { IsReady self.old }
+        requires order { is_in_order (said_by self.old) (forms.universal name.now) ≡ true }
+        requires text { IsUtf8 name.now }
+        ensures fine { OnOk result (first_fault (said_by self.old) (forms.universal name.now) ≡ None) }
+        ensures adds { OnOk result (Adds (said_by self.old) (forms.universal name.now) (said_by self.new)) }
+        ensures ready { OnOk result (IsReady self.new) }
+        ensures fault { IfErr result (λ kind. (kind ≡ TextKind.Memory) ⊎ (first_fault (said_by self.old) (forms.universal name.now) ≡ Some kind)) }
+    {
+        let count = self.names.len();
+        if self.names.number_of(name) < count {
+            return Err(TextKind::Duplicate);
+        }
+        if count >= MAX_UNIVERSALS as usize {
+            return Err(TextKind::Limit(Kind::Universals));
+        }
+        self.names.add(self.alloc, name)?;
+        self.reached = 2;
+        Ok(())
+    }
+
+    // Adds a further region.
+    fn add_region(&mut self, name: &[u8]) -> Result<(), TextKind>
+        requires ready { IsReady self.old }
+        requires order { is_in_order (said_by self.old) (forms.further name.now) ≡ true }
+        requires text { IsUtf8 name.now }
+        ensures fine { OnOk result (first_fault (said_by self.old) (forms.further name.now) ≡ None) }
+        ensures adds { OnOk result (Adds (said_by self.old) (forms.further name.now) (said_by self.new)) }
+        ensures ready { OnOk result (IsReady self.new) }
+        ensures fault { IfErr result (λ kind. (kind ≡ TextKind.Memory) ⊎ (first_fault (said_by self.old) (forms.further name.now) ≡ Some kind)) }
+    {
+        let count = self.names.len();
+        if self.names.number_of(name) < count {
+            return Err(TextKind::Duplicate);
+        }
+        if count >= MAX_REGIONS as usize {
+            return Err(TextKind::Limit(Kind::Regions));
+        }
+        self.start()?;
+        let Some(builder) = &mut self.builder else {
+            unreachable!();
+        };
+        builder.region()?;
+        self.names.add(self.alloc, name)?;
+        self.reached = 4;
+        Ok(())
+    }
+
+    // Adds an edge.
+    fn add_next(&mut self, from: u32, to: u32) -> Result<(), TextKind>
+        requires ready { IsReady self.old }
+        requires order { is_in_order (said_by self.old) (forms.next from to) ≡ true }
+        ensures fine { OnOk result (first_fault (said_by self.old) (forms.next from to) ≡ None) }
+        ensures adds { OnOk result (Adds (said_by self.old) (forms.next from to) (said_by self.new)) }
+        ensures ready { OnOk result (IsReady self.new) }
+        ensures fault { IfErr result (λ kind. (kind ≡ TextKind.Memory) ⊎ (first_fault (said_by self.old) (forms.next from to) ≡ Some kind)) }
+    {
+        self.start()?;
+        let Some(builder) = &mut self.builder else {
+            unreachable!();
+        };
+        builder.next(from, to)?;
+        self.reached = 5;
+        Ok(())
+    }
+
+    // Adds a return point.
+    fn add_return(&mut self, point: u32) -> Result<(), TextKind>
+        requires ready { IsReady self.old }
+        requires order { is_in_order (said_by self.old) (forms.return point) ≡ true }
+        ensures fine { OnOk result (first_fault (said_by self.old) (forms.return point) ≡ None) }
+        ensures adds { OnOk result (Adds (said_by self.old) (forms.return point) (said_by self.new)) }
+        ensures ready { OnOk result (IsReady self.new) }
+        ensures fault { IfErr result (λ kind. (kind ≡ TextKind.Memory) ⊎ (first_fault (said_by self.old) (forms.return point) ≡ Some kind)) }
+    {
+        self.start()?;
+        let Some(builder) = &mut self.builder else {
+            unreachable!();
+        };
+        builder.ret(point)?;
+        self.reached = 5;
+        Ok(())
+    }
+
+    // Adds an outlives fact.
+    fn add_outlives(&mut self, longer: &[u8], shorter: &[u8]) -> Result<(), TextKind>
+        requires ready { IsReady self.old }
+        requires order { is_in_order (said_by self.old) (forms.outlives longer.now shorter.now) ≡ true }
+        ensures fine { OnOk result (first_fault (said_by self.old) (forms.outlives longer.now shorter.now) ≡ None) }
+        ensures adds { OnOk result (Adds (said_by self.old) (forms.outlives longer.now shorter.now) (said_by self.new)) }
+        ensures ready { OnOk result (IsReady self.new) }
+        ensures fault { IfErr result (λ kind. (kind ≡ TextKind.Memory) ⊎ (first_fault (said_by self.old) (forms.outlives longer.now shorter.now) ≡ Some kind)) }
+    {
+        let longer = RegionId(self.names.number_of(longer) as u32);
+        let shorter = RegionId(self.names.number_of(shorter) as u32);
+        self.start()?;
+        let Some(builder) = &mut self.builder else {
+            unreachable!();
+        };
+        builder.outlives(longer, shorter)?;
+        self.reached = 3;
+        Ok(())
+    }
+
+    // Adds a base fact.
+    fn add_base(&mut self, name: &[u8], point: u32) -> Result<(), TextKind>
+        requires ready { IsReady self.old }
+        requires order { is_in_order (said_by self.old) (forms.base name.now point) ≡ true }
+        ensures fine { OnOk result (first_fault (said_by self.old) (forms.base name.now point) ≡ None) }
+        ensures adds { OnOk result (Adds (said_by self.old) (forms.base name.now point) (said_by self.new)) }
+        ensures ready { OnOk result (IsReady self.new) }
+        ensures fault { IfErr result (λ kind. (kind ≡ TextKind.Memory) ⊎ (first_fault (said_by self.old) (forms.base name.now point) ≡ Some kind)) }
+    {
+        let region = self.region(name)?;
+        self.start()?;
+        let Some(builder) = &mut self.builder else {
+            unreachable!();
+        };
+        builder.base(region, point)?;
+        self.reached = 5;
+        Ok(())
+    }
+
+    // Adds a constraint.
+    fn add_constraint(&mut self, sup: &[u8], sub: &[u8], at: u32) -> Result<(), TextKind>
+        requires ready { IsReady self.old }
+        requires order { is_in_order (said_by self.old) (forms.constraint sup.now sub.now at) ≡ true }
+        ensures fine { OnOk result (first_fault (said_by self.old) (forms.constraint sup.now sub.now at) ≡ None) }
+        ensures adds { OnOk result (Adds (said_by self.old) (forms.constraint sup.now sub.now at) (said_by self.new)) }
+        ensures ready { OnOk result (IsReady self.new) }
+        ensures fault { IfErr result (λ kind. (kind ≡ TextKind.Memory) ⊎ (first_fault (said_by self.old) (forms.constraint sup.now sub.now at) ≡ Some kind)) }
+    {
+        let sup = self.region(sup)?;
+        let sub = self.region(sub)?;
+        self.start()?;
+        let Some(builder) = &mut self.builder else {
+            unreachable!();
+        };
+        builder.constraint(Constraint { sup, sub, at })?;
+        self.reached = 5;
+        Ok(())
+    }
+
+    // Takes in a line of a form, unless something is wrong with it.
+    fn accept(&mut self, line: &Line<'_>) -> Result<(), TextKind>
+        requires ready { IsReady self.old }
+        requires texts { HasTexts (view line.now) }
+        ensures fine { OnOk result (first_fault (said_by self.old) (view line.now) ≡ None) }
+        ensures adds { OnOk result (Adds (said_by self.old) (view line.now) (said_by self.new)) }
+        ensures ready { OnOk result (IsReady self.new) }
+        ensures fault { IfErr result (λ kind. (kind ≡ TextKind.Memory) ⊎ (first_fault (said_by self.old) (view line.now) ≡ Some kind)) }
+    {
+        if !self.may_follow(line) {
+            return Err(TextKind::Syntax);
+        }
+        match *line {
+            Line::Points(count) => self.set_points(count)?,
+            Line::Universal(name) => self.add_universal(name)?,
+            Line::Outlives(longer, shorter) => self.add_outlives(longer, shorter)?,
+            Line::Region(name) => self.add_region(name)?,
+            Line::Next(from, to) => self.add_next(from, to)?,
+            Line::Return(point) => self.add_return(point)?,
+            Line::Base(name, point) => self.add_base(name, point)?,
+            Line::Constraint(sup, sub, at) => self.add_constraint(sup, sub, at)?,
+            Line::End => self.reached = 6,
+        }
+        Ok(())
+    }
+
+    /// Takes in a line behind the header. The list serves for its tokens.
+    pub fn read_line<'a>(
+        &mut self,
+        line: &'a [u8],
+        tokens: &mut Vec<Token<'a>>,
+    ) -> Result<(), TextKind>
+        requires ready { IsReady self.old }
+        ensures ok { OnOk result (ReadsLine (said_by self.old) line.now (said_by self.new)) }
+        ensures ready { OnOk result (IsReady self.new) }
+        ensures fault { IfErr result (λ kind. (kind ≡ TextKind.Memory) ⊎ IsFaulty (said_by self.old) line.now kind) }
+    {
+        match scan_line(line, tokens) {
+            Ok(Scanned::Skipped) => return Ok(()),
+            Ok(Scanned::Tokens) => {}
+            Err(ScanError::NotUtf8) => return Err(TextKind::NotUtf8),
+            Err(ScanError::NoToken) => return Err(TextKind::Syntax),
+            Err(ScanError::Memory) => return Err(TextKind::Memory),
+        }
+        let Some(form) = line_of(tokens.as_slice()) else {
+            return Err(TextKind::Syntax);
+        };
+        self.accept(&form)?;
+        Ok(())
+    }
+
+    /// Whether the last line that a text needs was read.
+    pub fn has_ended(&self) -> bool
+        ensures { IsTrue result ↔ ((said_by self.now).reached ≡ 6) }
+    {
+        self.reached == 6
+    }
+
+    /// The problem and the names that the lines say.
+    pub fn finish(mut self) -> Result<(Problem, Names), TextKind>
+        requires ready { IsReady self }
+        requires begun { 0 < self.reached }
+        ensures problem { IfOk result (λ made. SameProblem (said_by self).problem made.0) }
+        ensures names { IfOk result (λ made. made.1 ≡ (said_by self).names) }
+        ensures err { IfErr result (λ kind. kind ≡ TextKind.Memory) }
+    {
+        self.start()?;
+        let Reader { names, builder, .. } = self;
+        let Some(builder) = builder else {
+            unreachable!();
+        };
+        Ok((builder.finish()?, names))
+    }
+}

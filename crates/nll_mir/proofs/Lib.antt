@@ -1,6 +1,0 @@
-pub mod FormLemmas
-pub mod LawLemmas
-pub mod NameLemmas
-pub mod ReaderLemmas
-pub mod SaidLemmas
-pub mod TextLemmas

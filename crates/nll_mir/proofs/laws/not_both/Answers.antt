@@ -1,5 +1,0 @@
-use Rattle.nll_mir.proofs.LawLemmas.{not_both_lem}
-use Rattle.nll_mir.proofs.laws.not_both.Goals as goal
-
-pub returns : goal.returns
-returns c = not_both_lem

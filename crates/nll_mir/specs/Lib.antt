@@ -1,8 +1,0 @@
-pub mod Names
-pub mod Kinds
-pub mod FactsForms
-pub mod FactsLines
-pub mod FactsSaid
-pub mod FactsText
-pub mod FactsReading
-pub mod Refusals

@@ -1,0 +1,6 @@
+pub mod FactLemmas
+pub mod SameLemmas
+pub mod BaseLemmas
+pub mod AdjacencyLemmas
+pub mod ProblemLemmas
+pub mod WalkLemmas

@@ -1,0 +1,10 @@
+pub mod Limits
+pub mod Graph
+pub mod Walks
+pub mod Problem
+pub mod Solution
+pub mod Faults
+pub mod Building
+pub mod Bases
+pub mod Adjacency
+pub use Rattle.nll_sets.specs.ElementSet

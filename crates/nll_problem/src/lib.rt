@@ -1,0 +1,22 @@
+//! Problems of location-aware regions over a control-flow graph: what they are, and what they mean.
+//! It knows no text and no names.
+//!
+//! Reading order: `region`, `constraint`, `graph`, `problem`, `builder`. The definitions are in specs/.
+#![tactic(auto)]
+
+mod bases;
+mod builder;
+mod constraint;
+mod error;
+mod graph;
+mod limits;
+mod problem;
+mod region;
+
+pub use builder::ProblemBuilder;
+pub use constraint::Constraint;
+pub use error::{BuildError, Kind};
+pub use graph::Graph;
+pub use limits::{MAX_CONSTRAINTS, MAX_EDGES, MAX_POINTS, MAX_REGIONS, MAX_UNIVERSALS};
+pub use problem::Problem;
+pub use region::RegionId;

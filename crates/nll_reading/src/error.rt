@@ -1,0 +1,79 @@
+//! Why a text is refused.
+
+use nll_problem::{BuildError, Kind};
+use std::alloc::{AllocError, AllocFailed};
+
+/// What is wrong with a line, in the order in which one kind is told before another.
+#[derive(Clone, Copy, Debug, PartialEq, Eq)]
+pub enum TextKind {
+    /// The line's bytes aren't UTF-8.
+    NotUtf8,
+    /// The first line isn't the header.
+    Header,
+    /// The line has none of the forms, or stands out of order.
+    Syntax,
+    /// A name that no earlier line declares.
+    Unknown,
+    /// A name that is declared already.
+    Duplicate,
+    /// A number that isn't allowed in its place.
+    Range,
+    /// Types that don't fit.
+    Shape,
+    /// A type of too many nodes.
+    TypeSize,
+    /// The line would go past a limit.
+    Limit(Kind),
+    /// The text stops before its last line.
+    End,
+    /// A growth of memory was refused; the text may be right.
+    Memory,
+}
+
+/// The first line that is wrong, and what is wrong with it.
+///
+/// # Units
+/// Lines count from 1. For `Memory` the line is 0.
+#[derive(Clone, Copy, Debug, PartialEq, Eq)]
+pub struct TextError {
+    pub line: u64,
+    pub kind: TextKind,
+}
+
+impl From<AllocError> for TextKind {
+    ghost use Rattle.std.specs.Prelude.{◌≡◌};
+    ghost use Rattle.nll_reading.specs.declared.error.TextKind.TheVariants.{Memory as memory};
+
+    ghost from_gives = { λ _ kind. kind ≡ memory };
+
+    fn from(_: AllocError) -> TextKind {
+        TextKind::Memory
+    }
+}
+
+impl<T: Drop> From<AllocFailed<T>> for TextKind {
+    ghost use Rattle.std.specs.Prelude.{◌≡◌};
+    ghost use Rattle.nll_reading.specs.declared.error.TextKind.TheVariants.{Memory as memory};
+
+    ghost from_gives = { λ _ kind. kind ≡ memory };
+
+    fn from(_: AllocFailed<T>) -> TextKind {
+        TextKind::Memory
+    }
+}
+
+impl From<BuildError> for TextKind {
+    ghost use Rattle.std.specs.Prelude.{◌≡◌};
+    ghost use Rattle.nll_reading.specs.Kinds.{kind_of};
+
+    ghost from_gives = { λ error kind. kind ≡ kind_of error };
+
+    fn from(error: BuildError) -> TextKind {
+        match error {
+            BuildError::PointRange => TextKind::Range,
+            BuildError::RegionRange => TextKind::Unknown,
+            BuildError::Limit(kind) => TextKind::Limit(kind),
+            BuildError::Memory => TextKind::Memory,
+        }
+    }
+}

@@ -1,0 +1,79 @@
+//! The names of regions, in the order in which they are declared.
+
+ghost use Rattle.std.specs.Prelude.{◌≡◌, ◌≤◌, ◌<◌, ◌++◌, ◌∷◌, [], length, codes, IfOk, OnOk, OnErr, slice_index_or};
+ghost use Rattle.std.specs.Str.{IsUtf8};
+ghost use Rattle.nll_reading.specs.Names.{number_of};
+
+use indexmap::IndexSet;
+use std::alloc::{AllocError, Global};
+use std::marker::Model;
+use std::str;
+
+/// Names, each once, in the order in which they were added.
+#[derive(Drop)]
+pub struct Names {
+    set: IndexSet<Vec<u8>>,
+}
+
+impl Model for Names {
+    ghost use Rattle.std.specs.Prelude.{ℕ, List, map};
+    ghost use Rattle.nll_reading.specs.Names.{AreTexts};
+
+    ghost Value = { List (List ℕ) };
+
+    ghost view = { λ names. map (λ name. name.items) names.set.keys };
+
+    ghost invariant = { λ names. AreTexts (map (λ name. name.items) names.set.keys) };
+}
+
+impl Names {
+    /// The one name `static`.
+    pub fn new(alloc: Global) -> Result<Names, AllocError>
+        ensures { IfOk result (λ names. names ≡ codes "static" ∷ []) }
+    {
+        let mut set = IndexSet::new(alloc);
+        set.insert(Vec::from_slice(alloc, b"static")?)?;
+        Ok(Names { set })
+    }
+
+    /// How many names there are.
+    pub fn len(&self) -> usize
+        ensures { result ≡ length self.now }
+    {
+        self.set.len()
+    }
+
+    /// The place of a name, or the number of names where it isn't among them.
+    pub fn number_of(&self, name: &[u8]) -> usize
+        ensures value { result ≡ number_of self.now name.now }
+        ensures within { result ≤ length self.now }
+    {
+        match self.set.get_index_of(name) {
+            Some(number) => number,
+            None => self.set.len(),
+        }
+    }
+
+    /// Adds a name that isn't among them.
+    pub fn add(&mut self, alloc: Global, name: &[u8]) -> Result<(), AllocError>
+        requires absent { number_of self.old name.now ≡ length self.old }
+        requires text { IsUtf8 name.now }
+        ensures ok { OnOk result (self.new ≡ self.old ++ name.now ∷ []) }
+        ensures err { OnErr result (self.new ≡ self.old) }
+    {
+        let name = Vec::from_slice(alloc, name)?;
+        self.set.insert(name)?;
+        Ok(())
+    }
+
+    /// The name at a place.
+    pub fn name(&self, number: usize) -> &str
+        requires { number < length self.now }
+        ensures { result.now ≡ slice_index_or self.now number [] }
+    {
+        match str::from_utf8(self.set[number].as_slice()) {
+            Ok(name) => name,
+            Err(_) => unreachable!(),
+        }
+    }
+}

@@ -1,0 +1,2 @@
+pub mod BitSetLemmas
+pub mod ElementsLemmas

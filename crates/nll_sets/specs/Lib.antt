@@ -1,0 +1,3 @@
+pub mod ElementSet
+pub mod BitSet
+pub mod Elements

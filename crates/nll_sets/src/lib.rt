@@ -1,0 +1,17 @@
+//! Sets of the elements of a problem: points of a graph, and ends of universal regions.
+//! It knows no graph and no problem.
+//!
+//! Reading order: `element`, `element_set`, `bit_set`, `elements`. The definitions are in specs/.
+#![tactic(auto)]
+
+mod bit_set;
+mod element;
+mod element_set;
+mod elements;
+mod error;
+
+pub use bit_set::BitSet;
+pub use element::Element;
+pub use element_set::ElementSet;
+pub use elements::Elements;
+pub use error::Memory;
