@@ -1,25 +1,15 @@
 -- What each call of a problem's builder answers, and what it adds.
 -- Source: project's choice.
-use Rattle.std.specs.Prelude.{◌≡◌, ◌⊎◌, ◌↔◌, ℕ, ◌+◌, Bool, not, ◌==◌, ◌&&◌, nat_lt, nat_le, List, [], ◌∷◌, length, Contains, Option, Some, None, Result, Ok, Err, if◌then◌else◌}
+use Rattle.std.specs.Prelude.{ℕ, Bool, not, ◌==◌, ◌&&◌, nat_lt, nat_le, [], ◌∷◌, length, Option}
 use Rattle.std.specs.List.{list_any}
+pub use Rattle.nll_problem.specs.Answers.{first_error, Answers, AddsFact}
+pub use Rattle.nll_problem.specs.GraphBuilding.{same_pair}
 use Rattle.nll_problem.specs.Problem.{Problem}
 use Rattle.nll_problem.specs.declared.constraint.Constraint.{Constraint}
 use Rattle.nll_problem.specs.declared.error.BuildError.{BuildError}
-use Rattle.nll_problem.specs.declared.error.BuildError.TheVariants.{PointRange, RegionRange, Limit, Memory}
+use Rattle.nll_problem.specs.declared.error.BuildError.TheVariants.{PointRange, RegionRange, Limit}
 use Rattle.nll_problem.specs.declared.error.Kind.TheVariants.{Points, Edges, Universals, Regions, Constraints}
 use Rattle.nll_problem.specs.declared.limits.TheConstants.{MAX_POINTS, MAX_EDGES, MAX_UNIVERSALS, MAX_REGIONS, MAX_CONSTRAINTS}
-
--- ---- answers
-
--- the error of the first row whose condition holds
-abbrev pub first_error : List (Bool × BuildError) → Option BuildError
-first_error [] = None
-first_error (row ∷ rows) = if row.0 then Some row.1 else first_error rows
-
--- the call answers the error that is due, where one is, and else Ok, or Memory where a growth of memory was refused
-abbrev pub Answers : {T : Type 0} → Option BuildError → Result T BuildError → Type 0
-Answers due (Ok value) = due ≡ None
-Answers due (Err error) = (due ≡ Some error) ⊎ ((due ≡ None) × (error ≡ Memory))
 
 -- ---- tests
 
@@ -34,10 +24,6 @@ is_region q r = nat_lt r q.regions
 -- r is a universal region of the problem
 abbrev pub is_universal : Problem → ℕ → Bool
 is_universal q r = nat_lt r q.graph.universals
-
--- the pairs are equal
-abbrev pub same_pair : ℕ × ℕ → ℕ × ℕ → Bool
-same_pair x y = (x.0 == y.0) && (x.1 == y.1)
 
 -- the constraints are equal
 abbrev pub same_constraint : Constraint → Constraint → Bool
@@ -92,11 +78,3 @@ constraint_error q c = first_error (
     ∷ (not (is_region q c.sup && is_region q c.sub), RegionRange)
     ∷ (not (has_constraint q c) && nat_le MAX_CONSTRAINTS (length q.constraints), Limit Constraints)
     ∷ [])
-
--- ---- what a call adds
-
--- The facts are as they were and the new one; one that was there already changes nothing.
-pub record AddsFact {X : Type 0} (old new : List X) (fact : X) : Type 0 where
-  pub each : (x : X) → Contains new x ↔ (Contains old x ⊎ (fact ≡ x))
-  pub repeated : Contains old fact → new ≡ old
-  pub counted : (Contains old fact → ⊥) → length new ≡ length old + 1

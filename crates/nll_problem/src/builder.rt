@@ -5,10 +5,10 @@ ghost use Rattle.nll_problem.specs.Problem.{SameProblem};
 ghost use Rattle.nll_problem.specs.Building.{Answers, AddsFact, new_error, region_error, outlives_error, next_error, ret_error, base_error, constraint_error};
 
 use crate::constraint::Constraint;
-use crate::region::RegionId;
 use crate::error::{BuildError, Kind};
 use crate::limits::{MAX_CONSTRAINTS, MAX_EDGES, MAX_POINTS, MAX_REGIONS, MAX_UNIVERSALS};
 use crate::problem::Problem;
+use crate::region::RegionId;
 use std::alloc::Global;
 use std::marker::Model;
 

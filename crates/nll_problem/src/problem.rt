@@ -7,12 +7,11 @@ ghost use Rattle.nll_problem.specs.Building.{AddsFact};
 
 use crate::bases::Bases;
 use crate::constraint::Constraint;
-use nll_sets::Element;
-use crate::region::RegionId;
-use nll_sets::Memory;
 use crate::graph::Graph;
 use crate::limits::{MAX_CONSTRAINTS, MAX_EDGES, MAX_POINTS, MAX_REGIONS, MAX_UNIVERSALS};
+use crate::region::RegionId;
 use indexmap::IndexSet;
+use nll_sets::{Element, Memory};
 use std::alloc::Global;
 use std::marker::Model;
 
