@@ -13,6 +13,7 @@ mod graph_builder;
 mod limits;
 mod problem;
 mod region;
+mod rows;
 
 pub use builder::ProblemBuilder;
 pub use constraint::Constraint;
