@@ -1,8 +1,8 @@
 -- The graph of a function body: its points, the ends of its universal regions, and which element may come after which.
 -- Source: RFC 2094, "Layer 0: Definitions" (points) and "Layer 4: Named lifetimes" (ends). The numbers, and the step from
 -- a return point to the ends, are project's choice. The code keeps lists of successors; this speaks of edges.
-use Rattle.std.specs.Prelude.{◌⊎◌, ℕ, ◌+◌, ◌<◌, ◌≤◌, List, Contains, length}
-use Rattle.nll_problem.specs.declared.limits.TheConstants.{MAX_POINTS, MAX_EDGES, MAX_UNIVERSALS}
+use Rattle.std.specs.Prelude.{◌≢◌, ◌⊎◌, ℕ, ◌+◌, ◌<◌, ◌≤◌, List, Contains, AllPairs, length}
+use Rattle.nll_problem.specs.Limits.{most_points, most_edges, most_universals}
 
 -- The points are 0 to points - 1. An edge is a point and one of its successors.
 pub record Graph : Type 0 where
@@ -31,12 +31,13 @@ IsEnd g e = (g.points ≤ e) × (e < element_count g)
 abbrev pub IsStep : Graph → ℕ → ℕ → Type 0
 IsStep g e f = IsNext g e f ⊎ (IsReturn g e × IsEnd g f)
 
--- all numbers are in range and within the limits
+-- all numbers are in range and within the limits, and each edge is there once
 pub record IsSound (g : Graph) : Type 0 where
   pub some_point : 0 < g.points
   pub some_universal : 0 < g.universals
-  pub point_limit : g.points ≤ MAX_POINTS
-  pub universal_limit : g.universals ≤ MAX_UNIVERSALS
-  pub edge_limit : length g.edges ≤ MAX_EDGES
+  pub point_limit : g.points ≤ most_points
+  pub universal_limit : g.universals ≤ most_universals
+  pub edge_limit : length g.edges ≤ most_edges
+  pub edges_once : AllPairs (λ x y. x ≢ y) g.edges
   pub edges_in_range : (p q : ℕ) → IsNext g p q → (p < g.points) × (q < g.points)
   pub returns_in_range : (p : ℕ) → IsReturn g p → p < g.points
