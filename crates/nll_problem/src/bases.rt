@@ -4,7 +4,9 @@
 //! neither hashes nor compares them.
 
 ghost use Rattle.std.specs.Prelude.{◌≡◌, [], AllPairs, OnOk, OnErr};
+ghost use Rattle.std.specs.List.Sorted.{IsPermutation, IsSorted};
 ghost use Rattle.nll_problem.specs.Answers.{AddsFact};
+ghost use Rattle.nll_problem.specs.Bases.{pair_cmp};
 ghost use Rattle.nll_problem.specs.Problem.{IsEarlier, IsOnce, SameSet};
 
 use crate::region::RegionId;
@@ -53,10 +55,18 @@ impl Bases {
         ensures ascending { AllPairs IsEarlier result.items }
     {
         let mut pairs = self.pairs;
-        if !pairs.is_sorted() {
-            pairs.sort_unstable();
-        }
+        sort(&mut pairs);
         pairs.dedup();
         pairs
+    }
+}
+
+// Sorts pairs; where they ascend already it is one pass.
+fn sort(pairs: &mut Vec<(RegionId, u32)>)
+    ensures permutation { IsPermutation pairs.old.items pairs.new.items }
+    ensures sorted { IsSorted pair_cmp pairs.new.items }
+{
+    if !pairs.is_sorted() {
+        pairs.sort_unstable();
     }
 }
