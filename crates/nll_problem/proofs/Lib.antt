@@ -5,3 +5,4 @@ pub mod RowLemmas
 pub mod AdjacencyLemmas
 pub mod ProblemLemmas
 pub mod WalkLemmas
+pub mod OrderLemmas

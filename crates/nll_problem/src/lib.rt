@@ -7,6 +7,7 @@
 mod bases;
 mod builder;
 mod constraint;
+mod constraint_set;
 mod error;
 mod graph;
 mod graph_builder;
