@@ -4,7 +4,7 @@ use Rattle.std.specs.List.{list_any}
 use Rattle.nll_problem.specs.Building.{same_pair}
 use Rattle.nll_problem.proofs.FactLemmas.{adds_pair}
 use Rattle.nll_problem.proofs.AdjacencyLemmas.{indexes_more, indexes_longer}
-use Rattle.nll_problem.proofs.graph.index_grown.Goals as goal
+use Rattle.nll_problem.proofs.graph_builder.index_grown.Goals as goal
 
 pub returns-in_ok-insert-clause-ok : goal.returns-in_ok-insert-clause-ok
 returns-in_ok-insert-clause-ok c =

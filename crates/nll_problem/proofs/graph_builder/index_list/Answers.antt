@@ -3,7 +3,7 @@ use borrow.Author.Count.{below_more}
 use Rattle.std.proofs.lemmas.List.Elements.{Contains-get_or}
 use Rattle.nll_problem.proofs.FactLemmas.{adds_pair}
 use Rattle.nll_problem.proofs.AdjacencyLemmas.{contains_at, indexes_none, indexes_more}
-use Rattle.nll_problem.proofs.graph.index_all.Goals as goal
+use Rattle.nll_problem.proofs.graph_builder.index_list.Goals as goal
 
 pub loop-to-init : goal.loop-to-init
 loop-to-init c = record { indexes = indexes_none _ _ _; all = λ k h. absurd (omega arith) }
@@ -25,6 +25,3 @@ returns-clause-indexes c = c.loop-to.invariant.indexes
 
 pub returns-clause-all : goal.returns-clause-all
 returns-clause-all c = λ q h. subst (λ z. Contains {X = ℕ × ℕ} c.loop-to.index.keys (c.args.from, z)) (contains_at c.args.list.now q h) (c.loop-to.invariant.all h.0 (omega (arith, h.1)))
-
-pub returns-then-list-gt-SCANNED-clause-all : goal.returns-then-list-gt-SCANNED-clause-all
-returns-then-list-gt-SCANNED-clause-all c = c.requires c.if-list-gt-SCANNED.true

@@ -1,6 +1,6 @@
 use Rattle.std.proofs.Common.{ℕ, ◌<◌, Contains, slice_index}
 use Rattle.nll_problem.specs.Adjacency.{Indexes}
-use Rattle.nll_problem.proofs.graph.index_all.Given as goal
+use Rattle.nll_problem.proofs.graph_builder.index_list.Given as goal
 
 abbrev pub invariant-loop-to : goal.invariant-loop-to
 invariant-loop-to l = record {
