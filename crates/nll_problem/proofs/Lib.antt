@@ -5,3 +5,4 @@ pub mod AdjacencyLemmas
 pub mod ProblemLemmas
 pub mod WalkLemmas
 pub mod OrderLemmas
+pub mod IndexLemmas

@@ -8,5 +8,6 @@ pub mod Answers
 pub mod GraphBuilding
 pub mod Building
 pub mod Bases
+pub mod ConstraintIndex
 pub mod Adjacency
 pub use Rattle.nll_sets.specs.ElementSet

@@ -7,6 +7,7 @@
 mod bases;
 mod builder;
 mod constraint;
+mod constraint_index;
 mod constraint_set;
 mod error;
 mod graph;
@@ -17,6 +18,7 @@ mod region;
 
 pub use builder::ProblemBuilder;
 pub use constraint::Constraint;
+pub use constraint_index::ConstraintIndex;
 pub use error::{BuildError, Kind};
 pub use graph::Graph;
 pub use graph_builder::GraphBuilder;
