@@ -1,7 +1,8 @@
 //! Problems of location-aware regions over a control-flow graph: what they are, and what they mean.
 //! It knows no text and no names.
 //!
-//! Reading order: `region`, `constraint`, `graph`, `graph_builder`, `problem`, `builder`. The definitions are in specs/.
+//! Reading order: `region`, `constraint`, `graph`, `graph_builder`, `problem`, `builder`,
+//! `constraint_index`. The definitions are in specs/.
 #![tactic(auto)]
 
 mod bases;
