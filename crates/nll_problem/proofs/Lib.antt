@@ -6,3 +6,4 @@ pub mod AdjacencyLemmas
 pub mod ProblemLemmas
 pub mod WalkLemmas
 pub mod OrderLemmas
+pub mod IndexLemmas

@@ -15,9 +15,11 @@ IsKnown q a b = (way : List ℕ) × IsWalk (IsAbove q) (λ _. ⊤) a way b
 
 -- the universal region a holds the end of the universal region b and isn't known to outlive it
 abbrev pub IsFault : Problem → (ℕ → ℕ → Type 0) → ℕ → ℕ → Type 0
-IsFault q values a b = IsUniversal q a × IsUniversal q b × values a (end_of q b) × (IsKnown q a b → ⊥)
+IsFault q values a b =
+    IsUniversal q a × IsUniversal q b × values a (end_of q b) × (IsKnown q a b → ⊥)
 
 -- the list is of all faults of the values, each once and in order
-pub record AreFaults (q : Problem) (values : ℕ → ℕ → Type 0) (faults : List (ℕ × ℕ)) : Type 0 where
+pub record AreFaults (q : Problem) (values : ℕ → ℕ → Type 0) (faults : List (ℕ × ℕ)) : Type 0
+    where
   pub each : (a b : ℕ) → Contains faults (a, b) ↔ IsFault q values a b
   pub ordered : AllPairs IsEarlier faults

@@ -9,5 +9,6 @@ pub mod GraphBuilding
 pub mod Building
 pub mod Rows
 pub mod Bases
+pub mod ConstraintIndex
 pub mod Adjacency
 pub use Rattle.nll_sets.specs.ElementSet
