@@ -51,6 +51,7 @@ pair_ranks x y = by (nat_cmp x.0 y.0) (nat_cmp x.1 y.1) (ranks x.0 y.0) (ranks x
   where
     same : (a b c d : ℕ) → a ≡ b → c ≡ d → ◌≡◌ {A = ℕ × ℕ} (a, c) (b, d)
     same a b c d p q = cc
+
     by : (a b : Ordering) → MatchOrdering a (x.0 < y.0) (x.0 ≡ y.0) (y.0 < x.0) → MatchOrdering b (x.1 < y.1) (x.1 ≡ y.1) (y.1 < x.1) → MatchOrdering (ordering_then a b) (IsEarlier x y) (x ≡ y) (IsEarlier y x)
     by Less b h k = inl h
     by Equal Less h k = inr (h, k)

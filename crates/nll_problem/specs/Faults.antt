@@ -20,6 +20,6 @@ IsFault q values a b =
 
 -- the list is of all faults of the values, each once and in order
 pub record AreFaults (q : Problem) (values : ℕ → ℕ → Type 0) (faults : List (ℕ × ℕ)) : Type 0
-    where
-  pub each : (a b : ℕ) → Contains faults (a, b) ↔ IsFault q values a b
-  pub ordered : AllPairs IsEarlier faults
+  where
+    pub each : (a b : ℕ) → Contains faults (a, b) ↔ IsFault q values a b
+    pub ordered : AllPairs IsEarlier faults

@@ -130,7 +130,8 @@ impl ProblemBuilder {
         ensures answers { Answers (edge_error self.old.graph from to) result }
         ensures ok { OnOk result (AddsFact self.old.graph.edges self.new.graph.edges (from, to)) }
         ensures others { self.new ≡ record self.old {
-            graph = record self.old.graph { edges = self.new.graph.edges } } }
+          graph = record self.old.graph { edges = self.new.graph.edges };
+        } }
         ensures err { OnErr result (self.new ≡ self.old) }
     {
         self.graph.next(from, to)
@@ -145,7 +146,8 @@ impl ProblemBuilder {
         ensures answers { Answers (return_error self.old.graph point) result }
         ensures ok { OnOk result (AddsFact self.old.graph.returns self.new.graph.returns point) }
         ensures others { self.new ≡ record self.old {
-            graph = record self.old.graph { returns = self.new.graph.returns } } }
+          graph = record self.old.graph { returns = self.new.graph.returns };
+        } }
         ensures err { OnErr result (self.new ≡ self.old) }
     {
         self.graph.ret(point)
