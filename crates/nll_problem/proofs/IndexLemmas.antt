@@ -1,7 +1,6 @@
 -- Constraints by the region that they read: their order, and the part of a list in that order that has one region's.
-use Rattle.std.proofs.Common.{◌≡◌, ◌↔◌, ◌⊎◌, ℕ, zero, ◌+◌, ◌-◌, ◌<◌, ◌≤◌, Bool, true, false, ltb, leb, List, AllPairs, Contains, length, get_or, take, drop, inl, inr, ⊎_elim, Ordering, Less, Equal, Greater, nat_cmp, is_lt, refl, sym, ap, subst, ◌∙◌, IsSorted, length-take, length-drop, get_or-take, get_or-drop, ltb-true, ltb-false, leb-true, leb-false, lt-ltb, le-leb, arith}
+use Rattle.std.proofs.Common.{◌≡◌, ◌↔◌, ℕ, ◌+◌, ◌-◌, ◌<◌, ◌≤◌, true, false, ltb, leb, List, AllPairs, Contains, length, get_or, take, drop, inl, inr, ⊎_elim, Ordering, Less, Equal, Greater, nat_cmp, sym, ap, subst, ◌∙◌, IsSorted, length-take, length-drop, get_or-take, get_or-drop, ltb-true, ltb-false, leb-true, leb-false, arith}
 use Rattle.std.specs.Ordering.{MatchOrdering, ordering_then}
-use Rattle.std.specs.List.{AllWithin}
 use Rattle.std.specs.List.Sorted.{IsNonDecreasingBy, IsPartitionPoint, IsPermutation}
 use Rattle.std.specs.Cmp.{IsTotalOrder, then_total, on_total, nat_cmp_total, ranks}
 use Rattle.std.proofs.lemmas.Bool.{cases_lt}
@@ -11,7 +10,7 @@ use Rattle.std.proofs.lemmas.Map.Keys.{IsDistinct-IsPermutation}
 use Rattle.std.proofs.lemmas.Map.Made.{AllPairs-from_IsDistinct, IsDistinct-from_AllPairs}
 use Rattle.nll_problem.specs.Building.{same_constraint}
 use Rattle.nll_problem.proofs.FactLemmas.{constraint_is, constraint_same, exact_equivalence}
-use Rattle.nll_problem.specs.Problem.{IsEarlier, IsOnce, SameSet}
+use Rattle.nll_problem.specs.Problem.{IsOnce, SameSet}
 use Rattle.nll_problem.specs.ConstraintIndex.{IsLower, IsReadEarlier, constraint_cmp}
 use Rattle.nll_problem.specs.declared.constraint.Constraint.{Constraint}
 use Rattle.nll_problem.proofs.OrderLemmas.{pair_ranks, sorted_once_ascends}

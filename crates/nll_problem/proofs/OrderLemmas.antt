@@ -1,5 +1,5 @@
 -- Orders of facts, and lists that ascend by them.
-use Rattle.std.proofs.Common.{◌≡◌, ◌≢◌, ℕ, ◌+◌, ◌<◌, ◌≤◌, Bool, true, false, List, AllPairs, length, get_or, inl, inr, ⊎_elim, Ordering, Less, Equal, Greater, nat_cmp, is_lt, is_eq, refl, sym, ap, subst, ◌∙◌, IsSorted, arith}
+use Rattle.std.proofs.Common.{◌≡◌, ℕ, ◌+◌, ◌<◌, true, false, List, AllPairs, get_or, inl, inr, ⊎_elim, Ordering, Less, Equal, Greater, nat_cmp, is_lt, is_eq, refl, sym, ap, subst, IsSorted, arith}
 use Rattle.std.specs.Ordering.{MatchOrdering, ordering_then, eq_by_cmp}
 use Rattle.std.specs.List.Sorted.{IsStrictlySortedBy}
 use Rattle.std.specs.Cmp.{IsTotalOrder, then_total, on_total, nat_cmp_total, ranks, both_ways, tied_itself}

@@ -9,7 +9,7 @@ ghost use Rattle.nll_problem.specs.Building.{base_error, constraint_error, has_c
 ghost use Rattle.nll_problem.specs.Building.{outlives_error, region_error};
 ghost use Rattle.nll_problem.specs.GraphBuilding.{bare_graph, edge_error, graph_error};
 ghost use Rattle.nll_problem.specs.GraphBuilding.{return_error};
-ghost use Rattle.nll_problem.specs.Problem.{IsSound, SameProblem};
+ghost use Rattle.nll_problem.specs.Problem.{SameProblem};
 
 use crate::bases::Bases;
 use crate::constraint::Constraint;
