@@ -1,6 +1,8 @@
--- The graph of a function body: its points, the ends of its universal regions, and which element may come after which.
--- Source: RFC 2094, "Layer 0: Definitions" (points) and "Layer 4: Named lifetimes" (ends). The numbers, and the step from
--- a return point to the ends, are project's choice. The code keeps lists of successors; this speaks of edges.
+-- The graph of a function body: its points, the ends of its universal regions, and which element may
+-- come after which.
+-- Source: RFC 2094, "Layer 0: Definitions" (points) and "Layer 4: Named lifetimes" (ends). The numbers,
+-- and the step from a return point to the ends, are project's choice. The code keeps lists of successors
+-- and of predecessors; this speaks of edges.
 use Rattle.std.specs.Prelude.{◌≢◌, ◌⊎◌, ℕ, ◌+◌, ◌<◌, ◌≤◌, List, Contains, AllPairs, length}
 use Rattle.nll_problem.specs.Limits.{most_points, most_edges, most_universals}
 

@@ -11,7 +11,8 @@ use Rattle.nll_problem.specs.declared.error.Kind.TheVariants.{Points, Edges, Uni
 
 -- the graph of so many points and universal regions that has no edge and no return point
 abbrev pub bare_graph : ℕ → ℕ → Graph
-bare_graph points universals = record { points = points; universals = universals; edges = []; returns = [] }
+bare_graph points universals =
+    record { points = points; universals = universals; edges = []; returns = [] }
 
 -- ---- tests
 

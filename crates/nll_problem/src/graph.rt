@@ -32,7 +32,8 @@ impl Model for Graph {
 
     ghost view = { λ g. graph_of g.points g.universals g.next g.returns.items };
 
-    ghost invariant = { λ g. IsKept g.points g.universals g.next g.previous g.returns.items g.marks.items };
+    ghost invariant = { λ g.
+        IsKept g.points g.universals g.next g.previous g.returns.items g.marks.items };
 }
 
 impl Graph {

@@ -11,7 +11,7 @@ loop-point-preserved c =
     let before = c.loop-point.invariant in
     let list = c.row-list.ensures in
     elim c.if-list-gt-SCANNED.branch [
-      then-list-gt-SCANNED+in_ok-index_list w ↦
+      | then-list-gt-SCANNED+in_ok-index_list w ↦
           let indexes = w.in_ok-index_list.ensures.indexes in
           rw w.index-is (record {
             only = λ p q h. ⊎_elim
