@@ -1,11 +1,11 @@
 -- The edges of a graph that is kept as lists of successors and of predecessors.
-use Rattle.std.proofs.Common.{◌≡◌, ◌≢◌, ℕ, zero, suc, ◌+◌, ◌-◌, ◌<◌, ◌≤◌, Bool, true, false, List, [], ◌∷◌, ◌++◌, map, ◌⊎◌, ◌↔◌, inl, inr, Contains, AllPairs, length, get_or, set, replicate, refl, sym, ap, ◌∙◌, subst, ⊎_elim, arith, add-one, length-append, length-set}
+use Rattle.std.proofs.Common.{◌≡◌, ◌≢◌, ℕ, zero, suc, ◌+◌, ◌-◌, ◌<◌, ◌≤◌, Bool, true, false, List, [], ◌∷◌, ◌++◌, map, ◌⊎◌, ◌↔◌, inl, inr, Contains, AllPairs, length, get_or, set, replicate, refl, sym, ap, ◌∙◌, subst, ⊎_elim, arith, length-append, length-set}
 use Rattle.std.proofs.lemmas.List.{get_or_append_left, get_or-append_right, get_or-set_other, get_or-set_same, get_or_default, get_or_past, get_or-replicate, length-replicate, get_or-map, length-map}
 use Rattle.std.proofs.lemmas.List.Elements.{Contains-get_or, Contains-push, Contains-push_cases, Contains-append_left, Contains-append_right, Contains-append_cases}
 use Rattle.std.proofs.lemmas.List.Quantifiers.{all_pairs_push}
 use Rattle.std.proofs.lemmas.List.Sums.{sum_by-cons}
 use Rattle.std.proofs.lemmas.Bool.{cases_eq, cases_lt, false≢true}
-use Rattle.nll_problem.specs.Adjacency.{edges_from, edges_of, graph_of, AreLists, AreMarked, AreTurned, Indexes, IsIndexed, IsKept}
+use Rattle.nll_problem.specs.Adjacency.{edges_from, edges_of, graph_of, AreLists, AreTurned, Indexes, IsIndexed, IsKept}
 use Rattle.nll_problem.specs.Answers.{AddsFact}
 use Rattle.nll_problem.specs.GraphBuilding.{bare_graph}
 use Rattle.nll_problem.specs.Limits.{most_points, most_edges, most_universals}

@@ -1,6 +1,6 @@
 -- What a call that may be refused answers, and what one that is taken adds.
 -- Source: project's choice.
-use Rattle.std.specs.Prelude.{◌≡◌, ◌⊎◌, ◌↔◌, ℕ, ◌+◌, Bool, List, [], ◌∷◌, length, Contains, Option, Some, None, Result, Ok, Err, if◌then◌else◌}
+use Rattle.std.specs.Prelude.{◌≡◌, ◌⊎◌, ◌↔◌, ◌+◌, Bool, List, [], ◌∷◌, length, Contains, Option, Some, None, Result, Ok, Err, if◌then◌else◌}
 use Rattle.nll_problem.specs.declared.error.BuildError.{BuildError}
 use Rattle.nll_problem.specs.declared.error.BuildError.TheVariants.{Memory}
 

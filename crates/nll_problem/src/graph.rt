@@ -1,7 +1,6 @@
 //! The control-flow graph of a problem, finished: flat, to be walked forwards and backwards.
 
 ghost use Rattle.std.specs.Prelude.{◌≡◌, ◌≢◌, ◌↔◌, ℕ, ◌<◌, Contains, AllPairs, IsTrue, IfOk};
-ghost use Rattle.nll_problem.specs.Adjacency.{IsKept, graph_of};
 ghost use Rattle.nll_problem.specs.Graph.{IsNext, IsReturn, IsSound};
 
 use crate::rows::Rows;

@@ -5,14 +5,13 @@
 //! takes amortised constant time, and a point with few successors costs no more than these. The
 //! predecessors are listed beside, and the room for the finished graph grows with each edge.
 
-ghost use Rattle.std.specs.Prelude.{◌≡◌, ◌≢◌, ◌⊎◌, ◌↔◌, ℕ, ◌+◌, ◌<◌, ◌≤◌, List, [], ◌∷◌, ◌++◌, length, Contains, AllPairs, OnOk, OnErr, IfOk};
+ghost use Rattle.std.specs.Prelude.{◌≡◌, ◌<◌, ◌≤◌, [], ◌∷◌, ◌++◌, length, OnOk, OnErr, IfOk};
 ghost use Rattle.nll_problem.specs.Adjacency.{HasEdgesTo, Indexes, IsIndexed, IsIndexedIfLong};
 ghost use Rattle.nll_problem.specs.Answers.{Answers, AddsFact};
 ghost use Rattle.nll_problem.specs.Graph.{IsNext, IsSound};
 ghost use Rattle.nll_problem.specs.GraphBuilding as building;
 ghost use Rattle.nll_problem.specs.GraphBuilding.{bare_graph, graph_error, edge_error, return_error};
 ghost use Rattle.nll_problem.specs.Limits.{most_points, most_edges, most_universals};
-ghost use Rattle.nll_problem.specs.Rows.{row_at};
 
 use crate::error::{BuildError, Kind};
 use crate::graph::Graph;
@@ -48,7 +47,6 @@ pub struct GraphBuilder {
 }
 
 impl Model for GraphBuilder {
-    ghost use Rattle.std.specs.Prelude.{List};
     ghost use Rattle.nll_problem.specs.Graph as spec;
     ghost use Rattle.nll_problem.specs.Adjacency.{graph_of, IsIndexed, IsKept};
 

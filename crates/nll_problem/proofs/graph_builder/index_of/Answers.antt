@@ -1,4 +1,4 @@
-use Rattle.std.proofs.Common.{◌≡◌, ℕ, ◌<◌, Contains, length, ap, subst, sym, ⊎_elim, arith}
+use Rattle.std.proofs.Common.{ℕ, ◌<◌, Contains, length, ap, subst, sym, ⊎_elim, arith}
 use Rattle.std.proofs.lemmas.Bool.{cases_eq}
 use Rattle.nll_problem.specs.Rows.{row_at}
 use Rattle.nll_problem.specs.declared.graph_builder.TheConstants.{SCANNED}

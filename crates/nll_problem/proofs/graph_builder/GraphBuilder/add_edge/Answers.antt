@@ -1,4 +1,4 @@
-use Rattle.std.proofs.Common.{◌≡◌, ℕ, ◌<◌, ◌≤◌, ◌∷◌, [], ◌++◌, Contains, length, ap, subst, sym, ◌∙◌, arith}
+use Rattle.std.proofs.Common.{◌≡◌, ℕ, ◌<◌, ◌≤◌, ◌∷◌, [], ◌++◌, Contains, length, ap, subst, ◌∙◌, arith}
 use Rattle.nll_problem.specs.Adjacency.{Indexes, IsIndexed, IsKept}
 use Rattle.nll_problem.specs.Rows.{row_at, with_item}
 use Rattle.nll_problem.specs.declared.graph_builder.TheConstants.{SCANNED}

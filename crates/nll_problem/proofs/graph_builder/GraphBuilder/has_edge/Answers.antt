@@ -1,4 +1,4 @@
-use Rattle.std.proofs.Common.{◌≡◌, ◌<◌, Contains, length, subst, sym, ◌∙◌}
+use Rattle.std.proofs.Common.{◌<◌, Contains, length, subst, sym, ◌∙◌}
 use Rattle.std.proofs.lemmas.Bool.Decides.{same_from_decides}
 use Rattle.nll_problem.specs.Adjacency.{edges_of}
 use Rattle.nll_problem.specs.Rows.{row_at}
