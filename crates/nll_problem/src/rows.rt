@@ -203,10 +203,8 @@ fn push_row(starts: &mut Vec<usize>, items: &mut Vec<u32>, row: &[u32])
     requires starts { vec_len starts.old < vec_capacity starts.old }
     requires items { vec_len items.old + length row.now ≤ vec_capacity items.old }
     ensures flat { IsFlat starts.new.items items.new.items }
-    ensures rows {
-        rows_of starts.new.items items.new.items
-        ≡ rows_of starts.old.items items.old.items ++ row.now ∷ []
-    }
+    ensures rows { rows_of starts.new.items items.new.items
+        ≡ rows_of starts.old.items items.old.items ++ row.now ∷ [] }
     ensures starts_len { vec_len starts.new ≡ vec_len starts.old + 1 }
     ensures starts_room { vec_capacity starts.new ≡ vec_capacity starts.old }
     ensures items_len { vec_len items.new ≡ vec_len items.old + length row.now }
