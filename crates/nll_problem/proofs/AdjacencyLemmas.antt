@@ -184,14 +184,14 @@ module _ (lists : List (List ℕ)) (p q : ℕ) (within : p < length lists) where
         (λ before. (grown_has a b).1 (inl (indexed.only a b before)))
         (λ added. subst (λ xs. Contains xs b) (sym (ap (row_at (with_item lists p q)) added.0 ∙ row_same)) added.1)
         (indexes.only (a, b) h);
-    long = λ a b size h. ⊎_elim
+    long = λ a size b h. ⊎_elim
         (λ same.
         let list : row_at (with_item lists p q) a ≡ row_at lists p ++ q ∷ [] = ap (row_at (with_item lists p q)) same ∙ row_same in
         let counted : SCANNED < length (row_at lists p ++ q ∷ []) = subst (λ xs. SCANNED < length xs) list size in
         subst (λ c. Contains {X = ℕ × ℕ} new (c, b)) (sym same) (long (omega (arith, counted, length-append (row_at lists p) (q ∷ []))) b (subst (λ xs. Contains xs b) list h)))
         (λ other.
         let list : row_at (with_item lists p q) a ≡ row_at lists a = row_other a other in
-        indexes.kept (a, b) (indexed.long a b (subst (λ xs. SCANNED < length xs) list size) (subst (λ xs. Contains xs b) list h)))
+        indexes.kept (a, b) (indexed.long a (subst (λ xs. SCANNED < length xs) list size) b (subst (λ xs. Contains xs b) list h)))
         (cases_eq a p);
   }
 
@@ -357,12 +357,12 @@ kept_none points universals some_point some_universal point_limit universal_limi
 pub indexed_none : (points : ℕ) → IsIndexed (replicate points []) []
 indexed_none points = record {
   only = λ p q h. absurd (none_contained (p, q) h);
-  long = λ p q size h. absurd (nothing_in points p q h);
+  long = λ p size q h. absurd (nothing_in points p q h);
 }
 
 -- lists stay indexed where the index gets edges of a point that are there
 pub indexed_more : (next : List (List ℕ)) (index new : List (ℕ × ℕ)) (p : ℕ) → IsIndexed next index → Indexes index new p (row_at next p) → IsIndexed next new
 indexed_more next index new p indexed indexes = record {
   only = λ a b h. ⊎_elim (indexed.only a b) (λ added. subst (λ c. Contains (row_at next c) b) (sym added.0) added.1) (indexes.only (a, b) h);
-  long = λ a b size h. indexes.kept (a, b) (indexed.long a b size h);
+  long = λ a size b h. indexes.kept (a, b) (indexed.long a size b h);
 }

@@ -82,9 +82,9 @@ module _ (q : Problem) (s : IsSound q) where
 
   pub sound_bases : (new : List (ℕ × ℕ)) (r p : ℕ) → ((x : ℕ × ℕ) → Contains new x → Contains q.bases x ⊎ ((r, p) ≡ x)) → IsOnce new → r < q.regions → p < q.graph.points → IsSound (record q { bases = new })
   sound_bases new r p only once region point = sound_other_bases new (λ x y h. ⊎_elim
-        (s.bases_in_range x y)
-        (λ is. subst (λ (z : ℕ × ℕ). (z.0 < q.regions) × (z.1 < q.graph.points)) is (region, point))
-        (only (x, y) h)) once
+      (s.bases_in_range x y)
+      (λ is. subst (λ (z : ℕ × ℕ). (z.0 < q.regions) × (z.1 < q.graph.points)) is (region, point))
+      (only (x, y) h)) once
 
   -- the same base facts in a list that ascends
   pub finished : (new : List (ℕ × ℕ)) → SameSet q.bases new → AllPairs IsEarlier new → IsFinished (record q { bases = new })

@@ -29,7 +29,7 @@ pub record AreLists (points : ℕ) (lists : List (List ℕ)) : Type 0 where
 abbrev pub AreTurned : List (List ℕ) → List (List ℕ) → Type 0
 AreTurned next previous = (p q : ℕ) → Contains (row_at previous q) p ↔ Contains (row_at next p) q
 
--- There is a mark for each point, set just for the return points, and none of these is listed twice.
+-- There is a mark for each point, set just for the return points; none of these is listed twice.
 pub record AreMarked (points : ℕ) (returns : List ℕ) (marks : List Bool) : Type 0 where
   pub listed : length marks ≡ points
   pub each : (p : ℕ) → Contains returns p ↔ (slice_index_or marks p false ≡ true)
@@ -45,20 +45,18 @@ pub record IsKept
   pub turned : AreTurned next previous
   pub marked : AreMarked points returns marks
 
--- The index has just edges, all of them at the points with long lists.
-pub record IsIndexed (next : List (List ℕ)) (index : List (ℕ × ℕ)) : Type 0 where
-  pub only : (p q : ℕ) → Contains index (p, q) → Contains (row_at next p) q
-  pub long :
-      (p q : ℕ) → SCANNED < length (row_at next p) → Contains (row_at next p) q → Contains index (p, q)
-
 -- the index has the edges from the point to all of the list
 abbrev pub HasEdgesTo : List (ℕ × ℕ) → ℕ → List ℕ → Type 0
 HasEdgesTo index point list = (q : ℕ) → Contains list q → Contains index (point, q)
 
 -- where the list of successors of the point is long, the index has the edges to all of them
 abbrev pub IsIndexedIfLong : List (ℕ × ℕ) → ℕ → List ℕ → Type 0
-IsIndexedIfLong index point list =
-    SCANNED < length list → HasEdgesTo index point list
+IsIndexedIfLong index point list = SCANNED < length list → HasEdgesTo index point list
+
+-- The index has just edges, and all of those of the points with long lists.
+pub record IsIndexed (next : List (List ℕ)) (index : List (ℕ × ℕ)) : Type 0 where
+  pub only : (p q : ℕ) → Contains index (p, q) → Contains (row_at next p) q
+  pub long : (p : ℕ) → IsIndexedIfLong index p (row_at next p)
 
 -- The index kept its edges, and got some from a point to successors of the list alone.
 pub record Indexes (old new : List (ℕ × ℕ)) (from : ℕ) (list : List ℕ) : Type 0 where

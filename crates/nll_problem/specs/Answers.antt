@@ -9,13 +9,13 @@ abbrev pub first_error : List (Bool × BuildError) → Option BuildError
 first_error [] = None
 first_error (row ∷ rows) = if row.0 then Some row.1 else first_error rows
 
--- the call answers the error that is due, where one is; else Ok or Memory, and this doesn't say which
+-- the call answers the error that is due, where one is; else Ok or Memory, and it isn't said which
 abbrev pub Answers : {T : Type 0} → Option BuildError → Result T BuildError → Type 0
 Answers due (Ok value) = due ≡ None
 Answers due (Err error) = (due ≡ Some error) ⊎ ((due ≡ None) × (error ≡ Memory))
 
--- The facts are as they were and the new one; one that was there already changes nothing. So a list that
--- was empty and has grown by this alone has each fact once.
+-- The facts are as they were and the new one; one that was there already changes nothing. So a list
+-- that was empty and has grown by this alone has each fact once.
 pub record AddsFact {X : Type 0} (old new : List X) (fact : X) : Type 0 where
   pub each : (x : X) → Contains new x ↔ (Contains old x ⊎ (fact ≡ x))
   pub repeated : Contains old fact → new ≡ old

@@ -9,7 +9,7 @@ ghost use Rattle.nll_problem.specs.Building.{base_error, constraint_error, has_c
 ghost use Rattle.nll_problem.specs.Building.{outlives_error, region_error};
 ghost use Rattle.nll_problem.specs.GraphBuilding.{bare_graph, edge_error, graph_error};
 ghost use Rattle.nll_problem.specs.GraphBuilding.{return_error};
-ghost use Rattle.nll_problem.specs.Problem.{IsSound, SameProblem};
+ghost use Rattle.nll_problem.specs.Problem.{SameProblem};
 
 use crate::bases::Bases;
 use crate::constraint::Constraint;
@@ -130,7 +130,8 @@ impl ProblemBuilder {
         ensures answers { Answers (edge_error self.old.graph from to) result }
         ensures ok { OnOk result (AddsFact self.old.graph.edges self.new.graph.edges (from, to)) }
         ensures others { self.new ≡ record self.old {
-            graph = record self.old.graph { edges = self.new.graph.edges } } }
+          graph = record self.old.graph { edges = self.new.graph.edges };
+        } }
         ensures err { OnErr result (self.new ≡ self.old) }
     {
         self.graph.next(from, to)
@@ -145,7 +146,8 @@ impl ProblemBuilder {
         ensures answers { Answers (return_error self.old.graph point) result }
         ensures ok { OnOk result (AddsFact self.old.graph.returns self.new.graph.returns point) }
         ensures others { self.new ≡ record self.old {
-            graph = record self.old.graph { returns = self.new.graph.returns } } }
+          graph = record self.old.graph { returns = self.new.graph.returns };
+        } }
         ensures err { OnErr result (self.new ≡ self.old) }
     {
         self.graph.ret(point)

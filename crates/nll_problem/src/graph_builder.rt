@@ -1,9 +1,9 @@
 //! The builder of a graph.
 //!
 //! Each point has a list of its successors. A list of up to `SCANNED` successors is searched from
-//! end to end; the edges of points with longer lists also stand in a hashed index. So adding an edge
-//! takes amortised constant time, and a point with few successors costs no more than these. The
-//! predecessors are listed beside, and the room for the finished graph grows with each edge.
+//! end to end; the edges of points with longer lists also stand in a hashed index. So adding an
+//! edge takes amortised constant time, and a point with few successors costs no more than these.
+//! The predecessors are listed beside, and the room for the finished graph grows with each edge.
 
 ghost use Rattle.std.specs.Prelude.{◌≡◌, ◌<◌, ◌≤◌, [], ◌∷◌, ◌++◌, length, OnOk, OnErr, IfOk};
 ghost use Rattle.nll_problem.specs.Adjacency.{HasEdgesTo, Indexes, IsIndexed, IsIndexedIfLong};

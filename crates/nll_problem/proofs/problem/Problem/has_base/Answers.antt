@@ -1,5 +1,4 @@
-use Rattle.std.proofs.Common.{ℕ, Contains, sym, subst, ◌∙◌}
-use Rattle.std.proofs.Common.{AllPairs}
+use Rattle.std.proofs.Common.{ℕ, AllPairs, Contains, sym, subst, ◌∙◌}
 use Rattle.nll_problem.specs.Problem.{IsEarlier}
 use Rattle.nll_problem.proofs.BaseLemmas.{searched}
 use Rattle.nll_problem.proofs.problem.Problem.has_base.Goals as goal
