@@ -5,7 +5,7 @@ use Rattle.std.proofs.lemmas.List.Elements.{Contains-get_or, Contains-push, Cont
 use Rattle.std.proofs.lemmas.List.Quantifiers.{all_pairs_push}
 use Rattle.std.proofs.lemmas.List.Sums.{sum_by-cons}
 use Rattle.std.proofs.lemmas.Bool.{cases_eq, cases_lt, false≢true}
-use Rattle.nll_problem.specs.Adjacency.{edges_from, edges_of, graph_of, AreLists, AreTurned, Indexes, IsIndexed, IsKept}
+use Rattle.nll_problem.specs.Adjacency.{edges_from, edges_of, graph_of, AreLists, AreTurned, Indexes, IsIndexed, IsIndexedIfLong, IsKept}
 use Rattle.nll_problem.specs.Answers.{AddsFact}
 use Rattle.nll_problem.specs.GraphBuilding.{bare_graph}
 use Rattle.nll_problem.specs.Limits.{most_points, most_edges, most_universals}
@@ -177,7 +177,7 @@ module _ (lists : List (List ℕ)) (p q : ℕ) (within : p < length lists) where
 
   -- The lists stay indexed where the index gets only edges of p, and all of them where its list is long.
   pub indexed_grown : (old new : List (ℕ × ℕ)) → IsIndexed lists old → Indexes old new p (row_at lists p ++ q ∷ [])
-      → (SCANNED ≤ length (row_at lists p) → (r : ℕ) → Contains (row_at lists p ++ q ∷ []) r → Contains new (p, r))
+      → IsIndexedIfLong new p (row_at lists p ++ q ∷ [])
       → IsIndexed (with_item lists p q) new
   indexed_grown old new indexed indexes long = record {
     only = λ a b h. ⊎_elim
@@ -188,7 +188,7 @@ module _ (lists : List (List ℕ)) (p q : ℕ) (within : p < length lists) where
         (λ same.
         let list : row_at (with_item lists p q) a ≡ row_at lists p ++ q ∷ [] = ap (row_at (with_item lists p q)) same ∙ row_same in
         let counted : SCANNED < length (row_at lists p ++ q ∷ []) = subst (λ xs. SCANNED < length xs) list size in
-        subst (λ c. Contains {X = ℕ × ℕ} new (c, b)) (sym same) (long (omega (arith, counted, length-append (row_at lists p) (q ∷ []))) b (subst (λ xs. Contains xs b) list h)))
+        subst (λ c. Contains {X = ℕ × ℕ} new (c, b)) (sym same) (long counted b (subst (λ xs. Contains xs b) list h)))
         (λ other.
         let list : row_at (with_item lists p q) a ≡ row_at lists a = row_other a other in
         indexes.kept (a, b) (indexed.long a (subst (λ xs. SCANNED < length xs) list size) b (subst (λ xs. Contains xs b) list h)))

@@ -283,7 +283,7 @@ fn index_grown(
     requires { IsIndexedIfLong index.old.keys from list.now }
     ensures ok { OnOk result (Indexes index.old.keys index.new.keys from (list.now ++ to ∷ [])) }
     ensures err { OnErr result (Indexes index.old.keys index.new.keys from list.now) }
-    ensures all { OnOk result (SCANNED ≤ length list.now → HasEdgesTo index.new.keys from (list.now ++ to ∷ [])) }
+    ensures long { OnOk result (IsIndexedIfLong index.new.keys from (list.now ++ to ∷ [])) }
 {
     if list.len() >= SCANNED {
         index_all(index, from, list)?;
