@@ -1,4 +1,4 @@
-pub mod SpreadingLemmas
+pub mod SearchLemmas
 pub mod GrowingLemmas
 pub mod SolverLemmas
 pub mod FaultLemmas
