@@ -4,3 +4,5 @@ pub mod BaseLemmas
 pub mod AdjacencyLemmas
 pub mod ProblemLemmas
 pub mod WalkLemmas
+pub mod OrderLemmas
+pub mod IndexLemmas
