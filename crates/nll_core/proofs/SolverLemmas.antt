@@ -4,9 +4,9 @@ use Rattle.std.proofs.lemmas.Bool.{true≢false, cases_eq}
 use Rattle.std.proofs.lemmas.List.{get_or_default, get_or-replicate, length-replicate}
 use Rattle.nll_problem.specs.Graph.{element_count}
 use Rattle.nll_problem.specs.Problem.{Problem, IsBase, IsUniversal, end_of}
-use Rattle.nll_problem.specs.Solution.{Satisfies, Least}
+use Rattle.nll_problem.specs.Solution.{Asks, Satisfies, Least}
 use Rattle.nll_core.specs.Values.{set_of, holds, IsHeld, with_element, IsShaped}
-use Rattle.nll_core.specs.Growing.{Gains, Tells, IsBelow, StaysBelow, Asks, IsMet, IsClosed}
+use Rattle.nll_core.specs.Growing.{Gains, Tells, IsBelow, StaysBelow, IsMet, IsClosed}
 use Rattle.nll_problem.specs.declared.constraint.Constraint.{Constraint}
 use Rattle.nll_problem.proofs.WalkLemmas.{reaches_weaker}
 use Rattle.nll_core.proofs.GrowingLemmas.{held_one, gains_none, gains_one, gains_append, gains_weaker, tells_none, tells_append}

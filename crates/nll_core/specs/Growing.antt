@@ -1,17 +1,11 @@
 -- How values grow towards the least solution of a problem.
 -- Source: project's choice. Private contracts alone cite this file.
 use Rattle.std.specs.Prelude.{◌≡◌, ◌⊎◌, ℕ, ◌<◌, Bool, true, false, IsTrue, List, length, Contains, sum_by}
-use Rattle.nll_problem.specs.Graph.{Graph}
-use Rattle.nll_problem.specs.Walks.{Reaches}
 use Rattle.nll_problem.specs.Problem.{Problem}
-use Rattle.nll_problem.specs.Solution.{Satisfies}
+use Rattle.nll_problem.specs.Solution.{Asks, Satisfies}
 use Rattle.nll_core.specs.Search.{missing}
 use Rattle.nll_core.specs.Values.{set_of, IsHeld}
 use Rattle.nll_problem.specs.declared.constraint.Constraint.{Constraint}
-
--- c asks its sup for e: a walk inside what the assignment gives c's sub leads from c's point to e
-abbrev pub Asks : Graph → (ℕ → ℕ → Type 0) → Constraint → ℕ → Type 0
-Asks g assignment c e = Reaches g (assignment c.sub) c.at e
 
 -- how many pairs of a region and an element are missing
 abbrev pub missing_pairs : List (List Bool) → ℕ

@@ -2,11 +2,12 @@
 
 ghost use Rattle.std.specs.Prelude.{◌≡◌, ◌≢◌, ◌↔◌, ℕ, ◌+◌, true, false, length, IsTrue, IfOk, OnOk};
 ghost use Rattle.nll_sets.specs.ElementSet.{flag};
-ghost use Rattle.nll_problem.specs.Problem.{IsUniversal, end_of};
+ghost use Rattle.nll_problem.specs.Problem.{IsUniversal, SameSet, end_of};
 ghost use Rattle.nll_core.specs.Values.{holds, IsHeld, IsShaped};
 ghost use Rattle.nll_problem.specs.Faults.{IsKnown, IsFault, AreFaults};
 ghost use Rattle.nll_core.specs.Outliving.{FindsUpTo};
 
+use crate::outlives_index::OutlivesIndex;
 use crate::outliving::outlived_by;
 use crate::values::Values;
 use nll_problem::{Problem, RegionId};
@@ -20,8 +21,8 @@ use std::alloc::Global;
 /// - `Memory`.
 ///
 /// # Cost
-/// For each universal region that holds the end of another, a walk through what it is known to outlive
-/// (not proved).
+/// For each universal region that holds the end of another, a walk through what it is known to
+/// outlive: at most as many steps as there are universal regions and outlives facts (not proved).
 ///
 /// # Source
 /// RFC 2094, "Layer 4: Named lifetimes".
@@ -33,10 +34,27 @@ pub fn faults(
     requires { IsShaped problem.now values.now }
     ensures { IfOk result (λ faults. AreFaults problem.now (IsHeld values.now) faults.items) }
 {
+    let facts = OutlivesIndex::of(alloc, problem)?;
+    let told = faults_of(alloc, problem, &facts, values);
+    drop(facts);
+    told
+}
+
+// The same, by an index of the outlives facts.
+fn faults_of(
+    alloc: Global,
+    problem: &Problem,
+    facts: &OutlivesIndex,
+    values: &Values,
+) -> Result<Vec<(RegionId, RegionId)>, Memory>
+    requires facts { SameSet facts.now problem.now.outlives }
+    requires shaped { IsShaped problem.now values.now }
+    ensures { IfOk result (λ faults. AreFaults problem.now (IsHeld values.now) faults.items) }
+{
     let mut faults = Vec::new(alloc);
     for longer in 0..problem.universals() {
         if holds_foreign_end(problem, values, longer) {
-            add_faults(alloc, problem, values, RegionId(longer), &mut faults)?;
+            add_faults(alloc, problem, facts, values, RegionId(longer), &mut faults)?;
         }
     }
     Ok(faults)
@@ -61,16 +79,18 @@ fn holds_foreign_end(problem: &Problem, values: &Values, region: u32) -> bool
 fn add_faults(
     alloc: Global,
     problem: &Problem,
+    facts: &OutlivesIndex,
     values: &Values,
     longer: RegionId,
     faults: &mut Vec<(RegionId, RegionId)>,
 ) -> Result<(), Memory>
+    requires facts { SameSet facts.now problem.now.outlives }
     requires shaped { IsShaped problem.now values.now }
     requires universal { IsUniversal problem.now longer }
     requires before { FindsUpTo problem.now values.now faults.old.items longer 0 }
     ensures { OnOk result (FindsUpTo problem.now values.now faults.new.items (longer + 1) 0) }
 {
-    let outlived = outlived_by(alloc, problem, longer)?;
+    let outlived = outlived_by(alloc, problem, facts, longer)?;
     let told = add_unknown(problem, values, &outlived, longer, faults);
     drop(outlived);
     told

@@ -4,9 +4,9 @@
 
 ghost use Rattle.std.specs.Prelude.{◌≡◌, ℕ, ◌+◌, ◌≤◌, ◌<◌, ◌↔◌, false, Contains, length, IfOk, OnOk};
 ghost use Rattle.nll_problem.specs.Problem.{IsBase, IsUniversal};
-ghost use Rattle.nll_problem.specs.Solution.{Least};
+ghost use Rattle.nll_problem.specs.Solution.{Asks, Least};
 ghost use Rattle.nll_core.specs.Values.{set_of, IsHeld, IsShaped};
-ghost use Rattle.nll_core.specs.Growing.{Gains, Tells, StaysBelow, Asks, IsMet, IsClosed};
+ghost use Rattle.nll_core.specs.Growing.{Gains, Tells, StaysBelow, IsMet, IsClosed};
 
 use crate::reachability::reached_from;
 use crate::values::Values;

@@ -3,7 +3,7 @@ use Rattle.std.proofs.lemmas.Result.{on_ok_weaker}
 use Rattle.nll_sets.specs.ElementSet.{flag}
 use Rattle.nll_problem.specs.Walks.{Reaches}
 use Rattle.nll_core.specs.Values.{set_of, IsHeld}
-use Rattle.nll_core.specs.Growing.{Asks}
+use Rattle.nll_problem.specs.Solution.{Asks}
 use Rattle.nll_problem.proofs.WalkLemmas.{reaches_inside}
 use Rattle.nll_core.proofs.SearchLemmas.{flag_within}
 use Rattle.nll_core.proofs.GrowingLemmas.{gains_weaker}

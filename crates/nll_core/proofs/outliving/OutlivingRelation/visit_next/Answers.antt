@@ -1,40 +1,29 @@
-use Rattle.std.proofs.Common.{◌≡◌, true, ℕ, subst, sym, ◌∙◌, arith, ⊎_elim}
-use Rattle.std.proofs.lemmas.Bool.{cases_eq, false≢true}
-use Rattle.nll_sets.specs.ElementSet.{flag}
-use Rattle.nll_problem.specs.Faults.{IsAbove}
-use Rattle.nll_core.specs.Search.{Adds}
-use Rattle.nll_core.proofs.SearchLemmas.{adds_append, adds_weaker}
-use Rattle.nll_core.proofs.FaultLemmas.{above_within}
-use Rattle.nll_core.proofs.outliving.OutlivingRelation.visit_next.Goals.{then-is_above+in_ok-visit, else-is_above}
+use Rattle.std.proofs.Common.{ℕ, Contains, subst, sym, ◌∙◌, inl, ⊎_elim, arith}
+use Rattle.std.proofs.lemmas.Result.{on_ok_weaker}
+use Rattle.nll_core.proofs.SearchLemmas.{adds_weaker}
 use Rattle.nll_core.proofs.outliving.OutlivingRelation.visit_next.Goals as goal
 
-pub loop-shorter-preserved : goal.loop-shorter-preserved
-loop-shorter-preserved g c =
-    let problem = c.args.self.now.problem.now in
-    let known = subst (λ (longer : ℕ). IsAbove problem longer c.loop-shorter.shorter) c.from.view_is in
-    elim c.if-is_above.branch [
-      | then-is_above+in_ok-visit w ↦
-          let step : Adds (IsAbove problem c.args.from) c.loop-shorter.search w.visit.new.self =
-          adds_weaker _ _ (λ x h. subst (IsAbove problem c.args.from) (sym h) (known (c.is_above.ensures.0 w.if-is_above.true))) _ _ w.in_ok-visit.ensures.adds
-          in
-          rw w.search-is record {
-            adds = adds_append _ _ _ _ c.loop-shorter.invariant.adds step;
-            covers = λ x l h. ⊎_elim
-                (λ same. subst (λ y. flag w.visit.new.self.reached y ≡ true) (sym same) w.in_ok-visit.ensures.covers)
-                (λ other. step.kept x (c.loop-shorter.invariant.covers x (omega arith) h))
-                (cases_eq x c.loop-shorter.shorter);
-          }
-      | else-is_above w ↦
-          rw w.search-is record {
-            adds = c.loop-shorter.invariant.adds;
-            covers = λ x l h. ⊎_elim
-                (λ same. absurd (false≢true (sym w.if-is_above.false ∙ c.is_above.ensures.1 (subst (λ (longer : ℕ). IsAbove problem longer c.loop-shorter.shorter) (sym c.from.view_is) (subst (IsAbove problem c.args.from) same h)))))
-                (λ other. c.loop-shorter.invariant.covers x (omega arith) h)
-                (cases_eq x c.loop-shorter.shorter);
-          }
-    ]
+pub visit_shorter-requires : goal.visit_shorter-requires
+visit_shorter-requires g c = λ a b h.
+    let fact = (c.of_region.ensures (a, b)).0 h in
+    omega (arith, c.args.self.now.in_range a b fact.0, c.requires)
 
-pub returns-clause-covers : goal.returns-clause-covers
-returns-clause-covers g c = λ y h.
-    let within = above_within c.args.self.now.problem.now c.universals-shorter-end.ensures.sound c.args.from y h in
-    c.loop-shorter.invariant.covers y (omega arith) h
+pub returns-then-from-eq0-clause-covers : goal.returns-then-from-eq0-clause-covers
+returns-then-from-eq0-clause-covers g c = on_ok_weaker c.visit_below.result
+    (λ covers y step. covers y (⊎_elim (λ fact. c.args.self.now.in_range _ y fact) (λ static. static.1) step))
+    c.visit_below.ensures.covers
+
+pub returns-else-from-eq0-clause-adds : goal.returns-else-from-eq0-clause-adds
+returns-else-from-eq0-clause-adds g c = on_ok_weaker c.visit_shorter.result
+    (λ adds. adds_weaker _ _ (λ b h.
+    let fact = (c.of_region.ensures (h.0, b)).0 h.1 in
+    inl (subst (λ (a : ℕ). Contains {X = ℕ × ℕ} c.args.self.now.facts.now (a, b)) (fact.1 ∙ c.from.view_is) fact.0)) _ _ adds)
+    c.visit_shorter.ensures.adds
+
+pub returns-else-from-eq0-clause-covers : goal.returns-else-from-eq0-clause-covers
+returns-else-from-eq0-clause-covers g c = on_ok_weaker c.visit_shorter.result
+    (λ covers y step. ⊎_elim
+    (λ fact. covers c.args.from y ((c.of_region.ensures (c.args.from, y)).1 (fact, sym c.from.view_is)))
+    (λ static. absurd (c.if-from-eq0.false (c.from.view_is ∙ static.0)))
+    step)
+    c.visit_shorter.ensures.covers
