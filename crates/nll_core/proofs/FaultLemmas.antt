@@ -68,10 +68,6 @@ module _ (kind : ℕ → ℕ → Type 0) where
     pub lists_all : (pairs : List (ℕ × ℕ)) → ListsUpTo kind pairs n 0 → (x y : ℕ) → Contains pairs (x, y) ↔ kind x y
     lists_all pairs lists x y = (λ k. ((lists x y).0 k).0, λ k. (lists x y).1 (k, inl (within x y k).0))
 
--- what a region is directly known to outlive is universal
-pub above_within : (q : Problem) → IsSound q → (a b : ℕ) → IsAbove q a b → IsUniversal q b
-above_within q sound a b h = ⊎_elim (λ fact. (sound.outlives_in_range a b fact).1) (λ static. static.1) h
-
 -- ---- the faults in order
 
 module _ (q : Problem) (values : List (List Bool)) where

@@ -229,13 +229,21 @@ module _ (step : ℕ → ℕ → Type 0) (old : Search) (from : ℕ) where
             (b.only x h);
       }
 
--- What the first visit puts into an empty search, and what then spreads from it.
+-- What the first visit puts into an empty search is all still to be expanded.
+module _ (kind : ℕ → Type 0) (width : ℕ) (first : Search) (a : Adds kind (record { reached = replicate width false; list = [] }) first) where
+  pub begun_listed : (k : ℕ) → 0 ≤ k → k < length first.list → flag first.reached (get_or first.list k 0) ≡ true
+  begun_listed k low h = a.inside k low h
+
+  pub begun_pending : (step : ℕ → ℕ → Type 0) (x : ℕ) → flag first.reached x ≡ true → IsFrom 0 first.list x ⊎ IsCovered step first.reached x
+  begun_pending step x h = ⊎_elim (λ e. absurd (none_in_empty width x e)) inl (a.only x h)
+
+-- Then it spreads.
 module _ (step : ℕ → ℕ → Type 0) (at width : ℕ) (first new : Search)
     (a : Adds (λ x. x ≡ at) (record { reached = replicate width false; list = [] }) first)
     (start : flag first.reached at ≡ true)
     (b : Adds (IsLedTo step first.reached) first new)
     (covers : (x : ℕ) → flag new.reached x ≡ true → IsCovered step new.reached x) where
-  pub is_start : (x : ℕ) → flag first.reached x ≡ true → x ≡ at
+  is_start : (x : ℕ) → flag first.reached x ≡ true → x ≡ at
   is_start x h = ⊎_elim
       (λ e. absurd (none_in_empty width x e))
       (λ w. subst (λ v. v ≡ at) w.3 (a.cause w.0 w.1 w.2))
