@@ -31,7 +31,7 @@ pub fn faults(
     values: &Values,
 ) -> Result<Vec<(RegionId, RegionId)>, Memory>
     requires { IsShaped problem.now values.now }
-    ensures { IfOk result (λ faults. AreFaults problem.now (IsHeld values.now) faults.items) }
+    ensures exact { IfOk result (λ faults. AreFaults problem.now (IsHeld values.now) faults.items) }
 {
     let facts = OutlivesIndex::of(alloc, problem)?;
     let told = faults_of(alloc, problem, &facts, values);
