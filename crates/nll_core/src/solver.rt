@@ -2,19 +2,17 @@
 //!
 //! This is the plain solver: it forgets after each constraint what it has reached.
 
-ghost use Rattle.std.specs.Prelude.{◌≡◌, ℕ, ◌+◌, ◌≤◌, ◌<◌, ◌↔◌, false, Contains, length, IfOk, OnOk};
-ghost use Rattle.nll_problem.specs.Problem.{IsBase, IsUniversal};
-ghost use Rattle.nll_problem.specs.Solution.{Satisfies, Least};
+ghost use Rattle.std.specs.Prelude.{◌≡◌, ℕ, ◌≤◌, ◌<◌, ◌↔◌, false, Contains, length, IfOk, OnOk};
+ghost use Rattle.nll_problem.specs.Problem.{IsBase};
+ghost use Rattle.nll_problem.specs.Solution.{Least};
 ghost use Rattle.nll_core.specs.Values.{set_of, IsHeld, IsShaped};
-ghost use Rattle.nll_core.specs.Growing.{Gains, Tells, StaysBelow, IsAsked, IsMet, IsClosed};
+ghost use Rattle.nll_core.specs.Growing.{Gains, Tells, StaysBelow, IsAskedBy, Meets, IsClosed};
+ghost use Rattle.nll_core.specs.Growing.{HoldsPoints, HoldsEnds, HoldsFacts};
 
-use nll_problem::Constraint;
-use nll_sets::Element;
-use nll_problem::RegionId;
-use nll_sets::Memory;
-use nll_problem::Problem;
 use crate::reachability::reached_from;
 use crate::values::Values;
+use nll_problem::{Constraint, Problem, RegionId};
+use nll_sets::{Element, Memory};
 use std::alloc::Global;
 
 /// Gives each region its least value: the base elements, and what the constraints ask for.
@@ -23,14 +21,13 @@ use std::alloc::Global;
 /// - `Memory`.
 ///
 /// # Cost
-/// A round goes through the graph once for each constraint whose point is in the value of its `sub`,
-/// and each round but the last adds an element (not proved).
+/// A round goes through the graph once for each constraint whose point is in the value of its
+/// `sub`, and each round but the last adds an element (not proved).
 ///
 /// # Source
 /// RFC 2094, "Solving constraints".
 pub fn solve(alloc: Global, problem: &Problem) -> Result<Values, Memory>
     ensures shaped { IfOk result (IsShaped problem.now) }
-    ensures solution { IfOk result (λ values. Satisfies problem.now (IsHeld values)) }
     ensures least { IfOk result (λ values. (r e : ℕ) → IsHeld values r e ↔ Least problem.now r e) }
 {
     let mut values = base_values(alloc, problem)?;
@@ -53,8 +50,8 @@ fn base_values(alloc: Global, problem: &Problem) -> Result<Values, Memory>
 fn insert_universals(problem: &Problem, values: &mut Values) -> Result<(), Memory>
     requires { IsShaped problem.now values.old }
     ensures gains { Gains (IsBase problem.now) values.old values.new }
-    ensures points { OnOk result ((r e : ℕ) → IsUniversal problem.now r → e < problem.now.graph.points → IsHeld values.new r e) }
-    ensures ends { OnOk result ((r : ℕ) → IsUniversal problem.now r → IsHeld values.new r (problem.now.graph.points + r)) }
+    ensures points { OnOk result (HoldsPoints problem.now values.new) }
+    ensures ends { OnOk result (HoldsEnds problem.now values.new) }
 {
     let points = problem.points();
     for number in 0..problem.universals() {
@@ -82,7 +79,7 @@ fn insert_points(values: &mut Values, region: RegionId, points: u32) -> Result<(
 fn insert_bases(problem: &Problem, values: &mut Values) -> Result<(), Memory>
     requires { IsShaped problem.now values.old }
     ensures gains { Gains (IsBase problem.now) values.old values.new }
-    ensures covers { OnOk result ((r e : ℕ) → Contains problem.now.bases (r, e) → IsHeld values.new r e) }
+    ensures covers { OnOk result (HoldsFacts problem.now values.new) }
 {
     let facts = problem.bases();
     for base in facts {
@@ -118,16 +115,13 @@ fn apply(
 ) -> Result<bool, Memory>
     requires shaped { IsShaped problem.now values.old }
     requires of_problem { Contains problem.now.constraints constraint }
-    ensures gains { Gains (λ r e. (r ≡ constraint.sup) × IsAsked problem.now values.old constraint e) values.old values.new }
-    ensures asks { OnOk result ((e : ℕ) → IsAsked problem.now values.old constraint e → IsHeld values.new constraint.sup e) }
+    ensures gains { Gains (IsAskedBy problem.now values.old constraint) values.old values.new }
+    ensures asks { OnOk result (Meets problem.now values.old constraint values.new) }
     ensures tells { IfOk result (λ changed. Tells changed values.old values.new) }
 {
     let graph = problem.graph();
-    let at = Element(constraint.at);
-    if !values.has(constraint.sub, at) {
-        return Ok(false);
-    }
-    let found = reached_from(alloc, graph, values.set(constraint.sub), at)?;
+    let set = values.set(constraint.sub);
+    let found = reached_from(alloc, graph, set, Element(constraint.at))?;
     insert_all(values, constraint.sup, &found)
 }
 

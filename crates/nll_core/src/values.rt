@@ -1,17 +1,12 @@
 //! The values of regions: a set of elements for each.
 
-ghost use Rattle.std.specs.Prelude.{◌≡◌, ◌<◌, false, not, length, replicate, IfOk, OnOk, OnErr};
-ghost use Rattle.nll_problem.specs.Graph.{element_count};
+ghost use Rattle.std.specs.Prelude.{◌≡◌, ◌<◌, not, length, IfOk, OnOk, OnErr};
 ghost use Rattle.nll_sets.specs.ElementSet.{elements};
-ghost use Rattle.nll_core.specs.Values.{set_of, holds, with_element};
+ghost use Rattle.nll_core.specs.Values.{set_of, holds, with_element, empty_values};
 
-use nll_sets::BitSet;
-use nll_sets::Element;
-use nll_problem::RegionId;
-use nll_sets::ElementSet;
-use nll_sets::Elements;
-use nll_sets::Memory;
-use nll_problem::Problem;
+use crate::region_elements::RegionElements;
+use nll_problem::{Problem, RegionId};
+use nll_sets::{BitSet, Element, ElementSet, Memory};
 use std::alloc::Global;
 use std::marker::Model;
 
@@ -32,7 +27,7 @@ impl Model for Values {
 impl Values {
     /// The values of a problem's regions that hold nothing.
     pub fn empty(alloc: Global, problem: &Problem) -> Result<Values, Memory>
-        ensures { IfOk result (λ values. values ≡ replicate problem.now.regions (replicate (element_count problem.now.graph) false)) }
+        ensures { IfOk result (λ values. values ≡ empty_values problem.now) }
     {
         let len = problem.points() + problem.universals();
         let mut sets = Vec::new(alloc);
@@ -66,11 +61,11 @@ impl Values {
     }
 
     /// The elements of the value of a region, ascending: its points, and then its ends.
-    pub fn iter(&self, region: RegionId) -> Elements<'_, BitSet>
+    pub fn iter(&self, region: RegionId) -> RegionElements<'_>
         requires { region < length self.now }
         ensures { result ≡ elements (set_of self.now region) }
     {
-        self.sets[region.0 as usize].iter()
+        RegionElements::of(&self.sets[region.0 as usize])
     }
 
     // The set of a region.
