@@ -1,5 +1,5 @@
 -- A text has one meaning or one fault.
-use Rattle.std.proofs.Common.{◌⊎◌, inl, inr, ⊎_elim, ◌≤◌, eqb, Bool, Option, Some, ◌≡◌, ℕ, ◌+◌, ◌<◌, ◌^◌, suc, true, false, cond, List, [], ◌∷◌, ◌++◌, None, Contains, length, refl, sym, ap, ◌∙◌, subst, arith}
+use Rattle.std.proofs.Common.{map, ◌⊎◌, inl, inr, ⊎_elim, ◌≤◌, eqb, Bool, Option, Some, ◌≡◌, ℕ, ◌+◌, ◌<◌, ◌^◌, suc, true, false, cond, List, [], ◌∷◌, ◌++◌, None, Contains, length, refl, sym, ap, ◌∙◌, subst, arith}
 use Rattle.std.specs.Prelude.{codes}
 use Rattle.std.specs.Cmp.Lexicographic.{pointwise}
 use Rattle.std.specs.Bool.{Decides}
@@ -18,7 +18,8 @@ use Rattle.nll_text.specs.Header.{runs}
 use Rattle.nll_text.specs.Tokens.{Token, word, region, arrow, sign, IsMadeOf}
 use Rattle.nll_text.proofs.TokenLemmas.{one_token_list_lem, made_or_not}
 use Rattle.nll_problem.specs.Problem.{Problem, SameProblem}
-use Rattle.nll_facts.specs.FactsForms.{Name, Form, points, universal, outlives, further, next, return, base, constraint, end, IsSpelled, HasForm, numbers_in, spelled}
+use Rattle.nll_facts.specs.FactsForms.{Name, Form, points, universal, outlives, further, next, return, base, constraint, end, HasForm, Part, IsSmall, AreSpelled, parts, token_of}
+use Rattle.nll_facts.specs.FactsForms as forms
 use Rattle.nll_facts.specs.FactsSaid.{Said, said, first_fault, reached, names_said, problem_said}
 use Rattle.nll_facts.specs.FactsText.{Fits, skipped, of_form, IsFaulty, not_utf8, no_form, at_form, Says, HasFault, IsCut, IsHeader, IsText, IsFault, too_long, header_not_utf8, no_header, at_line, no_end, Means}
 use Rattle.nll_reading.specs.declared.error.TextKind.{TextKind}
@@ -62,22 +63,22 @@ unspelled _ = end
 printed : (n : ℕ) → n < 10 ^ 9 → digits_value 10 (decimal n) ≡ n
 printed n small = (decimal_is_IsNumeral n (omega (arith, small))).1
 
-unspelled_spelled : (f : Form) → AllByRecursion (λ n. n < 10 ^ 9) (numbers_in f) → unspelled (spelled f) ≡ f
+unspelled_spelled : (f : Form) → AllByRecursion IsSmall (parts f) → unspelled (map token_of (parts f)) ≡ f
 unfolding unspelled number_in name_in behind
-unspelled_spelled (points n) small = ap points (printed n small.0)
+unspelled_spelled (points n) small = ap points (printed n small.1.0)
 unspelled_spelled (universal a) small = refl
 unspelled_spelled (outlives a b) small = refl
 unspelled_spelled (further x) small = refl
-unspelled_spelled (next p q) small = ap (λ (n : ℕ). next n (digits_value 10 (decimal q))) (printed p small.0) ∙ ap (λ (n : ℕ). next p n) (printed q small.1.0)
-unspelled_spelled (return p) small = ap return (printed p small.0)
-unspelled_spelled (base x p) small = ap (λ (n : ℕ). base x n) (printed p small.0)
-unspelled_spelled (constraint a b p) small = ap (λ (n : ℕ). constraint a b n) (printed p small.0)
+unspelled_spelled (next p q) small = ap (λ (n : ℕ). next n (digits_value 10 (decimal q))) (printed p small.1.0) ∙ ap (λ (n : ℕ). next p n) (printed q small.1.1.0)
+unspelled_spelled (return p) small = ap return (printed p small.1.0)
+unspelled_spelled (base x p) small = ap (λ (n : ℕ). base x n) (printed p small.1.1.0)
+unspelled_spelled (constraint a b p) small = ap (λ (n : ℕ). constraint a b n) (printed p small.1.1.1.0)
 unspelled_spelled end small = refl
 
 one_form : (line : List ℕ) (f g : Form) → HasForm line f → HasForm line g → f ≡ g
 one_form line f g h k =
     sym (unspelled_spelled f h.small)
-    ∙ (ap unspelled (one_token_list_lem line (spelled f) (spelled g) h.made k.made) ∙ unspelled_spelled g k.small)
+    ∙ (ap unspelled (one_token_list_lem line (map token_of (parts f)) (map token_of (parts g)) h.made k.made) ∙ unspelled_spelled g k.small)
 
 -- ---- a line fits in one way or has one kind of fault
 
@@ -260,32 +261,37 @@ tokens_or_not (t ∷ ts) (u ∷ us) = ⊎_elim
     (λ no. inr (λ e. no (same_first e)))
     (token_or_not t u)
 
-small_or_not : (ns : List ℕ) → AllByRecursion (λ n. n < 10 ^ 9) ns ⊎ (AllByRecursion (λ n. n < 10 ^ 9) ns → ⊥)
+small_or_not : (these : List Part) → AllByRecursion IsSmall these ⊎ (AllByRecursion IsSmall these → ⊥)
 small_or_not [] = inl tt
-small_or_not (n ∷ ns) = ⊎_elim
-    (λ h. ⊎_elim (λ k. inl (h, k)) (λ no. inr (λ k. no k.1)) (small_or_not ns))
-    (λ h. inr (λ k. omega (arith, h, k.0)))
-    (cases_lt n (10 ^ 9))
+small_or_not (x ∷ these) = ⊎_elim
+    (λ h. ⊎_elim (λ k. inl (h, k)) (λ no. inr (λ k. no k.1)) (small_or_not these))
+    (λ h. inr (λ k. h k.0))
+    (part_small_or_not x)
+  where
+    part_small_or_not : (x : Part) → IsSmall x ⊎ (IsSmall x → ⊥)
+    part_small_or_not (forms.keyword w) = inl tt
+    part_small_or_not (forms.number n) = ⊎_elim inl (λ h. inr (λ k. omega (arith, h, k))) (cases_lt n (10 ^ 9))
+    part_small_or_not (forms.region x) = inl tt
 
 -- the form that tokens have is the one that they spell
-spelled_or_none : (ts : List Token) → ((f : Form) × IsSpelled ts f) ⊎ ((f : Form) → IsSpelled ts f → ⊥)
+spelled_or_none : (ts : List Token) → ((f : Form) × AreSpelled ts (parts f)) ⊎ ((f : Form) → AreSpelled ts (parts f) → ⊥)
 spelled_or_none ts =
-    let own : (f : Form) → IsSpelled ts f → unspelled ts ≡ f = λ f h. ap unspelled h.same ∙ unspelled_spelled f h.small in
+    let own : (f : Form) → AreSpelled ts (parts f) → unspelled ts ≡ f = λ f h. ap unspelled h.same ∙ unspelled_spelled f h.small in
     ⊎_elim
     (λ same. ⊎_elim
     (λ small. inl (unspelled ts, record { same = same; small = small }))
-    (λ no. inr (λ f h. no (subst (λ (g : Form). AllByRecursion (λ n. n < 10 ^ 9) (numbers_in g)) (sym (own f h)) h.small)))
-    (small_or_not (numbers_in (unspelled ts))))
-    (λ no. inr (λ f h. no (h.same ∙ sym (ap spelled (own f h)))))
-    (tokens_or_not ts (spelled (unspelled ts)))
+    (λ no. inr (λ f h. no (subst (λ (g : Form). AllByRecursion IsSmall (parts g)) (sym (own f h)) h.small)))
+    (small_or_not (parts (unspelled ts))))
+    (λ no. inr (λ f h. no (h.same ∙ sym (ap (λ (g : Form). map token_of (parts g)) (own f h)))))
+    (tokens_or_not ts (map token_of (parts (unspelled ts))))
 
 form_or_none : (line : List ℕ) → ((f : Form) × HasForm line f) ⊎ ((f : Form) → HasForm line f → ⊥)
 form_or_none line = ⊎_elim
     (λ made. ⊎_elim
     (λ h. inl (h.0, record { made = subst (IsMadeOf line) h.1.same made.1; small = h.1.small }))
-    (λ no. inr (λ f h. no f (record { same = one_token_list_lem line made.0 (spelled f) made.1 h.made; small = h.small })))
+    (λ no. inr (λ f h. no f (record { same = one_token_list_lem line made.0 (map token_of (parts f)) made.1 h.made; small = h.small })))
     (spelled_or_none made.0))
-    (λ no. inr (λ f h. no (spelled f) h.made))
+    (λ no. inr (λ f h. no (map token_of (parts f)) h.made))
     (made_or_not line)
 
 utf8_or_not : (bytes : List ℕ) → IsUtf8 bytes ⊎ (IsUtf8 bytes → ⊥)

@@ -1,15 +1,18 @@
 -- What a reader of facts texts holds, and how a line changes it.
 -- Source: project's choice. Only private contracts cite this file.
-use Rattle.std.specs.Prelude.{◌≡◌, ℕ, ◌+◌, ◌<◌, ◌≤◌, List, [], ◌∷◌, ◌++◌, None, unwrap_or, length}
+use Rattle.std.specs.Prelude.{◌≡◌, ◌⊎◌, ℕ, ◌+◌, ◌<◌, ◌≤◌, true, List, [], ◌∷◌, ◌++◌, Some, None, IsSome, unwrap_or, length}
+use Rattle.std.specs.List.{AllByRecursion}
 use Rattle.std.specs.Str.{IsUtf8}
 use Rattle.nll_problem.specs.Problem.{Problem, SameProblem}
 use Rattle.nll_problem.specs.Building.{AddsFact}
 use Rattle.nll_problem.specs.declared.limits.TheConstants.{MAX_POINTS, MAX_UNIVERSALS, MAX_REGIONS}
 use Rattle.nll_reading.specs.Names.{number_of}
-use Rattle.nll_facts.specs.FactsForms.{Form, points, universal, outlives, further, next, return, base, constraint, end}
-use Rattle.nll_facts.specs.FactsSaid.{Said, group}
+use Rattle.nll_facts.specs.FactsForms.{Form, points, universal, outlives, further, next, return, base, constraint, end, Part, keyword, number, region, parts}
+use Rattle.nll_facts.specs.FactsSaid.{Said, group, is_in_order, first_fault}
 use Rattle.nll_facts.specs.FactsText.{Fits}
 use Rattle.nll_facts.specs.declared.reader.Reader.{Reader}
+use Rattle.nll_reading.specs.declared.error.TextKind.{TextKind}
+use Rattle.nll_reading.specs.declared.error.TextKind.TheVariants.{Memory}
 
 -- the problem of universal regions alone that has no facts
 abbrev pub bare : ℕ → ℕ → Problem
@@ -25,18 +28,20 @@ bare count universals = record {
 abbrev pub said_by : Reader → Said
 said_by r = record { reached = r.reached; names = r.names; problem = unwrap_or r.builder (bare r.points (length r.names)) }
 
--- The reader's tables agree: a region for each name, and numbers for a builder that is still to be made.
-pub record IsKept (r : Reader) : Type 0 where
+-- The reader's tables agree, ready for lines of the group n: there is a region for each name, there are numbers for a builder
+-- that is still to be made, and the builder is there just behind the lines of the universal regions.
+pub record IsKept (n : ℕ) (r : Reader) : Type 0 where
   pub some_name : 0 < length r.names
   pub few : length r.names ≤ MAX_REGIONS
   pub regions : (said_by r).problem.regions ≡ length r.names
   pub waiting : r.builder ≡ None → length r.names ≤ MAX_UNIVERSALS
   pub numbered : r.builder ≡ None → 0 < r.reached → (0 < r.points) × (r.points ≤ MAX_POINTS)
+  pub early : n ≤ 2 → r.builder ≡ None
+  pub late : 2 < n → IsSome r.builder
 
--- The tables agree, and there is no builder before the lines behind the universal regions.
-pub record IsReady (r : Reader) : Type 0 where
-  pub kept : IsKept r
-  pub early : r.reached ≤ 2 → r.builder ≡ None
+-- the tables agree, as after lines that reached the reader's group
+abbrev pub IsReady : Reader → Type 0
+IsReady r = IsKept r.reached r
 
 -- t is what is said after a line of the form, but for the group that is reached
 abbrev pub Takes : Said → Form → Said → Type 0
@@ -55,11 +60,31 @@ pub record Adds (s : Said) (f : Form) (t : Said) : Type 0 where
   pub group : t.reached ≡ group f
   pub takes : Takes s f t
 
--- the names that a line of the form declares are UTF-8
+-- the part is UTF-8, where it is a name
+abbrev pub IsText : Part → Type 0
+IsText (keyword w) = Unit {0}
+IsText (number n) = Unit {0}
+IsText (region x) = IsUtf8 x
+
+-- the names in a line of the form are UTF-8
 abbrev pub HasTexts : Form → Type 0
-HasTexts (universal a) = IsUtf8 a
-HasTexts (further x) = IsUtf8 x
-HasTexts _ = Unit {0}
+HasTexts f = AllByRecursion IsText (parts f)
+
+-- The reader is prepared for a line of the form: it stands in order, its names are texts, and the tables agree for its group.
+pub record IsDue (r : Reader) (f : Form) : Type 0 where
+  pub kept : IsKept (group f) r
+  pub order : is_in_order (said_by r) f ≡ true
+  pub texts : HasTexts f
+
+-- A line of the form is taken after lines that say s: it had no fault, what it says came, and the tables are ready.
+pub record IsTaken (s : Said) (f : Form) (r : Reader) : Type 0 where
+  pub fine : first_fault s f ≡ None
+  pub adds : Adds s f (said_by r)
+  pub ready : IsReady r
+
+-- a line of the form is refused after lines that say s: for want of memory, or with its first kind of fault
+abbrev pub IsRefused : Said → Form → TextKind → Type 0
+IsRefused s f kind = (kind ≡ Memory) ⊎ (first_fault s f ≡ Some kind)
 
 -- The two say the same: the facts as sets, and as many edges and constraints.
 pub record SameSaid (s t : Said) : Type 0 where

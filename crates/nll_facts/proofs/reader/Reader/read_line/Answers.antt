@@ -30,10 +30,10 @@ returns-in_err-accept-clause-fault c =
     let h = rw c.in-Ok-Tokens.field-0-is at c.in-Ok-Tokens.ensures.ok in
     let form = form_from _ _ _ (ap views c.as_slice.ensures.value) h _ c.in-Some.ensures in
     let p = err_from_is_err_and c.from_residual.result c.from_residual.ensures.1 in
-    rw (p.1, p.2) (⊎_elim inl (λ fault. inr (at_form _ _ h.utf8 h.kept form fault)) c.in_err-accept.ensures.fault)
+    rw (p.1, p.2) (⊎_elim inl (λ fault. inr (at_form _ _ h.utf8 h.kept form fault)) c.in_err-accept.ensures.refused)
 
 pub returns-clause-ok : goal.returns-clause-ok
 returns-clause-ok c =
     let h = rw c.in-Ok-Tokens.field-0-is at c.in-Ok-Tokens.ensures.ok in
     let form = form_from _ _ _ (ap views c.as_slice.ensures.value) h _ c.in-Some.ensures in
-    reads _ (of_form _ h.utf8 h.kept form c.in_ok-accept.ensures.fine) c.in_ok-accept.ensures.adds
+    reads _ (of_form _ h.utf8 h.kept form c.in_ok-accept.ensures.taken.fine) c.in_ok-accept.ensures.taken.adds
