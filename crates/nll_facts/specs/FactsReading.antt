@@ -5,11 +5,14 @@ use Rattle.std.specs.List.{AllByRecursion}
 use Rattle.std.specs.Str.{IsUtf8}
 use Rattle.nll_problem.specs.Problem.{Problem, SameProblem}
 use Rattle.nll_problem.specs.Building.{AddsFact}
-use Rattle.nll_problem.specs.declared.limits.TheConstants.{MAX_POINTS, MAX_UNIVERSALS, MAX_REGIONS}
+use Rattle.nll_problem.specs.Limits.{most_points, most_universals, most_regions}
 use Rattle.nll_reading.specs.Names.{number_of}
 use Rattle.nll_facts.specs.FactsForms.{Form, points, universal, outlives, further, next, return, base, constraint, end, Part, keyword, number, region, parts}
-use Rattle.nll_facts.specs.FactsSaid.{Said, group, is_in_order, first_fault}
-use Rattle.nll_facts.specs.FactsText.{Fits}
+use Rattle.nll_facts.specs.FactsSaid.{Said, said, group, is_in_order, first_fault}
+use Rattle.nll_facts.specs.FactsText.{facts}
+use Rattle.nll_reading.specs.Reading as reading
+use Rattle.nll_reading.specs.Text.{Says, IsFault, IsHeaded, IsRefusal}
+use Rattle.nll_reading.specs.declared.error.TextError.{TextError}
 use Rattle.nll_facts.specs.declared.reader.Reader.{Reader}
 use Rattle.nll_reading.specs.declared.error.TextKind.{TextKind}
 use Rattle.nll_reading.specs.declared.error.TextKind.TheVariants.{Memory}
@@ -32,10 +35,10 @@ said_by r = record { reached = r.reached; names = r.names; problem = unwrap_or r
 -- that is still to be made, and the builder is there just behind the lines of the universal regions.
 pub record IsKept (n : ℕ) (r : Reader) : Type 0 where
   pub some_name : 0 < length r.names
-  pub few : length r.names ≤ MAX_REGIONS
+  pub few : length r.names ≤ most_regions
   pub regions : (said_by r).problem.regions ≡ length r.names
-  pub waiting : r.builder ≡ None → length r.names ≤ MAX_UNIVERSALS
-  pub numbered : r.builder ≡ None → 0 < r.reached → (0 < r.points) × (r.points ≤ MAX_POINTS)
+  pub waiting : r.builder ≡ None → length r.names ≤ most_universals
+  pub numbered : r.builder ≡ None → 0 < r.reached → (0 < r.points) × (r.points ≤ most_points)
   pub early : n ≤ 2 → r.builder ≡ None
   pub late : 2 < n → IsSome r.builder
 
@@ -94,7 +97,14 @@ pub record SameSaid (s t : Said) : Type 0 where
   pub edge_count : length s.problem.graph.edges ≡ length t.problem.graph.edges
   pub constraint_count : length s.problem.constraints ≡ length t.problem.constraints
 
--- t is what is said after a line without a fault: it is skipped and adds nothing, or adds its form
-pub data ReadsLine (s : Said) (line : List ℕ) (t : Said) : Type 0 where
-  skips : Fits s line [] → t ≡ s → ReadsLine s line t
-  reads : (f : Form) → Fits s line (f ∷ []) → Adds s f t → ReadsLine s line t
+-- t is what is said after a line that has no fault
+abbrev pub ReadsLine : Said → List ℕ → Said → Type 0
+ReadsLine = reading.ReadsLine facts Adds
+
+-- the lines have no fault, and the reader holds what they say
+abbrev pub HasRead : List (List ℕ) → Reader → Type 0
+HasRead body r = (forms : List Form) × Says facts [] body forms × SameSaid (said forms) (said_by r)
+
+-- the error refuses each text that has a header and these lines behind it
+abbrev pub RefusesBody : List (List ℕ) → TextError → Type 0
+RefusesBody body error = (text : List ℕ) → IsHeaded facts text body → IsRefusal (IsFault facts text) error

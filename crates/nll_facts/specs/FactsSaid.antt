@@ -6,7 +6,7 @@ use Rattle.indexmap.specs.IndexSet.{insert_all}
 use Rattle.nll_problem.specs.Problem.{Problem}
 use Rattle.nll_problem.specs.Building.{same_pair, same_constraint, is_point, has_edge, has_constraint}
 use Rattle.nll_problem.specs.declared.constraint.Constraint.{Constraint}
-use Rattle.nll_problem.specs.declared.limits.TheConstants.{MAX_POINTS, MAX_EDGES, MAX_UNIVERSALS, MAX_REGIONS, MAX_CONSTRAINTS}
+use Rattle.nll_problem.specs.Limits.{most_points, most_edges, most_universals, most_regions, most_constraints}
 use Rattle.nll_problem.specs.declared.error.Kind.TheVariants.{Points, Edges, Universals, Regions, Constraints}
 use Rattle.nll_reading.specs.Names.{number_of}
 use Rattle.nll_reading.specs.Kinds.{kinds}
@@ -129,11 +129,11 @@ is_universal s x = nat_lt (number_of s.names x) s.problem.graph.universals
 
 -- the edge is new and there is no room for it
 abbrev pub is_full_of_edges : Said → ℕ → ℕ → Bool
-is_full_of_edges s p q = not (has_edge s.problem p q) && nat_le MAX_EDGES (length s.problem.graph.edges)
+is_full_of_edges s p q = not (has_edge s.problem p q) && nat_le most_edges (length s.problem.graph.edges)
 
 -- the constraint is new and there is no room for it
 abbrev pub is_full_of_constraints : Said → Constraint → Bool
-is_full_of_constraints s c = not (has_constraint s.problem c) && nat_le MAX_CONSTRAINTS (length s.problem.constraints)
+is_full_of_constraints s c = not (has_constraint s.problem c) && nat_le most_constraints (length s.problem.constraints)
 
 -- The line stands in order: no line of a later group is there, nor one of its own where the group has one line, and `points` is the first.
 abbrev pub is_in_order : Said → Form → Bool
@@ -143,13 +143,13 @@ is_in_order s f = (nat_lt s.reached (group f) || (s.reached == group f && is_rep
 abbrev pub has_fault : Said → Form → TextKind → Bool
 has_fault s f Syntax = not (is_in_order s f)
 has_fault s (points n) Range = n == 0
-has_fault s (points n) (Limit Points) = nat_lt MAX_POINTS n
+has_fault s (points n) (Limit Points) = nat_lt most_points n
 has_fault s (universal a) Duplicate = is_declared s a
-has_fault s (universal a) (Limit Universals) = nat_le MAX_UNIVERSALS s.problem.graph.universals
-has_fault s (universal a) (Limit Regions) = nat_le MAX_REGIONS (length s.names)
+has_fault s (universal a) (Limit Universals) = nat_le most_universals s.problem.graph.universals
+has_fault s (universal a) (Limit Regions) = nat_le most_regions (length s.names)
 has_fault s (outlives a b) Unknown = not (is_universal s a && is_universal s b)
 has_fault s (further x) Duplicate = is_declared s x
-has_fault s (further x) (Limit Regions) = nat_le MAX_REGIONS (length s.names)
+has_fault s (further x) (Limit Regions) = nat_le most_regions (length s.names)
 has_fault s (next p q) Range = not (is_point s.problem p && is_point s.problem q)
 has_fault s (next p q) (Limit Edges) = is_full_of_edges s p q
 has_fault s (return p) Range = not (is_point s.problem p)

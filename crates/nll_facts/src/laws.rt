@@ -3,20 +3,21 @@
 ghost use Rattle.std.specs.Prelude.{◌≡◌, ◌⊎◌, ℕ, List};
 ghost use Rattle.nll_problem.specs.Problem.{Problem, SameProblem};
 ghost use Rattle.nll_facts.specs.FactsForms.{Name};
-ghost use Rattle.nll_facts.specs.FactsText.{IsFault, Means};
+ghost use Rattle.nll_reading.specs.Text.{IsFault};
+ghost use Rattle.nll_facts.specs.FactsText.{facts, Means};
 ghost use Rattle.nll_reading.specs.declared.error.TextKind.{TextKind};
 
 /// States that a text has at most one fault.
 pub fn one_fault()
     ensures { (text : List ℕ) (line other_line : ℕ) (kind other_kind : TextKind)
-        → IsFault text line kind → IsFault text other_line other_kind
+        → IsFault facts text line kind → IsFault facts text other_line other_kind
         → (line ≡ other_line) × (kind ≡ other_kind) }
 {}
 
 /// States that a text that means a problem has no fault.
 pub fn not_both()
     ensures { (text : List ℕ) (problem : Problem) (names : List Name) (line : ℕ) (kind : TextKind)
-        → Means text problem names → IsFault text line kind → ⊥ }
+        → Means text problem names → IsFault facts text line kind → ⊥ }
 {}
 
 /// States that a text means at most one problem, and gives its regions one list of names.
@@ -30,5 +31,5 @@ pub fn one_meaning()
 pub fn some_meaning_or_fault()
     ensures { (text : List ℕ)
         → ((problem : Problem) × (names : List Name) × Means text problem names)
-        ⊎ ((line : ℕ) × (kind : TextKind) × IsFault text line kind) }
+        ⊎ ((line : ℕ) × (kind : TextKind) × IsFault facts text line kind) }
 {}

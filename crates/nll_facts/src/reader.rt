@@ -5,20 +5,22 @@
 
 ghost use Rattle.std.specs.Prelude.{◌≡◌, ◌⊎◌, ◌<◌, ◌≤◌, ◌+◌, ◌∷◌, [], ◌++◌, ℕ, List, OnOk, IfErr, IfOk, IsSome, IsTrue, ◌↔◌, Some, None, true, false, length};
 ghost use Rattle.std.specs.Str.{IsUtf8};
+ghost use Rattle.nll_problem.specs.Limits.{most_regions};
 ghost use Rattle.nll_problem.specs.Problem.{SameProblem};
 ghost use Rattle.nll_facts.specs.FactsForms as forms;
 ghost use Rattle.nll_facts.specs.FactsLines.{view};
 ghost use Rattle.nll_facts.specs.FactsSaid as specs;
 ghost use Rattle.nll_facts.specs.FactsSaid.{first_fault, is_in_order, said};
 ghost use Rattle.nll_facts.specs.FactsReading.{said_by, IsKept, IsReady, IsDue, IsTaken, IsRefused, HasTexts, ReadsLine};
-ghost use Rattle.nll_facts.specs.FactsText.{IsFaulty};
+ghost use Rattle.nll_facts.specs.FactsText.{facts};
+ghost use Rattle.nll_reading.specs.Text.{IsFaulty};
 ghost use Rattle.nll_reading.specs.Names.{number_of};
 
 use nll_reading::TextKind;
 use crate::line::{Line, line_of};
 use nll_reading::Names;
 use nll_problem::{
-    Constraint, Kind, MAX_POINTS, MAX_REGIONS, MAX_UNIVERSALS, Problem, ProblemBuilder, RegionId,
+    Constraint, Kind, MAX_POINTS, MAX_UNIVERSALS, Problem, ProblemBuilder, RegionId,
 };
 use nll_text::{ScanError, Scanned, Token, scan_line};
 use std::alloc::Global;
@@ -90,7 +92,7 @@ impl Reader {
 
     // The number of a declared name.
     fn region(&self, name: &[u8]) -> Result<RegionId, TextKind>
-        requires { length self.now.names ≤ MAX_REGIONS }
+        requires { length self.now.names ≤ most_regions }
         ensures ok { IfOk result (λ r. (r ≡ number_of self.now.names name.now) × (specs.is_declared (said_by self.now) name.now ≡ true)) }
         ensures err { IfErr result (λ kind. (kind ≡ TextKind.Unknown) × (specs.is_declared (said_by self.now) name.now ≡ false)) }
     {
@@ -278,7 +280,7 @@ impl Reader {
         requires ready { IsReady self.old }
         ensures ok { OnOk result (ReadsLine (said_by self.old) line.now (said_by self.new)) }
         ensures ready { OnOk result (IsReady self.new) }
-        ensures fault { IfErr result (λ kind. (kind ≡ TextKind.Memory) ⊎ IsFaulty (said_by self.old) line.now kind) }
+        ensures fault { IfErr result (λ kind. (kind ≡ TextKind.Memory) ⊎ IsFaulty facts (said_by self.old) line.now kind) }
     {
         match scan_line(line, tokens) {
             Ok(Scanned::Skipped) => return Ok(()),

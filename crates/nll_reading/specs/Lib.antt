@@ -1,2 +1,4 @@
 pub mod Names
 pub mod Kinds
+pub mod Text
+pub mod Reading

@@ -1,4 +1,4 @@
-use Rattle.std.proofs.Common.{rules, ◌≡◌, ℕ, List, [], ◌∷◌}
+use Rattle.std.proofs.Common.{rules, ℕ, List}
 use Rattle.nll_facts.proofs.FormLemmas.{line_spelled}
 use Rattle.nll_facts.proofs.line.line_from.Goals as goal
 

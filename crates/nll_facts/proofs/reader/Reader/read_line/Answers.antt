@@ -1,8 +1,8 @@
 use Rattle.std.proofs.Common.{ap, refl, inl, inr, ⊎_elim}
 use Rattle.std.proofs.lemmas.Result.{err_from_is_err_and}
 use Rattle.nll_text.specs.Tokens.{views}
-use Rattle.nll_facts.specs.FactsText.{skipped, of_form, not_utf8, no_form, at_form}
-use Rattle.nll_facts.specs.FactsReading.{skips, reads}
+use Rattle.nll_reading.specs.Text.{skipped, of_form, not_utf8, no_form, at_form}
+use Rattle.nll_reading.specs.Reading.{skips, reads}
 use Rattle.nll_facts.proofs.FormLemmas.{no_form_of, no_form_from, form_from, texts_in}
 use Rattle.nll_facts.proofs.reader.Reader.read_line.Goals as goal
 
