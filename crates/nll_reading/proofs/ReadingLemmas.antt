@@ -1,7 +1,8 @@
 -- The lines of a text of a format, read one after another.
 use Rattle.std.proofs.Common.{◌≡◌, ℕ, ◌+◌, ◌-◌, ◌≤◌, ⊎_elim, List, [], ◌∷◌, ◌++◌, inl, inr, length, refl, sym, ap, ◌∙◌, subst, append_assoc, arith, length-append, None}
 use Rattle.std.proofs.lemmas.List.{append-nil}
-use Rattle.nll_reading.specs.Text.{Format, Fits, skipped, of_form, IsFaulty, not_utf8, no_form, at_form, Says, HasFault, IsCut, IsHeaded, IsFault, header_not_utf8, no_header, at_line, IsRefusal, IsHeaderFault}
+use Rattle.nll_text.specs.Tokens.{IsNotMadeWithin}
+use Rattle.nll_reading.specs.Text.{Format, HasAtMost, Fits, skipped, of_form, IsFaulty, not_utf8, no_form, at_form, Says, HasFault, IsCut, IsHeaded, IsFault, header_not_utf8, no_header, at_line, IsRefusal, IsHeaderFault}
 use Rattle.nll_reading.specs.Reading.{ReadsLine, skips, reads}
 use Rattle.nll_reading.specs.declared.error.TextError.{TextError}
 use Rattle.nll_reading.specs.declared.error.TextKind.{TextKind}
@@ -12,6 +13,10 @@ pub record IsRead (format : Format) (Same : format.Said → format.Said → Type
   pub place : number ≡ 1 + length front
   pub fine : Says format [] front forms
   pub holds : Same (format.said forms) s
+
+-- a line has no form that no list of so few tokens makes
+pub no_form_within : (format : Format) (most : ℕ) (line : List ℕ) → HasAtMost format most → IsNotMadeWithin most line → (f : format.Form) → format.HasForm line f → ⊥
+no_form_within format most line few none f form = let made = few line f form in none made.0 made.1 made.2
 
 -- one more line
 says_push : (format : Format) (before : List format.Form) (front : List (List ℕ)) (forms : List format.Form) (line : List ℕ) (added : List format.Form) → Says format before front forms → Fits format (format.said forms) line added → Says format before (front ++ line ∷ []) (forms ++ added)
