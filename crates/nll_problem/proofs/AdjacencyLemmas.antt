@@ -1,14 +1,14 @@
 -- The edges of a graph that is kept as lists of successors.
-use Rattle.std.proofs.Common.{◌≡◌, ◌≢◌, ℕ, zero, suc, ◌+◌, ◌<◌, ◌≤◌, List, [], ◌∷◌, ◌++◌, map, ◌⊎◌, ◌↔◌, inl, inr, Contains, AllPairs, length, get_or, set, replicate, refl, sym, ap, ◌∙◌, subst, ⊎_elim, arith, length-append}
+use Rattle.std.proofs.Common.{◌≡◌, ◌≢◌, ℕ, zero, suc, ◌+◌, ◌-◌, ◌<◌, ◌≤◌, List, [], ◌∷◌, ◌++◌, map, ◌⊎◌, ◌↔◌, inl, inr, Contains, AllPairs, length, get_or, set, replicate, refl, sym, ap, ◌∙◌, subst, ⊎_elim, arith, length-append}
 use Rattle.std.proofs.Math.Seq.{map-set_same}
-use Rattle.std.proofs.lemmas.List.{map-set, get_or-set_other, get_or-set_same, length-set, get_or_default, get_or_past, get_or-replicate, length-replicate, get_or-map, length-map}
-use Rattle.std.proofs.lemmas.List.Elements.{Contains-push, Contains-push_cases, Contains-append_left, Contains-append_right, Contains-append_cases}
+use Rattle.std.proofs.lemmas.List.{get_or_append_left, get_or-append_right, map-set, get_or-set_other, get_or-set_same, length-set, get_or_default, get_or_past, get_or-replicate, length-replicate, get_or-map, length-map}
+use Rattle.std.proofs.lemmas.List.Elements.{Contains-get_or, Contains-push, Contains-push_cases, Contains-append_left, Contains-append_right, Contains-append_cases}
 use Rattle.std.proofs.lemmas.List.Quantifiers.{all_pairs_push}
 use Rattle.std.proofs.lemmas.Bool.{cases_eq, cases_lt}
 use Rattle.nll_problem.specs.Adjacency.{edges_from, edges_of, next_of, graph_of, Indexes, IsIndexed, IsStored}
 use Rattle.nll_problem.specs.Building.{AddsFact}
 use Rattle.nll_problem.specs.declared.graph.TheConstants.{SCANNED}
-use Rattle.nll_problem.specs.declared.limits.TheConstants.{MAX_POINTS, MAX_EDGES, MAX_UNIVERSALS}
+use Rattle.nll_problem.specs.Limits.{most_points, most_edges, most_universals}
 
 -- a list without elements contains nothing
 pub none_contained : {X : Type 0} (x : X) → Contains [] x → ⊥
@@ -64,6 +64,38 @@ edges_exact lists p q =
       λ h. edge_listed 0 lists p q (subst (λ a. Contains (edges_of lists) (a, q)) at h),
       λ h. subst (λ a. Contains (edges_of lists) (a, q)) back (listed_edge 0 lists p q h),
     )
+
+-- lists that have nothing twice, and nothing in common, together have nothing twice
+apart_appended : {X : Type 0} (xs ys : List X) → AllPairs (λ x y. x ≢ y) xs → AllPairs (λ x y. x ≢ y) ys → ((i j : ℕ) (d : X) → i < length xs → j < length ys → get_or xs i d ≢ get_or ys j d) → AllPairs (λ x y. x ≢ y) (xs ++ ys)
+apart_appended xs ys first second across i j d less within =
+    let size = length-append xs ys in
+    ⊎_elim
+    (λ low. rw (get_or_append_left xs ys d i (omega arith), get_or_append_left xs ys d j low) (first i j d less low))
+    (λ high. rw (get_or-append_right xs ys (length xs) j d refl high) (⊎_elim
+    (λ low. rw (get_or_append_left xs ys d i low) (across i (j - length xs) d low (omega arith)))
+    (λ past. rw (get_or-append_right xs ys (length xs) i d refl past) (second (i - length xs) (j - length xs) d (omega arith) (omega arith)))
+    (cases_lt i (length xs))))
+    (cases_lt j (length xs))
+
+mapped_once : (p : ℕ) (next : List ℕ) → AllPairs (λ q r. q ≢ r) next → AllPairs {X = ℕ × ℕ} (λ x y. x ≢ y) (map (λ q. (p, q)) next)
+mapped_once p next once i j d less within is =
+    let pair : ℕ → ℕ × ℕ = λ q. (p, q) in
+    let size = length-map next pair in
+    once i j 0 less (omega (arith, size)) (ap (λ (x : ℕ × ℕ). x.1) (sym (get_or-map pair next i 0 d (omega (arith, size))) ∙ is ∙ get_or-map pair next j 0 d (omega (arith, size))))
+
+edges_from_once : (k : ℕ) (lists : List (List ℕ)) → ((i : ℕ) → AllPairs (λ q r. q ≢ r) (get_or lists i [])) → AllPairs (λ x y. x ≢ y) (edges_from k lists)
+edges_from_once k [] once = λ i j d less within. absurd (omega arith)
+edges_from_once k (next ∷ lists) once =
+    let pair : ℕ → ℕ × ℕ = λ q. (k, q) in
+    apart_appended (map pair next) (edges_from (k + 1) lists) (mapped_once k next (once 0)) (edges_from_once (k + 1) lists (λ i. once (suc i)))
+    (λ i j d here later is.
+    let first = contains_mapped k next (get_or (map pair next) i d).0 (get_or (map pair next) i d).1 (Contains-get_or (map pair next) i d here) in
+    let second = edge_begins (k + 1) lists (get_or (edges_from (k + 1) lists) j d).0 (get_or (edges_from (k + 1) lists) j d).1 (Contains-get_or (edges_from (k + 1) lists) j d later) in
+    omega (arith, first.0, second, ap (λ (x : ℕ × ℕ). x.0) is))
+
+-- where each list has a successor once, each edge is there once
+pub edges_apart : (lists : List (List ℕ)) → ((p : ℕ) → AllPairs (λ q r. q ≢ r) (next_of lists p)) → AllPairs (λ x y. x ≢ y) (edges_of lists)
+edges_apart lists once = edges_from_once 0 lists once
 
 -- one more successor is one more edge
 length_grown : (k : ℕ) (lists : List (List ℕ)) (i q : ℕ) → i < length lists → length (edges_from k (set lists i (get_or lists i [] ++ q ∷ []))) ≡ length (edges_from k lists) + 1
@@ -142,11 +174,12 @@ module _ (lists : List (List ℕ)) (p q : ℕ) (within : p < length lists) where
 
   -- a graph with one more edge is stored so
   pub stored_grown : (points universals : ℕ) (index new : List (ℕ × ℕ)) (count : ℕ) (returns : List ℕ) → IsStored points universals lists index count returns → (Contains (next_of lists p) q → ⊥)
-      → q < points → count < MAX_EDGES → Indexes index new p (next_of lists p ++ q ∷ [])
+      → q < points → count < most_edges → Indexes index new p (next_of lists p ++ q ∷ [])
       → (SCANNED ≤ length (next_of lists p) → (r : ℕ) → Contains (next_of lists p ++ q ∷ []) r → Contains new (p, r))
       → IsStored points universals grown new (count + 1) returns
   stored_grown points universals index new count returns s absent point room indexes long =
       let adds = adds_edge absent in
+      let grows = indexed_grown index new s.indexed absent indexes long in
       record {
         sound = record {
           some_point = s.sound.some_point;
@@ -154,6 +187,7 @@ module _ (lists : List (List ℕ)) (p q : ℕ) (within : p < length lists) where
           point_limit = s.sound.point_limit;
           universal_limit = s.sound.universal_limit;
           edge_limit = omega (arith, length_grown 0 lists p q within, s.counted);
+          edges_once = edges_apart grown grows.once;
           edges_in_range = λ a b h. ⊎_elim
               (s.sound.edges_in_range a b)
               (λ is. subst (λ (x : ℕ × ℕ). (x.0 < points) × (x.1 < points)) is (omega (arith, s.listed, within), point))
@@ -161,7 +195,7 @@ module _ (lists : List (List ℕ)) (p q : ℕ) (within : p < length lists) where
           returns_in_range = s.sound.returns_in_range;
         };
         listed = length-set lists p (get_or lists p [] ++ q ∷ []) ∙ s.listed;
-        indexed = indexed_grown index new s.indexed absent indexes long;
+        indexed = grows;
         counted = omega (arith, length_grown 0 lists p q within, s.counted);
       }
 
@@ -212,7 +246,7 @@ pub view_none : (points universals : ℕ) (lists : List (List ℕ)) → lists �
 view_none points universals lists is = ap (λ edges. record { points = points; universals = universals; edges = edges; returns = [] }) (ap edges_of is ∙ edges_none 0 points)
 
 -- a graph without edges and return points is stored so
-pub stored_none : (points universals : ℕ) (lists : List (List ℕ)) → 0 < points → 0 < universals → points ≤ MAX_POINTS → universals ≤ MAX_UNIVERSALS → lists ≡ replicate points [] → IsStored points universals lists [] 0 []
+pub stored_none : (points universals : ℕ) (lists : List (List ℕ)) → 0 < points → 0 < universals → points ≤ most_points → universals ≤ most_universals → lists ≡ replicate points [] → IsStored points universals lists [] 0 []
 stored_none points universals lists some_point some_universal point_limit universal_limit is =
     let no_edges : edges_of lists ≡ [] = ap edges_of is ∙ edges_none 0 points in
     let no_list : (p : ℕ) → next_of lists p ≡ [] = λ p. ap (λ xs. next_of xs p) is ∙ next_of_none points p in
@@ -223,6 +257,7 @@ stored_none points universals lists some_point some_universal point_limit univer
         point_limit = point_limit;
         universal_limit = universal_limit;
         edge_limit = omega (arith, ap length no_edges);
+        edges_once = λ i j d i<j j<n. absurd (omega (arith, ap length no_edges));
         edges_in_range = λ p q h. absurd (none_contained (p, q) (subst (λ edges. Contains edges (p, q)) no_edges h));
         returns_in_range = λ p h. absurd (none_contained p h);
       };
@@ -261,6 +296,7 @@ stored_returns points universals lists index count returns s new p only point = 
     point_limit = s.sound.point_limit;
     universal_limit = s.sound.universal_limit;
     edge_limit = s.sound.edge_limit;
+    edges_once = s.sound.edges_once;
     edges_in_range = s.sound.edges_in_range;
     returns_in_range = λ x h. ⊎_elim (s.sound.returns_in_range x) (λ is. subst (λ y. y < points) is point) (only x h);
   };

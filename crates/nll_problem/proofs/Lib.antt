@@ -4,3 +4,4 @@ pub mod BaseLemmas
 pub mod AdjacencyLemmas
 pub mod ProblemLemmas
 pub mod WalkLemmas
+pub mod OrderLemmas

@@ -4,6 +4,8 @@ pub mod Walks
 pub mod Problem
 pub mod Solution
 pub mod Faults
+pub mod Answers
+pub mod GraphBuilding
 pub mod Building
 pub mod Bases
 pub mod Adjacency

@@ -9,9 +9,9 @@ ghost use Rattle.nll_problem.specs.Graph.{IsNext, IsReturn, IsSound};
 ghost use Rattle.nll_problem.specs.Building.{AddsFact};
 ghost use Rattle.nll_problem.specs.Adjacency.{Indexes, IsIndexedIfLong};
 
-use nll_sets::Memory;
 use crate::limits::{MAX_EDGES, MAX_POINTS, MAX_UNIVERSALS};
 use indexmap::IndexSet;
+use nll_sets::Memory;
 use smallvec::SmallVec;
 use std::alloc::Global;
 use std::marker::Model;
