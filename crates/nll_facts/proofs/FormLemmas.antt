@@ -1,7 +1,7 @@
 -- Which tokens are lines of a form.
 use Rattle.std.proofs.Common.{◌≡◌, ℕ, List, [], ◌∷◌, refl, sym, ◌∙◌, subst, map}
 use Rattle.std.specs.List.{AllByRecursion}
-use Rattle.nll_text.specs.Tokens.{Token, word, IsMadeOf, IsNotMade}
+use Rattle.nll_text.specs.Tokens.{Token, word, IsMadeOf}
 use Rattle.nll_text.specs.Scan.{IsTokenLine}
 use Rattle.nll_text.proofs.Utf8Lemmas.{IsUtf8-word}
 use Rattle.nll_facts.specs.FactsForms.{Form, Part, keyword, number, region, token_of, parts, AreSpelled, HasForm}
@@ -10,10 +10,6 @@ use Rattle.nll_facts.specs.FactsReading.{IsText, HasTexts}
 -- a word and its arguments spell a line
 pub line_spelled : (w v : List ℕ) (ts : List Token) (these : List Part) → w ≡ v → AreSpelled ts these → AreSpelled (word w ∷ ts) (keyword v ∷ these)
 line_spelled w v ts these e h = record { same = rw (e, h.same) refl; small = (tt, h.small) }
-
--- a line without tokens has no form
-pub no_form_of : (line : List ℕ) → IsNotMade line → (f : Form) → HasForm line f → ⊥
-no_form_of line none f h = none (map token_of (parts f)) h.made
 
 -- a line whose tokens spell no form has none
 pub no_form_from : (line : List ℕ) (ts us : List Token) → us ≡ ts → IsTokenLine line ts → ((f : Form) → AreSpelled us (parts f) → ⊥) → (f : Form) → HasForm line f → ⊥

@@ -1,5 +1,5 @@
 -- A facts text has one meaning or one fault.
-use Rattle.std.proofs.Common.{map, ◌⊎◌, inl, inr, ⊎_elim, ◌≡◌, ℕ, ◌<◌, ◌^◌, cond, List, [], ◌∷◌, Contains, refl, sym, ap, ◌∙◌, subst, arith}
+use Rattle.std.proofs.Common.{map, ◌⊎◌, inl, inr, ⊎_elim, ◌≡◌, ℕ, ◌<◌, ◌≤◌, length, ◌^◌, cond, List, [], ◌∷◌, Contains, refl, sym, ap, ◌∙◌, subst, arith}
 use Rattle.std.specs.Prelude.{codes}
 use Rattle.std.specs.List.{AllByRecursion}
 use Rattle.std.specs.Str.{bytes_eq}
@@ -12,10 +12,11 @@ use Rattle.nll_text.proofs.DecisionLemmas.{tokens_or_not}
 use Rattle.nll_text.proofs.TokenLemmas.{one_token_list_lem, made_or_not}
 use Rattle.nll_problem.specs.Problem.{Problem, SameProblem}
 use Rattle.nll_problem.proofs.SameLemmas.{same_problem, same_problem_back, same_problem_chain}
-use Rattle.nll_reading.specs.Text.{IsText, IsFault}
+use Rattle.nll_reading.specs.Labels.{Labels, numbers}
+use Rattle.nll_reading.specs.Text.{IsText, IsFault, HasAtMost}
 use Rattle.nll_reading.specs.declared.error.TextKind.{TextKind}
 use Rattle.nll_reading.proofs.TextLaws as laws
-use Rattle.nll_facts.specs.FactsForms.{Name, Form, points, universal, outlives, further, next, return, base, constraint, end, HasForm, Part, IsSmall, AreSpelled, parts, token_of}
+use Rattle.nll_facts.specs.FactsForms.{Name, Form, points, universal, outlives, further, next, return, base, constraint, end, HasForm, Part, IsSmall, AreSpelled, parts, token_of, most_tokens}
 use Rattle.nll_facts.specs.FactsForms as forms
 use Rattle.nll_facts.specs.FactsSaid.{reached, names_said, problem_said}
 use Rattle.nll_facts.specs.FactsText.{facts, Means}
@@ -113,29 +114,49 @@ ended_or_not forms = ⊎_elim (λ h. inl (ended forms h)) (λ none. inr (not_end
 
 -- ---- a text has one meaning or one fault
 
+-- the labels that lines say
+abbrev labels_said : List Form → Labels
+labels_said forms = record { names = names_said forms; points = numbers }
+
 pub one_fault_lem : (text : List ℕ) (l m : ℕ) (j k : TextKind) → IsFault facts text l j → IsFault facts text m k → (l ≡ m) × (j ≡ k)
 one_fault_lem = laws.one_fault_lem facts one_form
 
-pub not_both_lem : (text : List ℕ) (problem : Problem) (names : List Name) (l : ℕ) (k : TextKind) → Means text problem names → IsFault facts text l k → ⊥
-not_both_lem text problem names l k m fault = laws.not_both_lem facts one_form text m.forms l k m.fits fault
+pub not_both_lem : (text : List ℕ) (problem : Problem) (labels : Labels) (l : ℕ) (k : TextKind) → Means text problem labels → IsFault facts text l k → ⊥
+not_both_lem text problem labels l k m fault = laws.not_both_lem facts one_form text m.forms l k m.fits fault
 
-pub one_meaning_lem : (text : List ℕ) (problem other : Problem) (names other_names : List Name) → Means text problem names → Means text other other_names → SameProblem problem other × (names ≡ other_names)
-one_meaning_lem text problem other names other_names m n =
+pub one_meaning_lem : (text : List ℕ) (problem other : Problem) (labels other_labels : Labels) → Means text problem labels → Means text other other_labels → SameProblem problem other × (labels ≡ other_labels)
+one_meaning_lem text problem other labels other_labels m n =
     let same : m.forms ≡ n.forms = laws.one_forms_lem facts one_form text m.forms n.forms m.fits n.fits in
     let here : SameProblem (problem_said n.forms) problem = subst (λ (fs : List Form). SameProblem (problem_said fs) problem) same m.same_problem in
-    (same_problem_chain problem (problem_said n.forms) other (same_problem_back _ _ here) n.same_problem, m.same_names ∙ (ap names_said same ∙ sym n.same_names))
+    (same_problem_chain problem (problem_said n.forms) other (same_problem_back _ _ here) n.same_problem, m.same_labels ∙ (ap labels_said same ∙ sym n.same_labels))
 
 -- what a text that fits means
-meaning : (text : List ℕ) (forms : List Form) → IsText facts text forms → Means text (problem_said forms) (names_said forms)
+meaning : (text : List ℕ) (forms : List Form) → IsText facts text forms → Means text (problem_said forms) (labels_said forms)
 meaning text forms fits = record {
   forms = forms;
   fits = fits;
   same_problem = same_problem (problem_said forms) (problem_said forms) refl;
-  same_names = refl;
+  same_labels = refl;
 }
 
-pub some_meaning_or_fault_lem : (text : List ℕ) → ((problem : Problem) × (names : List Name) × Means text problem names) ⊎ ((line : ℕ) × (kind : TextKind) × IsFault facts text line kind)
+pub some_meaning_or_fault_lem : (text : List ℕ) → ((problem : Problem) × (labels : Labels) × Means text problem labels) ⊎ ((line : ℕ) × (kind : TextKind) × IsFault facts text line kind)
 some_meaning_or_fault_lem text = ⊎_elim
-    (λ h. inl (problem_said h.0, names_said h.0, meaning text h.0 h.1))
+    (λ h. inl (problem_said h.0, labels_said h.0, meaning text h.0 h.1))
     inr
     (laws.text_or_fault_lem facts form_or_none ended_or_not text)
+
+-- ---- no form has more tokens
+
+few_tokens_in : (f : Form) → length (map token_of (parts f)) ≤ most_tokens
+few_tokens_in (points n) = omega arith
+few_tokens_in (universal a) = omega arith
+few_tokens_in (outlives a b) = omega arith
+few_tokens_in (further x) = omega arith
+few_tokens_in (next p q) = omega arith
+few_tokens_in (return p) = omega arith
+few_tokens_in (base x p) = omega arith
+few_tokens_in (constraint a b p) = omega arith
+few_tokens_in end = omega arith
+
+pub few_tokens_lem : HasAtMost facts most_tokens
+few_tokens_lem line f h = (map token_of (parts f), few_tokens_in f, h.made)

@@ -57,7 +57,12 @@ pub record AreSpelled (tokens : List lex.Token) (these : List Part) : Type 0 whe
   pub same : tokens ≡ map token_of these
   pub small : AllByRecursion IsSmall these
 
--- The line has the form: it is made of the tokens of the form's parts, and its numbers have at most nine digits.
+-- The line has the form: it is made of the tokens of the form's parts, and its numbers have at most
+-- nine digits.
 pub record HasForm (line : List ℕ) (f : Form) : Type 0 where
   pub made : IsMadeOf line (map token_of (parts f))
   pub small : AllByRecursion IsSmall (parts f)
+
+-- no line of a form has more tokens
+abbrev pub most_tokens : ℕ
+most_tokens = 4

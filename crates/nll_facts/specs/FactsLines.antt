@@ -18,8 +18,8 @@ view (lines.Base x p) = base x.now p
 view (lines.Constraint a b p) = constraint a.now b.now p
 view lines.End = end
 
--- The answer is what the tokens spell, by the parts of a value; there is none only where the tokens spell no value.
--- `meant` tells the value that an answer stands for.
+-- The answer is what the tokens spell, by the parts of a value; there is none only where the tokens
+-- spell no value. `meant` tells the value that an answer stands for.
 abbrev pub Reads : {A B : Type 0} → (B → List Part) → (A → B) → List Token → Option A → Type 0
 Reads {A} {B} parts meant tokens None = (b : B) → AreSpelled tokens (parts b) → ⊥
 Reads {A} {B} parts meant tokens (Some a) = AreSpelled tokens (parts (meant a))

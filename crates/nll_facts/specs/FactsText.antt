@@ -2,8 +2,9 @@
 -- Source: project's choice; docs/FORMATS.md says the same in words.
 use Rattle.std.specs.Prelude.{◌≡◌, ℕ, List, codes, Contains}
 use Rattle.nll_problem.specs.Problem.{Problem, SameProblem}
+use Rattle.nll_reading.specs.Labels.{Labels, numbers}
 use Rattle.nll_reading.specs.Text.{Format, IsText}
-use Rattle.nll_facts.specs.FactsForms.{Name, Form, HasForm, end}
+use Rattle.nll_facts.specs.FactsForms.{Form, HasForm, end}
 use Rattle.nll_facts.specs.FactsSaid.{Said, said, first_fault, names_said, problem_said}
 
 -- facts texts, version 1: the last line that a text needs is an `end` line
@@ -19,9 +20,10 @@ facts = record {
   HasEnded = λ forms. Contains forms end;
 }
 
--- The text fits and means this problem, with these names of its regions.
-pub record Means (text : List ℕ) (problem : Problem) (names : List Name) : Type 0 where
+-- The text fits and means this problem, with these labels: its regions' names, and points by their
+-- numbers.
+pub record Means (text : List ℕ) (problem : Problem) (labels : Labels) : Type 0 where
   pub forms : List Form
   pub fits : IsText facts text forms
   pub same_problem : SameProblem (problem_said forms) problem
-  pub same_names : names ≡ names_said forms
+  pub same_labels : labels ≡ record { names = names_said forms; points = numbers }

@@ -82,13 +82,11 @@ fn read_body(alloc: Global, body: Option<&[u8]>) -> Result<Facts, TextError>
         drop(reader);
         return Err(error);
     }
-    match reader.finish() {
-        Ok((problem, names)) => Ok(Facts {
-            problem,
-            labels: Labels::new(names),
-        }),
-        Err(kind) => Err(TextError { line: 0, kind }),
-    }
+    let (problem, names) = reader.finish();
+    Ok(Facts {
+        problem,
+        labels: Labels::new(names),
+    })
 }
 
 /// Reads a facts text, version 1.

@@ -25,6 +25,9 @@ use nll_problem::{
 use nll_text::{ScanError, Scanned, Token, scan_line};
 use std::alloc::Global;
 
+// The most tokens of a line of a form.
+const MOST_TOKENS: usize = 4;
+
 /// What the lines read so far say.
 #[derive(Drop)]
 pub struct Reader {
@@ -96,11 +99,10 @@ impl Reader {
         ensures ok { IfOk result (λ r. (r ≡ number_of self.now.names name.now) × (specs.is_declared (said_by self.now) name.now ≡ true)) }
         ensures err { IfErr result (λ kind. (kind ≡ TextKind.Unknown) × (specs.is_declared (said_by self.now) name.now ≡ false)) }
     {
-        let number = self.names.number_of(name);
-        if number >= self.names.len() {
-            return Err(TextKind::Unknown);
+        match self.names.number_of(name) {
+            Some(number) => Ok(RegionId(number as u32)),
+            None => Err(TextKind::Unknown),
         }
-        Ok(RegionId(number as u32))
     }
 
     // Makes the builder. It is a call of its own so that a line which finds one doesn't pay for the
@@ -141,11 +143,10 @@ impl Reader {
         ensures taken { OnOk result (IsTaken (said_by self.old) (forms.universal name.now) self.new) }
         ensures refused { IfErr result (IsRefused (said_by self.old) (forms.universal name.now)) }
     {
-        let count = self.names.len();
-        if self.names.number_of(name) < count {
+        if self.names.number_of(name).is_some() {
             return Err(TextKind::Duplicate);
         }
-        if count >= MAX_UNIVERSALS as usize {
+        if self.names.len() >= MAX_UNIVERSALS as usize {
             return Err(TextKind::Limit(Kind::Universals));
         }
         self.names.add(self.alloc, name)?;
@@ -159,7 +160,7 @@ impl Reader {
         ensures taken { OnOk result (IsTaken (said_by self.old) (forms.further name.now) self.new) }
         ensures refused { IfErr result (IsRefused (said_by self.old) (forms.further name.now)) }
     {
-        if self.names.number_of(name) < self.names.len() {
+        if self.names.number_of(name).is_some() {
             return Err(TextKind::Duplicate);
         }
         let Some(builder) = &mut self.builder else {
@@ -205,8 +206,8 @@ impl Reader {
         ensures taken { OnOk result (IsTaken (said_by self.old) (forms.outlives longer.now shorter.now) self.new) }
         ensures refused { IfErr result (IsRefused (said_by self.old) (forms.outlives longer.now shorter.now)) }
     {
-        let longer = RegionId(self.names.number_of(longer) as u32);
-        let shorter = RegionId(self.names.number_of(shorter) as u32);
+        let longer = self.region(longer)?;
+        let shorter = self.region(shorter)?;
         let Some(builder) = &mut self.builder else {
             unreachable!();
         };
@@ -282,11 +283,11 @@ impl Reader {
         ensures ready { OnOk result (IsReady self.new) }
         ensures fault { IfErr result (λ kind. (kind ≡ TextKind.Memory) ⊎ IsFaulty facts (said_by self.old) line.now kind) }
     {
-        match scan_line(line, tokens) {
+        match scan_line(line, MOST_TOKENS, tokens) {
             Ok(Scanned::Skipped) => return Ok(()),
             Ok(Scanned::Tokens) => {}
             Err(ScanError::NotUtf8) => return Err(TextKind::NotUtf8),
-            Err(ScanError::NoToken) => return Err(TextKind::Syntax),
+            Err(ScanError::NoTokens) => return Err(TextKind::Syntax),
             Err(ScanError::Memory) => return Err(TextKind::Memory),
         }
         let Some(form) = line_of(tokens.as_slice()) else {
@@ -303,18 +304,27 @@ impl Reader {
         self.reached == 6
     }
 
-    /// The problem and the names that the lines say.
-    pub fn finish(self) -> Result<(Problem, Names), TextKind>
+    /// The problem and the names that the lines say. Takes no memory.
+    pub fn finish(self) -> (Problem, Names)
         requires ready { IsReady self }
         requires ended { self.reached ≡ 6 }
-        ensures problem { IfOk result (λ made. SameProblem (said_by self).problem made.0) }
-        ensures names { IfOk result (λ made. made.1 ≡ (said_by self).names) }
-        ensures err { IfErr result (λ kind. kind ≡ TextKind.Memory) }
+        ensures problem { SameProblem (said_by self).problem result.0 }
+        ensures names { result.1 ≡ (said_by self).names }
     {
         let Reader { names, builder, .. } = self;
         let Some(builder) = builder else {
             unreachable!();
         };
-        Ok((builder.finish()?, names))
+        (finished(builder), names)
+    }
+}
+
+// The problem of a builder.
+fn finished(builder: ProblemBuilder) -> Problem
+    ensures { SameProblem builder result }
+{
+    match builder.finish() {
+        Ok(problem) => problem,
+        Err(_) => unreachable!(),
     }
 }

@@ -14,6 +14,7 @@ returns-clause-kept c = λ n later. record {
   some_name = c.requires.ready.some_name;
   few = c.requires.ready.few;
   regions = ap (λ (q : Problem). q.regions) c.in_ok-new.ensures.ok ∙ c.len-universals.ensures;
+  universals = omega (arith, ap (λ (q : Problem). q.graph.universals) c.in_ok-new.ensures.ok, c.len-universals.ensures);
   waiting = λ none. absurd (some_is_not_none none);
   numbered = λ none. absurd (some_is_not_none none);
   early = λ before. absurd (omega arith);

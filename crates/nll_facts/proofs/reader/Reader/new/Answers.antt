@@ -9,6 +9,7 @@ returns-clause-ready c = rw c.in_ok-new.ensures (record {
   some_name = omega arith;
   few = omega arith;
   regions = refl;
+  universals = omega arith;
   waiting = λ _. omega arith;
   numbered = λ _ begun. absurd (omega arith);
   early = λ _. refl;
