@@ -4,6 +4,7 @@ use Rattle.std.specs.Ordering.{MatchOrdering, ordering_then, eq_by_cmp}
 use Rattle.std.specs.List.Sorted.{IsStrictlySortedBy}
 use Rattle.std.specs.Cmp.{IsTotalOrder, then_total, on_total, nat_cmp_total, ranks, both_ways, tied_itself}
 use Rattle.std.proofs.lemmas.Bool.{false≢true}
+use Rattle.std.proofs.lemmas.List.Sorted.{sorted_far, ranks_by}
 use Rattle.std.proofs.lemmas.Map.Keys.{Less-from_sorted}
 use Rattle.nll_problem.specs.Building.{same_pair}
 use Rattle.nll_problem.specs.Bases.{pair_cmp}
@@ -25,6 +26,16 @@ module _ {X : Type 0} (R : X → X → Ordering) (L : X → X → Type 0) (ranke
       by Less is h = absurd (false≢true h)
       by Equal is h = means x y Equal is
       by Greater is h = absurd (false≢true h)
+
+  apart_ascends : (x y : X) → (x ≡ y → ⊥) → (r : Ordering) → R y x ≡ r → is_lt r ≡ false → L x y
+  apart_ascends x y differ Less is h = absurd (false≢true (sym h))
+  apart_ascends x y differ Equal is h = absurd (differ (sym (means y x Equal is)))
+  apart_ascends x y differ Greater is h = means y x Greater is
+
+  -- a sorted list of which no element is there twice ascends
+  pub sorted_once_ascends : IsTotalOrder R → (xs : List X) → IsSorted R xs → IsOnce xs → AllPairs L xs
+  sorted_once_ascends total xs sorted once i j d before within =
+      apart_ascends _ _ (once i j d before within) _ refl (sorted_far _ (ranks_by total (λ x. x)) xs sorted i j d (omega (arith, before)) within)
 
   not_less : ((x y : X) → L x y → L y x → ⊥) → (x y : X) → L x y → (r : Ordering) → R y x ≡ r → is_lt r ≡ false
   not_less apart x y first Less is = absurd (apart x y first (means y x Less is))

@@ -1,12 +1,14 @@
 //! The builder of a problem.
 
-ghost use Rattle.std.specs.Prelude.{◌≡◌, ◌⊎◌, ◌+◌, ◌<◌, true, length, OnOk, OnErr, IfOk, IsOkAnd};
+ghost use Rattle.std.specs.Prelude.{◌≡◌, ◌⊎◌, ◌+◌, ◌<◌, IsTrue, IsFalse};
+ghost use Rattle.std.specs.Prelude.{OnOk, OnErr, IfOk, IsOkAnd};
 ghost use Rattle.nll_problem.specs.Answers.{Answers, AddsFact};
 ghost use Rattle.nll_problem.specs.Building as building;
 ghost use Rattle.nll_problem.specs.Building.{AnswersExactly, bare_problem};
-ghost use Rattle.nll_problem.specs.Building.{region_error, outlives_error, base_error, constraint_error};
-ghost use Rattle.nll_problem.specs.GraphBuilding.{bare_graph, graph_error, edge_error, return_error};
-ghost use Rattle.nll_problem.specs.Limits.{most_constraints};
+ghost use Rattle.nll_problem.specs.Building.{base_error, constraint_error, has_constraint, is_full};
+ghost use Rattle.nll_problem.specs.Building.{outlives_error, region_error};
+ghost use Rattle.nll_problem.specs.GraphBuilding.{bare_graph, edge_error, graph_error};
+ghost use Rattle.nll_problem.specs.GraphBuilding.{return_error};
 ghost use Rattle.nll_problem.specs.Problem.{IsSound, SameProblem};
 
 use crate::bases::Bases;
@@ -40,12 +42,14 @@ pub struct ProblemBuilder {
 
 impl Model for ProblemBuilder {
     ghost use Rattle.nll_problem.specs.Problem as spec;
+    ghost use Rattle.nll_problem.specs.Problem.{IsSound, problem_of};
 
     ghost Value = { spec.Problem };
 
-    ghost view = { λ b. record { graph = b.graph; regions = b.regions; bases = b.bases; constraints = b.constraints; outlives = b.outlives.keys } };
+    ghost view = { λ b. problem_of b.graph b.regions b.bases b.constraints b.outlives.keys };
 
-    ghost invariant = { λ b. spec.IsSound (record { graph = b.graph; regions = b.regions; bases = b.bases; constraints = b.constraints; outlives = b.outlives.keys }) };
+    ghost invariant = { λ b.
+        IsSound (problem_of b.graph b.regions b.bases b.constraints b.outlives.keys) };
 }
 
 impl ProblemBuilder {
@@ -74,7 +78,8 @@ impl ProblemBuilder {
     pub fn region(&mut self) -> Result<RegionId, BuildError>
         ensures answers { AnswersExactly (region_error self.old) result }
         ensures ok { IfOk result (λ r. r ≡ self.old.regions) }
-        ensures added { OnOk result (self.new ≡ record self.old { regions = self.old.regions + 1 }) }
+        ensures added { OnOk result
+            (self.new ≡ record self.old { regions = self.old.regions + 1 }) }
         ensures err { OnErr result (self.new ≡ self.old) }
     {
         if self.regions >= MAX_REGIONS {
@@ -112,7 +117,8 @@ impl ProblemBuilder {
     pub fn next(&mut self, from: u32, to: u32) -> Result<(), BuildError>
         ensures answers { Answers (edge_error self.old.graph from to) result }
         ensures ok { OnOk result (AddsFact self.old.graph.edges self.new.graph.edges (from, to)) }
-        ensures others { self.new ≡ record self.old { graph = record self.old.graph { edges = self.new.graph.edges } } }
+        ensures others { self.new ≡ record self.old {
+            graph = record self.old.graph { edges = self.new.graph.edges } } }
         ensures err { OnErr result (self.new ≡ self.old) }
     {
         self.graph.next(from, to)
@@ -126,7 +132,8 @@ impl ProblemBuilder {
     pub fn ret(&mut self, point: u32) -> Result<(), BuildError>
         ensures answers { Answers (return_error self.old.graph point) result }
         ensures ok { OnOk result (AddsFact self.old.graph.returns self.new.graph.returns point) }
-        ensures others { self.new ≡ record self.old { graph = record self.old.graph { returns = self.new.graph.returns } } }
+        ensures others { self.new ≡ record self.old {
+            graph = record self.old.graph { returns = self.new.graph.returns } } }
         ensures err { OnErr result (self.new ≡ self.old) }
     {
         self.graph.ret(point)
@@ -263,7 +270,7 @@ impl ProblemBuilder {
         requires sup { constraint.sup < self.old.regions }
         requires sub { constraint.sub < self.old.regions }
         requires at { constraint.at < self.old.graph.points }
-        requires room { (building.has_constraint self.old constraint ≡ true) ⊎ (length self.old.constraints < most_constraints) }
+        requires room { IsTrue (has_constraint self.old constraint) ⊎ IsFalse (is_full self.old) }
         ensures ok { OnOk result (AddsFact self.old.constraints self.new.constraints constraint) }
         ensures others { self.new ≡ record self.old { constraints = self.new.constraints } }
         ensures err { OnErr result (self.new ≡ self.old) }

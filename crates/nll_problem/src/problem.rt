@@ -1,8 +1,7 @@
 //! Problems: regions over a graph, their base elements and the constraints between them.
 
-ghost use Rattle.std.specs.Prelude.{◌≡◌, ◌↔◌, AllPairs, Contains, IsTrue, List};
-ghost use Rattle.nll_problem.specs.Problem.{IsBase, IsEarlier, IsSound};
-ghost use Rattle.nll_problem.specs.Problem as spec;
+ghost use Rattle.std.specs.Prelude.{◌≡◌, ◌↔◌, AllPairs, Contains, IsTrue};
+ghost use Rattle.nll_problem.specs.Problem.{IsBase, IsEarlier, IsFinished, IsSound, problem_of};
 ghost use Rattle.nll_problem.specs.Building as building;
 
 use crate::constraint::Constraint;
@@ -28,12 +27,15 @@ pub struct Problem {
 
 impl Model for Problem {
     ghost use Rattle.nll_problem.specs.Problem as spec;
+    ghost use Rattle.nll_problem.specs.Problem.{IsFinished, problem_of};
 
     ghost Value = { spec.Problem };
 
-    ghost view = { λ q. record { graph = q.graph; regions = q.regions; bases = q.bases.items; constraints = q.constraints.items; outlives = q.outlives.keys } };
+    ghost view = { λ q.
+        problem_of q.graph q.regions q.bases.items q.constraints.items q.outlives.keys };
 
-    ghost invariant = { λ q. spec.IsFinished (record { graph = q.graph; regions = q.regions; bases = q.bases.items; constraints = q.constraints.items; outlives = q.outlives.keys }) };
+    ghost invariant = { λ q. IsFinished
+        (problem_of q.graph q.regions q.bases.items q.constraints.items q.outlives.keys) };
 }
 
 impl Problem {
@@ -45,8 +47,9 @@ impl Problem {
         constraints: Vec<Constraint>,
         outlives: IndexSet<(RegionId, RegionId)>,
     ) -> Problem
-        requires { spec.IsFinished (record { graph = graph; regions = regions; bases = bases.items; constraints = constraints.items; outlives = outlives.keys }) }
-        ensures { result ≡ record { graph = graph; regions = regions; bases = bases.items; constraints = constraints.items; outlives = outlives.keys } }
+        requires { IsFinished
+            (problem_of graph regions bases.items constraints.items outlives.keys) }
+        ensures { result ≡ problem_of graph regions bases.items constraints.items outlives.keys }
     {
         Problem {
             graph,
@@ -97,7 +100,8 @@ impl Problem {
         self.constraints.as_slice()
     }
 
-    /// The base facts, ascending by their regions and those of one region by their points, each once.
+    /// The base facts, ascending by their regions and those of one region by their points, each
+    /// once.
     pub fn bases(&self) -> &[(RegionId, u32)]
         ensures value { result.now ≡ self.now.bases }
         ensures ascending { AllPairs IsEarlier result.now }
@@ -106,8 +110,8 @@ impl Problem {
         self.bases.as_slice()
     }
 
-    /// The outlives facts, each once: pairs of universal regions of which the first is known to outlive
-    /// the second.
+    /// The outlives facts, each once: pairs of universal regions of which the first is known to
+    /// outlive the second.
     pub fn outlives_facts(&self) -> &[(RegionId, RegionId)]
         ensures value { result.now ≡ self.now.outlives }
         ensures sound { IsSound self.now }
