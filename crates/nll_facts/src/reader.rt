@@ -117,7 +117,8 @@ impl Reader {
         ensures err { IfErr result (λ kind. kind ≡ TextKind.Memory) }
     {
         let universals = self.names.len() as u32;
-        self.builder = Some(ProblemBuilder::new(self.alloc, self.points, universals)?);
+        let builder = ProblemBuilder::new(self.alloc, self.points, universals)?;
+        drop(self.builder.replace(builder));
         Ok(())
     }
 
