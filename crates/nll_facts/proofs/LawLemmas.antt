@@ -1,5 +1,5 @@
 -- A facts text has one meaning or one fault.
-use Rattle.std.proofs.Common.{◌⊎◌, inl, inr, ⊎_elim, ◌≡◌, ℕ, ◌<◌, ◌^◌, cond, List, [], ◌∷◌, Contains, refl, sym, ap, ◌∙◌, subst, arith}
+use Rattle.std.proofs.Common.{map, ◌⊎◌, inl, inr, ⊎_elim, ◌≡◌, ℕ, ◌<◌, ◌≤◌, length, ◌^◌, cond, List, [], ◌∷◌, Contains, refl, sym, ap, ◌∙◌, subst, arith}
 use Rattle.std.specs.Prelude.{codes}
 use Rattle.std.specs.List.{AllByRecursion}
 use Rattle.std.specs.Str.{bytes_eq}
@@ -12,10 +12,12 @@ use Rattle.nll_text.proofs.DecisionLemmas.{tokens_or_not}
 use Rattle.nll_text.proofs.TokenLemmas.{one_token_list_lem, made_or_not}
 use Rattle.nll_problem.specs.Problem.{Problem, SameProblem}
 use Rattle.nll_problem.proofs.SameLemmas.{same_problem, same_problem_back, same_problem_chain}
-use Rattle.nll_reading.specs.Text.{IsText, IsFault}
+use Rattle.nll_reading.specs.Labels.{Labels, numbers}
+use Rattle.nll_reading.specs.Text.{IsText, IsFault, HasAtMost}
 use Rattle.nll_reading.specs.declared.error.TextKind.{TextKind}
 use Rattle.nll_reading.proofs.TextLaws as laws
-use Rattle.nll_facts.specs.FactsForms.{Name, Form, points, universal, outlives, further, next, return, base, constraint, end, IsSpelled, HasForm, numbers_in, spelled}
+use Rattle.nll_facts.specs.FactsForms.{Name, Form, points, universal, outlives, further, next, return, base, constraint, end, HasForm, Part, IsSmall, AreSpelled, parts, token_of, most_tokens}
+use Rattle.nll_facts.specs.FactsForms as forms
 use Rattle.nll_facts.specs.FactsSaid.{reached, names_said, problem_said}
 use Rattle.nll_facts.specs.FactsText.{facts, Means}
 use Rattle.nll_facts.proofs.TextLemmas.{ended, not_ended}
@@ -54,51 +56,56 @@ unspelled _ = end
 printed : (n : ℕ) → n < 10 ^ 9 → digits_value 10 (decimal n) ≡ n
 printed n small = (decimal_is_IsNumeral n (omega (arith, small))).1
 
-unspelled_spelled : (f : Form) → AllByRecursion (λ n. n < 10 ^ 9) (numbers_in f) → unspelled (spelled f) ≡ f
+unspelled_spelled : (f : Form) → AllByRecursion IsSmall (parts f) → unspelled (map token_of (parts f)) ≡ f
 unfolding unspelled number_in name_in behind
-unspelled_spelled (points n) small = ap points (printed n small.0)
+unspelled_spelled (points n) small = ap points (printed n small.1.0)
 unspelled_spelled (universal a) small = refl
 unspelled_spelled (outlives a b) small = refl
 unspelled_spelled (further x) small = refl
-unspelled_spelled (next p q) small = ap (λ (n : ℕ). next n (digits_value 10 (decimal q))) (printed p small.0) ∙ ap (λ (n : ℕ). next p n) (printed q small.1.0)
-unspelled_spelled (return p) small = ap return (printed p small.0)
-unspelled_spelled (base x p) small = ap (λ (n : ℕ). base x n) (printed p small.0)
-unspelled_spelled (constraint a b p) small = ap (λ (n : ℕ). constraint a b n) (printed p small.0)
+unspelled_spelled (next p q) small = ap (λ (n : ℕ). next n (digits_value 10 (decimal q))) (printed p small.1.0) ∙ ap (λ (n : ℕ). next p n) (printed q small.1.1.0)
+unspelled_spelled (return p) small = ap return (printed p small.1.0)
+unspelled_spelled (base x p) small = ap (λ (n : ℕ). base x n) (printed p small.1.1.0)
+unspelled_spelled (constraint a b p) small = ap (λ (n : ℕ). constraint a b n) (printed p small.1.1.1.0)
 unspelled_spelled end small = refl
 
 one_form : (line : List ℕ) (f g : Form) → HasForm line f → HasForm line g → f ≡ g
 one_form line f g h k =
     sym (unspelled_spelled f h.small)
-    ∙ (ap unspelled (one_token_list_lem line (spelled f) (spelled g) h.made k.made) ∙ unspelled_spelled g k.small)
+    ∙ (ap unspelled (one_token_list_lem line (map token_of (parts f)) (map token_of (parts g)) h.made k.made) ∙ unspelled_spelled g k.small)
 
 -- ---- a line has a form or none
 
-small_or_not : (ns : List ℕ) → AllByRecursion (λ n. n < 10 ^ 9) ns ⊎ (AllByRecursion (λ n. n < 10 ^ 9) ns → ⊥)
+small_or_not : (these : List Part) → AllByRecursion IsSmall these ⊎ (AllByRecursion IsSmall these → ⊥)
 small_or_not [] = inl tt
-small_or_not (n ∷ ns) = ⊎_elim
-    (λ h. ⊎_elim (λ k. inl (h, k)) (λ no. inr (λ k. no k.1)) (small_or_not ns))
-    (λ h. inr (λ k. omega (arith, h, k.0)))
-    (cases_lt n (10 ^ 9))
+small_or_not (x ∷ these) = ⊎_elim
+    (λ h. ⊎_elim (λ k. inl (h, k)) (λ no. inr (λ k. no k.1)) (small_or_not these))
+    (λ h. inr (λ k. h k.0))
+    (part_small_or_not x)
+  where
+    part_small_or_not : (x : Part) → IsSmall x ⊎ (IsSmall x → ⊥)
+    part_small_or_not (forms.keyword w) = inl tt
+    part_small_or_not (forms.number n) = ⊎_elim inl (λ h. inr (λ k. omega (arith, h, k))) (cases_lt n (10 ^ 9))
+    part_small_or_not (forms.region x) = inl tt
 
 -- the form that tokens have is the one that they spell
-spelled_or_none : (ts : List Token) → ((f : Form) × IsSpelled ts f) ⊎ ((f : Form) → IsSpelled ts f → ⊥)
+spelled_or_none : (ts : List Token) → ((f : Form) × AreSpelled ts (parts f)) ⊎ ((f : Form) → AreSpelled ts (parts f) → ⊥)
 spelled_or_none ts =
-    let own : (f : Form) → IsSpelled ts f → unspelled ts ≡ f = λ f h. ap unspelled h.same ∙ unspelled_spelled f h.small in
+    let own : (f : Form) → AreSpelled ts (parts f) → unspelled ts ≡ f = λ f h. ap unspelled h.same ∙ unspelled_spelled f h.small in
     ⊎_elim
     (λ same. ⊎_elim
     (λ small. inl (unspelled ts, record { same = same; small = small }))
-    (λ no. inr (λ f h. no (subst (λ (g : Form). AllByRecursion (λ n. n < 10 ^ 9) (numbers_in g)) (sym (own f h)) h.small)))
-    (small_or_not (numbers_in (unspelled ts))))
-    (λ no. inr (λ f h. no (h.same ∙ sym (ap spelled (own f h)))))
-    (tokens_or_not ts (spelled (unspelled ts)))
+    (λ no. inr (λ f h. no (subst (λ (g : Form). AllByRecursion IsSmall (parts g)) (sym (own f h)) h.small)))
+    (small_or_not (parts (unspelled ts))))
+    (λ no. inr (λ f h. no (h.same ∙ sym (ap (λ (g : Form). map token_of (parts g)) (own f h)))))
+    (tokens_or_not ts (map token_of (parts (unspelled ts))))
 
 form_or_none : (line : List ℕ) → ((f : Form) × HasForm line f) ⊎ ((f : Form) → HasForm line f → ⊥)
 form_or_none line = ⊎_elim
     (λ made. ⊎_elim
     (λ h. inl (h.0, record { made = subst (IsMadeOf line) h.1.same made.1; small = h.1.small }))
-    (λ no. inr (λ f h. no f (record { same = one_token_list_lem line made.0 (spelled f) made.1 h.made; small = h.small })))
+    (λ no. inr (λ f h. no f (record { same = one_token_list_lem line made.0 (map token_of (parts f)) made.1 h.made; small = h.small })))
     (spelled_or_none made.0))
-    (λ no. inr (λ f h. no (spelled f) h.made))
+    (λ no. inr (λ f h. no (map token_of (parts f)) h.made))
     (made_or_not line)
 
 -- the last line is among the lines, or it isn't
@@ -107,29 +114,49 @@ ended_or_not forms = ⊎_elim (λ h. inl (ended forms h)) (λ none. inr (not_end
 
 -- ---- a text has one meaning or one fault
 
+-- the labels that lines say
+abbrev labels_said : List Form → Labels
+labels_said forms = record { names = names_said forms; points = numbers }
+
 pub one_fault_lem : (text : List ℕ) (l m : ℕ) (j k : TextKind) → IsFault facts text l j → IsFault facts text m k → (l ≡ m) × (j ≡ k)
 one_fault_lem = laws.one_fault_lem facts one_form
 
-pub not_both_lem : (text : List ℕ) (problem : Problem) (names : List Name) (l : ℕ) (k : TextKind) → Means text problem names → IsFault facts text l k → ⊥
-not_both_lem text problem names l k m fault = laws.not_both_lem facts one_form text m.forms l k m.fits fault
+pub not_both_lem : (text : List ℕ) (problem : Problem) (labels : Labels) (l : ℕ) (k : TextKind) → Means text problem labels → IsFault facts text l k → ⊥
+not_both_lem text problem labels l k m fault = laws.not_both_lem facts one_form text m.forms l k m.fits fault
 
-pub one_meaning_lem : (text : List ℕ) (problem other : Problem) (names other_names : List Name) → Means text problem names → Means text other other_names → SameProblem problem other × (names ≡ other_names)
-one_meaning_lem text problem other names other_names m n =
+pub one_meaning_lem : (text : List ℕ) (problem other : Problem) (labels other_labels : Labels) → Means text problem labels → Means text other other_labels → SameProblem problem other × (labels ≡ other_labels)
+one_meaning_lem text problem other labels other_labels m n =
     let same : m.forms ≡ n.forms = laws.one_forms_lem facts one_form text m.forms n.forms m.fits n.fits in
     let here : SameProblem (problem_said n.forms) problem = subst (λ (fs : List Form). SameProblem (problem_said fs) problem) same m.same_problem in
-    (same_problem_chain problem (problem_said n.forms) other (same_problem_back _ _ here) n.same_problem, m.same_names ∙ (ap names_said same ∙ sym n.same_names))
+    (same_problem_chain problem (problem_said n.forms) other (same_problem_back _ _ here) n.same_problem, m.same_labels ∙ (ap labels_said same ∙ sym n.same_labels))
 
 -- what a text that fits means
-meaning : (text : List ℕ) (forms : List Form) → IsText facts text forms → Means text (problem_said forms) (names_said forms)
+meaning : (text : List ℕ) (forms : List Form) → IsText facts text forms → Means text (problem_said forms) (labels_said forms)
 meaning text forms fits = record {
   forms = forms;
   fits = fits;
   same_problem = same_problem (problem_said forms) (problem_said forms) refl;
-  same_names = refl;
+  same_labels = refl;
 }
 
-pub some_meaning_or_fault_lem : (text : List ℕ) → ((problem : Problem) × (names : List Name) × Means text problem names) ⊎ ((line : ℕ) × (kind : TextKind) × IsFault facts text line kind)
+pub some_meaning_or_fault_lem : (text : List ℕ) → ((problem : Problem) × (labels : Labels) × Means text problem labels) ⊎ ((line : ℕ) × (kind : TextKind) × IsFault facts text line kind)
 some_meaning_or_fault_lem text = ⊎_elim
-    (λ h. inl (problem_said h.0, names_said h.0, meaning text h.0 h.1))
+    (λ h. inl (problem_said h.0, labels_said h.0, meaning text h.0 h.1))
     inr
     (laws.text_or_fault_lem facts form_or_none ended_or_not text)
+
+-- ---- no form has more tokens
+
+few_tokens_in : (f : Form) → length (map token_of (parts f)) ≤ most_tokens
+few_tokens_in (points n) = omega arith
+few_tokens_in (universal a) = omega arith
+few_tokens_in (outlives a b) = omega arith
+few_tokens_in (further x) = omega arith
+few_tokens_in (next p q) = omega arith
+few_tokens_in (return p) = omega arith
+few_tokens_in (base x p) = omega arith
+few_tokens_in (constraint a b p) = omega arith
+few_tokens_in end = omega arith
+
+pub few_tokens_lem : HasAtMost facts most_tokens
+few_tokens_lem line f h = (map token_of (parts f), few_tokens_in f, h.made)

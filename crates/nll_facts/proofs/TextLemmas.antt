@@ -3,11 +3,10 @@ use Rattle.std.proofs.Common.{◌≡◌, ℕ, suc, zero, ◌+◌, ◌-◌, ◌<�
 use Rattle.std.proofs.lemmas.Bool.{cases_eq}
 use Rattle.nll_facts.specs.FactsForms.{Form, points, universal, outlives, further, next, return, base, constraint, end}
 use Rattle.nll_facts.specs.FactsSaid.{Said, said, group, reached}
-use Rattle.nll_facts.specs.FactsReading.{SameSaid, Adds, ReadsLine, skips, reads}
+use Rattle.nll_facts.specs.FactsReading.{SameSaid, Adds, ReadsLine}
 use Rattle.nll_facts.specs.FactsText.{facts}
 use Rattle.nll_facts.proofs.SaidLemmas.{same_fault, adds_said, same_itself}
 use Rattle.nll_reading.specs.Text.{HasFault, IsFaulty, Says}
-use Rattle.nll_reading.specs.Reading as reading
 use Rattle.nll_reading.specs.declared.error.TextKind.{TextKind}
 use Rattle.nll_reading.proofs.ReadingLemmas as lemmas
 
@@ -19,14 +18,10 @@ IsRead = lemmas.IsRead facts SameSaid
 pub read_none : (all : List (List ℕ)) (s : Said) → s ≡ said [] → IsRead all [] all [] s 1
 read_none all s e = lemmas.read_none facts SameSaid all s (subst (SameSaid (said [])) (sym e) (same_itself (said [])))
 
-reads_line : (s t : Said) (line : List ℕ) → ReadsLine s line t → reading.ReadsLine facts Adds s line t
-reads_line s t line (skips fit e) = reading.skips fit e
-reads_line s t line (reads f fit adds) = reading.reads f fit adds
-
 -- one more line is read
 pub read_more : (all front rest : List (List ℕ)) (line : List ℕ) (after : List (List ℕ)) (forms : List Form) (s t : Said) (number : ℕ) → rest ≡ line ∷ after → IsRead all front rest forms s number → ReadsLine s line t → (more : List Form) × IsRead all (front ++ line ∷ []) after more t (number + 1)
 read_more all front rest line after forms s t number step r h =
-    lemmas.read_more facts SameSaid same_fault Adds adds_said all front rest line after forms s t number step r (reads_line s t line h)
+    lemmas.read_more facts SameSaid same_fault Adds adds_said all front rest line after forms s t number step r h
 
 -- the next line is faulty
 pub read_fault : (all front rest : List (List ℕ)) (line : List ℕ) (after : List (List ℕ)) (forms : List Form) (s : Said) (number : ℕ) → rest ≡ line ∷ after → IsRead all front rest forms s number → (kind : TextKind) → IsFaulty facts s line kind → HasFault facts all (number + 1 - 2) kind
@@ -87,4 +82,3 @@ ended (f ∷ forms) h = ⊎_elim
 -- and have none where it isn't
 pub not_ended : (forms : List Form) → (reached forms ≡ 6 → ⊥) → Contains forms end → ⊥
 not_ended forms none c = none (omega (arith, group_reached forms end c.0 c.1 c.2, reached_most forms))
-

@@ -3,7 +3,7 @@ use Rattle.nll_text.specs.Lines.{lines_left}
 use Rattle.nll_facts.specs.FactsForms.{Form}
 use Rattle.nll_facts.specs.FactsReading.{said_by, IsReady}
 use Rattle.nll_facts.proofs.TextLemmas.{IsRead}
-use Rattle.nll_facts.proofs.facts.read_body.Given as goal
+use Rattle.nll_facts.proofs.facts.read_lines.Given as goal
 
 abbrev pub invariant-loop-rest : goal.invariant-loop-rest
 invariant-loop-rest l = record {
