@@ -27,7 +27,8 @@ pub record IsCheckReport (q : Problem) (names : List (List ℕ)) (report : List 
 
 -- the report and the status are what the command asks of the problem
 abbrev pub IsProblemAnswer : Command → Problem → List (List ℕ) → List ℕ → ℕ → Type 0
-IsProblemAnswer Values q names report status = IsValuesReport q names (Least q) report × (status ≡ 0)
+IsProblemAnswer Values q names report status =
+    IsValuesReport q names (Least q) report × (status ≡ 0)
 IsProblemAnswer Check q names report status = IsCheckReport q names report status
 
 -- The text means a problem, and the report and the status are what the command asks of it.

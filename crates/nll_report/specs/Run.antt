@@ -7,7 +7,8 @@ use Rattle.nll_facts.specs.FactsText.{IsFault}
 use Rattle.nll_report.specs.declared.answers.Command.{Command}
 use Rattle.nll_report.specs.declared.answers.Command.TheVariants as command
 use Rattle.nll_report.specs.declared.messages.Refusal.{Refusal}
-use Rattle.nll_report.specs.declared.messages.Refusal.TheVariants.{Usage, CannotRead, Text, Memory, CannotWrite}
+use Rattle.nll_report.specs.declared.messages.Refusal.TheVariants.{Usage, CannotRead, Text}
+use Rattle.nll_report.specs.declared.messages.Refusal.TheVariants.{Memory, CannotWrite}
 use Rattle.nll_report.specs.declared.task.Task.{Task}
 use Rattle.nll_report.specs.declared.task.Task.TheVariants.{Values, Check}
 use Rattle.nll_report.specs.Answer.{IsAnswer}
@@ -41,7 +42,8 @@ command_of Values = command.Values
 command_of Check = command.Check
 
 -- A text of the file has the report and the status as the answer to the task.
-pub record IsFileAnswer (holds : Holds) (task : Task) (file report : List ℕ) (status : ℕ) : Type 0 where
+pub record IsFileAnswer (holds : Holds) (task : Task) (file report : List ℕ) (status : ℕ)
+    : Type 0 where
   pub text : List ℕ
   pub held : holds file text
   pub answer : IsAnswer (command_of task) text report status
@@ -64,7 +66,8 @@ abbrev pub IsRun : Holds → Words → List ℕ → ℕ → Type 0
 IsRun holds words bytes status = IsReport holds words bytes status ⊎ IsHelp words status
 
 -- The bytes of a run with this status were put behind the known bytes of a writer.
-pub record IsPrinted (holds : Holds) (words : Words) (status : ℕ) (old new : Option (List ℕ)) : Type 0 where
+pub record IsPrinted (holds : Holds) (words : Words) (status : ℕ) (old new : Option (List ℕ))
+    : Type 0 where
   pub bytes : List ℕ
   pub run : IsRun holds words bytes status
   pub appended : Appends old new bytes
@@ -92,7 +95,8 @@ IsFileRefused holds lacks file Memory = Unit {0}
 IsFileRefused holds lacks file CannotWrite = ⊥
 
 -- The words are a line, and the refusal tells the truth of its file.
-pub record IsLineRefused (holds : Holds) (lacks : Lacks) (words : Words) (refusal : Refusal) : Type 0 where
+pub record IsLineRefused (holds : Holds) (lacks : Lacks) (words : Words) (refusal : Refusal)
+    : Type 0 where
   pub task : Task
   pub file : List ℕ
   pub line : IsLine task file words

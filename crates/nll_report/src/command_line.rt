@@ -6,8 +6,8 @@ ghost use Rattle.nll_report.specs.CommandLine.{IsLine, IsPlainLine};
 ghost use Rattle.clap.specs.Words.{app_of, found_of, kind_of, rows_of, rule_of};
 ghost use Rattle.clap.specs.Words.{new_app, subcommand_rows_of, with_rule};
 ghost use Rattle.clap.specs.declared.builder.Command.TheViews.{out-Command};
-ghost use Rattle.nll_report.specs.Grammar.{IsHelpKind, IsLineError, bare_program, file_rule, line_of_found};
-ghost use Rattle.nll_report.specs.Grammar.{line_of_matches, program, task_named};
+ghost use Rattle.nll_report.specs.Grammar.{IsHelpKind, IsLineError, bare_program, file_rule};
+ghost use Rattle.nll_report.specs.Grammar.{line_of_found, line_of_matches, program, task_named};
 
 use crate::task::{Line, LineError, Task};
 use clap::error::ErrorKind;

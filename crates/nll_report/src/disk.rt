@@ -15,8 +15,8 @@ const READ_LIMIT: u64 = 67_108_865;
 /// The files of the runtime.
 ///
 /// # Cost
-/// At most 67,108,865 bytes of a file are read, whatever its length; a file whose length is known is
-/// read into one allocation (not proved).
+/// At most 67,108,865 bytes of a file are read, whatever its length; a file whose length is known
+/// is read into one allocation (not proved).
 #[derive(Drop)]
 pub struct Disk<'a, R> {
     rt: &'a R,

@@ -83,8 +83,8 @@ pub fn drive<R: AllocGlobal, T: Texts, O: Sink, E: Sink>(
     }
 }
 
-/// Runs the program on the words and the files of its process, and answers its status. Words that are
-/// not UTF-8 are refused.
+/// Runs the program on the words and the files of its process, and answers its status. Words that
+/// are not UTF-8 are refused.
 ///
 /// # Not said
 /// No contract knows which words a process has, what its files hold, and what its own standard
@@ -113,7 +113,7 @@ pub fn run_in_process<R: Env + Files + AllocGlobal, O: Sink, E: Sink>(
 {
     match words_of(rt) {
         Ok(words) => drive(rt, words.as_slice(), &Disk::new(rt), out, err),
-        Err(refusal) => tell(&refusal, err),
+        Err(lost) => tell(&lost, err),
     }
 }
 
