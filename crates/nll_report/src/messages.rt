@@ -13,6 +13,7 @@ use itoa::Buffer;
 use nll_core::Kind;
 use nll_mir::{TextError, TextKind};
 use std::alloc::AllocError;
+use std::error::Error;
 use std::fmt;
 
 /// The line that is written where the words are refused.
@@ -131,6 +132,8 @@ impl fmt::Display for Refusal {
         }
     }
 }
+
+impl Error for Refusal {}
 
 fn kind_text(kind: TextKind) -> &'static str
     ensures { result.now ≡ kind_text kind }

@@ -18,6 +18,7 @@ use crate::task::{Line, LineError, Task};
 use std::alloc::Global;
 use std::rt::{Env, Files};
 use std::{env, io};
+use thiserror::Error;
 
 /// The texts that the program can read, by their paths.
 pub trait Texts {
@@ -34,11 +35,13 @@ pub trait Texts {
 }
 
 /// Why a text was not given.
-#[derive(Clone, Copy, Debug, PartialEq, Eq)]
+#[derive(Clone, Copy, Debug, PartialEq, Eq, Error)]
 pub enum Unread {
     /// There is no such text, or it cannot be read.
+    #[error("the text cannot be read")]
     Cannot,
     /// An allocation was refused.
+    #[error("memory was refused")]
     Memory,
 }
 
