@@ -14,6 +14,12 @@ is_current() {
 
 say() { echo "nllc.sh: $*" >&2; }
 
+needs_rt() {
+    command -v rt >/dev/null && return
+    say "rt, the command of the Rattle kit, isn't on the PATH"
+    exit 127
+}
+
 # Compiles without proofs. `rt try` does that, but runs what it compiled once, in a folder that it then removes,
 # and hands on no more than 1 MiB of output after at most 60 seconds. So it gets a pipe to read, which opens
 # when it runs and holds it up until it is copied; the copy has no such limits.
@@ -28,6 +34,7 @@ compile() (
 )
 
 if [ "$#" = 1 ] && [ "$1" = --prove ]; then
+    needs_rt
     (cd "$here/crates/nllc" && rt run -- --help >/dev/null) || exit
     say "proved and built: $proved"
 elif is_current "$proved"; then
@@ -36,8 +43,9 @@ elif is_current "$unproved"; then
     say "this build isn't proved, and is slower; $0 --prove makes the proved one"
     exec "$unproved" "$@"
 else
+    needs_rt
     say "compiling a build that isn't proved, in about a minute; $0 --prove makes the proved one"
     compile && exec "$unproved" "$@"
-    say "it didn't compile: see $here/out/compile.log"
+    say "nothing was compiled: see $here/out/compile.log"
     exit 127
 fi
