@@ -1,7 +1,7 @@
 #!/bin/sh
 # Runs nllc on these words: the program that `./nllc.sh --prove` proved and built, while no source is newer.
-# Until then a build of the same sources that nothing has proved, with checks at run time: it is compiled once
-# and kept in out/, and each run says so in one line on standard error.
+# Until then a build of the same sources that nothing has proved, with checks at run time and not optimised: it is
+# compiled once, in about a minute, and kept in out/; each run says so in one line on standard error.
 here=$(dirname -- "$(readlink -f -- "$0")")
 proved=$here/crates/nllc/out/nllc
 unproved=$here/out/nllc-unproved
@@ -40,11 +40,11 @@ if [ "$#" = 1 ] && [ "$1" = --prove ]; then
 elif is_current "$proved"; then
     exec "$proved" "$@"
 elif is_current "$unproved"; then
-    say "this build isn't proved, and is slower; $0 --prove makes the proved one"
+    say "this build isn't proved, and is hundreds of times slower; $0 --prove makes the proved one"
     exec "$unproved" "$@"
 else
     needs_rt
-    say "compiling a build that isn't proved, in about a minute; $0 --prove makes the proved one"
+    say "compiling a build that isn't proved, and is hundreds of times slower; $0 --prove makes the proved one"
     compile && exec "$unproved" "$@"
     say "nothing was compiled: see $here/out/compile.log"
     exit 127
