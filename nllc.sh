@@ -1,29 +1,51 @@
 #!/bin/sh
-# Runs nllc on these words. Until `./nllc.sh --prove` has proved all crates and built the program, a
-# build answers that is compiled and not proved, and standard error says so.
-here=$(cd "$(dirname "$0")" && pwd)
-program=$here/crates/nllc
-built=$program/out/nllc
+# Runs nllc on these words: the program that `./nllc.sh --prove` proved and built, while no source is newer.
+# Until then a build of the same sources that nothing has proved, with checks at run time and not optimised: it is
+# compiled once, in about a minute, and kept in out/; each run says so in one line on standard error.
+here=$(dirname -- "$(readlink -f -- "$0")")
+proved=$here/crates/nllc/out/nllc
+unproved=$here/out/nllc-unproved
 
-if [ "$*" = --prove ]; then
-    cd "$program" && rt run -- --help >/dev/null && echo "nllc.sh: proved and built: $built" >&2
-    exit
+# Whether the program is there, and no source is newer.
+is_current() {
+    [ -x "$1" ] && [ -z "$(find "$here/crates" "$here/crates.txt" -name out -prune -o -newer "$1" \
+        \( -name '*.rt' -o -name '*.antt' -o -name crates.txt \) -print)" ]
+}
+
+say() { echo "nllc.sh: $*" >&2; }
+
+needs_rt() {
+    command -v rt >/dev/null && return
+    say "rt, the command of the Rattle kit, isn't on the PATH"
+    exit 127
+}
+
+# Compiles without proofs. `rt try` does that, but runs what it compiled once, in a folder that it then removes,
+# and hands on no more than 1 MiB of output after at most 60 seconds. So it gets a pipe to read, which opens
+# when it runs and holds it up until it is copied; the copy has no such limits.
+compile() (
+    mkdir -p "$here/out" && room=$(mktemp -d "$here/out/compile.XXXXXX") || exit
+    trap 'kill $! 2>/dev/null; rm -rf "$room"' EXIT
+    trap 'exit 130' HUP INT TERM
+    touch "$room/began" && mkfifo "$room/pipe" && cd "$here/crates/nllc" || exit
+    (exec 3>"$room/pipe" && cp "$room"/*/*/program "$room/nllc") &
+    TMPDIR=$room rt try -- check "$room/pipe" </dev/null >"$here/out/compile.log" 2>&1
+    [ -x "$room/nllc" ] && touch -r "$room/began" "$room/nllc" && mv "$room/nllc" "$unproved"
+)
+
+if [ "$#" = 1 ] && [ "$1" = --prove ]; then
+    needs_rt
+    (cd "$here/crates/nllc" && rt run -- --help >/dev/null) || exit
+    say "proved and built: $proved"
+elif is_current "$proved"; then
+    exec "$proved" "$@"
+elif is_current "$unproved"; then
+    say "this build isn't proved, and is hundreds of times slower; $0 --prove makes the proved one"
+    exec "$unproved" "$@"
+else
+    needs_rt
+    say "compiling a build that isn't proved, and is hundreds of times slower; $0 --prove makes the proved one"
+    compile && exec "$unproved" "$@"
+    say "nothing was compiled: see $here/out/compile.log"
+    exit 127
 fi
-
-# The proved program, where no source is newer.
-changed=$(find "$here/crates" "$here/crates.txt" -newer "$built" \
-    \( -name '*.rt' -o -name '*.antt' -o -name crates.txt \) 2>/dev/null)
-if [ -x "$built" ] && [ -z "$changed" ]; then
-    exec "$built" "$@"
-fi
-
-echo "nllc.sh: this build is not proved; ./nllc.sh --prove makes the proved one" >&2
-# It runs in the program's folder, so each word behind the first that is a file gets its whole path.
-command=${1-}
-[ $# -gt 0 ] && shift
-for word; do
-    shift
-    [ -f "$word" ] && word=$(realpath "$word")
-    set -- "$@" "$word"
-done
-cd "$program" && exec rt try -- ${command:+"$command"} "$@"
