@@ -4,10 +4,10 @@ use Rattle.std.proofs.lemmas.Bool.{cases_lt, cases_eq, false≢true, true≢fals
 use Rattle.std.proofs.lemmas.List.{get_or-set_other, get_or-set_same, length-set, set-get_or, get_or_past, get_or-replicate, length-replicate}
 use Rattle.std.proofs.lemmas.List.Sums.{sum_by-set}
 use Rattle.nll_sets.specs.ElementSet.{flag}
-use Rattle.nll_core.specs.Spreading.{missing}
+use Rattle.nll_core.specs.Search.{missing}
 use Rattle.nll_core.specs.Values.{set_of, holds, IsHeld, with_element}
 use Rattle.nll_core.specs.Growing.{missing_pairs, Gains, Tells}
-use Rattle.nll_core.proofs.SpreadingLemmas.{only_one, none_in_empty}
+use Rattle.nll_core.proofs.SearchLemmas.{missing_one, none_in_empty}
 
 -- ---- one element more
 
@@ -55,8 +55,8 @@ module _ (values : List (List Bool)) (region e : ℕ) (within : region < length 
         let held : flag (set_of values region) e ≡ true = not-false _ h in
         ap (λ x. set values region x) (subst (λ b. set (set_of values region) e b ≡ set_of values region) held (set-get_or (set_of values region) e false)) ∙ set-get_or values region [];
     fewer = λ h.
-        let one = only_one (set_of values region) [] e below (not-true _ h) in
-        omega (arith, one.count, sum_by-set missing values region row [] within);
+        let one = missing_one (set_of values region) e below (not-true _ h) in
+        omega (arith, one, sum_by-set missing values region row [] within);
   }
 
 -- ---- none, and some after some

@@ -1,4 +1,5 @@
-pub mod SpreadingLemmas
+pub mod SearchLemmas
 pub mod GrowingLemmas
 pub mod SolverLemmas
+pub mod OutlivesLemmas
 pub mod FaultLemmas

@@ -4,9 +4,9 @@ use Rattle.std.proofs.lemmas.Bool.{true≢false, cases_eq}
 use Rattle.std.proofs.lemmas.List.{get_or_default, get_or-replicate, length-replicate}
 use Rattle.nll_problem.specs.Graph.{element_count}
 use Rattle.nll_problem.specs.Problem.{Problem, IsBase, IsUniversal, end_of}
-use Rattle.nll_problem.specs.Solution.{Satisfies, Least}
+use Rattle.nll_problem.specs.Solution.{Asks, Satisfies, Least}
 use Rattle.nll_core.specs.Values.{set_of, holds, IsHeld, with_element, IsShaped}
-use Rattle.nll_core.specs.Growing.{Gains, Tells, IsBelow, StaysBelow, IsAsked, IsMet, IsClosed}
+use Rattle.nll_core.specs.Growing.{Gains, Tells, IsBelow, StaysBelow, IsMet, IsClosed}
 use Rattle.nll_problem.specs.declared.constraint.Constraint.{Constraint}
 use Rattle.nll_problem.proofs.WalkLemmas.{reaches_weaker}
 use Rattle.nll_core.proofs.GrowingLemmas.{held_one, gains_none, gains_one, gains_append, gains_weaker, tells_none, tells_append}
@@ -95,7 +95,7 @@ module _ (q : Problem) where
   -- ---- a round
 
   -- what a constraint asks is in each assignment that satisfies the problem and has all of the values
-  pub below_gains : (c : Constraint) (old new : List (List Bool)) → Contains q.constraints c → Gains (λ r e. (r ≡ c.sup) × IsAsked q old c e) old new → StaysBelow q old new
+  pub below_gains : (c : Constraint) (old new : List (List Bool)) → Contains q.constraints c → Gains (λ r e. (r ≡ c.sup) × Asks q.graph (IsHeld old) c e) old new → StaysBelow q old new
   below_gains c old new of_problem g = λ assignment sat under r e h. ⊎_elim
       (under r e)
       (λ asked. subst (λ x. IsTrue (assignment x e)) (sym asked.0) (sat.each c of_problem e (reaches_weaker q.graph (IsHeld old c.sub) c.at _ (λ x k. under c.sub x k) e asked.1)))
@@ -118,7 +118,7 @@ module _ (q : Problem) where
     met = λ h k c l. absurd (omega arith);
   }
 
-  pub rounding_stays : (first now next : List (List Bool)) (c : Constraint) → StaysBelow q first now → Contains q.constraints c → Gains (λ r e. (r ≡ c.sup) × IsAsked q now c e) now next → StaysBelow q first next
+  pub rounding_stays : (first now next : List (List Bool)) (c : Constraint) → StaysBelow q first now → Contains q.constraints c → Gains (λ r e. (r ≡ c.sup) × Asks q.graph (IsHeld now) c e) now next → StaysBelow q first next
   rounding_stays first now next c below of_problem g = λ assignment sat under. below_gains c now next of_problem g assignment sat (below assignment sat under)
 
   neither : (x y : Bool) → (x || y) ≡ false → (x ≡ false) × (y ≡ false)
@@ -126,7 +126,7 @@ module _ (q : Problem) where
   neither false y h = (refl, h)
 
   pub rounding_more : (first now next : List (List Bool)) (changed new : Bool) (count : ℕ) (c : Constraint) → count < length q.constraints → get_or q.constraints count c ≡ c → Rounding first now changed count
-      → Gains (λ r e. (r ≡ c.sup) × IsAsked q now c e) now next → ((e : ℕ) → IsAsked q now c e → IsHeld next c.sup e) → Tells new now next → Rounding first next (changed || new) (count + 1)
+      → Gains (λ r e. (r ≡ c.sup) × Asks q.graph (IsHeld now) c e) now next → ((e : ℕ) → Asks q.graph (IsHeld now) c e → IsHeld next c.sup e) → Tells new now next → Rounding first next (changed || new) (count + 1)
   rounding_more first now next changed new count c within is r g asks tells = record {
     shaped = shaped_gains _ now next r.shaped g;
     kept = λ s e h. g.kept s e (r.kept s e h);
@@ -138,7 +138,7 @@ module _ (q : Problem) where
         let there : next ≡ now = tells.same both.1 in
         ⊎_elim
         (λ at. subst (IsMet q first) (sym (get_or_default q.constraints k d c (omega arith) ∙ (ap (λ j. get_or q.constraints j c) at ∙ is)))
-        (λ e h. subst (λ v. IsHeld v c.sup e) (there ∙ here) (asks e (subst (λ v. IsAsked q v c e) (sym here) h))))
+        (λ e h. subst (λ v. IsHeld v c.sup e) (there ∙ here) (asks e (subst (λ v. Asks q.graph (IsHeld v) c e) (sym here) h))))
         (λ other. r.met both.0 k d (omega arith))
         (cases_eq k count);
   }

@@ -1,10 +1,9 @@
 -- How values grow towards the least solution of a problem.
 -- Source: project's choice. Private contracts alone cite this file.
 use Rattle.std.specs.Prelude.{◌≡◌, ◌⊎◌, ℕ, ◌<◌, Bool, true, false, IsTrue, List, length, Contains, sum_by}
-use Rattle.nll_problem.specs.Walks.{Reaches}
 use Rattle.nll_problem.specs.Problem.{Problem}
-use Rattle.nll_problem.specs.Solution.{Satisfies}
-use Rattle.nll_core.specs.Spreading.{missing}
+use Rattle.nll_problem.specs.Solution.{Asks, Satisfies}
+use Rattle.nll_core.specs.Search.{missing}
 use Rattle.nll_core.specs.Values.{set_of, IsHeld}
 use Rattle.nll_problem.specs.declared.constraint.Constraint.{Constraint}
 
@@ -32,13 +31,9 @@ IsBelow values assignment = (r e : ℕ) → IsHeld values r e → IsTrue (assign
 abbrev pub StaysBelow : Problem → List (List Bool) → List (List Bool) → Type 0
 StaysBelow q old new = (assignment : ℕ → ℕ → Bool) → Satisfies q (λ s f. IsTrue (assignment s f)) → IsBelow old assignment → IsBelow new assignment
 
--- from the constraint's point e is reached by a walk inside the value of its `sub`
-abbrev pub IsAsked : Problem → List (List Bool) → Constraint → ℕ → Type 0
-IsAsked q values c e = Reaches q.graph (IsHeld values c.sub) c.at e
-
 -- the values hold all that the constraint asks of them
 abbrev pub IsMet : Problem → List (List Bool) → Constraint → Type 0
-IsMet q values c = (e : ℕ) → IsAsked q values c e → IsHeld values c.sup e
+IsMet q values c = (e : ℕ) → Asks q.graph (IsHeld values) c e → IsHeld values c.sup e
 
 -- the values meet each constraint
 abbrev pub IsClosed : Problem → List (List Bool) → Type 0

@@ -1,4 +1,4 @@
 pub mod Values
-pub mod Spreading
+pub mod Search
 pub mod Growing
 pub mod Outliving

@@ -1,11 +1,16 @@
 //! The least solution of a problem of location-aware regions, and its faults.
 //! The problem is that of `nll_problem`, the sets are those of `nll_sets`; both are found here too.
 //!
-//! Reading order: `values`, `reachability`, `solver`, `fault_check`. The definitions are in specs/.
+//! Reading order: `values`, `search`, `reachability`, `solver`, `outlives_index`, `outliving`,
+//! `fault_check`. The definitions are in specs/.
 #![tactic(auto)]
 
 mod fault_check;
+mod outlives_index;
+mod outliving;
 mod reachability;
+mod region_elements;
+mod search;
 mod solver;
 mod values;
 
@@ -15,5 +20,6 @@ pub use nll_problem::{
     MAX_UNIVERSALS, Problem, ProblemBuilder, RegionId,
 };
 pub use nll_sets::{BitSet, Element, ElementSet, Elements, Memory};
+pub use region_elements::RegionElements;
 pub use solver::solve;
 pub use values::Values;

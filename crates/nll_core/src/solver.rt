@@ -4,17 +4,14 @@
 
 ghost use Rattle.std.specs.Prelude.{◌≡◌, ℕ, ◌+◌, ◌≤◌, ◌<◌, ◌↔◌, false, Contains, length, IfOk, OnOk};
 ghost use Rattle.nll_problem.specs.Problem.{IsBase, IsUniversal};
-ghost use Rattle.nll_problem.specs.Solution.{Satisfies, Least};
+ghost use Rattle.nll_problem.specs.Solution.{Asks, Least};
 ghost use Rattle.nll_core.specs.Values.{set_of, IsHeld, IsShaped};
-ghost use Rattle.nll_core.specs.Growing.{Gains, Tells, StaysBelow, IsAsked, IsMet, IsClosed};
+ghost use Rattle.nll_core.specs.Growing.{Gains, Tells, StaysBelow, IsMet, IsClosed};
 
-use nll_problem::Constraint;
-use nll_sets::Element;
-use nll_problem::RegionId;
-use nll_sets::Memory;
-use nll_problem::Problem;
 use crate::reachability::reached_from;
 use crate::values::Values;
+use nll_problem::{Constraint, Problem, RegionId};
+use nll_sets::{Element, Memory};
 use std::alloc::Global;
 
 /// Gives each region its least value: the base elements, and what the constraints ask for.
@@ -30,7 +27,6 @@ use std::alloc::Global;
 /// RFC 2094, "Solving constraints".
 pub fn solve(alloc: Global, problem: &Problem) -> Result<Values, Memory>
     ensures shaped { IfOk result (IsShaped problem.now) }
-    ensures solution { IfOk result (λ values. Satisfies problem.now (IsHeld values)) }
     ensures least { IfOk result (λ values. (r e : ℕ) → IsHeld values r e ↔ Least problem.now r e) }
 {
     let mut values = base_values(alloc, problem)?;
@@ -118,16 +114,13 @@ fn apply(
 ) -> Result<bool, Memory>
     requires shaped { IsShaped problem.now values.old }
     requires of_problem { Contains problem.now.constraints constraint }
-    ensures gains { Gains (λ r e. (r ≡ constraint.sup) × IsAsked problem.now values.old constraint e) values.old values.new }
-    ensures asks { OnOk result ((e : ℕ) → IsAsked problem.now values.old constraint e → IsHeld values.new constraint.sup e) }
+    ensures gains { Gains (λ r e. (r ≡ constraint.sup) × Asks problem.now.graph (IsHeld values.old) constraint e) values.old values.new }
+    ensures asks { OnOk result ((e : ℕ) → Asks problem.now.graph (IsHeld values.old) constraint e → IsHeld values.new constraint.sup e) }
     ensures tells { IfOk result (λ changed. Tells changed values.old values.new) }
 {
     let graph = problem.graph();
-    let at = Element(constraint.at);
-    if !values.has(constraint.sub, at) {
-        return Ok(false);
-    }
-    let found = reached_from(alloc, graph, values.set(constraint.sub), at)?;
+    let set = values.set(constraint.sub);
+    let found = reached_from(alloc, graph, set, Element(constraint.at))?;
     insert_all(values, constraint.sup, &found)
 }
 

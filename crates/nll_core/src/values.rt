@@ -5,13 +5,9 @@ ghost use Rattle.nll_problem.specs.Graph.{element_count};
 ghost use Rattle.nll_sets.specs.ElementSet.{elements};
 ghost use Rattle.nll_core.specs.Values.{set_of, holds, with_element};
 
-use nll_sets::BitSet;
-use nll_sets::Element;
-use nll_problem::RegionId;
-use nll_sets::ElementSet;
-use nll_sets::Elements;
-use nll_sets::Memory;
-use nll_problem::Problem;
+use crate::region_elements::RegionElements;
+use nll_problem::{Problem, RegionId};
+use nll_sets::{BitSet, Element, ElementSet, Memory};
 use std::alloc::Global;
 use std::marker::Model;
 
@@ -66,11 +62,11 @@ impl Values {
     }
 
     /// The elements of the value of a region, ascending: its points, and then its ends.
-    pub fn iter(&self, region: RegionId) -> Elements<'_, BitSet>
+    pub fn iter(&self, region: RegionId) -> RegionElements<'_>
         requires { region < length self.now }
         ensures { result ≡ elements (set_of self.now region) }
     {
-        self.sets[region.0 as usize].iter()
+        RegionElements::of(&self.sets[region.0 as usize])
     }
 
     // The set of a region.

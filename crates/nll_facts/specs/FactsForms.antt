@@ -1,9 +1,10 @@
 -- The forms of the lines of a facts text, version 1, and how they are spelled.
 -- Source: project's choice; docs/FORMATS.md says the same in words.
-use Rattle.std.specs.Prelude.{◌≡◌, ℕ, ◌<◌, ◌^◌, List, [], ◌∷◌, codes}
+use Rattle.std.specs.Prelude.{◌≡◌, ℕ, ◌<◌, ◌^◌, List, [], ◌∷◌, codes, map}
 use Rattle.std.specs.List.{AllByRecursion}
 use Rattle.std.specs.Fmt.{decimal}
-use Rattle.nll_text.specs.Tokens.{Token, word, region, IsMadeOf}
+use Rattle.nll_text.specs.Tokens as lex
+use Rattle.nll_text.specs.Tokens.{IsMadeOf}
 
 -- a region's name, without the `'` in front
 abbrev pub Name : Type 0
@@ -21,40 +22,47 @@ pub data Form : Type 0 where
   constraint : Name → Name → ℕ → Form
   end : Form
 
--- a number is a word: the number as it is printed
-abbrev pub number : ℕ → Token
-number n = word (decimal n)
+-- A part of a line: its first word, a number, or the name of a region.
+pub data Part : Type 0 where
+  keyword : List ℕ → Part
+  number : ℕ → Part
+  region : Name → Part
 
--- the tokens of a line of the form
-abbrev pub spelled : Form → List Token
-spelled (points n) = word (codes "points") ∷ number n ∷ []
-spelled (universal a) = word (codes "universal") ∷ region a ∷ []
-spelled (outlives a b) = word (codes "outlives") ∷ region a ∷ region b ∷ []
-spelled (further x) = word (codes "region") ∷ region x ∷ []
-spelled (next p q) = word (codes "next") ∷ number p ∷ number q ∷ []
-spelled (return p) = word (codes "return") ∷ number p ∷ []
-spelled (base x p) = word (codes "base") ∷ region x ∷ number p ∷ []
-spelled (constraint a b p) = word (codes "constraint") ∷ region a ∷ region b ∷ number p ∷ []
-spelled end = word (codes "end") ∷ []
+-- how a part is written: a number as it is printed, a name behind its `'`
+abbrev pub token_of : Part → lex.Token
+token_of (keyword w) = lex.word w
+token_of (number n) = lex.word (decimal n)
+token_of (region x) = lex.region x
 
--- the numbers of a form
-abbrev pub numbers_in : Form → List ℕ
-numbers_in (points n) = n ∷ []
-numbers_in (universal a) = []
-numbers_in (outlives a b) = []
-numbers_in (further x) = []
-numbers_in (next p q) = p ∷ q ∷ []
-numbers_in (return p) = p ∷ []
-numbers_in (base x p) = p ∷ []
-numbers_in (constraint a b p) = p ∷ []
-numbers_in end = []
+-- a number has at most nine digits
+abbrev pub IsSmall : Part → Type 0
+IsSmall (keyword w) = Unit {0}
+IsSmall (number n) = n < 10 ^ 9
+IsSmall (region x) = Unit {0}
 
--- The tokens are those of a line of the form, and its numbers have at most nine digits.
-pub record IsSpelled (tokens : List Token) (f : Form) : Type 0 where
-  pub same : tokens ≡ spelled f
-  pub small : AllByRecursion (λ n. n < 10 ^ 9) (numbers_in f)
+-- the parts of a line of the form
+abbrev pub parts : Form → List Part
+parts (points n) = keyword (codes "points") ∷ number n ∷ []
+parts (universal a) = keyword (codes "universal") ∷ region a ∷ []
+parts (outlives a b) = keyword (codes "outlives") ∷ region a ∷ region b ∷ []
+parts (further x) = keyword (codes "region") ∷ region x ∷ []
+parts (next p q) = keyword (codes "next") ∷ number p ∷ number q ∷ []
+parts (return p) = keyword (codes "return") ∷ number p ∷ []
+parts (base x p) = keyword (codes "base") ∷ region x ∷ number p ∷ []
+parts (constraint a b p) = keyword (codes "constraint") ∷ region a ∷ region b ∷ number p ∷ []
+parts end = keyword (codes "end") ∷ []
 
--- The line has the form: it is made of the form's tokens, and its numbers have at most nine digits.
+-- The tokens are those of the parts, and their numbers have at most nine digits.
+pub record AreSpelled (tokens : List lex.Token) (these : List Part) : Type 0 where
+  pub same : tokens ≡ map token_of these
+  pub small : AllByRecursion IsSmall these
+
+-- The line has the form: it is made of the tokens of the form's parts, and its numbers have at most
+-- nine digits.
 pub record HasForm (line : List ℕ) (f : Form) : Type 0 where
-  pub made : IsMadeOf line (spelled f)
-  pub small : AllByRecursion (λ n. n < 10 ^ 9) (numbers_in f)
+  pub made : IsMadeOf line (map token_of (parts f))
+  pub small : AllByRecursion IsSmall (parts f)
+
+-- no line of a form has more tokens
+abbrev pub most_tokens : ℕ
+most_tokens = 4

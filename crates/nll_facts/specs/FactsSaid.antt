@@ -1,12 +1,13 @@
 -- What the lines of a facts text say together, and what is wrong with a further line.
--- Source: project's choice; docs/FORMATS.md says the same in words. The code keeps tables; this speaks of whole lists of lines.
+-- Source: project's choice; docs/FORMATS.md says the same in words. The code keeps tables; this
+-- speaks of whole lists of lines.
 use Rattle.std.specs.Prelude.{ℕ, max, Bool, false, ◌==◌, nat_lt, nat_le, ◌&&◌, ◌||◌, not, List, [], ◌∷◌, ◌++◌, length, codes, find, Option, Some, None}
 use Rattle.std.specs.List.{filter_map}
 use Rattle.indexmap.specs.IndexSet.{insert_all}
 use Rattle.nll_problem.specs.Problem.{Problem}
 use Rattle.nll_problem.specs.Building.{same_pair, same_constraint, is_point, has_edge, has_constraint}
 use Rattle.nll_problem.specs.declared.constraint.Constraint.{Constraint}
-use Rattle.nll_problem.specs.declared.limits.TheConstants.{MAX_POINTS, MAX_EDGES, MAX_UNIVERSALS, MAX_REGIONS, MAX_CONSTRAINTS}
+use Rattle.nll_problem.specs.Limits.{most_points, most_edges, most_universals, most_regions, most_constraints}
 use Rattle.nll_problem.specs.declared.error.Kind.TheVariants.{Points, Edges, Universals, Regions, Constraints}
 use Rattle.nll_reading.specs.Names.{number_of}
 use Rattle.nll_reading.specs.Kinds.{kinds}
@@ -53,7 +54,8 @@ base_in names _ = None
 
 -- the constraint of a line, by the regions' numbers
 abbrev pub constraint_in : List Name → Form → Option Constraint
-constraint_in names (constraint a b p) = Some (record { sup = number_of names a; sub = number_of names b; at = p })
+constraint_in names (constraint a b p) =
+    Some (record { sup = number_of names a; sub = number_of names b; at = p })
 constraint_in names _ = None
 
 -- ---- what lines say together
@@ -82,7 +84,8 @@ problem_said forms = record {
   };
   regions = length (names_said forms);
   bases = filter_map (base_in (names_said forms)) forms;
-  constraints = insert_all same_constraint [] (filter_map (constraint_in (names_said forms)) forms);
+  constraints =
+      insert_all same_constraint [] (filter_map (constraint_in (names_said forms)) forms);
   outlives = filter_map (outlives_in (universals_said forms)) forms;
 }
 
@@ -115,7 +118,8 @@ pub record Said : Type 0 where
 
 -- what lines of these forms say
 abbrev pub said : List Form → Said
-said forms = record { reached = reached forms; names = names_said forms; problem = problem_said forms }
+said forms =
+    record { reached = reached forms; names = names_said forms; problem = problem_said forms }
 
 -- ---- what is wrong with a further line
 
@@ -129,27 +133,33 @@ is_universal s x = nat_lt (number_of s.names x) s.problem.graph.universals
 
 -- the edge is new and there is no room for it
 abbrev pub is_full_of_edges : Said → ℕ → ℕ → Bool
-is_full_of_edges s p q = not (has_edge s.problem p q) && nat_le MAX_EDGES (length s.problem.graph.edges)
+is_full_of_edges s p q =
+    not (has_edge s.problem p q) && nat_le most_edges (length s.problem.graph.edges)
 
 -- the constraint is new and there is no room for it
 abbrev pub is_full_of_constraints : Said → Constraint → Bool
-is_full_of_constraints s c = not (has_constraint s.problem c) && nat_le MAX_CONSTRAINTS (length s.problem.constraints)
+is_full_of_constraints s c =
+    not (has_constraint s.problem c) && nat_le most_constraints (length s.problem.constraints)
 
--- The line stands in order: no line of a later group is there, nor one of its own where the group has one line, and `points` is the first.
+-- The line stands in order: no line of a later group is there, nor one of its own where the group
+-- has one line, and `points` is the first.
 abbrev pub is_in_order : Said → Form → Bool
-is_in_order s f = (nat_lt s.reached (group f) || (s.reached == group f && is_repeated f)) && (nat_lt 0 s.reached || group f == 1)
+is_in_order s f =
+    (nat_lt s.reached (group f) || (s.reached == group f && is_repeated f))
+    && (nat_lt 0 s.reached || group f == 1)
 
 -- Whether a line of the form has a fault of the kind, after lines that say s.
 abbrev pub has_fault : Said → Form → TextKind → Bool
 has_fault s f Syntax = not (is_in_order s f)
 has_fault s (points n) Range = n == 0
-has_fault s (points n) (Limit Points) = nat_lt MAX_POINTS n
+has_fault s (points n) (Limit Points) = nat_lt most_points n
 has_fault s (universal a) Duplicate = is_declared s a
-has_fault s (universal a) (Limit Universals) = nat_le MAX_UNIVERSALS s.problem.graph.universals
-has_fault s (universal a) (Limit Regions) = nat_le MAX_REGIONS (length s.names)
+has_fault s (universal a) (Limit Universals) =
+    nat_le most_universals s.problem.graph.universals
+has_fault s (universal a) (Limit Regions) = nat_le most_regions (length s.names)
 has_fault s (outlives a b) Unknown = not (is_universal s a && is_universal s b)
 has_fault s (further x) Duplicate = is_declared s x
-has_fault s (further x) (Limit Regions) = nat_le MAX_REGIONS (length s.names)
+has_fault s (further x) (Limit Regions) = nat_le most_regions (length s.names)
 has_fault s (next p q) Range = not (is_point s.problem p && is_point s.problem q)
 has_fault s (next p q) (Limit Edges) = is_full_of_edges s p q
 has_fault s (return p) Range = not (is_point s.problem p)
@@ -157,7 +167,9 @@ has_fault s (base x p) Unknown = not (is_declared s x)
 has_fault s (base x p) Range = not (is_point s.problem p)
 has_fault s (constraint a b p) Unknown = not (is_declared s a && is_declared s b)
 has_fault s (constraint a b p) Range = not (is_point s.problem p)
-has_fault s (constraint a b p) (Limit Constraints) = is_full_of_constraints s (record { sup = number_of s.names a; sub = number_of s.names b; at = p })
+has_fault s (constraint a b p) (Limit Constraints) =
+    is_full_of_constraints s
+        (record { sup = number_of s.names a; sub = number_of s.names b; at = p })
 has_fault s _ _ = false
 
 -- the first kind of fault that a line of the form has, by the order of kinds

@@ -3,4 +3,3 @@ pub mod FactsLines
 pub mod FactsSaid
 pub mod FactsText
 pub mod FactsReading
-pub mod Refusals

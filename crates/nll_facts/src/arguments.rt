@@ -1,15 +1,24 @@
 //! What follows the first word of a line: regions, and then numbers.
 
-ghost use Rattle.std.specs.Prelude.{◌≡◌, ◌∷◌, [], ◌<◌, ◌^◌, ℕ, List, MatchOption};
-ghost use Rattle.nll_text.specs.Tokens as lex;
 ghost use Rattle.nll_text.specs.Tokens.{views};
-ghost use Rattle.nll_facts.specs.FactsForms as forms;
+ghost use Rattle.nll_facts.specs.FactsLines as shapes;
+ghost use Rattle.nll_facts.specs.FactsLines.{Reads};
 
 use nll_text::{Token, number_of};
 
+/// Nothing.
+pub fn nothing(tokens: &[Token<'_>]) -> Option<()>
+    ensures { Reads shapes.nothing (λ n. n) (views tokens.now) result }
+{
+    match tokens {
+        [] => Some(()),
+        _ => None,
+    }
+}
+
 /// One number.
 pub fn number(tokens: &[Token<'_>]) -> Option<u32>
-    ensures { MatchOption result ((n : ℕ) → n < 10 ^ 9 → views tokens.now ≡ forms.number n ∷ [] → ⊥) (λ n. (n < 10 ^ 9) × (views tokens.now ≡ forms.number n ∷ [])) }
+    ensures { Reads shapes.one_number (λ n. n) (views tokens.now) result }
 {
     match tokens {
         [Token::Word(word)] => number_of(word),
@@ -19,7 +28,7 @@ pub fn number(tokens: &[Token<'_>]) -> Option<u32>
 
 /// Two numbers.
 pub fn two_numbers(tokens: &[Token<'_>]) -> Option<(u32, u32)>
-    ensures { MatchOption result ((p q : ℕ) → p < 10 ^ 9 → q < 10 ^ 9 → views tokens.now ≡ forms.number p ∷ forms.number q ∷ [] → ⊥) (λ n. (n.0 < 10 ^ 9) × (n.1 < 10 ^ 9) × (views tokens.now ≡ forms.number n.0 ∷ forms.number n.1 ∷ [])) }
+    ensures { Reads shapes.two_numbers (λ n. n) (views tokens.now) result }
 {
     match tokens {
         [Token::Word(first), Token::Word(second)] => {
@@ -33,7 +42,7 @@ pub fn two_numbers(tokens: &[Token<'_>]) -> Option<(u32, u32)>
 
 /// One region's name.
 pub fn region<'a>(tokens: &[Token<'a>]) -> Option<&'a [u8]>
-    ensures { MatchOption result ((x : List ℕ) → views tokens.now ≡ lex.region x ∷ [] → ⊥) (λ x. views tokens.now ≡ lex.region x.now ∷ []) }
+    ensures { Reads shapes.one_region (λ x. x.now) (views tokens.now) result }
 {
     match tokens {
         [Token::Region(name)] => Some(name),
@@ -43,7 +52,7 @@ pub fn region<'a>(tokens: &[Token<'a>]) -> Option<&'a [u8]>
 
 /// Two regions' names.
 pub fn two_regions<'a>(tokens: &[Token<'a>]) -> Option<(&'a [u8], &'a [u8])>
-    ensures { MatchOption result ((x y : List ℕ) → views tokens.now ≡ lex.region x ∷ lex.region y ∷ [] → ⊥) (λ n. views tokens.now ≡ lex.region n.0.now ∷ lex.region n.1.now ∷ []) }
+    ensures { Reads shapes.two_regions (λ n. (n.0.now, n.1.now)) (views tokens.now) result }
 {
     match tokens {
         [Token::Region(first), Token::Region(second)] => Some((first, second)),
@@ -53,7 +62,7 @@ pub fn two_regions<'a>(tokens: &[Token<'a>]) -> Option<(&'a [u8], &'a [u8])>
 
 /// A region's name and a number.
 pub fn region_number<'a>(tokens: &[Token<'a>]) -> Option<(&'a [u8], u32)>
-    ensures { MatchOption result ((x : List ℕ) (p : ℕ) → p < 10 ^ 9 → views tokens.now ≡ lex.region x ∷ forms.number p ∷ [] → ⊥) (λ n. (n.1 < 10 ^ 9) × (views tokens.now ≡ lex.region n.0.now ∷ forms.number n.1 ∷ [])) }
+    ensures { Reads shapes.region_number (λ n. (n.0.now, n.1)) (views tokens.now) result }
 {
     match tokens {
         [Token::Region(name), Token::Word(word)] => {
@@ -66,7 +75,7 @@ pub fn region_number<'a>(tokens: &[Token<'a>]) -> Option<(&'a [u8], u32)>
 
 /// Two regions' names and a number.
 pub fn two_regions_number<'a>(tokens: &[Token<'a>]) -> Option<(&'a [u8], &'a [u8], u32)>
-    ensures { MatchOption result ((x y : List ℕ) (p : ℕ) → p < 10 ^ 9 → views tokens.now ≡ lex.region x ∷ lex.region y ∷ forms.number p ∷ [] → ⊥) (λ n. (n.2 < 10 ^ 9) × (views tokens.now ≡ lex.region n.0.now ∷ lex.region n.1.now ∷ forms.number n.2 ∷ [])) }
+    ensures { Reads shapes.two_regions_number (λ n. (n.0.now, n.1.now, n.2)) (views tokens.now) result }
 {
     match tokens {
         [

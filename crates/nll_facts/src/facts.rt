@@ -1,19 +1,16 @@
 //! Reading a whole facts text.
 
-ghost use Rattle.std.specs.Prelude.{◌≡◌, ◌≢◌, ◌⊎◌, ◌+◌, ◌-◌, ◌<◌, ◌≤◌, ◌^◌, ℕ, List, [], OnOk, IfOk, IfErr, length};
-ghost use Rattle.nll_text.specs.Lines.{lines_left};
-ghost use Rattle.nll_facts.specs.FactsForms.{Form};
-ghost use Rattle.nll_facts.specs.FactsSaid.{said};
+ghost use Rattle.std.specs.Prelude.{◌≡◌, ◌≢◌, ◌⊎◌, ◌<◌, ◌^◌, ℕ, List, [], OnOk, IfOk, IfErr, length};
 ghost use Rattle.std.specs.Str.{IsUtf8};
-ghost use Rattle.nll_facts.specs.FactsText.{Says, HasFault, IsHeader, IsFault, Means};
-ghost use Rattle.nll_facts.specs.Refusals.{IsRefusal, IsHeaderFault};
-ghost use Rattle.nll_facts.specs.FactsReading.{said_by, IsReady, SameSaid};
+ghost use Rattle.nll_text.specs.Lines.{lines_left};
+ghost use Rattle.nll_reading.specs.Text.{IsFault, IsHeaded, IsHeader, IsHeaderFault, IsRefusal};
+ghost use Rattle.nll_facts.specs.FactsSaid.{said};
+ghost use Rattle.nll_facts.specs.FactsText.{facts, Means};
+ghost use Rattle.nll_facts.specs.FactsReading.{said_by, IsReady, HasRead, RefusesBody};
 
-use nll_reading::{TextError, TextKind};
-use nll_reading::Labels;
-use nll_reading::MAX_TEXT;
 use crate::reader::Reader;
 use nll_problem::{Kind, Problem};
+use nll_reading::{Labels, MAX_TEXT, TextError, TextKind};
 use nll_text::{is_header, next_line};
 use std::alloc::Global;
 use std::str;
@@ -36,15 +33,19 @@ fn refusal(line: u64, kind: TextKind) -> TextError
     }
 }
 
-// Takes in the lines behind the header. Answers the number of the last line.
-fn read_body(reader: &mut Reader, alloc: Global, body: Option<&[u8]>) -> Result<u64, TextError>
+// Takes in the lines behind the header, to the end.
+fn read_lines(
+    reader: &mut Reader,
+    alloc: Global,
+    body: Option<&[u8]>,
+) -> Result<(), TextError>
     requires start { said_by reader.old ≡ said [] }
     requires ready { IsReady reader.old }
     requires long { length (lines_left body) < 2 ^ 32 }
-    ensures ok { IfOk result (λ last. last ≡ 1 + length (lines_left body.entry)) }
-    ensures says { OnOk result ((forms : List Form) × Says [] (lines_left body.entry) forms × SameSaid (said forms) (said_by reader.new)) }
+    ensures read { OnOk result (HasRead (lines_left body.entry) reader.new) }
     ensures ready { OnOk result (IsReady reader.new) }
-    ensures fault { IfErr result (λ e. IsRefusal (λ line kind. (2 ≤ line) × HasFault (lines_left body.entry) (line - 2) kind) e) }
+    ensures ended { OnOk result (reader.new.reached ≡ 6) }
+    ensures fault { IfErr result (RefusesBody (lines_left body.entry)) }
 {
     let mut tokens = Vec::new(alloc);
     let mut number = 1;
@@ -57,7 +58,35 @@ fn read_body(reader: &mut Reader, alloc: Global, body: Option<&[u8]>) -> Result<
         }
         rest = after;
     }
-    Ok(number)
+    if !reader.has_ended() {
+        return Err(TextError {
+            line: number,
+            kind: TextKind::End,
+        });
+    }
+    Ok(())
+}
+
+// Reads the lines behind the header.
+fn read_body(alloc: Global, body: Option<&[u8]>) -> Result<Facts, TextError>
+    requires long { length (lines_left body) < 2 ^ 32 }
+    ensures ok { IfOk result (λ q. (text : List ℕ) → IsHeaded facts text (lines_left body.entry)
+        → Means text q.problem q.labels) }
+    ensures fault { IfErr result (RefusesBody (lines_left body.entry)) }
+{
+    let mut reader = match Reader::new(alloc) {
+        Ok(reader) => reader,
+        Err(kind) => return Err(TextError { line: 0, kind }),
+    };
+    if let Err(error) = read_lines(&mut reader, alloc, body) {
+        drop(reader);
+        return Err(error);
+    }
+    let (problem, names) = reader.finish();
+    Ok(Facts {
+        problem,
+        labels: Labels::new(names),
+    })
 }
 
 /// Reads a facts text, version 1.
@@ -69,8 +98,8 @@ fn read_body(reader: &mut Reader, alloc: Global, body: Option<&[u8]>) -> Result<
 /// # Cost
 /// Time linear in the text, and memory for what it says; the text isn't copied (not proved).
 pub fn read_facts(alloc: Global, text: &[u8]) -> Result<Facts, TextError>
-    ensures ok { IfOk result (λ facts. Means text.now facts.problem facts.labels) }
-    ensures fault { IfErr result (λ e. IsRefusal (IsFault text.now) e) }
+    ensures ok { IfOk result (λ q. Means text.now q.problem q.labels) }
+    ensures fault { IfErr result (IsRefusal (IsFault facts text.now)) }
 {
     if text.len() > MAX_TEXT {
         return Err(TextError {
@@ -80,37 +109,13 @@ pub fn read_facts(alloc: Global, text: &[u8]) -> Result<Facts, TextError>
     }
     let (header, body) = next_line(text);
     check_header(header)?;
-    let mut reader = match Reader::new(alloc) {
-        Ok(reader) => reader,
-        Err(kind) => return Err(TextError { line: 0, kind }),
-    };
-    let last = match read_body(&mut reader, alloc, body) {
-        Ok(last) => last,
-        Err(error) => {
-            drop(reader);
-            return Err(error);
-        }
-    };
-    if !reader.has_ended() {
-        drop(reader);
-        return Err(TextError {
-            line: last,
-            kind: TextKind::End,
-        });
-    }
-    match reader.finish() {
-        Ok((problem, names)) => Ok(Facts {
-            problem,
-            labels: Labels::new(names),
-        }),
-        Err(kind) => Err(TextError { line: 0, kind }),
-    }
+    read_body(alloc, body)
 }
 
 // Whether the first line is the header.
 fn check_header(header: &[u8]) -> Result<(), TextError>
-    ensures ok { OnOk result (IsUtf8 header.now × IsHeader header.now) }
-    ensures fault { IfErr result (IsHeaderFault header.now) }
+    ensures ok { OnOk result (IsUtf8 header.now × IsHeader facts header.now) }
+    ensures fault { IfErr result (IsHeaderFault facts header.now) }
 {
     let Ok(_) = str::from_utf8(header) else {
         return Err(TextError {

@@ -2,33 +2,40 @@
 
 ghost use Rattle.std.specs.Prelude.{◌≡◌, ◌⊎◌, ℕ, List};
 ghost use Rattle.nll_problem.specs.Problem.{Problem, SameProblem};
-ghost use Rattle.nll_facts.specs.FactsForms.{Name};
-ghost use Rattle.nll_facts.specs.FactsText.{IsFault, Means};
+ghost use Rattle.nll_reading.specs.Labels.{Labels};
+ghost use Rattle.nll_reading.specs.Text.{IsFault, HasAtMost};
+ghost use Rattle.nll_facts.specs.FactsForms.{most_tokens};
+ghost use Rattle.nll_facts.specs.FactsText.{facts, Means};
 ghost use Rattle.nll_reading.specs.declared.error.TextKind.{TextKind};
 
 /// States that a text has at most one fault.
 pub fn one_fault()
     ensures { (text : List ℕ) (line other_line : ℕ) (kind other_kind : TextKind)
-        → IsFault text line kind → IsFault text other_line other_kind
+        → IsFault facts text line kind → IsFault facts text other_line other_kind
         → (line ≡ other_line) × (kind ≡ other_kind) }
 {}
 
 /// States that a text that means a problem has no fault.
 pub fn not_both()
-    ensures { (text : List ℕ) (problem : Problem) (names : List Name) (line : ℕ) (kind : TextKind)
-        → Means text problem names → IsFault text line kind → ⊥ }
+    ensures { (text : List ℕ) (problem : Problem) (labels : Labels) (line : ℕ) (kind : TextKind)
+        → Means text problem labels → IsFault facts text line kind → ⊥ }
 {}
 
-/// States that a text means at most one problem, and gives its regions one list of names.
+/// States that a text means at most one problem, and gives its regions and points one set of labels.
 pub fn one_meaning()
-    ensures { (text : List ℕ) (problem other : Problem) (names other_names : List Name)
-        → Means text problem names → Means text other other_names
-        → SameProblem problem other × (names ≡ other_names) }
+    ensures { (text : List ℕ) (problem other : Problem) (labels other_labels : Labels)
+        → Means text problem labels → Means text other other_labels
+        → SameProblem problem other × (labels ≡ other_labels) }
 {}
 
 /// States that a text means a problem or has a fault. With the laws above it has just one of them.
 pub fn some_meaning_or_fault()
     ensures { (text : List ℕ)
-        → ((problem : Problem) × (names : List Name) × Means text problem names)
-        ⊎ ((line : ℕ) × (kind : TextKind) × IsFault text line kind) }
+        → ((problem : Problem) × (labels : Labels) × Means text problem labels)
+        ⊎ ((line : ℕ) × (kind : TextKind) × IsFault facts text line kind) }
+{}
+
+/// States how many tokens a line of a form has at most, so that a reader may stop behind as many.
+pub fn few_tokens()
+    ensures { HasAtMost facts most_tokens }
 {}

@@ -9,4 +9,4 @@ mod line;
 mod reader;
 
 pub use facts::{Facts, read_facts};
-pub use laws::{not_both, one_fault, one_meaning, some_meaning_or_fault};
+pub use laws::{few_tokens, not_both, one_fault, one_meaning, some_meaning_or_fault};

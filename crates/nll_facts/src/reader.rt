@@ -5,23 +5,28 @@
 
 ghost use Rattle.std.specs.Prelude.{◌≡◌, ◌⊎◌, ◌<◌, ◌≤◌, ◌+◌, ◌∷◌, [], ◌++◌, ℕ, List, OnOk, IfErr, IfOk, IsSome, IsTrue, ◌↔◌, Some, None, true, false, length};
 ghost use Rattle.std.specs.Str.{IsUtf8};
+ghost use Rattle.nll_problem.specs.Limits.{most_regions};
 ghost use Rattle.nll_problem.specs.Problem.{SameProblem};
 ghost use Rattle.nll_facts.specs.FactsForms as forms;
 ghost use Rattle.nll_facts.specs.FactsLines.{view};
 ghost use Rattle.nll_facts.specs.FactsSaid as specs;
 ghost use Rattle.nll_facts.specs.FactsSaid.{first_fault, is_in_order, said};
-ghost use Rattle.nll_facts.specs.FactsReading.{said_by, IsKept, IsReady, Adds, HasTexts, ReadsLine};
-ghost use Rattle.nll_facts.specs.FactsText.{IsFaulty};
+ghost use Rattle.nll_facts.specs.FactsReading.{said_by, IsKept, IsReady, IsDue, IsTaken, IsRefused, HasTexts, ReadsLine};
+ghost use Rattle.nll_facts.specs.FactsText.{facts};
+ghost use Rattle.nll_reading.specs.Text.{IsFaulty};
 ghost use Rattle.nll_reading.specs.Names.{number_of};
 
 use nll_reading::TextKind;
 use crate::line::{Line, line_of};
 use nll_reading::Names;
 use nll_problem::{
-    Constraint, Kind, MAX_POINTS, MAX_REGIONS, MAX_UNIVERSALS, Problem, ProblemBuilder, RegionId,
+    Constraint, Kind, MAX_POINTS, MAX_UNIVERSALS, Problem, ProblemBuilder, RegionId,
 };
 use nll_text::{ScanError, Scanned, Token, scan_line};
 use std::alloc::Global;
+
+// The most tokens of a line of a form.
+const MOST_TOKENS: usize = 4;
 
 /// What the lines read so far say.
 #[derive(Drop)]
@@ -47,12 +52,6 @@ fn group(line: &Line<'_>) -> u8
     }
 }
 
-// Whether a line's group may have several lines.
-fn is_repeated(line: &Line<'_>) -> bool
-    ensures { result ≡ specs.is_repeated (view line.now) }
-{
-    !matches!(line, Line::Points(_) | Line::End)
-}
 
 impl Reader {
     /// No line is read yet, and `'static` is declared.
@@ -75,47 +74,45 @@ impl Reader {
         ensures { result ≡ is_in_order (said_by self.now) (view line.now) }
     {
         let group = group(line);
-        (self.reached < group || (self.reached == group && is_repeated(line)))
+        let is_repeated = group != 1 && group != 6;
+        (self.reached < group || (self.reached == group && is_repeated))
             && (0 < self.reached || group == 1)
     }
 
-    // The number of a declared name.
-    fn region(&self, name: &[u8]) -> Result<RegionId, TextKind>
-        requires { IsKept self.now }
-        ensures ok { IfOk result (λ r. (r ≡ number_of self.now.names name.now) × (specs.is_declared (said_by self.now) name.now ≡ true)) }
-        ensures err { IfErr result (λ kind. (kind ≡ TextKind.Unknown) × (specs.is_declared (said_by self.now) name.now ≡ false)) }
-    {
-        let number = self.names.number_of(name);
-        if number >= self.names.len() {
-            return Err(TextKind::Unknown);
-        }
-        Ok(RegionId(number as u32))
-    }
-
-    // Makes the builder, where there is none yet.
-    fn start(&mut self) -> Result<(), TextKind>
-        requires kept { IsKept self.old }
-        requires begun { 0 < self.old.reached }
+    // Makes the builder, where the line needs one and there is none yet.
+    fn start(&mut self, line: &Line<'_>) -> Result<(), TextKind>
+        requires ready { IsReady self.old }
+        requires order { is_in_order (said_by self.old) (view line.now) ≡ true }
         ensures said { OnOk result (said_by self.new ≡ said_by self.old) }
-        ensures kept { OnOk result (IsKept self.new) }
-        ensures started { OnOk result (IsSome self.new.builder) }
+        ensures kept { OnOk result (IsKept (specs.group (view line.now)) self.new) }
         ensures err { IfErr result (λ kind. kind ≡ TextKind.Memory) }
     {
-        if self.builder.is_none() {
+        if group(line) > 2 && self.builder.is_none() {
             self.begin()?;
         }
         Ok(())
     }
 
+    // The number of a declared name.
+    fn region(&self, name: &[u8]) -> Result<RegionId, TextKind>
+        requires { length self.now.names ≤ most_regions }
+        ensures ok { IfOk result (λ r. (r ≡ number_of self.now.names name.now) × (specs.is_declared (said_by self.now) name.now ≡ true)) }
+        ensures err { IfErr result (λ kind. (kind ≡ TextKind.Unknown) × (specs.is_declared (said_by self.now) name.now ≡ false)) }
+    {
+        match self.names.number_of(name) {
+            Some(number) => Ok(RegionId(number as u32)),
+            None => Err(TextKind::Unknown),
+        }
+    }
+
     // Makes the builder. It is a call of its own so that a line which finds one doesn't pay for the
     // room that making one takes.
     fn begin(&mut self) -> Result<(), TextKind>
-        requires kept { IsKept self.old }
+        requires ready { IsReady self.old }
         requires begun { 0 < self.old.reached }
-        requires none { self.old.builder ≡ None }
+        requires early { self.old.reached ≤ 2 }
         ensures said { OnOk result (said_by self.new ≡ said_by self.old) }
-        ensures kept { OnOk result (IsKept self.new) }
-        ensures started { OnOk result (IsSome self.new.builder) }
+        ensures kept { OnOk result ((n : ℕ) → 2 < n → IsKept n self.new) }
         ensures err { IfErr result (λ kind. kind ≡ TextKind.Memory) }
     {
         let universals = self.names.len() as u32;
@@ -125,12 +122,9 @@ impl Reader {
 
     // Sets the number of points.
     fn set_points(&mut self, count: u32) -> Result<(), TextKind>
-        requires ready { IsReady self.old }
-        requires order { is_in_order (said_by self.old) (forms.points count) ≡ true }
-        ensures fine { OnOk result (first_fault (said_by self.old) (forms.points count) ≡ None) }
-        ensures adds { OnOk result (Adds (said_by self.old) (forms.points count) (said_by self.new)) }
-        ensures ready { OnOk result (IsReady self.new) }
-        ensures fault { IfErr result (λ kind. first_fault (said_by self.old) (forms.points count) ≡ Some kind) }
+        requires { IsDue self.old (forms.points count) }
+        ensures taken { OnOk result (IsTaken (said_by self.old) (forms.points count) self.new) }
+        ensures refused { IfErr result (λ kind. first_fault (said_by self.old) (forms.points count) ≡ Some kind) }
     {
         if count == 0 {
             return Err(TextKind::Range);
@@ -145,19 +139,14 @@ impl Reader {
 
     // Adds a universal region.
     fn add_universal(&mut self, name: &[u8]) -> Result<(), TextKind>
-        requires ready { IsReady self.old }
-        requires order { is_in_order (said_by self.old) (forms.universal name.now) ≡ true }
-        requires text { IsUtf8 name.now }
-        ensures fine { OnOk result (first_fault (said_by self.old) (forms.universal name.now) ≡ None) }
-        ensures adds { OnOk result (Adds (said_by self.old) (forms.universal name.now) (said_by self.new)) }
-        ensures ready { OnOk result (IsReady self.new) }
-        ensures fault { IfErr result (λ kind. (kind ≡ TextKind.Memory) ⊎ (first_fault (said_by self.old) (forms.universal name.now) ≡ Some kind)) }
+        requires { IsDue self.old (forms.universal name.now) }
+        ensures taken { OnOk result (IsTaken (said_by self.old) (forms.universal name.now) self.new) }
+        ensures refused { IfErr result (IsRefused (said_by self.old) (forms.universal name.now)) }
     {
-        let count = self.names.len();
-        if self.names.number_of(name) < count {
+        if self.names.number_of(name).is_some() {
             return Err(TextKind::Duplicate);
         }
-        if count >= MAX_UNIVERSALS as usize {
+        if self.names.len() >= MAX_UNIVERSALS as usize {
             return Err(TextKind::Limit(Kind::Universals));
         }
         self.names.add(self.alloc, name)?;
@@ -167,22 +156,13 @@ impl Reader {
 
     // Adds a further region.
     fn add_region(&mut self, name: &[u8]) -> Result<(), TextKind>
-        requires ready { IsReady self.old }
-        requires order { is_in_order (said_by self.old) (forms.further name.now) ≡ true }
-        requires text { IsUtf8 name.now }
-        ensures fine { OnOk result (first_fault (said_by self.old) (forms.further name.now) ≡ None) }
-        ensures adds { OnOk result (Adds (said_by self.old) (forms.further name.now) (said_by self.new)) }
-        ensures ready { OnOk result (IsReady self.new) }
-        ensures fault { IfErr result (λ kind. (kind ≡ TextKind.Memory) ⊎ (first_fault (said_by self.old) (forms.further name.now) ≡ Some kind)) }
+        requires { IsDue self.old (forms.further name.now) }
+        ensures taken { OnOk result (IsTaken (said_by self.old) (forms.further name.now) self.new) }
+        ensures refused { IfErr result (IsRefused (said_by self.old) (forms.further name.now)) }
     {
-        let count = self.names.len();
-        if self.names.number_of(name) < count {
+        if self.names.number_of(name).is_some() {
             return Err(TextKind::Duplicate);
         }
-        if count >= MAX_REGIONS as usize {
-            return Err(TextKind::Limit(Kind::Regions));
-        }
-        self.start()?;
         let Some(builder) = &mut self.builder else {
             unreachable!();
         };
@@ -194,14 +174,10 @@ impl Reader {
 
     // Adds an edge.
     fn add_next(&mut self, from: u32, to: u32) -> Result<(), TextKind>
-        requires ready { IsReady self.old }
-        requires order { is_in_order (said_by self.old) (forms.next from to) ≡ true }
-        ensures fine { OnOk result (first_fault (said_by self.old) (forms.next from to) ≡ None) }
-        ensures adds { OnOk result (Adds (said_by self.old) (forms.next from to) (said_by self.new)) }
-        ensures ready { OnOk result (IsReady self.new) }
-        ensures fault { IfErr result (λ kind. (kind ≡ TextKind.Memory) ⊎ (first_fault (said_by self.old) (forms.next from to) ≡ Some kind)) }
+        requires { IsDue self.old (forms.next from to) }
+        ensures taken { OnOk result (IsTaken (said_by self.old) (forms.next from to) self.new) }
+        ensures refused { IfErr result (IsRefused (said_by self.old) (forms.next from to)) }
     {
-        self.start()?;
         let Some(builder) = &mut self.builder else {
             unreachable!();
         };
@@ -212,14 +188,10 @@ impl Reader {
 
     // Adds a return point.
     fn add_return(&mut self, point: u32) -> Result<(), TextKind>
-        requires ready { IsReady self.old }
-        requires order { is_in_order (said_by self.old) (forms.return point) ≡ true }
-        ensures fine { OnOk result (first_fault (said_by self.old) (forms.return point) ≡ None) }
-        ensures adds { OnOk result (Adds (said_by self.old) (forms.return point) (said_by self.new)) }
-        ensures ready { OnOk result (IsReady self.new) }
-        ensures fault { IfErr result (λ kind. (kind ≡ TextKind.Memory) ⊎ (first_fault (said_by self.old) (forms.return point) ≡ Some kind)) }
+        requires { IsDue self.old (forms.return point) }
+        ensures taken { OnOk result (IsTaken (said_by self.old) (forms.return point) self.new) }
+        ensures refused { IfErr result (IsRefused (said_by self.old) (forms.return point)) }
     {
-        self.start()?;
         let Some(builder) = &mut self.builder else {
             unreachable!();
         };
@@ -230,16 +202,12 @@ impl Reader {
 
     // Adds an outlives fact.
     fn add_outlives(&mut self, longer: &[u8], shorter: &[u8]) -> Result<(), TextKind>
-        requires ready { IsReady self.old }
-        requires order { is_in_order (said_by self.old) (forms.outlives longer.now shorter.now) ≡ true }
-        ensures fine { OnOk result (first_fault (said_by self.old) (forms.outlives longer.now shorter.now) ≡ None) }
-        ensures adds { OnOk result (Adds (said_by self.old) (forms.outlives longer.now shorter.now) (said_by self.new)) }
-        ensures ready { OnOk result (IsReady self.new) }
-        ensures fault { IfErr result (λ kind. (kind ≡ TextKind.Memory) ⊎ (first_fault (said_by self.old) (forms.outlives longer.now shorter.now) ≡ Some kind)) }
+        requires { IsDue self.old (forms.outlives longer.now shorter.now) }
+        ensures taken { OnOk result (IsTaken (said_by self.old) (forms.outlives longer.now shorter.now) self.new) }
+        ensures refused { IfErr result (IsRefused (said_by self.old) (forms.outlives longer.now shorter.now)) }
     {
-        let longer = RegionId(self.names.number_of(longer) as u32);
-        let shorter = RegionId(self.names.number_of(shorter) as u32);
-        self.start()?;
+        let longer = self.region(longer)?;
+        let shorter = self.region(shorter)?;
         let Some(builder) = &mut self.builder else {
             unreachable!();
         };
@@ -250,15 +218,11 @@ impl Reader {
 
     // Adds a base fact.
     fn add_base(&mut self, name: &[u8], point: u32) -> Result<(), TextKind>
-        requires ready { IsReady self.old }
-        requires order { is_in_order (said_by self.old) (forms.base name.now point) ≡ true }
-        ensures fine { OnOk result (first_fault (said_by self.old) (forms.base name.now point) ≡ None) }
-        ensures adds { OnOk result (Adds (said_by self.old) (forms.base name.now point) (said_by self.new)) }
-        ensures ready { OnOk result (IsReady self.new) }
-        ensures fault { IfErr result (λ kind. (kind ≡ TextKind.Memory) ⊎ (first_fault (said_by self.old) (forms.base name.now point) ≡ Some kind)) }
+        requires { IsDue self.old (forms.base name.now point) }
+        ensures taken { OnOk result (IsTaken (said_by self.old) (forms.base name.now point) self.new) }
+        ensures refused { IfErr result (IsRefused (said_by self.old) (forms.base name.now point)) }
     {
         let region = self.region(name)?;
-        self.start()?;
         let Some(builder) = &mut self.builder else {
             unreachable!();
         };
@@ -269,16 +233,12 @@ impl Reader {
 
     // Adds a constraint.
     fn add_constraint(&mut self, sup: &[u8], sub: &[u8], at: u32) -> Result<(), TextKind>
-        requires ready { IsReady self.old }
-        requires order { is_in_order (said_by self.old) (forms.constraint sup.now sub.now at) ≡ true }
-        ensures fine { OnOk result (first_fault (said_by self.old) (forms.constraint sup.now sub.now at) ≡ None) }
-        ensures adds { OnOk result (Adds (said_by self.old) (forms.constraint sup.now sub.now at) (said_by self.new)) }
-        ensures ready { OnOk result (IsReady self.new) }
-        ensures fault { IfErr result (λ kind. (kind ≡ TextKind.Memory) ⊎ (first_fault (said_by self.old) (forms.constraint sup.now sub.now at) ≡ Some kind)) }
+        requires { IsDue self.old (forms.constraint sup.now sub.now at) }
+        ensures taken { OnOk result (IsTaken (said_by self.old) (forms.constraint sup.now sub.now at) self.new) }
+        ensures refused { IfErr result (IsRefused (said_by self.old) (forms.constraint sup.now sub.now at)) }
     {
         let sup = self.region(sup)?;
         let sub = self.region(sub)?;
-        self.start()?;
         let Some(builder) = &mut self.builder else {
             unreachable!();
         };
@@ -291,14 +251,13 @@ impl Reader {
     fn accept(&mut self, line: &Line<'_>) -> Result<(), TextKind>
         requires ready { IsReady self.old }
         requires texts { HasTexts (view line.now) }
-        ensures fine { OnOk result (first_fault (said_by self.old) (view line.now) ≡ None) }
-        ensures adds { OnOk result (Adds (said_by self.old) (view line.now) (said_by self.new)) }
-        ensures ready { OnOk result (IsReady self.new) }
-        ensures fault { IfErr result (λ kind. (kind ≡ TextKind.Memory) ⊎ (first_fault (said_by self.old) (view line.now) ≡ Some kind)) }
+        ensures taken { OnOk result (IsTaken (said_by self.old) (view line.now) self.new) }
+        ensures refused { IfErr result (IsRefused (said_by self.old) (view line.now)) }
     {
         if !self.may_follow(line) {
             return Err(TextKind::Syntax);
         }
+        self.start(line)?;
         match *line {
             Line::Points(count) => self.set_points(count)?,
             Line::Universal(name) => self.add_universal(name)?,
@@ -322,13 +281,13 @@ impl Reader {
         requires ready { IsReady self.old }
         ensures ok { OnOk result (ReadsLine (said_by self.old) line.now (said_by self.new)) }
         ensures ready { OnOk result (IsReady self.new) }
-        ensures fault { IfErr result (λ kind. (kind ≡ TextKind.Memory) ⊎ IsFaulty (said_by self.old) line.now kind) }
+        ensures fault { IfErr result (λ kind. (kind ≡ TextKind.Memory) ⊎ IsFaulty facts (said_by self.old) line.now kind) }
     {
-        match scan_line(line, tokens) {
+        match scan_line(line, MOST_TOKENS, tokens) {
             Ok(Scanned::Skipped) => return Ok(()),
             Ok(Scanned::Tokens) => {}
             Err(ScanError::NotUtf8) => return Err(TextKind::NotUtf8),
-            Err(ScanError::NoToken) => return Err(TextKind::Syntax),
+            Err(ScanError::NoTokens) => return Err(TextKind::Syntax),
             Err(ScanError::Memory) => return Err(TextKind::Memory),
         }
         let Some(form) = line_of(tokens.as_slice()) else {
@@ -345,19 +304,27 @@ impl Reader {
         self.reached == 6
     }
 
-    /// The problem and the names that the lines say.
-    pub fn finish(mut self) -> Result<(Problem, Names), TextKind>
+    /// The problem and the names that the lines say. Takes no memory.
+    pub fn finish(self) -> (Problem, Names)
         requires ready { IsReady self }
-        requires begun { 0 < self.reached }
-        ensures problem { IfOk result (λ made. SameProblem (said_by self).problem made.0) }
-        ensures names { IfOk result (λ made. made.1 ≡ (said_by self).names) }
-        ensures err { IfErr result (λ kind. kind ≡ TextKind.Memory) }
+        requires ended { self.reached ≡ 6 }
+        ensures problem { SameProblem (said_by self).problem result.0 }
+        ensures names { result.1 ≡ (said_by self).names }
     {
-        self.start()?;
         let Reader { names, builder, .. } = self;
         let Some(builder) = builder else {
             unreachable!();
         };
-        Ok((builder.finish()?, names))
+        (finished(builder), names)
+    }
+}
+
+// The problem of a builder.
+fn finished(builder: ProblemBuilder) -> Problem
+    ensures { SameProblem builder result }
+{
+    match builder.finish() {
+        Ok(problem) => problem,
+        Err(_) => unreachable!(),
     }
 }

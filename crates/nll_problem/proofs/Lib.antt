@@ -1,6 +1,9 @@
 pub mod FactLemmas
 pub mod SameLemmas
 pub mod BaseLemmas
+pub mod RowLemmas
 pub mod AdjacencyLemmas
 pub mod ProblemLemmas
 pub mod WalkLemmas
+pub mod OrderLemmas
+pub mod IndexLemmas

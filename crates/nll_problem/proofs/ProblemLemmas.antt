@@ -1,12 +1,37 @@
 -- A problem stays sound as facts are added.
-use Rattle.std.proofs.Common.{◌≡◌, ℕ, ◌+◌, ◌<◌, ◌≤◌, List, ◌⊎◌, Contains, length, subst, ⊎_elim, arith}
+use Rattle.std.proofs.Common.{◌≡◌, ℕ, ◌+◌, ◌<◌, ◌≤◌, List, [], ◌⊎◌, AllPairs, Contains, length, refl, subst, ⊎_elim, arith}
 use Rattle.nll_problem.specs.Graph.{Graph, IsSound as IsSoundGraph}
-use Rattle.nll_problem.specs.Problem.{Problem, IsSound, IsUniversal, SameSet}
+use Rattle.nll_problem.specs.Limits.{most_regions, most_constraints}
+use Rattle.nll_problem.specs.Building.{bare_problem}
+use Rattle.nll_problem.specs.Problem.{Problem, IsSound, IsFinished, IsEarlier, IsOnce, IsUniversal, SameSet, SameProblem}
 use Rattle.nll_problem.specs.declared.constraint.Constraint.{Constraint}
-use Rattle.nll_problem.specs.declared.limits.TheConstants.{MAX_REGIONS, MAX_CONSTRAINTS}
+use Rattle.nll_problem.proofs.OrderLemmas.{ascending_once}
+use Rattle.nll_problem.proofs.SameLemmas.{same_set}
+
+none_once : {X : Type 0} → IsOnce {X = X} []
+none_once i j d before within = absurd (omega (arith, within))
+
+none_there : {X : Type 0} (x : X) → Contains [] x → ⊥
+none_there x h = omega (arith, h.1)
+
+-- the problem without facts
+pub sound_bare : (g : Graph) → IsSoundGraph g → IsSound (bare_problem g)
+sound_bare g s = record {
+  graph = s;
+  universals_are_regions = omega arith;
+  region_limit = omega (arith, s.universal_limit);
+  constraint_limit = omega arith;
+  bases_in_range = λ r e h. absurd (none_there (r, e) h);
+  constraint_regions = λ c h. absurd (none_there c h);
+  constraint_points = λ c h. absurd (none_there c h);
+  outlives_in_range = λ a b h. absurd (none_there (a, b) h);
+  bases_once = none_once;
+  constraints_once = none_once;
+  outlives_once = none_once;
+}
 
 module _ (q : Problem) (s : IsSound q) where
-  pub sound_region : q.regions < MAX_REGIONS → IsSound (record q { regions = q.regions + 1 })
+  pub sound_region : q.regions < most_regions → IsSound (record q { regions = q.regions + 1 })
   sound_region room = record {
     graph = s.graph;
     universals_are_regions = omega (arith, s.universals_are_regions);
@@ -16,10 +41,13 @@ module _ (q : Problem) (s : IsSound q) where
     constraint_regions = λ c h. let w = s.constraint_regions c h in (omega (arith, w.0), omega (arith, w.1));
     constraint_points = s.constraint_points;
     outlives_in_range = s.outlives_in_range;
+    bases_once = s.bases_once;
+    constraints_once = s.constraints_once;
+    outlives_once = s.outlives_once;
   }
 
-  pub sound_outlives : (new : List (ℕ × ℕ)) (a b : ℕ) → ((x : ℕ × ℕ) → Contains new x → Contains q.outlives x ⊎ ((a, b) ≡ x)) → a < q.graph.universals → b < q.graph.universals → IsSound (record q { outlives = new })
-  sound_outlives new a b only longer shorter = record {
+  pub sound_outlives : (new : List (ℕ × ℕ)) (a b : ℕ) → ((x : ℕ × ℕ) → Contains new x → Contains q.outlives x ⊎ ((a, b) ≡ x)) → IsOnce new → a < q.graph.universals → b < q.graph.universals → IsSound (record q { outlives = new })
+  sound_outlives new a b only once longer shorter = record {
     graph = s.graph;
     universals_are_regions = s.universals_are_regions;
     region_limit = s.region_limit;
@@ -31,38 +59,42 @@ module _ (q : Problem) (s : IsSound q) where
         (s.outlives_in_range x y)
         (λ is. subst (λ (z : ℕ × ℕ). IsUniversal q z.0 × IsUniversal q z.1) is (longer, shorter))
         (only (x, y) h);
+    bases_once = s.bases_once;
+    constraints_once = s.constraints_once;
+    outlives_once = once;
   }
 
-  pub sound_bases : (new : List (ℕ × ℕ)) (r p : ℕ) → ((x : ℕ × ℕ) → Contains new x → Contains q.bases x ⊎ ((r, p) ≡ x)) → r < q.regions → p < q.graph.points → IsSound (record q { bases = new })
-  sound_bases new r p only region point = record {
+  -- base facts that are all in range
+  pub sound_other_bases : (new : List (ℕ × ℕ)) → ((r e : ℕ) → Contains new (r, e) → (r < q.regions) × (e < q.graph.points)) → IsOnce new → IsSound (record q { bases = new })
+  sound_other_bases new in_range once = record {
     graph = s.graph;
     universals_are_regions = s.universals_are_regions;
     region_limit = s.region_limit;
     constraint_limit = s.constraint_limit;
-    bases_in_range = λ x y h. ⊎_elim
+    bases_in_range = in_range;
+    constraint_regions = s.constraint_regions;
+    constraint_points = s.constraint_points;
+    outlives_in_range = s.outlives_in_range;
+    bases_once = once;
+    constraints_once = s.constraints_once;
+    outlives_once = s.outlives_once;
+  }
+
+  pub sound_bases : (new : List (ℕ × ℕ)) (r p : ℕ) → ((x : ℕ × ℕ) → Contains new x → Contains q.bases x ⊎ ((r, p) ≡ x)) → IsOnce new → r < q.regions → p < q.graph.points → IsSound (record q { bases = new })
+  sound_bases new r p only once region point = sound_other_bases new (λ x y h. ⊎_elim
         (s.bases_in_range x y)
         (λ is. subst (λ (z : ℕ × ℕ). (z.0 < q.regions) × (z.1 < q.graph.points)) is (region, point))
-        (only (x, y) h);
-    constraint_regions = s.constraint_regions;
-    constraint_points = s.constraint_points;
-    outlives_in_range = s.outlives_in_range;
+        (only (x, y) h)) once
+
+  -- the same base facts in a list that ascends
+  pub finished : (new : List (ℕ × ℕ)) → SameSet q.bases new → AllPairs IsEarlier new → IsFinished (record q { bases = new })
+  finished new same ascend = record {
+    sound = sound_other_bases new (λ r e h. s.bases_in_range r e ((same (r, e)).1 h)) (ascending_once new ascend);
+    ascending = ascend;
   }
 
-  -- the same base facts in another list
-  pub sound_same_bases : (new : List (ℕ × ℕ)) → SameSet q.bases new → IsSound (record q { bases = new })
-  sound_same_bases new same = record {
-    graph = s.graph;
-    universals_are_regions = s.universals_are_regions;
-    region_limit = s.region_limit;
-    constraint_limit = s.constraint_limit;
-    bases_in_range = λ r e h. s.bases_in_range r e ((same (r, e)).1 h);
-    constraint_regions = s.constraint_regions;
-    constraint_points = s.constraint_points;
-    outlives_in_range = s.outlives_in_range;
-  }
-
-  pub sound_constraints : (new : List Constraint) (c : Constraint) → ((d : Constraint) → Contains new d → Contains q.constraints d ⊎ (c ≡ d)) → c.sup < q.regions → c.sub < q.regions → c.at < q.graph.points → length new ≤ MAX_CONSTRAINTS → IsSound (record q { constraints = new })
-  sound_constraints new c only sup sub at room = record {
+  pub sound_constraints : (new : List Constraint) (c : Constraint) → ((d : Constraint) → Contains new d → Contains q.constraints d ⊎ (c ≡ d)) → IsOnce new → c.sup < q.regions → c.sub < q.regions → c.at < q.graph.points → length new ≤ most_constraints → IsSound (record q { constraints = new })
+  sound_constraints new c only once sup sub at room = record {
     graph = s.graph;
     universals_are_regions = s.universals_are_regions;
     region_limit = s.region_limit;
@@ -77,6 +109,9 @@ module _ (q : Problem) (s : IsSound q) where
         (λ is. subst (λ (x : Constraint). x.at < q.graph.points) is at)
         (only d h);
     outlives_in_range = s.outlives_in_range;
+    bases_once = s.bases_once;
+    constraints_once = once;
+    outlives_once = s.outlives_once;
   }
 
   -- another graph of the same points and universal regions
@@ -90,4 +125,20 @@ module _ (q : Problem) (s : IsSound q) where
     constraint_regions = s.constraint_regions;
     constraint_points = λ c h. omega (arith, s.constraint_points c h);
     outlives_in_range = λ a b h. let w = s.outlives_in_range a b h in (omega (arith, w.0), omega (arith, w.1));
+    bases_once = s.bases_once;
+    constraints_once = s.constraints_once;
+    outlives_once = s.outlives_once;
   }
+
+-- the problem with other base facts that are the same set
+pub same_bases : (q : Problem) (new : List (ℕ × ℕ)) → SameSet q.bases new → SameProblem q (record q { bases = new })
+same_bases q new same = record {
+  points = refl;
+  universals = refl;
+  regions = refl;
+  edges = same_set _;
+  returns = same_set _;
+  bases = same;
+  constraints = same_set _;
+  outlives = same_set _;
+}

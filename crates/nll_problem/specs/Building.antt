@@ -1,25 +1,27 @@
 -- What each call of a problem's builder answers, and what it adds.
 -- Source: project's choice.
-use Rattle.std.specs.Prelude.{◌≡◌, ◌⊎◌, ◌↔◌, ℕ, ◌+◌, Bool, not, ◌==◌, ◌&&◌, nat_lt, nat_le, List, [], ◌∷◌, length, Contains, Option, Some, None, Result, Ok, Err, if◌then◌else◌}
+use Rattle.std.specs.Prelude.{◌≡◌, ℕ, Bool, not, ◌==◌, ◌&&◌, nat_lt, nat_le, [], ◌∷◌, length}
+use Rattle.std.specs.Prelude.{Option, None, Some, Result, Ok, Err}
 use Rattle.std.specs.List.{list_any}
-use Rattle.nll_problem.specs.Problem.{Problem}
+pub use Rattle.nll_problem.specs.Answers.{first_error, Answers, AddsFact}
+pub use Rattle.nll_problem.specs.GraphBuilding.{same_pair}
+use Rattle.nll_problem.specs.GraphBuilding as of_graph
+use Rattle.nll_problem.specs.Graph.{Graph}
+use Rattle.nll_problem.specs.Limits.{most_regions, most_constraints}
+use Rattle.nll_problem.specs.Problem.{Problem, problem_of}
 use Rattle.nll_problem.specs.declared.constraint.Constraint.{Constraint}
 use Rattle.nll_problem.specs.declared.error.BuildError.{BuildError}
-use Rattle.nll_problem.specs.declared.error.BuildError.TheVariants.{PointRange, RegionRange, Limit, Memory}
-use Rattle.nll_problem.specs.declared.error.Kind.TheVariants.{Points, Edges, Universals, Regions, Constraints}
-use Rattle.nll_problem.specs.declared.limits.TheConstants.{MAX_POINTS, MAX_EDGES, MAX_UNIVERSALS, MAX_REGIONS, MAX_CONSTRAINTS}
+use Rattle.nll_problem.specs.declared.error.BuildError.TheVariants.{PointRange, RegionRange, Limit}
+use Rattle.nll_problem.specs.declared.error.Kind.TheVariants.{Regions, Constraints}
 
--- ---- answers
+-- the problem of the graph whose regions are the universal ones alone, and that has no fact
+abbrev pub bare_problem : Graph → Problem
+bare_problem g = problem_of g g.universals [] [] []
 
--- the error of the first row whose condition holds
-abbrev pub first_error : List (Bool × BuildError) → Option BuildError
-first_error [] = None
-first_error (row ∷ rows) = if row.0 then Some row.1 else first_error rows
-
--- the call answers the error that is due, where one is, and else Ok, or Memory where a growth of memory was refused
-abbrev pub Answers : {T : Type 0} → Option BuildError → Result T BuildError → Type 0
-Answers due (Ok value) = due ≡ None
-Answers due (Err error) = (due ≡ Some error) ⊎ ((due ≡ None) × (error ≡ Memory))
+-- the call answers the error that is due, where one is, and else Ok: it takes no memory
+abbrev pub AnswersExactly : {T : Type 0} → Option BuildError → Result T BuildError → Type 0
+AnswersExactly due (Ok value) = due ≡ None
+AnswersExactly due (Err error) = due ≡ Some error
 
 -- ---- tests
 
@@ -35,68 +37,42 @@ is_region q r = nat_lt r q.regions
 abbrev pub is_universal : Problem → ℕ → Bool
 is_universal q r = nat_lt r q.graph.universals
 
--- the pairs are equal
-abbrev pub same_pair : ℕ × ℕ → ℕ × ℕ → Bool
-same_pair x y = (x.0 == y.0) && (x.1 == y.1)
-
 -- the constraints are equal
 abbrev pub same_constraint : Constraint → Constraint → Bool
-same_constraint c d = (c.sup == d.sup) && ((c.sub == d.sub) && (c.at == d.at))
+same_constraint c d = (c.sub == d.sub) && ((c.sup == d.sup) && (c.at == d.at))
 
 -- the edge from p to r is there
 abbrev pub has_edge : Problem → ℕ → ℕ → Bool
-has_edge q p r = list_any (same_pair (p, r)) q.graph.edges
+has_edge q p r = of_graph.has_edge q.graph p r
 
 -- the constraint is there
 abbrev pub has_constraint : Problem → Constraint → Bool
 has_constraint q c = list_any (same_constraint c) q.constraints
 
--- ---- the error that is due, by the first row that holds
+-- there is no room for one more constraint
+abbrev pub is_full : Problem → Bool
+is_full q = nat_le most_constraints (length q.constraints)
 
--- of a new problem
-abbrev pub new_error : ℕ → ℕ → Option BuildError
-new_error points universals = first_error (
-    (points == 0, PointRange)
-    ∷ (universals == 0, RegionRange)
-    ∷ (nat_lt MAX_POINTS points, Limit Points)
-    ∷ (nat_lt MAX_UNIVERSALS universals, Limit Universals)
-    ∷ [])
+-- ---- the error that is due, by the first row that holds
 
 -- of a further region
 abbrev pub region_error : Problem → Option BuildError
-region_error q = first_error ((nat_le MAX_REGIONS q.regions, Limit Regions) ∷ [])
+region_error q = first_error ((nat_le most_regions q.regions, Limit Regions) ∷ [])
 
 -- of an outlives fact
 abbrev pub outlives_error : Problem → ℕ → ℕ → Option BuildError
-outlives_error q a b = first_error ((not (is_universal q a && is_universal q b), RegionRange) ∷ [])
-
--- of an edge
-abbrev pub next_error : Problem → ℕ → ℕ → Option BuildError
-next_error q p r = first_error (
-    (not (is_point q p && is_point q r), PointRange)
-    ∷ (not (has_edge q p r) && nat_le MAX_EDGES (length q.graph.edges), Limit Edges)
-    ∷ [])
-
--- of a return point
-abbrev pub ret_error : Problem → ℕ → Option BuildError
-ret_error q p = first_error ((not (is_point q p), PointRange) ∷ [])
+outlives_error q a b =
+    first_error ((not (is_universal q a && is_universal q b), RegionRange) ∷ [])
 
 -- of a base fact
 abbrev pub base_error : Problem → ℕ → ℕ → Option BuildError
-base_error q r p = first_error ((not (is_point q p), PointRange) ∷ (not (is_region q r), RegionRange) ∷ [])
+base_error q r p =
+    first_error ((not (is_point q p), PointRange) ∷ (not (is_region q r), RegionRange) ∷ [])
 
 -- of a constraint
 abbrev pub constraint_error : Problem → Constraint → Option BuildError
 constraint_error q c = first_error (
     (not (is_point q c.at), PointRange)
     ∷ (not (is_region q c.sup && is_region q c.sub), RegionRange)
-    ∷ (not (has_constraint q c) && nat_le MAX_CONSTRAINTS (length q.constraints), Limit Constraints)
+    ∷ (not (has_constraint q c) && is_full q, Limit Constraints)
     ∷ [])
-
--- ---- what a call adds
-
--- The facts are as they were and the new one; one that was there already changes nothing.
-pub record AddsFact {X : Type 0} (old new : List X) (fact : X) : Type 0 where
-  pub each : (x : X) → Contains new x ↔ (Contains old x ⊎ (fact ≡ x))
-  pub repeated : Contains old fact → new ≡ old
-  pub counted : (Contains old fact → ⊥) → length new ≡ length old + 1

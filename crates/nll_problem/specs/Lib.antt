@@ -4,7 +4,11 @@ pub mod Walks
 pub mod Problem
 pub mod Solution
 pub mod Faults
+pub mod Answers
+pub mod GraphBuilding
 pub mod Building
+pub mod Rows
 pub mod Bases
+pub mod ConstraintIndex
 pub mod Adjacency
 pub use Rattle.nll_sets.specs.ElementSet

@@ -1,11 +1,13 @@
-//! The base facts of a problem: pairs of a region and a point.
+//! The base facts of a problem while it is built: pairs of a region and a point.
 //!
 //! They are kept as they come, eight bytes each and the repeated ones too, so that reading a text
-//! neither hashes nor compares them. Once they are sorted, a search takes logarithmic time.
+//! neither hashes nor compares them.
 
-ghost use Rattle.std.specs.Prelude.{◌≡◌, ◌↔◌, [], Contains, IsTrue, OnOk, OnErr};
-ghost use Rattle.nll_problem.specs.Building.{AddsFact};
-ghost use Rattle.nll_problem.specs.Problem.{SameSet};
+ghost use Rattle.std.specs.Prelude.{◌≡◌, [], AllPairs, OnOk, OnErr};
+ghost use Rattle.std.specs.List.Sorted.{IsPermutation, IsSorted};
+ghost use Rattle.nll_problem.specs.Answers.{AddsFact};
+ghost use Rattle.nll_problem.specs.Bases.{pair_cmp};
+ghost use Rattle.nll_problem.specs.Problem.{IsEarlier, IsOnce, SameSet};
 
 use crate::region::RegionId;
 use nll_sets::Memory;
@@ -16,19 +18,15 @@ use std::marker::Model;
 #[derive(Drop)]
 pub(crate) struct Bases {
     pairs: Vec<(RegionId, u32)>,
-    sorted: bool,
 }
 
 impl Model for Bases {
-    ghost use Rattle.std.specs.Prelude.{◌≡◌, ℕ, List, true};
-    ghost use Rattle.std.specs.List.Sorted.{IsSorted};
-    ghost use Rattle.nll_problem.specs.Bases.{distinct, pair_cmp};
+    ghost use Rattle.std.specs.Prelude.{ℕ, List};
+    ghost use Rattle.nll_problem.specs.Bases.{distinct};
 
     ghost Value = { List (ℕ × ℕ) };
 
     ghost view = { λ bases. distinct bases.pairs.items };
-
-    ghost invariant = { λ bases. bases.sorted ≡ true → IsSorted pair_cmp bases.pairs.items };
 }
 
 impl Bases {
@@ -38,46 +36,37 @@ impl Bases {
     {
         Bases {
             pairs: Vec::new(alloc),
-            sorted: false,
         }
     }
 
     // Adds a fact.
     pub(crate) fn insert(&mut self, region: RegionId, point: u32) -> Result<(), Memory>
         ensures ok { OnOk result (AddsFact self.old self.new (region, point)) }
+        ensures once { IsOnce self.new }
         ensures err { OnErr result (self.new ≡ self.old) }
     {
-        self.sorted = false;
         self.pairs.push((region, point))?;
         Ok(())
     }
 
-    // Sorts the facts.
-    pub(crate) fn sort(&mut self)
-        ensures { SameSet self.old self.new }
+    // The facts, ascending and each once. Takes no memory.
+    pub(crate) fn finish(self) -> Vec<(RegionId, u32)>
+        ensures each { SameSet self result.items }
+        ensures ascending { AllPairs IsEarlier result.items }
     {
-        if !self.pairs.is_sorted() {
-            self.pairs.sort_unstable();
-        }
-        self.sorted = true;
+        let mut pairs = self.pairs;
+        sort(&mut pairs);
+        pairs.dedup();
+        pairs
     }
+}
 
-    // Whether a fact is among them.
-    pub(crate) fn has(&self, region: RegionId, point: u32) -> bool
-        ensures { IsTrue result ↔ Contains self.now (region, point) }
-    {
-        let pair = (region, point);
-        if self.sorted {
-            self.pairs.binary_search(&pair).is_ok()
-        } else {
-            self.pairs.contains(&pair)
-        }
-    }
-
-    // The facts, some of them perhaps more than once.
-    pub(crate) fn as_slice(&self) -> &[(RegionId, u32)]
-        ensures { SameSet result.now self.now }
-    {
-        self.pairs.as_slice()
+// Sorts pairs; where they ascend already it is one pass.
+fn sort(pairs: &mut Vec<(RegionId, u32)>)
+    ensures permutation { IsPermutation pairs.old.items pairs.new.items }
+    ensures sorted { IsSorted pair_cmp pairs.new.items }
+{
+    if !pairs.is_sorted() {
+        pairs.sort_unstable();
     }
 }

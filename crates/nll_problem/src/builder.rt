@@ -1,14 +1,26 @@
 //! The builder of a problem.
 
-ghost use Rattle.std.specs.Prelude.{◌≡◌, ◌+◌, [], OnOk, OnErr, IfOk, IfErr};
-ghost use Rattle.nll_problem.specs.Problem.{SameProblem};
-ghost use Rattle.nll_problem.specs.Building.{Answers, AddsFact, new_error, region_error, outlives_error, next_error, ret_error, base_error, constraint_error};
+ghost use Rattle.std.specs.Prelude.{◌≡◌, ◌⊎◌, ◌+◌, ◌<◌, IsTrue, IsFalse};
+ghost use Rattle.std.specs.Prelude.{OnOk, OnErr, IfOk, IsOkAnd};
+ghost use Rattle.nll_problem.specs.Answers.{Answers, AddsFact};
+ghost use Rattle.nll_problem.specs.Building as building;
+ghost use Rattle.nll_problem.specs.Building.{AnswersExactly, bare_problem};
+ghost use Rattle.nll_problem.specs.Building.{base_error, constraint_error, has_constraint, is_full};
+ghost use Rattle.nll_problem.specs.Building.{outlives_error, region_error};
+ghost use Rattle.nll_problem.specs.GraphBuilding.{bare_graph, edge_error, graph_error};
+ghost use Rattle.nll_problem.specs.GraphBuilding.{return_error};
+ghost use Rattle.nll_problem.specs.Problem.{IsSound, SameProblem};
 
+use crate::bases::Bases;
 use crate::constraint::Constraint;
-use crate::region::RegionId;
+use crate::constraint_set::ConstraintSet;
 use crate::error::{BuildError, Kind};
-use crate::limits::{MAX_CONSTRAINTS, MAX_EDGES, MAX_POINTS, MAX_REGIONS, MAX_UNIVERSALS};
+use crate::graph_builder::GraphBuilder;
+use crate::limits::{MAX_CONSTRAINTS, MAX_REGIONS};
 use crate::problem::Problem;
+use crate::region::RegionId;
+use indexmap::IndexSet;
+use nll_sets::Memory;
 use std::alloc::Global;
 use std::marker::Model;
 
@@ -21,15 +33,23 @@ use std::marker::Model;
 /// Each fact takes amortised constant time (not proved).
 #[derive(Drop)]
 pub struct ProblemBuilder {
-    problem: Problem,
+    graph: GraphBuilder,
+    regions: u32,
+    bases: Bases,
+    constraints: ConstraintSet,
+    outlives: IndexSet<(RegionId, RegionId)>,
 }
 
 impl Model for ProblemBuilder {
     ghost use Rattle.nll_problem.specs.Problem as spec;
+    ghost use Rattle.nll_problem.specs.Problem.{IsSound, problem_of};
 
     ghost Value = { spec.Problem };
 
-    ghost view = { λ b. b.problem };
+    ghost view = { λ b. problem_of b.graph b.regions b.bases b.constraints b.outlives.keys };
+
+    ghost invariant = { λ b.
+        IsSound (problem_of b.graph b.regions b.bases b.constraints b.outlives.keys) };
 }
 
 impl ProblemBuilder {
@@ -44,39 +64,30 @@ impl ProblemBuilder {
     /// - `Limit`: more than `MAX_POINTS` points; else more than `MAX_UNIVERSALS` universal regions.
     /// - `Memory`.
     pub fn new(alloc: Global, points: u32, universals: u32) -> Result<ProblemBuilder, BuildError>
-        ensures answers { Answers (new_error points universals) result }
-        ensures ok { IfOk result (λ q. q ≡ record { graph = record { points = points; universals = universals; edges = []; returns = [] }; regions = universals; bases = []; constraints = []; outlives = [] }) }
+        ensures answers { Answers (graph_error points universals) result }
+        ensures ok { IfOk result (λ q. q ≡ bare_problem (bare_graph points universals)) }
     {
-        if points == 0 {
-            return Err(BuildError::PointRange);
-        }
-        if universals == 0 {
-            return Err(BuildError::RegionRange);
-        }
-        if points > MAX_POINTS {
-            return Err(BuildError::Limit(Kind::Points));
-        }
-        if universals > MAX_UNIVERSALS {
-            return Err(BuildError::Limit(Kind::Universals));
-        }
-        let problem = Problem::new(alloc, points, universals)?;
-        Ok(ProblemBuilder { problem })
+        let graph = GraphBuilder::new(alloc, points, universals)?;
+        Ok(ProblemBuilder::of_builder(alloc, graph))
     }
 
-    /// Adds a region variable, and answers its number.
+    /// Adds a region variable, and answers its number. Takes no memory.
     ///
     /// # Errors
     /// - `Limit`: there are `MAX_REGIONS` regions.
     pub fn region(&mut self) -> Result<RegionId, BuildError>
-        ensures answers { Answers (region_error self.old) result }
+        ensures answers { AnswersExactly (region_error self.old) result }
         ensures ok { IfOk result (λ r. r ≡ self.old.regions) }
-        ensures added { OnOk result (self.new ≡ record self.old { regions = self.old.regions + 1 }) }
+        ensures added { OnOk result
+            (self.new ≡ record self.old { regions = self.old.regions + 1 }) }
         ensures err { OnErr result (self.new ≡ self.old) }
     {
-        if self.problem.regions() >= MAX_REGIONS {
+        if self.regions >= MAX_REGIONS {
             return Err(BuildError::Limit(Kind::Regions));
         }
-        Ok(self.problem.add_region())
+        let region = RegionId(self.regions);
+        self.regions += 1;
+        Ok(region)
     }
 
     /// Adds that the universal region `longer` is known to outlive the universal region `shorter`.
@@ -90,10 +101,10 @@ impl ProblemBuilder {
         ensures others { self.new ≡ record self.old { outlives = self.new.outlives } }
         ensures err { OnErr result (self.new ≡ self.old) }
     {
-        if !self.problem.is_universal(longer) || !self.problem.is_universal(shorter) {
+        if !self.is_universal(longer) || !self.is_universal(shorter) {
             return Err(BuildError::RegionRange);
         }
-        self.problem.add_outlives(longer, shorter)?;
+        self.add_outlives(longer, shorter)?;
         Ok(())
     }
 
@@ -104,22 +115,13 @@ impl ProblemBuilder {
     /// - `Limit`: the edge is new and there are `MAX_EDGES` edges.
     /// - `Memory`.
     pub fn next(&mut self, from: u32, to: u32) -> Result<(), BuildError>
-        ensures answers { Answers (next_error self.old from to) result }
+        ensures answers { Answers (edge_error self.old.graph from to) result }
         ensures ok { OnOk result (AddsFact self.old.graph.edges self.new.graph.edges (from, to)) }
-        ensures others { self.new ≡ record self.old { graph = record self.old.graph { edges = self.new.graph.edges } } }
+        ensures others { self.new ≡ record self.old {
+            graph = record self.old.graph { edges = self.new.graph.edges } } }
         ensures err { OnErr result (self.new ≡ self.old) }
     {
-        if !self.problem.is_point(from) || !self.problem.is_point(to) {
-            return Err(BuildError::PointRange);
-        }
-        if self.problem.has_edge(from, to) {
-            return Ok(());
-        }
-        if self.problem.edge_count() >= MAX_EDGES {
-            return Err(BuildError::Limit(Kind::Edges));
-        }
-        self.problem.add_edge(from, to)?;
-        Ok(())
+        self.graph.next(from, to)
     }
 
     /// Makes a point a return point.
@@ -128,16 +130,13 @@ impl ProblemBuilder {
     /// - `PointRange`: it isn't a point.
     /// - `Memory`.
     pub fn ret(&mut self, point: u32) -> Result<(), BuildError>
-        ensures answers { Answers (ret_error self.old point) result }
+        ensures answers { Answers (return_error self.old.graph point) result }
         ensures ok { OnOk result (AddsFact self.old.graph.returns self.new.graph.returns point) }
-        ensures others { self.new ≡ record self.old { graph = record self.old.graph { returns = self.new.graph.returns } } }
+        ensures others { self.new ≡ record self.old {
+            graph = record self.old.graph { returns = self.new.graph.returns } } }
         ensures err { OnErr result (self.new ≡ self.old) }
     {
-        if !self.problem.is_point(point) {
-            return Err(BuildError::PointRange);
-        }
-        self.problem.add_return(point)?;
-        Ok(())
+        self.graph.ret(point)
     }
 
     /// Adds a base element to a region.
@@ -152,13 +151,13 @@ impl ProblemBuilder {
         ensures others { self.new ≡ record self.old { bases = self.new.bases } }
         ensures err { OnErr result (self.new ≡ self.old) }
     {
-        if !self.problem.is_point(point) {
+        if !self.is_point(point) {
             return Err(BuildError::PointRange);
         }
-        if !self.problem.is_region(region) {
+        if !self.is_region(region) {
             return Err(BuildError::RegionRange);
         }
-        self.problem.add_base(region, point)?;
+        self.add_base(region, point)?;
         Ok(())
     }
 
@@ -176,28 +175,107 @@ impl ProblemBuilder {
         ensures err { OnErr result (self.new ≡ self.old) }
     {
         let Constraint { sup, sub, at } = constraint;
-        if !self.problem.is_point(at) {
+        if !self.is_point(at) {
             return Err(BuildError::PointRange);
         }
-        if !self.problem.is_region(sup) || !self.problem.is_region(sub) {
+        if !self.is_region(sup) || !self.is_region(sub) {
             return Err(BuildError::RegionRange);
         }
-        let full = self.problem.constraints().len() >= MAX_CONSTRAINTS;
-        if full && !self.problem.has_constraint(&constraint) {
+        let full = self.constraints.len() >= MAX_CONSTRAINTS;
+        if full && !self.constraints.has(&constraint) {
             return Err(BuildError::Limit(Kind::Constraints));
         }
-        self.problem.add_constraint(constraint)?;
+        self.add_constraint(constraint)?;
         Ok(())
     }
 
-    /// The problem of the facts that were accepted.
+    /// The problem of the facts that were accepted. Takes no memory, and is never refused.
     pub fn finish(self) -> Result<Problem, BuildError>
-        ensures ok { IfOk result (SameProblem self) }
+        ensures ok { IsOkAnd result (SameProblem self) }
         ensures others { IfOk result (λ q. q ≡ record self { bases = q.bases }) }
-        ensures err { IfErr result (λ error. error ≡ BuildError.Memory) }
     {
-        let mut problem = self.problem;
-        problem.sort_bases();
-        Ok(problem)
+        Ok(Problem::of(
+            self.graph.finish(),
+            self.regions,
+            self.bases.finish(),
+            self.constraints.finish(),
+            self.outlives,
+        ))
+    }
+}
+
+// What the calls ask and add.
+impl ProblemBuilder {
+    // The problem of a graph, without a fact.
+    fn of_builder(alloc: Global, graph: GraphBuilder) -> ProblemBuilder
+        ensures { result ≡ bare_problem graph }
+    {
+        let universals = graph.universals();
+        ProblemBuilder {
+            graph,
+            regions: universals,
+            bases: Bases::new(alloc),
+            constraints: ConstraintSet::new(alloc),
+            outlives: IndexSet::new(alloc),
+        }
+    }
+
+    // Whether a number is a point.
+    fn is_point(&self, point: u32) -> bool
+        ensures { result ≡ building.is_point self.now point }
+    {
+        point < self.graph.points()
+    }
+
+    // Whether a number is a region.
+    fn is_region(&self, region: RegionId) -> bool
+        ensures { result ≡ building.is_region self.now region }
+    {
+        region.0 < self.regions
+    }
+
+    // Whether a number is a universal region.
+    fn is_universal(&self, region: RegionId) -> bool
+        ensures { result ≡ building.is_universal self.now region }
+    {
+        region.0 < self.graph.universals()
+    }
+
+    // Adds an outlives fact.
+    fn add_outlives(&mut self, longer: RegionId, shorter: RegionId) -> Result<(), Memory>
+        requires longer { longer < self.old.graph.universals }
+        requires shorter { shorter < self.old.graph.universals }
+        ensures ok { OnOk result (AddsFact self.old.outlives self.new.outlives (longer, shorter)) }
+        ensures others { self.new ≡ record self.old { outlives = self.new.outlives } }
+        ensures err { OnErr result (self.new ≡ self.old) }
+    {
+        self.outlives.insert((longer, shorter))?;
+        Ok(())
+    }
+
+    // Adds a base element to a region.
+    fn add_base(&mut self, region: RegionId, point: u32) -> Result<(), Memory>
+        requires region { region < self.old.regions }
+        requires point { point < self.old.graph.points }
+        ensures ok { OnOk result (AddsFact self.old.bases self.new.bases (region, point)) }
+        ensures others { self.new ≡ record self.old { bases = self.new.bases } }
+        ensures err { OnErr result (self.new ≡ self.old) }
+    {
+        self.bases.insert(region, point)?;
+        Ok(())
+    }
+
+    // Adds a constraint, which is there already or for which there is room.
+    fn add_constraint(&mut self, constraint: Constraint) -> Result<(), Memory>
+        requires sup { constraint.sup < self.old.regions }
+        requires sub { constraint.sub < self.old.regions }
+        requires at { constraint.at < self.old.graph.points }
+        requires room { IsTrue (has_constraint self.old constraint) ⊎ IsFalse (is_full self.old) }
+        ensures ok { OnOk result (AddsFact self.old.constraints self.new.constraints constraint) }
+        ensures others { self.new ≡ record self.old { constraints = self.new.constraints } }
+        ensures err { OnErr result (self.new ≡ self.old) }
+    {
+        self.constraints.insert(&constraint)?;
+        Ok(())
     }
 }

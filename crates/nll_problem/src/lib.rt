@@ -1,22 +1,29 @@
 //! Problems of location-aware regions over a control-flow graph: what they are, and what they mean.
 //! It knows no text and no names.
 //!
-//! Reading order: `region`, `constraint`, `graph`, `problem`, `builder`. The definitions are in specs/.
+//! Reading order: `region`, `constraint`, `graph`, `graph_builder`, `problem`, `builder`,
+//! `constraint_index`. The definitions are in specs/.
 #![tactic(auto)]
 
 mod bases;
 mod builder;
 mod constraint;
+mod constraint_index;
+mod constraint_set;
 mod error;
 mod graph;
+mod graph_builder;
 mod limits;
 mod problem;
 mod region;
+mod rows;
 
 pub use builder::ProblemBuilder;
 pub use constraint::Constraint;
+pub use constraint_index::ConstraintIndex;
 pub use error::{BuildError, Kind};
 pub use graph::Graph;
+pub use graph_builder::GraphBuilder;
 pub use limits::{MAX_CONSTRAINTS, MAX_EDGES, MAX_POINTS, MAX_REGIONS, MAX_UNIVERSALS};
 pub use problem::Problem;
 pub use region::RegionId;

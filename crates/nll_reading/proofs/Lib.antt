@@ -1,1 +1,4 @@
+pub mod LabelLemmas
 pub mod NameLemmas
+pub mod ReadingLemmas
+pub mod TextLaws

@@ -1,9 +1,9 @@
 -- The declared names, and the set that holds them.
-use Rattle.std.proofs.Common.{◌≡◌, ℕ, suc, ◌+◌, ◌≤◌, Bool, true, false, not, cond, List, [], ◌∷◌, ◌++◌, Option, Some, None, slice_get, length, get_or, refl, sym, ap, ◌∙◌, subst, map, ⊎_elim, arith, length-append}
-use Rattle.std.specs.Prelude.{◌||◌, nat_lt}
+use Rattle.std.proofs.Common.{◌≡◌, ℕ, suc, ◌+◌, ◌<◌, ◌≤◌, Bool, true, false, not, cond, List, [], ◌∷◌, ◌++◌, Option, Some, None, slice_get, length, get_or, refl, sym, ap, ◌∙◌, subst, map, ⊎_elim, arith, length-append}
+use Rattle.std.specs.Prelude.{◌||◌, nat_lt, position, MatchOption}
 use Rattle.std.specs.List.{position_or_len, list_any}
 use Rattle.std.specs.Str.{bytes_eq, IsUtf8}
-use Rattle.std.proofs.lemmas.Bool.{cases_lt, ltb-false}
+use Rattle.std.proofs.lemmas.Bool.{cases_lt, ltb-false, ltb-true}
 use Rattle.std.proofs.lemmas.List.{get_or_append_left, get_or_at, map_push, get_or-map, length-map}
 use Rattle.std.proofs.lemmas.List.Sums.{prefix_len-le-length}
 use Rattle.std.proofs.lemmas.Option.{get_or_from_slice_get, slice_get_cases}
@@ -35,20 +35,17 @@ pub none_passes : {X : Type 0} (p : X → Bool) (xs : List X) → position_or_le
 none_passes p [] e = refl
 none_passes p (x ∷ xs) e = none_in_front (p x) (position_or_len p xs) (length xs) (list_any p xs) (none_passes p xs) e
 
--- what a search by place answers
-pub found_place : (n len i : ℕ) → Some i ≡ cond (nat_lt n len) (Some n) None → i ≡ n
-found_place n len i e = by (nat_lt n len) e
-  where
-    by : (b : Bool) → Some i ≡ cond b (Some n) None → i ≡ n
-    by true h = cc
-    by false h = absurd cc
+-- where a search finds a name among what holds the names
+pub position_mapped : {V : Type 0} (f : V → List ℕ) (name : List ℕ) (ks : List V) → position (λ k. bytes_eq name (f k)) ks ≡ position (bytes_eq name) (map f ks)
+position_mapped f name ks = rw (number_mapped f name ks) (rw (length-map ks f) refl)
 
-pub no_place : (n len : ℕ) → n ≤ len → ◌≡◌ {A = Option ℕ} None (cond (nat_lt n len) (Some n) None) → n ≡ len
-no_place n len le e = by (nat_lt n len) refl e
+-- what a search by place answers
+pub number_found : (names : List (List ℕ)) (name : List ℕ) (o : Option ℕ) → o ≡ position (bytes_eq name) names → MatchOption o (number_of names name ≡ length names) (λ n. (n ≡ number_of names name) × (n < length names))
+number_found names name o e = rw e (by (nat_lt (number_of names name) (length names)) refl)
   where
-    by : (b : Bool) → nat_lt n len ≡ b → ◌≡◌ {A = Option ℕ} None (cond b (Some n) None) → n ≡ len
-    by true t h = absurd cc
-    by false t h = let past : len ≤ n = ltb-false n len t in omega arith
+    by : (b : Bool) → nat_lt (number_of names name) (length names) ≡ b → MatchOption (cond b (Some (number_of names name)) None) (number_of names name ≡ length names) (λ n. (n ≡ number_of names name) × (n < length names))
+    by true t = (refl, ltb-true _ _ t)
+    by false t = let past : length names ≤ number_of names name = ltb-false _ _ t in omega (arith, past, number_of_within names name)
 
 -- the keys after a name that isn't among them is inserted
 pub names_inserted : {V : Type 0} (f : V → List ℕ) (ks : List V) (v : V) (name : List ℕ) → f v ≡ name → number_of (map f ks) name ≡ length (map f ks) → map f (cond (list_any (λ k. bytes_eq (f v) (f k)) ks) ks (ks ++ v ∷ [])) ≡ map f ks ++ name ∷ []

@@ -9,7 +9,10 @@ use Rattle.nll_reading.specs.declared.error.TextKind.TheVariants.{NotUtf8, Heade
 
 -- all kinds that a text can have, the first to be told in front
 abbrev pub kinds : List TextKind
-kinds = NotUtf8 ∷ Header ∷ Syntax ∷ Unknown ∷ Duplicate ∷ Range ∷ Shape ∷ TypeSize ∷ Limit Text ∷ Limit Points ∷ Limit Edges ∷ Limit Universals ∷ Limit Regions ∷ Limit Constraints ∷ Limit Variables ∷ Limit Structs ∷ End ∷ []
+kinds =
+    NotUtf8 ∷ Header ∷ Syntax ∷ Unknown ∷ Duplicate ∷ Range ∷ Shape ∷ TypeSize
+    ∷ Limit Text ∷ Limit Points ∷ Limit Edges ∷ Limit Universals ∷ Limit Regions
+    ∷ Limit Constraints ∷ Limit Variables ∷ Limit Structs ∷ End ∷ []
 
 -- the kind that tells an error of the builder, whose regions come from names
 abbrev pub kind_of : BuildError → TextKind

@@ -1,2 +1,5 @@
 pub mod Names
 pub mod Kinds
+pub mod Labels
+pub mod Text
+pub mod Reading

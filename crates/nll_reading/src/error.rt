@@ -2,31 +2,43 @@
 
 use nll_problem::{BuildError, Kind};
 use std::alloc::{AllocError, AllocFailed};
+use thiserror::Error;
 
 /// What is wrong with a line, in the order in which one kind is told before another.
-#[derive(Clone, Copy, Debug, PartialEq, Eq)]
+#[derive(Clone, Copy, Debug, PartialEq, Eq, Error)]
 pub enum TextKind {
     /// The line's bytes aren't UTF-8.
+    #[error("the line isn't UTF-8")]
     NotUtf8,
     /// The first line isn't the header.
+    #[error("the first line isn't the header")]
     Header,
     /// The line has none of the forms, or stands out of order.
+    #[error("the line has none of the forms, or stands out of order")]
     Syntax,
     /// A name that no earlier line declares.
+    #[error("a name that no earlier line declares")]
     Unknown,
     /// A name that is declared already.
+    #[error("a name that is declared already")]
     Duplicate,
     /// A number that isn't allowed in its place.
+    #[error("a number that isn't allowed in its place")]
     Range,
     /// Types that don't fit.
+    #[error("types that don't fit")]
     Shape,
     /// A type of too many nodes.
+    #[error("a type of too many nodes")]
     TypeSize,
     /// The line would go past a limit.
+    #[error("past the limit: {0:?}")]
     Limit(Kind),
     /// The text stops before its last line.
+    #[error("the text stops before its last line")]
     End,
     /// A growth of memory was refused; the text may be right.
+    #[error("out of memory")]
     Memory,
 }
 
@@ -34,7 +46,8 @@ pub enum TextKind {
 ///
 /// # Units
 /// Lines count from 1. For `Memory` the line is 0.
-#[derive(Clone, Copy, Debug, PartialEq, Eq)]
+#[derive(Clone, Copy, Debug, PartialEq, Eq, Error)]
+#[error("line {line}: {kind}")]
 pub struct TextError {
     pub line: u64,
     pub kind: TextKind,

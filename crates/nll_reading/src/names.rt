@@ -1,7 +1,7 @@
 //! The names of regions, in the order in which they are declared.
 
-ghost use Rattle.std.specs.Prelude.{◌≡◌, ◌≤◌, ◌<◌, ◌++◌, ◌∷◌, [], length, codes, IfOk, OnOk, OnErr, slice_index_or};
-ghost use Rattle.std.specs.Str.{IsUtf8};
+ghost use Rattle.std.specs.Prelude.{◌≡◌, ◌<◌, ◌++◌, ◌∷◌, [], length, codes, position, IfOk, MatchOption, OnOk, OnErr, slice_index_or};
+ghost use Rattle.std.specs.Str.{bytes_eq, IsUtf8};
 ghost use Rattle.nll_reading.specs.Names.{number_of};
 
 use indexmap::IndexSet;
@@ -43,15 +43,13 @@ impl Names {
         self.set.len()
     }
 
-    /// The place of a name, or the number of names where it isn't among them.
-    pub fn number_of(&self, name: &[u8]) -> usize
-        ensures value { result ≡ number_of self.now name.now }
-        ensures within { result ≤ length self.now }
+    /// The place of a name, where it is among them.
+    pub fn number_of(&self, name: &[u8]) -> Option<usize>
+        ensures place { result ≡ position (bytes_eq name.now) self.now }
+        ensures number { MatchOption result (number_of self.now name.now ≡ length self.now)
+            (λ number. (number ≡ number_of self.now name.now) × (number < length self.now)) }
     {
-        match self.set.get_index_of(name) {
-            Some(number) => number,
-            None => self.set.len(),
-        }
+        self.set.get_index_of(name)
     }
 
     /// Adds a name that isn't among them.

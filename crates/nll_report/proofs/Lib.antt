@@ -4,5 +4,7 @@ pub mod LineErrorLemmas
 pub mod LineLemmas
 pub mod PlainLineLemmas
 pub mod ReportLemmas
+pub mod RunLemmas
+pub mod SinkLemmas
 pub mod TaskWordLemmas
 pub mod WritingLemmas

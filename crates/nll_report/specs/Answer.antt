@@ -16,32 +16,27 @@ abbrev pub status_of_faults : List (ℕ × ℕ) → ℕ
 status_of_faults [] = 0
 status_of_faults (fault ∷ faults) = 1
 
--- The text means a problem, and the report is that of its least values.
-pub record IsValuesAnswer (text report : List ℕ) (status : ℕ) : Type 0 where
-  pub problem : Problem
-  pub names : List (List ℕ)
-  pub meaning : Means text problem names
-  pub values : IsValuesReport problem names (Least problem) report
-  pub told : status ≡ 0
-
--- The report is that of the faults of the problem's least values, and the status tells whether there are any.
-pub record IsCheckReport (q : Problem) (names : List (List ℕ)) (report : List ℕ) (status : ℕ) : Type 0 where
+-- The report is that of the faults of the problem's least values, and the status tells whether
+-- there are any.
+pub record IsCheckReport (q : Problem) (names : List (List ℕ)) (report : List ℕ) (status : ℕ)
+    : Type 0 where
   pub faults : List (ℕ × ℕ)
   pub exact : AreFaults q (Least q) faults
   pub printed : report ≡ faults_report names faults
   pub told : status ≡ status_of_faults faults
 
--- The text means a problem, and the report and the status are those of its faults.
-pub record IsCheckAnswer (text report : List ℕ) (status : ℕ) : Type 0 where
+-- the report and the status are what the command asks of the problem
+abbrev pub IsProblemAnswer : Command → Problem → List (List ℕ) → List ℕ → ℕ → Type 0
+IsProblemAnswer Values q names report status =
+    IsValuesReport q names (Least q) report × (status ≡ 0)
+IsProblemAnswer Check q names report status = IsCheckReport q names report status
+
+-- The text means a problem, and the report and the status are what the command asks of it.
+pub record IsAnswer (command : Command) (text report : List ℕ) (status : ℕ) : Type 0 where
   pub problem : Problem
   pub names : List (List ℕ)
   pub meaning : Means text problem names
-  pub check : IsCheckReport problem names report status
-
--- the report and the status answer the command on the text
-abbrev pub IsAnswer : Command → List ℕ → List ℕ → ℕ → Type 0
-IsAnswer Values text report status = IsValuesAnswer text report status
-IsAnswer Check text report status = IsCheckAnswer text report status
+  pub answer : IsProblemAnswer command problem names report status
 
 -- the error tells the text's fault, or that a growth of memory was refused
 abbrev pub IsAnswerError : List ℕ → AnswerError → Type 0

@@ -1,8 +1,11 @@
--- The commands as the parser of the words reads them, the line that its matches come to, and the error where it has none.
+-- The commands as the parser of the words reads them, the line that its matches come to, and the
+-- error where it has none.
 -- Source: this project's own, over the words of the crate `clap`.
-use Rattle.std.specs.Prelude.{◌≡◌, List, Option, Some, None, true, codes, if◌then◌else◌, option_and_then, option_map}
+use Rattle.std.specs.Prelude.{◌≡◌, List, Option, Some, None, true, codes, if◌then◌else◌}
+use Rattle.std.specs.Prelude.{option_and_then, option_map}
 use Rattle.std.specs.Str.{bytes_eq}
-use Rattle.clap.specs.Words.{App, IsAmong, Row, Rule, Text, fault_of, first_of, new_app, new_rule, subcommand_of, with_rule, with_subcommand}
+use Rattle.clap.specs.Words.{App, IsAmong, Row, Rule, Text, fault_of, first_of, new_app, new_rule}
+use Rattle.clap.specs.Words.{subcommand_of, with_rule, with_subcommand}
 use Rattle.clap.specs.declared.builder.ArgAction.TheVariants.{Set}
 use Rattle.clap.specs.declared.error.kind.ErrorKind.{ErrorKind}
 use Rattle.clap.specs.declared.error.kind.ErrorKind.TheVariants.{DisplayHelp}
@@ -32,7 +35,8 @@ bare_program = record (new_app (codes "nllc")) {
 
 -- the program with its two commands
 abbrev pub program : App
-program = with_subcommand (with_subcommand bare_program (command_of Values).top) (command_of Check).top
+program =
+    with_subcommand (with_subcommand bare_program (command_of Values).top) (command_of Check).top
 
 -- the task of a name
 abbrev pub task_named : Text → Option Task

@@ -4,4 +4,5 @@ pub mod Grammar
 pub mod Refusal
 pub mod Report
 pub mod Answer
+pub mod Sink
 pub mod Run

@@ -10,7 +10,8 @@ use Rattle.nll_reading.specs.declared.error.TextKind.TheVariants as kind
 use Rattle.nll_report.specs.declared.answers.AnswerError.{AnswerError}
 use Rattle.nll_report.specs.declared.answers.AnswerError.TheVariants as answer
 use Rattle.nll_report.specs.declared.messages.Refusal.{Refusal}
-use Rattle.nll_report.specs.declared.messages.Refusal.TheVariants.{Usage, CannotRead, Text, Memory, CannotWrite}
+use Rattle.nll_report.specs.declared.messages.Refusal.TheVariants.{Usage, CannotRead, Text}
+use Rattle.nll_report.specs.declared.messages.Refusal.TheVariants.{Memory, CannotWrite}
 
 -- 2 for what was handed to the program, 3 for what it lacked
 abbrev pub status_of : Refusal → ℕ
@@ -61,7 +62,8 @@ kind_text kind.Memory = codes "memory"
 
 -- the line of a refusal, without its end
 abbrev pub refusal_text : Refusal → List ℕ
-refusal_text Usage = codes "usage: nllc values|check|replay FILE [--owners N] [--deal round|blocks] [--cut FILE] [--mail queue|ring] [--schedule FILE]"
+refusal_text Usage = codes "usage: nllc values|check|replay FILE [--owners N] "
+    ++ codes "[--deal round|blocks] [--cut FILE] [--mail queue|ring] [--schedule FILE]"
 refusal_text (CannotRead path) = codes "nllc: cannot read " ++ string_bytes path
 refusal_text (Text line kind) = codes "nllc: line " ++ decimal line ++ codes ": " ++ kind_text kind
 refusal_text Memory = codes "nllc: memory"

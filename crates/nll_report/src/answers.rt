@@ -1,14 +1,17 @@
 //! The answer to a text: read, solve, and print.
 
-ghost use Rattle.std.specs.Prelude.{◌≡◌, ◌≤◌, IfOk, IfErr, length};
+ghost use Rattle.std.specs.Prelude.{◌≡◌, ◌≤◌, IfErr, IfOk, length};
+ghost use Rattle.nll_problem.specs.Faults.{AreFaults};
+ghost use Rattle.nll_problem.specs.Problem.{IsSound};
 ghost use Rattle.nll_problem.specs.Solution.{Least};
 ghost use Rattle.nll_facts.specs.FactsText.{Means};
-ghost use Rattle.nll_report.specs.Answer.{IsAnswer, IsCheckReport, IsAnswerError};
+ghost use Rattle.nll_report.specs.Answer.{IsAnswer, IsAnswerError, IsCheckReport};
+ghost use Rattle.nll_report.specs.Answer.{IsProblemAnswer, status_of_faults};
 ghost use Rattle.nll_report.specs.Report.{IsValuesReport};
 
 use crate::faults_report::faults_text;
 use crate::values_report::values_text;
-use nll_core::{Memory, faults, solve};
+use nll_core::{Memory, Problem, RegionId, faults, solve};
 use nll_mir::{Facts, TextError, TextKind, read_facts};
 use std::alloc::Global;
 
@@ -52,16 +55,9 @@ pub fn answer(alloc: Global, command: Command, text: &[u8]) -> Result<(Vec<u8>, 
     ensures err { IfErr result (IsAnswerError text.now) }
 {
     let facts = facts_of(alloc, text)?;
-    match command {
-        Command::Values => {
-            let report = values_of(alloc, &facts)?;
-            Ok((report, 0))
-        }
-        Command::Check => {
-            let answer = check_of(alloc, &facts)?;
-            Ok(answer)
-        }
-    }
+    let answer = answer_of(alloc, command, &facts);
+    drop(facts);
+    Ok(answer?)
 }
 
 // The meaning of a text.
@@ -79,25 +75,65 @@ fn facts_of(alloc: Global, text: &[u8]) -> Result<Facts, AnswerError>
     }
 }
 
+// The answer to the command on facts.
+fn answer_of(alloc: Global, command: Command, facts: &Facts) -> Result<(Vec<u8>, u8), Memory>
+    requires { length facts.now.labels ≡ facts.now.problem.regions }
+    ensures ok { IfOk result (λ r.
+        IsProblemAnswer command facts.now.problem facts.now.labels r.0.items r.1) }
+    ensures status { IfOk result (λ r. r.1 ≤ 1) }
+{
+    match command {
+        Command::Values => {
+            let report = values_of(alloc, facts)?;
+            Ok((report, 0))
+        }
+        Command::Check => check_of(alloc, facts),
+    }
+}
+
 // The report of the least values.
 fn values_of(alloc: Global, facts: &Facts) -> Result<Vec<u8>, Memory>
     requires { length facts.now.labels ≡ facts.now.problem.regions }
-    ensures { IfOk result (λ report. IsValuesReport facts.now.problem facts.now.labels (Least facts.now.problem) report.items) }
+    ensures { IfOk result (λ report.
+        IsValuesReport facts.now.problem facts.now.labels (Least facts.now.problem) report.items) }
 {
     let values = solve(alloc, &facts.problem)?;
-    let report = values_text(alloc, &facts.problem, &facts.labels, &values)?;
-    Ok(report)
+    let report = values_text(alloc, &facts.problem, &facts.labels, &values);
+    drop(values);
+    report
 }
 
 // The report of the faults of the least values, and the status.
 fn check_of(alloc: Global, facts: &Facts) -> Result<(Vec<u8>, u8), Memory>
     requires { length facts.now.labels ≡ facts.now.problem.regions }
-    ensures ok { IfOk result (λ r. IsCheckReport facts.now.problem facts.now.labels r.0.items r.1) }
+    ensures ok { IfOk result (λ r.
+        IsCheckReport facts.now.problem facts.now.labels r.0.items r.1) }
     ensures status { IfOk result (λ r. r.1 ≤ 1) }
 {
-    let values = solve(alloc, &facts.problem)?;
-    let faults = faults(alloc, &facts.problem, &values)?;
-    let report = faults_text(alloc, &facts.labels, &faults)?;
-    let status = if faults.is_empty() { 0 } else { 1 };
-    Ok((report, status))
+    let faults = faults_of(alloc, &facts.problem)?;
+    let report = faults_text(alloc, &facts.labels, faults.as_slice());
+    let status = status_of_faults(faults.as_slice());
+    drop(faults);
+    Ok((report?, status))
+}
+
+// The faults of the least values.
+fn faults_of(alloc: Global, problem: &Problem) -> Result<Vec<(RegionId, RegionId)>, Memory>
+    ensures exact { IfOk result (λ found.
+        AreFaults problem.now (Least problem.now) found.items) }
+    ensures sound { IsSound problem.now }
+{
+    // No effect at run time. The proof reads from this call that the problem is sound.
+    let _ = problem.universals();
+    let values = solve(alloc, problem)?;
+    let found = faults(alloc, problem, &values);
+    drop(values);
+    found
+}
+
+// 1 where there is a fault.
+fn status_of_faults(faults: &[(RegionId, RegionId)]) -> u8
+    ensures { result ≡ status_of_faults faults.now }
+{
+    if faults.is_empty() { 0 } else { 1 }
 }

@@ -6,8 +6,8 @@ ghost use Rattle.nll_report.specs.CommandLine.{IsLine, IsPlainLine};
 ghost use Rattle.clap.specs.Words.{app_of, found_of, kind_of, rows_of, rule_of};
 ghost use Rattle.clap.specs.Words.{new_app, subcommand_rows_of, with_rule};
 ghost use Rattle.clap.specs.declared.builder.Command.TheViews.{out-Command};
-ghost use Rattle.nll_report.specs.Grammar.{IsHelpKind, IsLineError, bare_program, file_rule, line_of_found};
-ghost use Rattle.nll_report.specs.Grammar.{line_of_matches, program, task_named};
+ghost use Rattle.nll_report.specs.Grammar.{IsHelpKind, IsLineError, bare_program, file_rule};
+ghost use Rattle.nll_report.specs.Grammar.{line_of_found, line_of_matches, program, task_named};
 
 use crate::task::{Line, LineError, Task};
 use clap::error::ErrorKind;
@@ -19,6 +19,16 @@ const VALUES: &str = "values";
 const CHECK: &str = "check";
 
 const FILE: &str = "FILE";
+
+const AFTER_HELP: &str = "\
+Statuses:
+  0  the values are printed, or check found no fault, or this help
+  1  check found a fault
+  2  the words, the file or its text are refused, and standard error says why
+  3  memory was refused, or standard output did not take the whole report
+
+docs/FORMATS.md says how a facts text is written, and how the reports are.
+With /dev/stdin for FILE the text is read from standard input.";
 
 /// Reads the program's words, without its name.
 ///
@@ -46,8 +56,9 @@ fn grammar<'a>(alloc: Global) -> Result<Command<'a>, AllocError>
     ensures { IfOk result (λ c. app_of c ≡ program) }
 {
     let values = command(alloc, VALUES, "Prints the values of the regions of FILE")?;
+    let with_values = bare_program(alloc)?.subcommand(values)?;
     let check = command(alloc, CHECK, "Checks the universal regions of FILE")?;
-    bare_program(alloc)?.subcommand(values)?.subcommand(check)
+    with_values.subcommand(check)
 }
 
 // The program, before its commands.
@@ -58,7 +69,8 @@ fn bare_program<'a>(alloc: Global) -> Result<Command<'a>, AllocError>
         .about("Solves the region constraints of location-aware non-lexical lifetimes")
         .no_binary_name(true)
         .disable_help_subcommand(true)
-        .subcommand_required(true);
+        .subcommand_required(true)
+        .after_help(AFTER_HELP);
     program.bin_name("nllc")
 }
 
@@ -75,7 +87,7 @@ fn file_word<'a>(alloc: Global) -> Arg<'a>
     ensures local { result.global ≡ false }
 {
     Arg::new(alloc, FILE)
-        .help("The facts text")
+        .help("The facts text, or /dev/stdin for standard input")
         .action(ArgAction::Set)
         .required(true)
 }

@@ -1,6 +1,6 @@
 //! The files of the system as texts.
 ghost use Rattle.std.specs.Prelude.{◌≡◌};
-ghost use Rattle.nll_report.specs.Run.{holds_anything};
+ghost use Rattle.nll_report.specs.Run.{holds_anything, lacks_anything};
 
 use crate::program::{Texts, Unread};
 use std::alloc::Global;
@@ -15,8 +15,8 @@ const READ_LIMIT: u64 = 67_108_865;
 /// The files of the runtime.
 ///
 /// # Cost
-/// At most 67,108,865 bytes of a file are read, whatever its length; a file whose length is known is
-/// read into one allocation (not proved).
+/// At most 67,108,865 bytes of a file are read, whatever its length; a file whose length is known
+/// is read into one allocation (not proved).
 #[derive(Drop)]
 pub struct Disk<'a, R> {
     rt: &'a R,
@@ -34,8 +34,11 @@ impl<'a, R> Disk<'a, R> {
 }
 
 impl<R: Files + AllocGlobal> Texts for Disk<'_, R> {
-    // No contract knows what a file holds: this is the weakest relation, and allows all bytes.
+    // No contract knows which files there are and what they hold: these are the weakest relations,
+    // and allow all bytes, and the answer that there is no text, at each path.
     ghost holds = { λ _. holds_anything };
+
+    ghost lacks = { λ _. lacks_anything };
 
     fn get(&self, path: &str) -> Result<Vec<u8>, Unread> {
         match read_file(self.rt, path) {

@@ -1,16 +1,20 @@
 //! The lines that the program writes on standard error, and their statuses.
-ghost use Rattle.std.specs.Prelude.{◌≡◌, OnOk, Some};
+ghost use Rattle.std.specs.Prelude.{◌≡◌, OnErr, OnOk, Some};
 ghost use Rattle.std.specs.Io.KnownBytes.{Appends};
 ghost use Rattle.nll_report.specs.Refusal.{kind_text, limit_text, refusal_line, refusal_of};
 ghost use Rattle.nll_report.specs.Refusal.{refusal_of_text, refusal_text, status_of};
-ghost use Rattle.nll_report.specs.declared.messages.Refusal.TheVariants.{Memory};
+ghost use Rattle.nll_report.specs.declared.messages.Refusal.TheVariants.{CannotRead, Memory, Text};
+ghost use Rattle.nll_report.specs.Sink.{IsCut};
 
 use crate::answers::AnswerError;
+use crate::sink::{Sink, put_pieces};
+use crate::writing::Unwritten;
+use itoa::Buffer;
 use nll_core::Kind;
 use nll_mir::{TextError, TextKind};
 use std::alloc::AllocError;
-use std::io::Write;
-use std::{fmt, io};
+use std::error::Error;
+use std::fmt;
 
 /// The line that is written where the words are refused.
 pub const USAGE: &str = "usage: nllc values|check|replay FILE [--owners N] \
@@ -43,16 +47,46 @@ impl Refusal {
         }
     }
 
-    /// Writes the line of the refusal, with its end, and does not flush.
+    /// Puts the line of the refusal, with its end. It takes no memory.
     ///
     /// # Errors
-    /// Where a `write` fails or takes no byte; some of the line may be written then.
-    pub fn print<W: Write>(&self, to: &mut W) -> io::Result<()>
-        ensures { OnOk result
-            (Appends (W.contents to.old) (W.contents to.new) (refusal_line self.now)) }
+    /// `Unwritten` where the sink takes some of the line only.
+    pub fn print<S: Sink>(&self, to: &mut S) -> Result<(), Unwritten>
+        ensures all { OnOk result
+            (Appends (S.contents to.old) (S.contents to.new) (refusal_line self.now)) }
+        ensures cut { OnErr result (IsCut (S.room to.old) (S.contents to.old) (S.contents to.new)
+            (refusal_line self.now)) }
     {
-        writeln!(to, "{self}")
+        match self {
+            Refusal::Usage => put_pieces(to, &[USAGE, "\n"]),
+            Refusal::CannotRead(path) => print_unread(to, path),
+            Refusal::Text(line, kind) => print_fault(to, *line, *kind),
+            Refusal::Memory => put_pieces(to, &["nllc: memory", "\n"]),
+            Refusal::CannotWrite => put_pieces(to, &["nllc: cannot write", "\n"]),
+        }
     }
+}
+
+// Puts the line of a file that cannot be read.
+fn print_unread<S: Sink>(to: &mut S, path: &String) -> Result<(), Unwritten>
+    ensures all { OnOk result
+        (Appends (S.contents to.old) (S.contents to.new) (refusal_line (CannotRead path.now))) }
+    ensures cut { OnErr result (IsCut (S.room to.old) (S.contents to.old) (S.contents to.new)
+        (refusal_line (CannotRead path.now))) }
+{
+    put_pieces(to, &["nllc: cannot read ", path.as_str(), "\n"])
+}
+
+// Puts the line of a text's fault.
+fn print_fault<S: Sink>(to: &mut S, line: u64, kind: TextKind) -> Result<(), Unwritten>
+    ensures all { OnOk result
+        (Appends (S.contents to.old) (S.contents to.new) (refusal_line (Text line kind))) }
+    ensures cut { OnErr result (IsCut (S.room to.old) (S.contents to.old) (S.contents to.new)
+        (refusal_line (Text line kind))) }
+{
+    let mut digits = Buffer::new();
+    let line = digits.format(line);
+    put_pieces(to, &["nllc: line ", line, ": ", kind_text(kind), "\n"])
 }
 
 impl From<AllocError> for Refusal {
@@ -98,6 +132,8 @@ impl fmt::Display for Refusal {
         }
     }
 }
+
+impl Error for Refusal {}
 
 fn kind_text(kind: TextKind) -> &'static str
     ensures { result.now ≡ kind_text kind }

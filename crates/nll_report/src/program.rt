@@ -1,39 +1,47 @@
 //! The whole program, over whatever holds its files and takes its lines.
-ghost use Rattle.std.specs.Prelude.{◌≡◌, ◌⊎◌, ◌<◌, ◌≤◌, ℕ, List, map, string_bytes, take};
+ghost use Rattle.std.specs.Prelude.{◌≡◌, ◌⊎◌, ◌<◌, ◌≤◌, ℕ, List, map, string_bytes};
 ghost use Rattle.std.specs.Prelude.{IfErr, IfOk, OnErr, OnOk};
 ghost use Rattle.std.specs.Io.KnownBytes.{Appends};
 ghost use Rattle.nll_report.specs.declared.messages.Refusal.{Refusal};
-ghost use Rattle.nll_report.specs.Refusal.{status_of};
+ghost use Rattle.nll_report.specs.Refusal.{refusal_line, status_of};
 ghost use Rattle.nll_report.specs.Run.{IsBegun, IsFileAnswer, IsFileRefused, IsPrinted};
-ghost use Rattle.nll_report.specs.Run.{IsRefused, IsRun, command_of, holds_anything};
+ghost use Rattle.nll_report.specs.Run.{IsRefused, IsRun, command_of};
+ghost use Rattle.nll_report.specs.Run.{Words, holds_anything, lacks_anything};
+ghost use Rattle.nll_report.specs.Sink.{IsCut, IsPut};
 
 use crate::answers::{Command, answer};
 use crate::command_line::line;
 use crate::disk::Disk;
 use crate::messages::Refusal;
+use crate::sink::Sink;
 use crate::task::{Line, LineError, Task};
-use crate::writing::put;
 use std::alloc::Global;
-use std::io::Write;
 use std::rt::{Env, Files};
 use std::{env, io};
+use thiserror::Error;
 
 /// The texts that the program can read, by their paths.
 pub trait Texts {
     // Which bytes may be given for a path.
     ghost holds: { Self → List ℕ → List ℕ → Type 0 };
 
+    // For which paths it may be answered that there is no text.
+    ghost lacks: { Self → List ℕ → Type 0 };
+
     /// Gives the bytes of a text, or its first 67,108,865 where it has more.
     fn get(&self, path: &str) -> Result<Vec<u8>, Unread>
-        ensures { IfOk result (λ text. holds self.now path.now text.items) };
+        ensures held { IfOk result (λ text. holds self.now path.now text.items) }
+        ensures lacking { IfErr result (λ e. e ≡ Unread.Cannot → lacks self.now path.now) };
 }
 
 /// Why a text was not given.
-#[derive(Clone, Copy, Debug, PartialEq, Eq)]
+#[derive(Clone, Copy, Debug, PartialEq, Eq, Error)]
 pub enum Unread {
     /// There is no such text, or it cannot be read.
+    #[error("the text cannot be read")]
     Cannot,
     /// An allocation was refused.
+    #[error("memory was refused")]
     Memory,
 }
 
@@ -41,9 +49,9 @@ pub enum Unread {
 ///
 /// # Shape
 /// Status 0 or 1: the report or the help is on `out`, and nothing is on `err`. Status 2: nothing is
-/// on `out`, and one line is on `err`. Status 3: the same, save that after `nllc: cannot write` some
-/// of the report may be on `out`. A line that `err` does not take is lost.
-pub fn drive<R: AllocGlobal, T: Texts, O: Write, E: Write>(
+/// on `out`, and one line is on `err`. Status 3: the same, save that with `nllc: cannot write` some
+/// of the report may be on `out`. What `err` does not take of its line is lost.
+pub fn drive<R: AllocGlobal, T: Texts, O: Sink, E: Sink>(
     rt: &R,
     words: &[String],
     texts: &T,
@@ -57,43 +65,65 @@ pub fn drive<R: AllocGlobal, T: Texts, O: Write, E: Write>(
     ensures refused { result ≡ 2 → out.new ≡ out.old }
     ensures begun { result ≡ 3 → (out.new ≡ out.old)
         ⊎ IsBegun (T.holds texts.now) (map string_bytes words.now)
-        (O.contents out.old) (O.contents out.new) }
-    ensures why { 2 ≤ result → (refusal : Refusal) × (status_of refusal ≡ result)
-        × IsRefused (T.holds texts.now) (map string_bytes words.now) refusal }
+        (O.room out.old) (O.contents out.old) (O.contents out.new) }
+
+    // Standard error tells a refusal of this status: it is true of the words and the texts, or
+    // standard output refused some of the report or the help.
+    ensures told { 2 ≤ result → (refusal : Refusal) × (status_of refusal ≡ result)
+        × (((out.new ≡ out.old) × IsRefused (T.holds texts.now) (T.lacks texts.now)
+        (map string_bytes words.now) refusal)
+        ⊎ ((refusal ≡ Refusal.CannotWrite) × IsBegun (T.holds texts.now)
+        (map string_bytes words.now) (O.room out.old) (O.contents out.old) (O.contents out.new)))
+        × IsPut (E.room err.old) (E.contents err.old) (E.contents err.new)
+        (refusal_line refusal) }
 {
-    let told = match report(rt.alloc(), words, texts) {
-        Ok((bytes, status)) => match deliver(out, bytes.as_slice()) {
-            Ok(()) => return status,
-            Err(refusal) => refusal,
+    match report(rt.alloc(), words, texts) {
+        Ok((bytes, status)) => match out.put(bytes.as_slice()) {
+            Ok(()) => status,
+            Err(_) => tell(&Refusal::CannotWrite, err),
         },
-        Err(refusal) => refusal,
-    };
-    tell(&told, err)
+        Err(refusal) => tell(&refusal, err),
+    }
 }
 
-/// Runs the program on the words and the files of its process, and answers its status. Words that are
-/// not UTF-8 are refused.
-pub fn run_in_process<R: Env + Files + AllocGlobal, O: Write, E: Write>(
+/// Runs the program on the words and the files of its process, and answers its status. Words that
+/// are not UTF-8 are refused.
+///
+/// # Not said
+/// No contract knows which words a process has, what its files hold, and what its own standard
+/// streams hold or take. So where `out` and `err` are those, the clauses say the status alone, and
+/// which of the two streams is left as it is.
+pub fn run_in_process<R: Env + Files + AllocGlobal, O: Sink, E: Sink>(
     rt: &R,
     out: &mut O,
     err: &mut E,
 ) -> u8
     ensures statuses { result ≤ 3 }
     ensures answered { result < 2 → err.new ≡ err.old }
-    ensures printed { result < 2 → (words : List (List ℕ))
+    ensures printed { result < 2 → (words : Words)
         × IsPrinted holds_anything words result (O.contents out.old) (O.contents out.new) }
     ensures refused { result ≡ 2 → out.new ≡ out.old }
-    ensures begun { result ≡ 3 → (out.new ≡ out.old) ⊎ ((words : List (List ℕ))
-        × IsBegun holds_anything words (O.contents out.old) (O.contents out.new)) }
+    ensures begun { result ≡ 3 → (out.new ≡ out.old) ⊎ ((words : Words)
+        × IsBegun holds_anything words
+        (O.room out.old) (O.contents out.old) (O.contents out.new)) }
+    ensures told { 2 ≤ result → (words : Words) × (refusal : Refusal)
+        × (status_of refusal ≡ result)
+        × (((out.new ≡ out.old) × IsRefused holds_anything lacks_anything words refusal)
+        ⊎ ((refusal ≡ Refusal.CannotWrite) × IsBegun holds_anything words
+        (O.room out.old) (O.contents out.old) (O.contents out.new)))
+        × IsPut (E.room err.old) (E.contents err.old) (E.contents err.new)
+        (refusal_line refusal) }
 {
     match words_of(rt) {
         Ok(words) => drive(rt, words.as_slice(), &Disk::new(rt), out, err),
-        Err(refusal) => tell(&refusal, err),
+        Err(lost) => tell(&lost, err),
     }
 }
 
 // The words of the process, without the program's name.
-fn words_of<R: Env + AllocGlobal>(rt: &R) -> Result<Vec<String>, Refusal> {
+fn words_of<R: Env + AllocGlobal>(rt: &R) -> Result<Vec<String>, Refusal>
+    ensures { IfErr result (λ e. (e ≡ Refusal.Usage) ⊎ (e ≡ Refusal.Memory)) }
+{
     match env::args(rt) {
         Ok(mut words) => {
             let _name = words.next();
@@ -110,7 +140,7 @@ fn report<T: Texts>(alloc: Global, words: &[String], texts: &T) -> Result<(Vec<u
         IsRun (T.holds texts.now) (map string_bytes words.now) r.0.items r.1) }
     ensures status { IfOk result (λ r. r.1 ≤ 1) }
     ensures err { IfErr result
-        (IsRefused (T.holds texts.now) (map string_bytes words.now)) }
+        (IsRefused (T.holds texts.now) (T.lacks texts.now) (map string_bytes words.now)) }
 {
     match line(alloc, words) {
         Ok(line) => answered(alloc, line, texts),
@@ -126,7 +156,7 @@ fn answered<T: Texts>(alloc: Global, line: Line, texts: &T) -> Result<(Vec<u8>, 
         IsFileAnswer (T.holds texts.now) line.task (string_bytes line.file) r.0.items r.1) }
     ensures status { IfOk result (λ r. r.1 ≤ 1) }
     ensures err { IfErr result
-        (IsFileRefused (T.holds texts.now) (string_bytes line.file)) }
+        (IsFileRefused (T.holds texts.now) (T.lacks texts.now) (string_bytes line.file)) }
 {
     let Line { task, file } = line;
     match texts.get(file.as_str()) {
@@ -145,23 +175,12 @@ fn command_of(task: Task) -> Command
     }
 }
 
-fn deliver<O: Write>(out: &mut O, bytes: &[u8]) -> Result<(), Refusal>
-    ensures ok { OnOk result (Appends (O.contents out.old) (O.contents out.new) bytes.now) }
-    ensures err { IfErr result (λ e. e ≡ Refusal.CannotWrite) }
-    ensures begun { OnErr result ((count : ℕ)
-        × Appends (O.contents out.old) (O.contents out.new) (take count bytes.now)) }
-{
-    if put(out, bytes).is_err() || out.flush().is_err() {
-        return Err(Refusal::CannotWrite);
-    }
-    Ok(())
-}
-
-// Writes the line of a refusal. That nobody reads it changes no status.
-fn tell<E: Write>(refusal: &Refusal, err: &mut E) -> u8
-    ensures { result ≡ status_of refusal.now }
+// Puts the line of a refusal. That nobody reads it changes no status.
+fn tell<E: Sink>(refusal: &Refusal, err: &mut E) -> u8
+    ensures status { result ≡ status_of refusal.now }
+    ensures told { IsPut (E.room err.old) (E.contents err.old) (E.contents err.new)
+        (refusal_line refusal.now) }
 {
     let _ = refusal.print(err);
-    let _ = err.flush();
     refusal.status()
 }

@@ -3,6 +3,7 @@ ghost use Rattle.std.specs.Prelude.{◌≡◌};
 ghost use Rattle.nll_report.specs.declared.task.LineError.TheVariants.{Memory};
 
 use std::alloc::AllocError;
+use thiserror::Error;
 
 /// What is asked of the file.
 #[derive(Clone, Copy, Debug, PartialEq, Eq)]
@@ -21,13 +22,16 @@ pub struct Line {
 }
 
 /// Why a command line is not taken.
-#[derive(Debug, PartialEq, Eq, Drop)]
+#[derive(Debug, PartialEq, Eq, Drop, Error)]
 pub enum LineError {
     /// Help is asked for; the text is for standard output.
+    #[error("help is asked for")]
     Help(String),
     /// The words are none of the forms.
+    #[error("the words are none of the forms")]
     Usage,
     /// An allocation was refused.
+    #[error("memory was refused")]
     Memory,
 }
 

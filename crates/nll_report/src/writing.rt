@@ -3,9 +3,11 @@ ghost use Rattle.std.specs.Prelude.{◌<◌, ◌≤◌, IfErr, IfSome, IsNone, O
 ghost use Rattle.std.specs.Io.KnownBytes.{Appends, Keeps};
 
 use std::io::{ErrorKind, Write};
+use thiserror::Error;
 
 /// A report that was not written to its end.
-#[derive(Clone, Copy, Debug, PartialEq, Eq)]
+#[derive(Clone, Copy, Debug, PartialEq, Eq, Error)]
+#[error("writing stopped behind {written} bytes")]
 pub struct Unwritten {
     /// How many of its bytes were written, from the first on.
     pub written: usize,

@@ -1,19 +1,25 @@
 //! Want of memory.
 
 use std::alloc::{AllocError, AllocFailed};
+use thiserror::Error;
 
 /// A growth of memory was refused.
-#[derive(Clone, Copy, Debug, PartialEq, Eq)]
-pub struct Memory;
+///
+/// Nothing but the conversions from `std`'s allocation errors makes one. So a call that answers it had
+/// such an error in hand. That isn't proved, and neither is that a growth was in fact refused: any code
+/// may make a `std::alloc::AllocError`.
+#[derive(Clone, Copy, Debug, PartialEq, Eq, Error)]
+#[error("a growth of memory was refused")]
+pub struct Memory(());
 
 impl From<AllocError> for Memory {
     fn from(_: AllocError) -> Memory {
-        Memory
+        Memory(())
     }
 }
 
 impl<T: Drop> From<AllocFailed<T>> for Memory {
     fn from(_: AllocFailed<T>) -> Memory {
-        Memory
+        Memory(())
     }
 }

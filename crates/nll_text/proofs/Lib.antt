@@ -5,3 +5,4 @@ pub mod Utf8Lemmas
 pub mod NumberLemmas
 pub mod HeaderLemmas
 pub mod ScanLemmas
+pub mod DecisionLemmas

@@ -1,6 +1,6 @@
 -- Tokens, how each is written, and when a line is made of a list of tokens.
 -- Source: project's choice.
-use Rattle.std.specs.Prelude.{◌≡◌, ℕ, ◌<◌, ◌==◌, nat_le, Bool, true, false, ◌&&◌, ◌||◌, List, [], ◌∷◌, ◌++◌, length, map}
+use Rattle.std.specs.Prelude.{◌≡◌, ℕ, ◌<◌, ◌≤◌, ◌==◌, nat_le, Bool, true, false, ◌&&◌, ◌||◌, List, [], ◌∷◌, ◌++◌, length, map}
 use Rattle.std.specs.List.{AllByRecursion}
 use Rattle.nll_text.specs.Lines.{is_blank}
 use Rattle.nll_text.specs.declared.token.Token.{Token as InLine}
@@ -73,6 +73,10 @@ IsMadeOf line (t ∷ ts) =
 -- No list of tokens makes the line.
 abbrev pub IsNotMade : List ℕ → Type 0
 IsNotMade line = (ts : List Token) → IsMadeOf line ts → ⊥
+
+-- No list of at most this many tokens makes the line.
+abbrev pub IsNotMadeWithin : ℕ → List ℕ → Type 0
+IsNotMadeWithin most line = (ts : List Token) → length ts ≤ most → IsMadeOf line ts → ⊥
 
 -- The token that a value of the program stands for, apart from where its bytes lie in memory.
 abbrev pub view : InLine → Token

@@ -1,13 +1,14 @@
 //! A line as tokens.
 
-ghost use Rattle.std.specs.Prelude.{◌≡◌, List, MatchOption, OnOk, IfOk, IfErr, false, ◌<◌, length};
+ghost use Rattle.std.specs.Prelude.{◌≡◌, List, MatchOption, OnOk, IfOk, IfErr, false, ◌<◌, ◌≤◌, length};
 ghost use Rattle.nll_text.specs.Lines as lines;
 ghost use Rattle.nll_text.specs.Tokens as specs;
-ghost use Rattle.nll_text.specs.Tokens.{AreTokens, IsMadeOf, IsNotMade, view, views, first_passes};
+ghost use Rattle.nll_text.specs.Tokens.{AreTokens, IsMadeOf, IsNotMade, IsNotMadeWithin, view, views, first_passes};
 ghost use Rattle.nll_text.specs.Lexing.{BeginsWith, HasNoToken};
 
 use crate::bytes::{is_sign, split_gap, split_word};
-use crate::token::{LexError, Token};
+use crate::error::LexError;
+use crate::token::Token;
 
 // The token that a line begins with, where it begins with no blank, and the rest.
 fn token_at(line: &[u8]) -> Option<(Token<'_>, &[u8])>
@@ -47,7 +48,7 @@ fn token_at(line: &[u8]) -> Option<(Token<'_>, &[u8])>
 fn next_token(line: &[u8]) -> Result<Option<(Token<'_>, &[u8])>, LexError>
     ensures ok { IfOk result (λ o.
         MatchOption o (HasNoToken line.now) (λ p. BeginsWith line.now (view p.0) p.1.now)) }
-    ensures err { IfErr result (λ e. (e ≡ LexError.NoToken) × IsNotMade line.now) }
+    ensures err { IfErr result (λ e. (e ≡ LexError.NoTokens) × IsNotMade line.now) }
 {
     let (_gap, core) = split_gap(line);
     if core.is_empty() {
@@ -55,33 +56,42 @@ fn next_token(line: &[u8]) -> Result<Option<(Token<'_>, &[u8])>, LexError>
     }
     match token_at(core) {
         Some(found) => Ok(Some(found)),
-        None => Err(LexError::NoToken),
+        None => Err(LexError::NoTokens),
     }
 }
 
-/// Puts the tokens of a line into a list, in place of what the list held.
+/// Puts the tokens of a line into a list, in place of what the list held, where there are at most
+/// `most` of them.
 ///
 /// A reader hands in one list for all lines, so that a line asks for memory only where it has more
-/// tokens than each line before it.
+/// tokens than each line before it, and never for more than `most`.
 ///
 /// # Errors
-/// - `NoToken`: no list of tokens makes the line.
+/// - `NoTokens`: no list of at most `most` tokens makes the line.
 /// - `Memory`: the list could not grow.
 ///
-/// What the list holds after an error is left open.
+/// What the list holds after an error is left open, but never more than `most` tokens.
 ///
 /// # Cost
-/// The length of the line (not proved).
-pub fn tokens_of<'a>(line: &'a [u8], tokens: &mut Vec<Token<'a>>) -> Result<(), LexError>
+/// The length of the line (not proved), and room for at most `most` tokens.
+pub fn tokens_of<'a>(
+    line: &'a [u8],
+    most: usize,
+    tokens: &mut Vec<Token<'a>>,
+) -> Result<(), LexError>
     ensures each { OnOk result (AreTokens (views tokens.new.items)) }
     ensures made { OnOk result (IsMadeOf line.now (views tokens.new.items)) }
     ensures only { OnOk result ((ts : List specs.Token)
         → IsMadeOf line.now ts → ts ≡ views tokens.new.items) }
-    ensures fault { result ≡ Err LexError.NoToken → IsNotMade line.now }
+    ensures few { length tokens.new.items ≤ most }
+    ensures fault { result ≡ Err LexError.NoTokens → IsNotMadeWithin most line.now }
 {
     tokens.clear();
     let mut rest = line;
     while let Some((token, after)) = next_token(rest)? {
+        if tokens.len() >= most {
+            return Err(LexError::NoTokens);
+        }
         tokens.push(token)?;
         rest = after;
     }

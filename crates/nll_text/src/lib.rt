@@ -1,10 +1,11 @@
 //! Texts as lines, tokens and numbers: what the readers of all line-based formats share.
 //! It knows no format.
 //!
-//! Reading order: `lines`, `token`, `bytes`, `lexer`, `number`, `header`, `scan`, `laws`.
+//! Reading order: `lines`, `token`, `error`, `bytes`, `lexer`, `number`, `header`, `scan`, `laws`.
 #![tactic(auto)]
 
 mod bytes;
+mod error;
 mod header;
 mod laws;
 mod lexer;
@@ -13,10 +14,11 @@ mod number;
 mod scan;
 mod token;
 
+pub use error::{LexError, ScanError};
 pub use header::is_header;
 pub use laws::one_token_list;
 pub use lexer::tokens_of;
 pub use lines::next_line;
 pub use number::number_of;
-pub use scan::{ScanError, Scanned, scan_line};
-pub use token::{LexError, Token};
+pub use scan::{Scanned, scan_line};
+pub use token::Token;

@@ -1,15 +1,14 @@
 //! A line behind the header: to be skipped, made of tokens, or faulty.
 
-ghost use Rattle.std.specs.Prelude.{◌≡◌, IfOk, IfErr, OnOk};
+ghost use Rattle.std.specs.Prelude.{◌≡◌, ◌≤◌, length, IfOk, IfErr, OnOk};
 ghost use Rattle.nll_text.specs.Lines as lines;
-ghost use Rattle.nll_text.specs.Tokens.{IsNotMade, views};
+ghost use Rattle.nll_text.specs.Tokens.{IsNotMadeWithin, views};
 ghost use Rattle.nll_text.specs.Scan.{IsScanned, IsScanError, IsSkippedLine};
-ghost use Rattle.nll_text.specs.declared.scan.ScanError.TheVariants as errors;
 
 use crate::bytes::split_gap;
+use crate::error::{LexError, ScanError};
 use crate::lexer::tokens_of;
-use crate::token::{LexError, Token};
-use std::alloc::{AllocError, AllocFailed};
+use crate::token::Token;
 use std::str;
 
 /// What a line behind the header is.
@@ -19,33 +18,6 @@ pub enum Scanned {
     Skipped,
     /// A line of tokens, which are in the list then.
     Tokens,
-}
-
-/// Why a line behind the header is faulty.
-#[derive(Clone, Copy, Debug, PartialEq, Eq)]
-pub enum ScanError {
-    /// The line's bytes aren't UTF-8.
-    NotUtf8,
-    /// The line isn't skipped, and some byte is neither a blank nor of a token.
-    NoToken,
-    /// Memory ran out.
-    Memory,
-}
-
-impl From<AllocError> for ScanError {
-    ghost from_gives = { λ _ e. e ≡ errors.Memory };
-
-    fn from(_error: AllocError) -> ScanError {
-        ScanError::Memory
-    }
-}
-
-impl<T: Drop> From<AllocFailed<T>> for ScanError {
-    ghost from_gives = { λ _ e. e ≡ errors.Memory };
-
-    fn from(_error: AllocFailed<T>) -> ScanError {
-        ScanError::Memory
-    }
 }
 
 // Blanks alone, or a remark behind `#`.
@@ -59,11 +31,11 @@ fn is_skipped(line: &[u8]) -> bool
     }
 }
 
-// Tells a remark from a faulty line, where no tokens make the line.
-fn check_remark(line: &[u8]) -> Result<(), ScanError>
-    requires { IsNotMade line.now }
+// Tells a remark from a faulty line, where no list of so few tokens makes the line.
+fn check_remark(line: &[u8], most: usize) -> Result<(), ScanError>
+    requires { IsNotMadeWithin most line.now }
     ensures ok { OnOk result (IsSkippedLine line.now) }
-    ensures err { IfErr result (λ e. IsScanError line.now e) }
+    ensures err { IfErr result (λ e. IsScanError most line.now e) }
 {
     let Ok(_) = str::from_utf8(line) else {
         return Err(ScanError::NotUtf8);
@@ -71,30 +43,36 @@ fn check_remark(line: &[u8]) -> Result<(), ScanError>
     if is_skipped(line) {
         return Ok(());
     }
-    Err(ScanError::NoToken)
+    Err(ScanError::NoTokens)
 }
 
 /// Tells what a line behind the header is, and puts its tokens into the list, in place of what the
-/// list held.
+/// list held. A caller hands in the most tokens that it has a use for.
 ///
 /// # Errors
 /// - `NotUtf8`: the line's bytes aren't UTF-8, in a remark too.
-/// - `NoToken`: the line isn't skipped, and no list of tokens makes it.
+/// - `NoTokens`: the line isn't skipped, and no list of at most `most` tokens makes it.
 /// - `Memory`: the list could not grow.
 ///
-/// What the list holds at a skipped line and after an error is left open.
+/// What the list holds at a skipped line and after an error is left open, but never more than `most`
+/// tokens.
 ///
 /// # Cost
-/// The length of the line (not proved).
-pub fn scan_line<'a>(line: &'a [u8], tokens: &mut Vec<Token<'a>>) -> Result<Scanned, ScanError>
+/// The length of the line (not proved), and room for at most `most` tokens.
+pub fn scan_line<'a>(
+    line: &'a [u8],
+    most: usize,
+    tokens: &mut Vec<Token<'a>>,
+) -> Result<Scanned, ScanError>
     ensures ok { IfOk result (λ s. IsScanned line.now (views tokens.new.items) s) }
-    ensures err { IfErr result (λ e. IsScanError line.now e) }
+    ensures err { IfErr result (λ e. IsScanError most line.now e) }
+    ensures few { length tokens.new.items ≤ most }
 {
-    match tokens_of(line, tokens) {
+    match tokens_of(line, most, tokens) {
         Ok(()) if tokens.is_empty() => Ok(Scanned::Skipped),
         Ok(()) => Ok(Scanned::Tokens),
-        Err(LexError::NoToken) => {
-            check_remark(line)?;
+        Err(LexError::NoTokens) => {
+            check_remark(line, most)?;
             Ok(Scanned::Skipped)
         }
         Err(LexError::Memory) => Err(ScanError::Memory),

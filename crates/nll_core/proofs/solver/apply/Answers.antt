@@ -1,40 +1,30 @@
-use Rattle.std.proofs.Common.{◌≡◌, ℕ, ◌↔◌, true, Contains, subst, sym, ◌∙◌, arith}
-use Rattle.std.proofs.lemmas.Bool.{false≢true}
+use Rattle.std.proofs.Common.{◌≡◌, ℕ, ◌↔◌, true, Contains, subst, sym, arith}
 use Rattle.std.proofs.lemmas.Result.{on_ok_weaker}
 use Rattle.nll_sets.specs.ElementSet.{flag}
 use Rattle.nll_problem.specs.Walks.{Reaches}
 use Rattle.nll_core.specs.Values.{set_of, IsHeld}
-use Rattle.nll_core.specs.Growing.{IsAsked}
-use Rattle.nll_problem.proofs.WalkLemmas.{reaches_inside, reaches_starts}
-use Rattle.nll_core.proofs.SpreadingLemmas.{flag_within}
-use Rattle.nll_core.proofs.GrowingLemmas.{gains_none, gains_weaker, tells_none}
+use Rattle.nll_problem.specs.Solution.{Asks}
+use Rattle.nll_problem.proofs.WalkLemmas.{reaches_inside}
+use Rattle.nll_core.proofs.SearchLemmas.{flag_within}
+use Rattle.nll_core.proofs.GrowingLemmas.{gains_weaker}
 use Rattle.nll_core.proofs.solver.apply.Goals as goal
 use Rattle.nll_core.proofs.solver.apply.Goals.{After-deref}
 
-pub returns-then-not-has-clause-gains : goal.returns-then-not-has-clause-gains
-returns-then-not-has-clause-gains c = gains_none _ _
-
-pub returns-then-not-has-clause-asks : goal.returns-then-not-has-clause-asks
-returns-then-not-has-clause-asks c = λ e h. absurd (false≢true (sym c.if-not-has.true ∙ (c.has.ensures ∙ reaches_starts _ _ _ e h)))
-
-pub returns-then-not-has-clause-tells : goal.returns-then-not-has-clause-tells
-returns-then-not-has-clause-tells c = tells_none _
-
-pub reached_from-requires-clause-in_seen : goal.reached_from-requires-clause-in_seen
-reached_from-requires-clause-in_seen c =
+pub reached_from-requires-clause-width : goal.reached_from-requires-clause-width
+reached_from-requires-clause-width c =
     let regions = c.graph-graph.ensures.sound.constraint_regions c.args.constraint c.requires.of_problem in
-    rw (c.set.ensures, c.graph-graph.ensures.value) (c.requires.shaped.elements c.args.constraint.sub regions.1)
+    rw (c.set-set.ensures, c.graph-graph.ensures.value) (c.requires.shaped.elements c.args.constraint.sub regions.1)
 
 pub reached_from-requires-clause-at : goal.reached_from-requires-clause-at
 reached_from-requires-clause-at c =
     let point = c.graph-graph.ensures.sound.constraint_points c.args.constraint c.requires.of_problem in
     rw c.graph-graph.ensures.value (omega (arith, point))
 
-found_is : (c : After-deref) → (x : ℕ) → Contains c.deref.result.now x ↔ IsAsked c.args.problem.now c.args.values.now c.args.constraint x
+found_is : (c : After-deref) → (x : ℕ) → Contains c.deref.result.now x ↔ Asks c.args.problem.now.graph (IsHeld c.args.values.now) c.args.constraint x
 found_is c x =
     let at = c.args.constraint.at in
-    let of_list = subst (λ xs. Contains xs x ↔ Reaches c.graph-graph.result.now (λ z. flag c.set.result.now z ≡ true) at x) (sym c.deref.ensures.value) (c.in_ok-found.ensures x) in
-    let of_set = subst (λ flags. Contains c.deref.result.now x ↔ Reaches c.graph-graph.result.now (λ z. flag flags z ≡ true) at x) c.set.ensures of_list in
+    let of_list = subst (λ xs. Contains xs x ↔ Reaches c.graph-graph.result.now (λ z. flag c.set-set.result.now z ≡ true) at x) (sym c.deref.ensures.value) (c.in_ok-found.ensures x) in
+    let of_set = subst (λ flags. Contains c.deref.result.now x ↔ Reaches c.graph-graph.result.now (λ z. flag flags z ≡ true) at x) c.set-set.ensures of_list in
     subst (λ g. Contains c.deref.result.now x ↔ Reaches g (IsHeld c.args.values.now c.args.constraint.sub) at x) c.graph-graph.ensures.value of_set
 
 pub insert_all-requires-clause-elements : goal.insert_all-requires-clause-elements

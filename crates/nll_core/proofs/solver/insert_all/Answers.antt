@@ -3,7 +3,7 @@ use borrow.Author.Count.{below_more}
 use Rattle.std.proofs.lemmas.List.{get_or_read}
 use Rattle.nll_core.specs.Values.{set_of, IsHeld}
 use Rattle.nll_core.specs.Growing.{Gains}
-use Rattle.nll_core.proofs.SpreadingLemmas.{covers_contained}
+use Rattle.nll_core.proofs.SearchLemmas.{covers_contained}
 use Rattle.nll_core.proofs.GrowingLemmas.{held_one, gains_none, gains_one, gains_append, tells_none, tells_one, tells_append}
 use Rattle.nll_core.proofs.solver.insert_all.Goals as goal
 use Rattle.nll_core.proofs.solver.insert_all.Goals.{After-element-item}

@@ -1,4 +1,4 @@
-use Rattle.std.proofs.Common.{◌≡◌, ℕ, ◌<◌, Contains, get_or, length, ap, sym, ◌∙◌, arith}
+use Rattle.std.proofs.Common.{◌≡◌, ℕ, List, subst, ◌<◌, Contains, get_or, length, ap, sym, ◌∙◌, arith}
 use Rattle.std.proofs.lemmas.List.{get_or_default}
 use Rattle.nll_core.specs.Values.{set_of}
 use Rattle.nll_core.proofs.SolverLemmas.{listing_first, listing_more}
@@ -7,7 +7,7 @@ use Rattle.nll_core.proofs.solver.insert_bases.Goals.{After-base-item}
 
 -- the fact of a turn is a base fact of the problem
 listed : (c : After-base-item) → Contains {X = ℕ × ℕ} c.args.problem.now.bases (c.base-item.result.0, c.base-item.result.1)
-listed c = (c.bases-facts.ensures.each (c.base-item.result.0, c.base-item.result.1)).0 (c.loop-base.base-index, c.loop-base-test.true, sym c.base-item.is)
+listed c = subst (λ (xs : List (ℕ × ℕ)). Contains xs (c.base-item.result.0, c.base-item.result.1)) c.bases-facts.ensures.value (c.loop-base.base-index, c.loop-base-test.true, sym c.base-item.is)
 
 region : (c : After-base-item) → c.base-item.result.0 < length c.loop-base.values
 region c =
@@ -44,5 +44,5 @@ returns-clause-gains c = c.loop-base.invariant.gains
 
 pub returns-clause-covers : goal.returns-clause-covers
 returns-clause-covers c = λ r e h.
-    let place = (c.bases-facts.ensures.each (r, e)).1 h in
+    let place = subst (λ (xs : List (ℕ × ℕ)). Contains xs (r, e)) (sym c.bases-facts.ensures.value) h in
     c.loop-base.invariant.covers place.0 r e (omega (arith, place.1)) place.2

@@ -23,14 +23,6 @@ loop-values-preserved c = record {
   below = λ assignment sat. c.round.ensures.below assignment sat (c.loop-values.invariant.below assignment sat);
 }
 
-pub returns-clause-solution : goal.returns-clause-solution
-returns-clause-solution c =
-    let same = c.in_ok-round.ensures.tells.same c.if-branch.false in
-    record {
-      base = λ r e h. c.round.ensures.kept r e (c.loop-values.invariant.base r e h);
-      each = subst (IsClosed c.args.problem.now) (sym same) (c.in_ok-round.ensures.closed c.if-branch.false);
-    }
-
 pub returns-clause-least : goal.returns-clause-least
 returns-clause-least c =
     let same = c.in_ok-round.ensures.tells.same c.if-branch.false in

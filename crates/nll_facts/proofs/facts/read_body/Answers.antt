@@ -1,42 +1,16 @@
-use Rattle.std.proofs.Common.{◌++◌, [], ◌∷◌, length, arith, ap, ◌∙◌, inl, inr, ⊎_elim}
+use Rattle.std.proofs.Common.{ℕ, List, ap, sym, ◌∙◌}
+use Rattle.nll_reading.specs.Labels.{numbers}
 use Rattle.nll_text.specs.Lines.{lines_left}
-use Rattle.nll_facts.proofs.TextLemmas.{read_none, read_more, read_fault, read_all, read_bound}
+use Rattle.nll_problem.proofs.SameLemmas.{same_problem_chain}
+use Rattle.nll_facts.proofs.TextLemmas.{ended}
 use Rattle.nll_facts.proofs.facts.read_body.Goals as goal
 
-pub loop-rest-init : goal.loop-rest-init
-loop-rest-init c = record { ready = c.requires.ready; read = ([], [], read_none _ _ c.requires.start) }
-
-pub overflow_add-number : goal.overflow_add-number
-overflow_add-number c = let r = c.loop-rest.invariant.read.2 in omega (arith, read_bound _ _ _ _ _ _ r, c.requires.long)
-
-pub returns-in-Err-clause-fault : goal.returns-in-Err-clause-fault
-returns-in-Err-clause-fault c =
-    let r = c.loop-rest.invariant.read.2 in
-    let next = ap lines_left c.in-Some.is ∙ c.next_line.ensures in
-    ⊎_elim inl
-    (λ told. ⊎_elim
-    (λ memory. absurd (told.1 memory))
-    (λ wrong. rw told.0 (inr (omega (arith, r.place), read_fault _ _ _ _ _ _ _ _ next r c.in-Err.kind wrong)))
-    c.in-Err.ensures.fault)
-    c.refusal.ensures.fault
-
-pub loop-rest-smaller : goal.loop-rest-smaller
-loop-rest-smaller c = let next = ap lines_left c.in-Some.is ∙ c.next_line.ensures in omega (arith, ap length next)
-
-pub loop-rest-preserved : goal.loop-rest-preserved
-loop-rest-preserved c =
-    let r = c.loop-rest.invariant.read.2 in
-    let next = ap lines_left c.in-Some.is ∙ c.next_line.ensures in
-    let more = read_more _ _ _ _ _ _ _ _ _ next r c.in_default-read_line.ensures.ok in
-    record { ready = c.in_default-read_line.ensures.ready; read = (c.loop-rest.invariant.read.0 ++ c.next_line.result.0.now ∷ [], more.0, more.1) }
-
 pub returns-clause-ok : goal.returns-clause-ok
-returns-clause-ok c = (read_all _ _ _ _ _ (rw (ap lines_left c.in_default.is) at c.loop-rest.invariant.read.2)).2
-
-pub returns-clause-says : goal.returns-clause-says
-returns-clause-says c =
-    let done = read_all _ _ _ _ _ (rw (ap lines_left c.in_default.is) at c.loop-rest.invariant.read.2) in
-    (c.loop-rest.invariant.read.1, done.0, done.1)
-
-pub returns-clause-ready : goal.returns-clause-ready
-returns-clause-ready c = c.loop-rest.invariant.ready
+returns-clause-ok c = λ text headed.
+    let read = c.in_default.ensures.read in
+    record {
+      forms = read.0;
+      fits = record { body = lines_left c.args.body; headed = headed; fine = read.1; ended = ended read.0 (read.2.reached ∙ c.in_default.ensures.ended) };
+      same_problem = same_problem_chain _ _ _ read.2.problem c.finish-problem.ensures.problem;
+      same_labels = c.new-2.ensures ∙ ap (λ (ns : List (List ℕ)). record { names = ns; points = numbers }) (c.finish-problem.ensures.names ∙ sym read.2.names);
+    }

@@ -1,14 +1,12 @@
-use Rattle.std.proofs.Common.{◌≡◌, length, ap, sym, ◌∙◌, inr, subst, arith}
-use Rattle.std.proofs.lemmas.Result.{err_from_is_err_and}
-use Rattle.nll_text.specs.Lines.{lines_of, lines_left}
+use Rattle.std.proofs.Common.{length, ap, inr, arith}
+use Rattle.std.proofs.lemmas.Result.{err_from_is_err_and, IfOk-weaker, IfErr-weaker}
+use Rattle.nll_text.specs.Lines.{lines_left}
 use Rattle.nll_text.proofs.LineLemmas.{length-lines_of-le}
-use Rattle.std.proofs.lemmas.Bool.{false≢true}
-use Rattle.nll_problem.proofs.SameLemmas.{same_problem_chain}
-use Rattle.nll_reading.specs.declared.error.TextKind.TheVariants.{End}
-use Rattle.nll_facts.specs.FactsText.{IsCut, IsFault, too_long, no_end}
-use Rattle.nll_facts.proofs.TextLemmas.{header_refused, body_refused, ended, not_ended}
+use Rattle.nll_reading.specs.Text.{IsCut, IsHeaded, too_long}
+use Rattle.nll_reading.proofs.ReadingLemmas.{header_refused}
+use Rattle.nll_facts.specs.FactsText.{facts}
 use Rattle.nll_facts.proofs.facts.read_facts.Goals as goal
-use Rattle.nll_facts.proofs.facts.read_facts.Goals.{After-next_line}
+use Rattle.nll_facts.proofs.facts.read_facts.Goals.{After-next_line, After-read_body}
 
 -- the first line and the lines after it
 cut : (c : After-next_line) → IsCut c.args.text.now c.next_line.result.0.now (lines_left c.next_line.result.1)
@@ -20,40 +18,22 @@ returns-then-text-gt-MAX_TEXT-clause-fault c = inr (too_long c.if-text-gt-MAX_TE
 pub returns-in_err-check_header-clause-fault : goal.returns-in_err-check_header-clause-fault
 returns-in_err-check_header-clause-fault c =
     let p = err_from_is_err_and c.from_residual.result c.from_residual.ensures.1 in
-    rw (p.1, p.2) (header_refused _ _ _ _ (cut (goal.at.returns-in_err-check_header-clause-fault c).After-next_line) c.in_err-check_header.ensures.fault)
+    rw (p.1, p.2) (header_refused facts _ _ _ _ (cut (goal.at.returns-in_err-check_header-clause-fault c).After-next_line) c.in_err-check_header.ensures.fault)
 
-pub read_body-requires-clause-long : goal.read_body-requires-clause-long
-read_body-requires-clause-long c = omega (arith, ap length c.next_line.ensures, length-lines_of-le c.args.text.now)
+pub read_body-requires : goal.read_body-requires
+read_body-requires c = omega (arith, ap length c.next_line.ensures, length-lines_of-le c.args.text.now)
 
-pub returns-in-Err-read_body-clause-fault : goal.returns-in-Err-read_body-clause-fault
-returns-in-Err-read_body-clause-fault c =
-    let header = c.in_ok-check_header.ensures.ok in
-    body_refused _ _ _ _ (cut (goal.at.returns-in-Err-read_body-clause-fault c).After-next_line) header.0 header.1 c.in-Err-read_body.ensures.fault
+-- the text has a header, and these lines behind it
+headed : (c : After-read_body) → IsHeaded facts c.args.text.now (lines_left c.next_line.result.1)
+headed c = record {
+  header = c.next_line.result.0.now;
+  cut = record { short = omega arith; cut = c.next_line.ensures };
+  utf8 = c.in_ok-check_header.ensures.ok.0;
+  is_header = c.in_ok-check_header.ensures.ok.1;
+}
 
-pub returns-then-not-has_ended-clause-fault : goal.returns-then-not-has_ended-clause-fault
-returns-then-not-has_ended-clause-fault c =
-    let header = c.in_ok-check_header.ensures.ok in
-    let says = c.in-Ok-read_body.ensures.says in
-    let last : length (lines_of c.args.text.now) ≡ c.in-Ok-read_body.last = omega (arith, ap length c.next_line.ensures, c.in-Ok-read_body.ensures.ok) in
-    inr (subst (λ n. IsFault c.args.text.now n End) last
-    (no_end _ _ says.0 (cut (goal.at.returns-then-not-has_ended-clause-fault c).After-next_line) header.0 header.1 says.1
-    (not_ended says.0 (λ h. false≢true (sym c.if-not-has_ended.true ∙ c.has_ended.ensures.1 (sym says.2.reached ∙ h))))))
+pub returns-clause-ok : goal.returns-clause-ok
+returns-clause-ok c = IfOk-weaker c.read_body.result _ _ (λ q means. means c.args.text.now (headed (goal.at.returns-clause-ok c).After-read_body)) c.read_body.ensures.ok
 
-pub returns-in-Ok-finish-clause-ok : goal.returns-in-Ok-finish-clause-ok
-returns-in-Ok-finish-clause-ok c =
-    let header = c.in_ok-check_header.ensures.ok in
-    let says = c.in-Ok-read_body.ensures.says in
-    record {
-      forms = says.0;
-      fits = record {
-        header = c.next_line.result.0.now;
-        body = lines_left c.next_line.result.1;
-        cut = cut (goal.at.returns-in-Ok-finish-clause-ok c).After-next_line;
-        utf8 = header.0;
-        is_header = header.1;
-        fine = says.1;
-        ended = ended says.0 (says.2.reached ∙ c.has_ended.ensures.0 c.if-not-has_ended.false);
-      };
-      same_problem = same_problem_chain _ _ _ says.2.problem c.in-Ok-finish.ensures.problem;
-      same_names = c.new-in-Ok-finish.ensures ∙ (c.in-Ok-finish.ensures.names ∙ sym says.2.names);
-    }
+pub returns-clause-fault : goal.returns-clause-fault
+returns-clause-fault c = IfErr-weaker c.read_body.result _ _ (λ e refuses. refuses c.args.text.now (headed (goal.at.returns-clause-fault c).After-read_body)) c.read_body.ensures.fault

@@ -6,5 +6,5 @@ use Rattle.nll_report.proofs.command_line.grammar.Goals as goal
 pub returns : goal.returns
 returns c =
     IfOk-weaker c.subcommand-2.result _ _ (λ m h. h.shape (search rules)
-    ∙ ap₂ with_subcommand (c.in_ok-subcommand.ensures.shape (search rules)
+    ∙ ap₂ with_subcommand (c.in_ok-with_values.ensures.shape (search rules)
     ∙ ap₂ with_subcommand c.in_ok-bare_program.ensures (ap (λ (a : App). a.top) c.in_ok-values.ensures.shape)) (ap (λ (a : App). a.top) c.in_ok-check.ensures.shape)) c.subcommand-2.ensures

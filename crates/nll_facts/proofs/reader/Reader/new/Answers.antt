@@ -6,12 +6,12 @@ returns-clause-said c = rw c.in_ok-new.ensures refl
 
 pub returns-clause-ready : goal.returns-clause-ready
 returns-clause-ready c = rw c.in_ok-new.ensures (record {
-  kept = record {
-    some_name = omega arith;
-    few = omega arith;
-    regions = refl;
-    waiting = λ _. omega arith;
-    numbered = λ _ begun. absurd (omega arith);
-  };
+  some_name = omega arith;
+  few = omega arith;
+  regions = refl;
+  universals = omega arith;
+  waiting = λ _. omega arith;
+  numbered = λ _ begun. absurd (omega arith);
   early = λ _. refl;
+  late = λ after. absurd (omega arith);
 })

@@ -1,0 +1,135 @@
+//! Searches: what the walks of a relation reach from an element.
+//!
+//! A search keeps the elements that it has reached twice: as a set, which tells what is new, and as a
+//! list in the order in which they came, whose end is the work that is left.
+
+ghost use Rattle.std.specs.Prelude.{◌≡◌, ◌⊎◌, ◌↔◌, ℕ, ◌≤◌, ◌<◌, false, true, List, [], Contains, length, replicate, slice_index, IfOk, OnOk};
+ghost use Rattle.nll_sets.specs.ElementSet.{flag};
+ghost use Rattle.nll_core.specs.Search.{Adds, IsCovered, IsFrom, IsLedTo, LeadsTo};
+
+use nll_sets::{Element, ElementSet, Memory};
+use std::alloc::Global;
+use std::marker::Model;
+
+/// Which element may come after which, of the elements below a number.
+pub trait Relation {
+    /// After the first element may come the second.
+    ghost step: { Self → ℕ → ℕ → Type 0 };
+
+    /// The elements are the numbers below it.
+    ghost count: { Self → ℕ };
+
+    /// How many elements there are.
+    fn count(&self) -> u32
+        ensures { result ≡ count self.now };
+
+    /// Visits each element that one step from this one leads to.
+    fn visit_next<R: ElementSet>(&self, from: Element, search: &mut Search<R>) -> Result<(), Memory>
+        requires { length search.old.reached ≡ count self.now }
+        ensures adds { OnOk result (Adds (step self.now from) search.old search.new) }
+        ensures covers { OnOk result (IsCovered (step self.now) search.new.reached from) };
+}
+
+/// What a search has reached. It owns no relation, so one that is kept can go on through another.
+#[derive(Drop)]
+pub struct Search<R: ElementSet> {
+    reached: R,
+    list: Vec<Element>,
+}
+
+impl<R: ElementSet> Model for Search<R> {
+    ghost use Rattle.nll_core.specs.Search as spec;
+
+    ghost Value = { spec.Search };
+
+    ghost view = { λ search. record { reached = R.flags search.reached; list = search.list.items } };
+}
+
+impl<R: ElementSet> Search<R> {
+    /// A search among the elements below a number, which has reached none.
+    pub fn new(alloc: Global, count: u32) -> Result<Search<R>, Memory>
+        ensures { IfOk result (λ search. search ≡ record { reached = replicate count false; list = [] }) }
+    {
+        Ok(Search {
+            reached: R::empty(alloc, count)?,
+            list: Vec::new(alloc),
+        })
+    }
+
+    /// Puts an element into the set and at the end of the list, where it is new.
+    pub fn visit(&mut self, element: Element) -> Result<(), Memory>
+        requires { element < length self.old.reached }
+        ensures adds { OnOk result (Adds (λ x. x ≡ element) self.old self.new) }
+        ensures covers { OnOk result (flag self.new.reached element ≡ true) }
+    {
+        if self.reached.insert(element)? {
+            self.list.push(element)?;
+        }
+        Ok(())
+    }
+
+    /// Goes on from the elements of the list from a place on, until each step from the set leads into
+    /// it.
+    pub fn spread<P: Relation>(&mut self, relation: &P, from: usize) -> Result<(), Memory>
+        requires width { length self.old.reached ≡ P.count relation.now }
+        requires place { from ≤ length self.old.list }
+        requires listed { (k : ℕ) → from ≤ k → k < length self.old.list → flag self.old.reached (slice_index self.old.list k) ≡ true }
+        requires pending { (x : ℕ) → flag self.old.reached x ≡ true → IsFrom from self.old.list x ⊎ IsCovered (P.step relation.now) self.old.reached x }
+        ensures adds { OnOk result (Adds (IsLedTo (P.step relation.now) self.old.reached) self.old self.new) }
+        ensures covers { OnOk result ((x : ℕ) → flag self.new.reached x ≡ true → IsCovered (P.step relation.now) self.new.reached x) }
+    {
+        let mut place = from;
+        while place < self.len() {
+            let element = self.at(place);
+            place += 1;
+            relation.visit_next(element, self)?;
+        }
+        Ok(())
+    }
+
+    // How many elements were reached.
+    fn len(&self) -> usize
+        ensures { result ≡ length self.now.list }
+    {
+        self.list.len()
+    }
+
+    // What stands at a place of the list.
+    fn at(&self, place: usize) -> Element
+        requires { place < length self.now.list }
+        ensures { result ≡ slice_index self.now.list place }
+    {
+        self.list[place]
+    }
+
+    /// The set of the elements that were reached.
+    pub fn into_set(self) -> R
+        ensures { R.flags result ≡ self.reached }
+    {
+        self.reached
+    }
+
+    /// The list of the elements that were reached, each once.
+    pub fn into_list(self) -> Vec<Element>
+        ensures { result.items ≡ self.list }
+    {
+        self.list
+    }
+}
+
+/// A search from one element to its end.
+pub fn search_from<P: Relation, R: ElementSet>(
+    alloc: Global,
+    relation: &P,
+    at: Element,
+) -> Result<Search<R>, Memory>
+    requires { at < P.count relation.now }
+    ensures width { IfOk result (λ search. length search.reached ≡ P.count relation.now) }
+    ensures set { IfOk result (λ search. (x : ℕ) → (flag search.reached x ≡ true) ↔ LeadsTo (P.step relation.now) at x) }
+    ensures list { IfOk result (λ search. (x : ℕ) → Contains search.list x ↔ LeadsTo (P.step relation.now) at x) }
+{
+    let mut search = Search::new(alloc, relation.count())?;
+    search.visit(at)?;
+    search.spread(relation, 0)?;
+    Ok(search)
+}

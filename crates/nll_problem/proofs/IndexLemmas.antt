@@ -1,0 +1,114 @@
+-- Constraints by the region that they read: their order, and the part of a list in that order that has one region's.
+use Rattle.std.proofs.Common.{◌≡◌, ◌↔◌, ◌⊎◌, ℕ, zero, ◌+◌, ◌-◌, ◌<◌, ◌≤◌, Bool, true, false, ltb, leb, List, AllPairs, Contains, length, get_or, take, drop, inl, inr, ⊎_elim, Ordering, Less, Equal, Greater, nat_cmp, is_lt, refl, sym, ap, subst, ◌∙◌, IsSorted, length-take, length-drop, get_or-take, get_or-drop, ltb-true, ltb-false, leb-true, leb-false, lt-ltb, le-leb, arith}
+use Rattle.std.specs.Ordering.{MatchOrdering, ordering_then}
+use Rattle.std.specs.List.{AllWithin}
+use Rattle.std.specs.List.Sorted.{IsNonDecreasingBy, IsPartitionPoint, IsPermutation}
+use Rattle.std.specs.Cmp.{IsTotalOrder, then_total, on_total, nat_cmp_total, ranks}
+use Rattle.std.proofs.lemmas.Bool.{cases_lt}
+use Rattle.std.proofs.lemmas.List.Sorted.{Contains-permutation, IsPermutation-sym, IsNonDecreasingBy-take, IsNonDecreasingBy-drop}
+use Rattle.std.specs.Bool.{Decides}
+use Rattle.std.proofs.lemmas.Map.Keys.{IsDistinct-IsPermutation}
+use Rattle.std.proofs.lemmas.Map.Made.{AllPairs-from_IsDistinct, IsDistinct-from_AllPairs}
+use Rattle.nll_problem.specs.Building.{same_constraint}
+use Rattle.nll_problem.proofs.FactLemmas.{constraint_is, constraint_same, exact_equivalence}
+use Rattle.nll_problem.specs.Problem.{IsEarlier, IsOnce, SameSet}
+use Rattle.nll_problem.specs.ConstraintIndex.{IsLower, IsReadEarlier, constraint_cmp}
+use Rattle.nll_problem.specs.declared.constraint.Constraint.{Constraint}
+use Rattle.nll_problem.proofs.OrderLemmas.{pair_ranks, sorted_once_ascends}
+
+constraint_ranks : (c d : Constraint) → MatchOrdering (constraint_cmp c d) (IsReadEarlier c d) (c ≡ d) (IsReadEarlier d c)
+constraint_ranks c d = by (nat_cmp c.sub d.sub) (ordering_then (nat_cmp c.sup d.sup) (nat_cmp c.at d.at)) (ranks c.sub d.sub) (pair_ranks (c.sup, c.at) (d.sup, d.at))
+  where
+    same : (a b : ℕ) (x y : ℕ × ℕ) → a ≡ b → x ≡ y → ◌≡◌ {A = Constraint} (record { sub = a; sup = x.0; at = x.1 }) (record { sub = b; sup = y.0; at = y.1 })
+    same a b x y p q = cc
+    by : (a b : Ordering) → MatchOrdering a (c.sub < d.sub) (c.sub ≡ d.sub) (d.sub < c.sub) → MatchOrdering b (IsLower c d) (◌≡◌ {A = ℕ × ℕ} (c.sup, c.at) (d.sup, d.at)) (IsLower d c) → MatchOrdering (ordering_then a b) (IsReadEarlier c d) (c ≡ d) (IsReadEarlier d c)
+    by Less b h k = inl h
+    by Equal Less h k = inr (h, k)
+    by Equal Equal h k = same c.sub d.sub (c.sup, c.at) (d.sup, d.at) h k
+    by Equal Greater h k = inr (sym h, k)
+    by Greater b h k = inl h
+
+constraint_total : IsTotalOrder constraint_cmp
+constraint_total = then_total (on_total (λ (c : Constraint). c.sub) nat_cmp_total) (then_total (on_total (λ (c : Constraint). c.sup) nat_cmp_total) (on_total (λ (c : Constraint). c.at) nat_cmp_total))
+
+same_Decides : (c d : Constraint) → Decides (same_constraint c d) (c ≡ d)
+same_Decides c d = (constraint_is c d, λ is. subst (λ x. same_constraint c x ≡ true) is (constraint_same c))
+
+once_moved : (xs ys : List Constraint) → IsPermutation xs ys → IsOnce xs → IsOnce ys
+once_moved xs ys moved once =
+    AllPairs-from_IsDistinct same_Decides ys
+    (IsDistinct-IsPermutation same_constraint (exact_equivalence same_constraint constraint_is constraint_same).symm xs ys moved (IsDistinct-from_AllPairs same_Decides xs once))
+
+-- constraints that are sorted and there once ascend
+pub constraints_ascend : (xs ys : List Constraint) → IsPermutation xs ys → IsOnce xs → IsSorted constraint_cmp ys → AllPairs IsReadEarlier ys
+constraints_ascend xs ys moved once sorted = sorted_once_ascends constraint_cmp IsReadEarlier constraint_ranks constraint_total ys sorted (once_moved xs ys moved once)
+
+-- the same constraints in another order
+pub constraints_same : (xs ys : List Constraint) → IsPermutation xs ys → SameSet ys xs
+constraints_same xs ys moved c = (Contains-permutation ys xs c (IsPermutation-sym xs ys moved), Contains-permutation xs ys c moved)
+
+-- ---- the part of one region
+
+-- along ascending constraints the region that is read doesn't fall
+pub subs_rise : (xs : List Constraint) → AllPairs IsReadEarlier xs → IsNonDecreasingBy (λ (c : Constraint). c.sub) xs
+subs_rise xs ascend i j d le within = ⊎_elim
+    (λ before. ⊎_elim (λ less. omega (arith, less)) (λ same. omega (arith, same.0)) (ascend i j d before within))
+    (λ back. let here : i ≡ j = omega arith in omega (arith, ap (λ k. (get_or xs k d).sub) here))
+    (cases_lt i j)
+
+-- what follows the first constraints
+abbrev pub rest_of : List Constraint → ℕ → List Constraint
+rest_of xs first = take (length xs - first) (drop first xs)
+
+pub rest_rise : (xs : List Constraint) (first : ℕ) → AllPairs IsReadEarlier xs → IsNonDecreasingBy (λ (c : Constraint). c.sub) (rest_of xs first)
+rest_rise xs first ascend = IsNonDecreasingBy-take (λ (c : Constraint). c.sub) (length xs - first) _ (IsNonDecreasingBy-drop (λ (c : Constraint). c.sub) first xs (subs_rise xs ascend))
+
+module _ (xs : List Constraint) (sub first count : ℕ) (within_all : first ≤ length xs) (within : count ≤ length (rest_of xs first))
+    (parted : IsPartitionPoint (λ (c : Constraint). ltb c.sub sub ≡ true) (λ (c : Constraint). ltb c.sub sub ≡ false) xs first)
+    (parted_rest : IsPartitionPoint (λ (c : Constraint). leb c.sub sub ≡ true) (λ (c : Constraint). leb c.sub sub ≡ false) (rest_of xs first) count) where
+  length_rest : length (rest_of xs first) ≡ length xs - first
+  length_rest = let a = length-take (length xs - first) (drop first xs) in let b = length-drop first xs in omega arith
+
+  at_rest : (k : ℕ) (d : Constraint) → k < length xs - first → get_or (rest_of xs first) k d ≡ get_or xs (first + k) d
+  at_rest k d lt = get_or-take (length xs - first) (drop first xs) k d lt ∙ get_or-drop first xs k d
+
+  length_part : length (take count (rest_of xs first)) ≡ count
+  length_part = let a = length-take count (rest_of xs first) in omega (arith, within)
+
+  at_part : (k : ℕ) (d : Constraint) → k < count → get_or (take count (rest_of xs first)) k d ≡ get_or xs (first + k) d
+  at_part k d lt = get_or-take count (rest_of xs first) k d lt ∙ at_rest k d (omega (arith, length_rest, within))
+
+  reads : (k : ℕ) (d : Constraint) → k < count → (get_or xs (first + k) d).sub ≡ sub
+  reads k d lt =
+      let low = ltb-false _ sub (parted.1 (first + k) d (omega arith) (omega (arith, length_rest, within))) in
+      let high = leb-true _ sub (parted_rest.0 k d (omega arith) lt) in
+      omega (arith, ap (λ (c : Constraint). c.sub) (at_rest k d (omega (arith, length_rest, within))))
+
+  -- it has just the constraints that read the region
+  pub part_has : (c : Constraint) → Contains (take count (rest_of xs first)) c ↔ (Contains xs c × (c.sub ≡ sub))
+  part_has c = (
+    λ h.
+      let lt : h.0 < count = omega (arith, h.1, length_part) in
+      let is = sym (at_part h.0 c lt) ∙ h.2 in
+      ((first + h.0, omega (arith, length_rest, within), is), subst (λ (x : Constraint). x.sub ≡ sub) is (reads h.0 c lt)),
+    λ h. there h.0.0 h.0.1 h.0.2 h.1,
+  )
+    where
+      there : (k : ℕ) → k < length xs → get_or xs k c ≡ c → c.sub ≡ sub → Contains (take count (rest_of xs first)) c
+      there k below is of_sub =
+          let read = ap (λ (x : Constraint). x.sub) is in
+          let past_first : first ≤ k = ⊎_elim (λ lt. absurd (omega (arith, ltb-true _ sub (parted.0 k c (omega arith) lt)))) (λ le. le) (cases_lt k first) in
+          let moved : first + (k - first) ≡ k = omega arith in
+          let at : get_or (rest_of xs first) (k - first) c ≡ c = at_rest (k - first) c (omega arith) ∙ ap (λ n. get_or xs n c) moved ∙ is in
+          let lt : k - first < count = ⊎_elim
+              (λ lt. lt)
+              (λ le. absurd (omega (arith, leb-false _ sub (parted_rest.1 (k - first) c le (omega (arith, length_rest))), ap (λ (x : Constraint). x.sub) at)))
+              (cases_lt (k - first) count) in
+          (k - first, omega (arith, length_part, lt), at_part (k - first) c lt ∙ ap (λ n. get_or xs n c) moved ∙ is)
+
+  -- and these ascend
+  pub part_ascends : AllPairs IsReadEarlier xs → AllPairs IsLower (take count (rest_of xs first))
+  part_ascends ascend i j d before inside =
+      let lt : j < count = omega (arith, inside, length_part) in
+      rw (at_part i d (omega arith), at_part j d lt)
+      (⊎_elim (λ less. absurd (omega (arith, reads i d (omega arith), reads j d lt))) (λ same. same.1) (ascend (first + i) (first + j) d (omega arith) (omega (arith, length_rest, within))))

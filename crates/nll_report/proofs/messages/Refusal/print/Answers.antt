@@ -1,0 +1,24 @@
+use Rattle.std.proofs.Common.{ap}
+use Rattle.nll_report.specs.Refusal.{refusal_line}
+use Rattle.nll_report.proofs.SinkLemmas.{cut_as, put_as}
+use Rattle.nll_report.proofs.messages.Refusal.print.Goals as goal
+
+pub returns-in-Usage-clause-cut : goal.returns-in-Usage-clause-cut
+returns-in-Usage-clause-cut g c =
+    cut_as c.put_pieces.result _ _ _ _ _ (ap refusal_line c.in-Usage.is) c.put_pieces.ensures.cut
+
+pub returns-in-Memory-clause-all : goal.returns-in-Memory-clause-all
+returns-in-Memory-clause-all g c =
+    put_as c.put_pieces-in-Memory.result _ _ _ _ (ap refusal_line c.in-Memory.is) c.put_pieces-in-Memory.ensures.all
+
+pub returns-in-Memory-clause-cut : goal.returns-in-Memory-clause-cut
+returns-in-Memory-clause-cut g c =
+    cut_as c.put_pieces-in-Memory.result _ _ _ _ _ (ap refusal_line c.in-Memory.is) c.put_pieces-in-Memory.ensures.cut
+
+pub returns-in-CannotWrite-clause-all : goal.returns-in-CannotWrite-clause-all
+returns-in-CannotWrite-clause-all g c =
+    put_as c.put_pieces-in-CannotWrite.result _ _ _ _ (ap refusal_line c.in-CannotWrite.is) c.put_pieces-in-CannotWrite.ensures.all
+
+pub returns-in-CannotWrite-clause-cut : goal.returns-in-CannotWrite-clause-cut
+returns-in-CannotWrite-clause-cut g c =
+    cut_as c.put_pieces-in-CannotWrite.result _ _ _ _ _ (ap refusal_line c.in-CannotWrite.is) c.put_pieces-in-CannotWrite.ensures.cut
