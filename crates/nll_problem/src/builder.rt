@@ -15,6 +15,7 @@ use crate::bases::Bases;
 use crate::constraint::Constraint;
 use crate::constraint_set::ConstraintSet;
 use crate::error::{BuildError, Kind};
+use crate::graph::Graph;
 use crate::graph_builder::GraphBuilder;
 use crate::limits::{MAX_CONSTRAINTS, MAX_REGIONS};
 use crate::problem::Problem;
@@ -68,6 +69,17 @@ impl ProblemBuilder {
         ensures ok { IfOk result (λ q. q ≡ bare_problem (bare_graph points universals)) }
     {
         let graph = GraphBuilder::new(alloc, points, universals)?;
+        Ok(ProblemBuilder::of_builder(alloc, graph))
+    }
+
+    /// A problem of this graph, whose regions are the universal ones alone, and with no fact.
+    ///
+    /// # Errors
+    /// - `Memory`.
+    pub fn of_graph(alloc: Global, graph: &Graph) -> Result<ProblemBuilder, Memory>
+        ensures { IfOk result (λ q. q ≡ bare_problem graph.now) }
+    {
+        let graph = GraphBuilder::of(alloc, graph)?;
         Ok(ProblemBuilder::of_builder(alloc, graph))
     }
 
