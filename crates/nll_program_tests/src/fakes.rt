@@ -1,6 +1,6 @@
 //! Words, texts and writers for the tests.
 ghost use Rattle.std.specs.Prelude.{◌≡◌, IfOk};
-ghost use Rattle.nll_report.specs.Run.{holds_anything};
+ghost use Rattle.nll_report.specs.Run.{holds_anything, lacks_anything};
 
 use nll_report::{Texts, Unread};
 use std::alloc::{AllocError, Global};
@@ -78,6 +78,8 @@ pub struct Shelf {
 
 impl Texts for Shelf {
     ghost holds = { λ _. holds_anything };
+
+    ghost lacks = { λ _. lacks_anything };
 
     fn get(&self, path: &str) -> Result<Vec<u8>, Unread> {
         if path == "large" {

@@ -1,8 +1,17 @@
 //! Tests of the readers of texts, of reports and of the program, by their public calls alone.
 //! Expected values are found by hand from the rules of the formats and from the definitions.
 //!
-//! Reading order: `comparing`, `reading`, `answers`, `fakes`, then each module of tests.
+//! The program is also run over texts and streams of which all is known (`known`), and its contract says
+//! then what they hold.
+//!
+//! Reading order: `known`, `comparing`, `reading`, `answers`, `fakes`, then each module of tests.
 #![tactic(auto)]
+
+mod known;
+mod page;
+
+pub use known::{Sheet, on_pages};
+pub use page::Page;
 
 #[cfg(test)]
 mod answers;
@@ -14,6 +23,8 @@ mod fakes;
 mod faults;
 #[cfg(test)]
 mod hostile;
+#[cfg(test)]
+mod labels;
 #[cfg(test)]
 mod limits;
 #[cfg(test)]

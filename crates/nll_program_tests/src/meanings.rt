@@ -1,6 +1,7 @@
 //! Texts that fit, and what they say.
 use super::comparing::compare;
 use super::reading::read;
+use nll_facts::few_tokens;
 use nll_mir::{PointName, not_both, one_meaning, read_facts, some_meaning_or_fault};
 use std::alloc::Global;
 
@@ -85,6 +86,7 @@ fn reads_texts(rt: HostRuntime) {
     one_meaning();
     not_both();
     some_meaning_or_fault();
+    few_tokens();
 }
 
 // How a point of a text is written.

@@ -2,8 +2,9 @@
 use super::comparing::compare;
 use nll_core::Kind;
 use nll_mir::{TextError, TextKind};
-use nll_report::{AnswerError, Refusal};
+use nll_report::{AnswerError, LineError, Refusal, Unread};
 use std::alloc::{AllocError, Global};
+use std::str;
 
 // The status and the line of a refusal.
 fn told(alloc: Global, error: AnswerError) -> Result<String, AllocError> {
@@ -62,4 +63,40 @@ fn prints_a_want_of_memory(rt: HostRuntime) {
     compare(&rt, "answering", answering, "3, nllc: memory");
     let reading = fault_told(rt.alloc(), 0, TextKind::Memory);
     compare(&rt, "reading", reading, "3, nllc: memory");
+}
+
+// The line of a refusal, as it is printed.
+fn printed(alloc: Global, error: AnswerError) -> Result<String, AllocError> {
+    let mut out = Vec::new(alloc);
+    let printed = Refusal::from(error).print(&mut out);
+    let told = format!(in alloc;
+        "{}{}",
+        str::from_utf8(out.as_slice()).unwrap_or("not utf-8"),
+        printed.is_ok()
+    );
+    drop(out);
+    told
+}
+
+// A refusal is printed as a line.
+#[test]
+fn prints_a_line(rt: HostRuntime) {
+    compare(
+        &rt,
+        "memory",
+        printed(rt.alloc(), AnswerError::Memory),
+        "nllc: memory\ntrue",
+    );
+}
+
+// Errors print what was wrong.
+#[test]
+fn prints_errors(rt: HostRuntime) -> Result<(), AllocError> {
+    let (line, kind) = (7, TextKind::Unknown);
+    let error = TextError { line, kind };
+    let text = format!(in rt.alloc(); "{error}|{}|{}", Unread::Cannot, LineError::Usage)?;
+    let want =
+        "line 7: a name that no earlier line declares|the text cannot be read|the words are none of the forms";
+    compare(&rt, "errors", Ok(text), want);
+    Ok(())
 }

@@ -1,6 +1,8 @@
 //! The program over texts and writers of the tests.
 use super::comparing::compare;
 use super::fakes::{Fault, Faulty, Shelf, words_of};
+use super::known::{Sheet, on_pages};
+use super::page::Page;
 use nll_report::{USAGE, drive};
 use std::alloc::AllocError;
 use std::str;
@@ -81,15 +83,60 @@ fn prints_the_usage_line(rt: HostRuntime) -> Result<(), AllocError> {
     Ok(())
 }
 
+// Words that ask for help, and its end.
+const HELPED: &[(&str, &str)] = &[
+    (
+        "--help",
+        "With /dev/stdin for FILE the text is read from standard input.\n|",
+    ),
+    (
+        "-h",
+        "With /dev/stdin for FILE the text is read from standard input.\n|",
+    ),
+    ("values|--help", "-h, --help  Print help\n|"),
+    ("check|-h", "-h, --help  Print help\n|"),
+];
+
 // Help goes to standard output, with status 0.
 #[test]
 fn prints_help(rt: HostRuntime) -> Result<(), AllocError> {
-    for words in ["--help", "-h", "values|--help", "check|-h"] {
+    for (words, end) in HELPED {
         let told = run(&rt, words)?;
         assert!(rt; told.starts_with("0|"), "{words}");
-        assert!(rt; told.ends_with("-h, --help  Print help\n|"), "{words}");
+        assert!(rt; told.ends_with(end), "{words}");
     }
     Ok(())
+}
+
+// What the program does with words over one text at the path `sheet`, and streams of 1,024 bytes.
+fn run_on_pages<R: AllocGlobal>(rt: &R, words: &str) -> Result<String, AllocError> {
+    let words = words_of(rt.alloc(), words)?;
+    let sheet = Sheet {
+        alloc: rt.alloc(),
+        path: "sheet",
+        text: b"nll-facts 1\npoints 2\nuniversal 'a\nreturn 1\nconstraint 'a 'static 1\nend\n",
+    };
+    let (mut out, mut err) = (Page::new(), Page::new());
+    let status = on_pages(rt, words.as_slice(), &sheet, &mut out, &mut err);
+    shown(rt, status, out.written(), err.written())
+}
+
+// Words, and what the program does with them there.
+const ON_PAGES: &[(&str, &str)] = &[
+    (
+        "values|sheet",
+        "0|'static: 0 1 end('static)\n'a: 0 1 end('static) end('a)\n|",
+    ),
+    ("check|sheet", "1|fault 'a must outlive 'static\n|"),
+    ("check|leaf", "2||nllc: cannot read leaf\n"),
+];
+
+// The run whose contract says all that it prints is one of the same program.
+#[test]
+fn runs_over_known_texts(rt: HostRuntime) {
+    for (words, want) in ON_PAGES {
+        compare(&rt, words, run_on_pages(&rt, words), want);
+    }
 }
 
 // The status and standard error, where standard output has a fault after so many calls.

@@ -104,6 +104,15 @@ Commands:
 
 Options:
   -h, --help  Print help
+
+Statuses:
+  0  the values are printed, or check found no fault, or this help
+  1  check found a fault
+  2  the words, the file or its text are refused, and standard error says why
+  3  memory was refused, or standard output did not take the whole report
+
+docs/FORMATS.md says how a facts text is written, and how the reports are.
+With /dev/stdin for FILE the text is read from standard input.
 ";
 
 const VALUES_HELP: &str = "Prints the values of the regions of FILE
@@ -111,7 +120,7 @@ const VALUES_HELP: &str = "Prints the values of the regions of FILE
 Usage: nllc values <FILE>
 
 Arguments:
-  <FILE>  The facts text
+  <FILE>  The facts text, or /dev/stdin for standard input
 
 Options:
   -h, --help  Print help
@@ -122,7 +131,7 @@ const CHECK_HELP: &str = "Checks the universal regions of FILE
 Usage: nllc check <FILE>
 
 Arguments:
-  <FILE>  The facts text
+  <FILE>  The facts text, or /dev/stdin for standard input
 
 Options:
   -h, --help  Print help

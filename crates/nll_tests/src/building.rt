@@ -3,8 +3,8 @@ use super::calls::Call::{Base, Holds, Next, Outlives, Region, Ret};
 use super::calls::{Call, Calls, answers_behind, told};
 use super::comparing::compare;
 use super::telling::Asked;
-use nll_core::{BuildError, Kind, Memory, ProblemBuilder};
-use std::alloc::{AllocError, AllocFailed};
+use nll_core::{BuildError, Kind, ProblemBuilder};
+use nll_problem::GraphBuilder;
 
 // Numbers of points and of universal regions, and the error that is due.
 const NEW: &[(u32, u32, Option<BuildError>)] = &[
@@ -24,9 +24,14 @@ const NEW: &[(u32, u32, Option<BuildError>)] = &[
 #[test]
 fn takes_points_and_universals(rt: HostRuntime) {
     for (points, universals, want) in NEW {
-        let error = ProblemBuilder::new(rt.alloc(), *points, *universals).err();
+        let of_problems = ProblemBuilder::new(rt.alloc(), *points, *universals).err();
         assert!(rt;
-            error == *want,
+            of_problems == *want,
+            "{points} points, {universals} universal regions"
+        );
+        let of_graphs = GraphBuilder::new(rt.alloc(), *points, *universals).err();
+        assert!(rt;
+            of_graphs == *want,
             "{points} points, {universals} universal regions"
         );
     }
@@ -125,36 +130,55 @@ fn refuses_new_facts_past_the_limits(rt: HostRuntime) {
 
 // Points, universal regions and calls, and what the problem tells.
 const MADE: &[(&str, (u32, u32), &[Call], &str)] = &[
-    ("'static alone", (1, 1), &[], "0 to []|0: 0 1|"),
+    (
+        "'static alone",
+        (1, 1),
+        &[],
+        "0 to [] from []|out []|0: 0 1|",
+    ),
     (
         "a universal region has its own end",
-        (2, 3),
+        (1, 3),
         &[],
-        "0 to []|1 to []|0: 0 1 2|1: 0 1 3|2: 0 1 4|",
+        "0 to [] from []|out []|0: 0 1|1: 0 2|2: 0 3|",
     ),
     (
         "a region has nothing at first",
         (1, 1),
         &[Region, Region],
-        "0 to []|0: 0 1|1:|2:|",
+        "0 to [] from []|out []|0: 0 1|1:|2:|",
     ),
     (
         "an edge to its own point, and a return point that has an edge",
         (3, 1),
         &[Next(0, 1), Next(1, 1), Next(2, 0), Ret(2)],
-        "0 to [1]|1 to [1]|2 to [0] and out|0: 0 1 2 3|",
+        "0 to [1] from [2]|1 to [1] from [0, 1]|2 to [0] from [] and out|out [2]|0: 0 1 2 3|",
     ),
     (
         "a base fact of a universal region says nothing new",
         (2, 2),
         &[Region, Base(2, 1), Base(1, 0)],
-        "0 to []|1 to []|0: 0 1 2|1: 0 1 3|2: 1|",
+        "0 to [] from []|1 to [] from []|out []|0: 0 1 2|1: 0 1 3|2: 1|1 has 0|2 has 1|",
     ),
     (
-        "a constraint and an outlives fact",
-        (1, 2),
-        &[Region, Holds(2, 1, 0), Outlives(1, 0)],
-        "0 to []|0: 0 1|1: 0 2|2:|2 holds 1 at 0|",
+        "base facts ascend, whatever their order",
+        (2, 1),
+        &[
+            Region,
+            Region,
+            Base(2, 1),
+            Base(1, 1),
+            Base(2, 0),
+            Base(1, 1),
+        ],
+        "0 to [] from []|1 to [] from []|out []|0: 0 1 2|1: 1|2: 0 1|1 has 1|2 has 0|2 has 1|",
+    ),
+    (
+        "a constraint and outlives facts",
+        (1, 3),
+        &[Region, Holds(3, 1, 0), Outlives(1, 0), Outlives(2, 2)],
+        "0 to [] from []|out []|0: 0 1|1: 0 2|2: 0 3|3:|3 holds 1 at 0|\
+         1 over 0, back false|2 over 2, back true|",
     ),
     (
         "each fact twice",
@@ -170,7 +194,7 @@ const MADE: &[(&str, (u32, u32), &[Call], &str)] = &[
             Base(1, 1),
             Holds(1, 0, 1),
         ],
-        "0 to [1]|1 to [] and out|0: 0 1 2|1: 1|1 holds 0 at 1|",
+        "0 to [1] from []|1 to [] from [0] and out|out [1]|0: 0 1 2|1: 1|1 has 1|1 holds 0 at 1|",
     ),
 ];
 
@@ -183,12 +207,34 @@ fn makes_problems(rt: HostRuntime) {
     }
 }
 
-// A refused growth of memory is told as such, whatever it comes from.
+// Constraints, and those that read each region, by their larger region and then by their point.
+const READ: &[(&str, &[Call], &str)] = &[
+    ("none", &[Region], "0:|1:|"),
+    (
+        "in another order",
+        &[
+            Region,
+            Region,
+            Holds(2, 1, 1),
+            Holds(1, 2, 0),
+            Holds(2, 1, 0),
+            Holds(1, 1, 1),
+            Holds(0, 2, 1),
+        ],
+        "0:|1: 1 at 1 2 at 0 2 at 1|2: 0 at 1 1 at 0|",
+    ),
+    (
+        "in order, and one twice",
+        &[Region, Holds(0, 0, 0), Holds(1, 0, 1), Holds(1, 0, 1)],
+        "0: 0 at 0 1 at 1|1:|",
+    ),
+];
+
+// An index gives the constraints that read a region.
 #[test]
-fn errors_of_memory_are_memory(rt: HostRuntime) {
-    let memory = Memory::from(AllocError);
-    assert!(rt; memory == Memory::from(AllocFailed { value: 1u8 }));
-    assert!(rt; BuildError::from(AllocError) == BuildError::Memory);
-    assert!(rt; BuildError::from(AllocFailed { value: 1u8 }) == BuildError::Memory);
-    assert!(rt; BuildError::from(memory) == BuildError::Memory);
+fn indexes_constraints(rt: HostRuntime) {
+    for (says, calls, want) in READ {
+        let readers = told(rt.alloc(), (2, 1), calls, Asked::Readers);
+        compare(&rt, says, readers, want);
+    }
 }

@@ -6,6 +6,6 @@ use std::process::Abort;
 pub fn compare(rt: &impl Abort, says: &str, told: Result<String, BuildError>, want: &str) {
     match told {
         Ok(text) => assert!(rt; text.as_str() == want, "{says}: {text}"),
-        Err(error) => assert!(rt; false, "{says}: {error:?}"),
+        Err(error) => assert!(rt; false, "{says}: {error}"),
     }
 }

@@ -11,9 +11,13 @@ mod calls;
 #[cfg(test)]
 mod comparing;
 #[cfg(test)]
+mod graphs;
+#[cfg(test)]
 mod headers;
 #[cfg(test)]
 mod lines;
+#[cfg(test)]
+mod messages;
 #[cfg(test)]
 mod sets;
 #[cfg(test)]

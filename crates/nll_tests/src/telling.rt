@@ -6,13 +6,16 @@ use nll_core::{
     BuildError, Constraint, Element, ElementSet, Elements, Graph, Problem, RegionId, Values,
     faults, solve,
 };
+use nll_problem::ConstraintIndex;
 use std::alloc::{AllocError, Global};
 
 /// What is asked of a problem.
 #[derive(Clone, Copy)]
 pub enum Asked {
-    /// Its edges and return points, each region's base elements, and its constraints.
+    /// Its graph, each region's base elements, its constraints and outlives facts.
     Facts,
+    /// Its constraints by the region that they read.
+    Readers,
     /// Its least values.
     Values,
     /// The faults of its least values.
@@ -25,22 +28,24 @@ pub enum Asked {
 pub fn tell(alloc: Global, problem: &Problem, asked: Asked) -> Result<String, BuildError> {
     match asked {
         Asked::Facts => Ok(facts_of(alloc, problem)?),
+        Asked::Readers => readers_of(alloc, problem),
         Asked::Values => values_of(alloc, problem),
         Asked::Faults => faults_of(alloc, problem),
         Asked::Inserted(region, element) => inserted(alloc, problem, region, element),
     }
 }
 
-// Writes the successors of each point, and which points return.
-fn write_graph(out: &mut String, graph: &Graph) -> Result<(), AllocError> {
+/// Writes the successors of each point and its predecessors, and which points return.
+pub fn write_graph(out: &mut String, graph: &Graph) -> Result<(), AllocError> {
     for point in 0..graph.points() {
         write!(out, "{point} to {:?}", graph.next_of(point))?;
+        write!(out, " from {:?}", graph.previous_of(point))?;
         if graph.is_return(point) {
             out.push_str(" and out")?;
         }
         out.push('|')?;
     }
-    Ok(())
+    write!(out, "out {:?}|", graph.returns())
 }
 
 // Writes the base elements of a region, points and ends.
@@ -54,10 +59,17 @@ fn write_bases(out: &mut String, problem: &Problem, region: u32) -> Result<(), A
     out.push('|')
 }
 
-// Writes constraints.
-fn write_constraints(out: &mut String, constraints: &[Constraint]) -> Result<(), AllocError> {
-    for Constraint { sup, sub, at } in constraints {
+// Writes the base facts, the constraints and the outlives facts.
+fn write_lists(out: &mut String, problem: &Problem) -> Result<(), AllocError> {
+    for (region, point) in problem.bases() {
+        write!(out, "{} has {point}|", region.0)?;
+    }
+    for Constraint { sup, sub, at } in problem.constraints() {
         write!(out, "{} holds {} at {at}|", sup.0, sub.0)?;
+    }
+    for (longer, shorter) in problem.outlives_facts() {
+        let back = problem.has_outlives(*shorter, *longer);
+        write!(out, "{} over {}, back {back}|", longer.0, shorter.0)?;
     }
     Ok(())
 }
@@ -69,7 +81,33 @@ fn facts_of(alloc: Global, problem: &Problem) -> Result<String, AllocError> {
     for region in 0..problem.regions() {
         write_bases(&mut out, problem, region)?;
     }
-    write_constraints(&mut out, problem.constraints())?;
+    write_lists(&mut out, problem)?;
+    Ok(out)
+}
+
+// Writes the constraints that read each region.
+fn write_readers(
+    out: &mut String,
+    index: &ConstraintIndex,
+    regions: u32,
+) -> Result<(), AllocError> {
+    for number in 0..regions {
+        write!(out, "{number}:")?;
+        for Constraint { sup, at, .. } in index.reading(RegionId(number)) {
+            write!(out, " {} at {at}", sup.0)?;
+        }
+        out.push('|')?;
+    }
+    Ok(())
+}
+
+// The constraints of a problem by the region that they read.
+fn readers_of(alloc: Global, problem: &Problem) -> Result<String, BuildError> {
+    let mut out = String::new(alloc);
+    let index = ConstraintIndex::of(alloc, problem)?;
+    let written = write_readers(&mut out, &index, problem.regions());
+    drop(index);
+    written?;
     Ok(out)
 }
 
@@ -89,7 +127,9 @@ fn write_value(out: &mut String, values: &Values, region: RegionId) -> Result<()
     requires { region < length values.now }
 {
     write!(out, "{}:", region.0)?;
-    write_elements(out, values.iter(region))?;
+    for element in values.iter(region) {
+        write!(out, " {}", element.0)?;
+    }
     out.push('|')
 }
 

@@ -2,8 +2,8 @@
 use super::comparing::compare;
 use super::lines::write_part;
 use nll_core::BuildError;
-use nll_text::{LexError, ScanError, Token, number_of, one_token_list, scan_line, tokens_of};
-use std::alloc::{AllocError, AllocFailed, Global};
+use nll_text::{Token, number_of, one_token_list, scan_line, tokens_of};
+use std::alloc::{AllocError, Global};
 
 // Writes a token, with a bar behind it.
 fn write_token(out: &mut String, token: &Token<'_>) -> Result<(), AllocError> {
@@ -28,11 +28,11 @@ fn write_tokens(out: &mut String, tokens: &[Token<'_>]) -> Result<(), AllocError
 
 // What the reader of tokens answers to a line, and the tokens that are in its list then. The list
 // held those of another line before.
-fn tokens_in(alloc: Global, line: &[u8]) -> Result<String, BuildError> {
+fn tokens_in(alloc: Global, line: &[u8], most: usize) -> Result<String, BuildError> {
     let mut out = String::new(alloc);
     let mut tokens = Vec::new(alloc);
-    let _ = tokens_of(b"next 0 1", &mut tokens);
-    let written = match tokens_of(line, &mut tokens) {
+    let _ = tokens_of(b"next 0 1", 3, &mut tokens);
+    let written = match tokens_of(line, most, &mut tokens) {
         Ok(()) => write_tokens(&mut out, tokens.as_slice()),
         Err(error) => write!(out, "{error:?}"),
     };
@@ -50,31 +50,53 @@ const TOKENS: &[(&str, &str)] = &[
     ("\tdrop _1->bb2\r", "drop|_1|arrow|bb2|"),
     ("&'a mut&'b int", "&|region a|mut|&|region b|int|"),
     ("=&()<>,:.*+?", "=|&|(|)|<|>|,|:|.|*|+|?|"),
-    ("-", "NoToken"),
-    ("- >", "NoToken"),
-    ("a-b", "NoToken"),
-    ("'", "NoToken"),
-    ("' a", "NoToken"),
-    ("a # b", "NoToken"),
-    ("a;", "NoToken"),
-    ("a\0", "NoToken"),
-    ("a\x0b", "NoToken"),
-    ("a\u{a0}b", "NoToken"),
+    ("-", "NoTokens"),
+    ("- >", "NoTokens"),
+    ("a-b", "NoTokens"),
+    ("'", "NoTokens"),
+    ("' a", "NoTokens"),
+    ("a # b", "NoTokens"),
+    ("a;", "NoTokens"),
+    ("a\0", "NoTokens"),
+    ("a\x0b", "NoTokens"),
+    ("a\u{a0}b", "NoTokens"),
 ];
 
 // A line is read as its tokens, whatever the list held before.
 #[test]
 fn lines_are_read_as_tokens(rt: HostRuntime) {
     for (line, want) in TOKENS {
-        compare(&rt, line, tokens_in(rt.alloc(), line.as_bytes()), want);
+        compare(&rt, line, tokens_in(rt.alloc(), line.as_bytes(), 12), want);
     }
     one_token_list();
+}
+
+// A line, the most tokens that it may have, and its tokens.
+const MOST: &[(&str, usize, &str)] = &[
+    ("next 0 1", 3, "next|0|1|"),
+    ("next 0 1", 2, "NoTokens"),
+    ("next 0 -", 2, "NoTokens"),
+    ("  ", 0, ""),
+    ("end", 0, "NoTokens"),
+];
+
+// A line of more tokens than it may have is read as none.
+#[test]
+fn a_line_has_few_tokens(rt: HostRuntime) {
+    for (line, most, want) in MOST {
+        compare(
+            &rt,
+            line,
+            tokens_in(rt.alloc(), line.as_bytes(), *most),
+            want,
+        );
+    }
 }
 
 // What the scanner answers to a line, and how many tokens its list holds then.
 fn scanned(alloc: Global, line: &[u8]) -> Result<String, BuildError> {
     let mut tokens = Vec::new(alloc);
-    let scanned = scan_line(line, &mut tokens);
+    let scanned = scan_line(line, 4, &mut tokens);
     let count = tokens.len();
     drop(tokens);
     Ok(format!(in alloc; "{scanned:?}, {count} tokens")?)
@@ -87,10 +109,11 @@ const SCANNED: &[(&[u8], &str)] = &[
     (b"\t # end - '", "Ok(Skipped), 0 tokens"),
     (b"# caf\xc3\xa9", "Ok(Skipped), 0 tokens"),
     (b"# caf\xe9", "Err(NotUtf8), 0 tokens"),
-    (b"-", "Err(NoToken), 0 tokens"),
-    (b"\xc3\xa9", "Err(NoToken), 0 tokens"),
+    (b"-", "Err(NoTokens), 0 tokens"),
+    (b"\xc3\xa9", "Err(NoTokens), 0 tokens"),
     (b"- caf\xe9", "Err(NotUtf8), 0 tokens"),
     (b"next 1 2", "Ok(Tokens), 3 tokens"),
+    (b"constraint 'a 'b 7", "Ok(Tokens), 4 tokens"),
 ];
 
 // A line is skipped, read as tokens, or faulty.
@@ -124,13 +147,4 @@ fn numbers_have_up_to_nine_digits(rt: HostRuntime) {
     for (word, want) in NUMBERS {
         assert!(rt; number_of(word.as_bytes()) == *want, "of {word:?}");
     }
-}
-
-// A refused growth of memory is told as such.
-#[test]
-fn want_of_memory_is_an_error(rt: HostRuntime) {
-    assert!(rt; LexError::from(AllocError) == LexError::Memory);
-    assert!(rt; LexError::from(AllocFailed { value: 1u8 }) == LexError::Memory);
-    assert!(rt; ScanError::from(AllocError) == ScanError::Memory);
-    assert!(rt; ScanError::from(AllocFailed { value: 1u8 }) == ScanError::Memory);
 }
