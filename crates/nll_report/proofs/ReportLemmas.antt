@@ -2,19 +2,16 @@
 use Rattle.std.proofs.Common.{◌≡◌, ◌⊎◌, ◌↔◌, ℕ, zero, suc, ◌+◌, ◌<◌, Bool, true, false, List, [], ◌∷◌, ◌++◌, All, AllPairs, Contains, get_or, length, inl, inr, Result, Ok, Err, IfErr, ⊎_elim, refl, sym, ap, ◌∙◌, subst, arith}
 use Rattle.std.specs.List.{flat_map, range_with_len}
 use Rattle.std.specs.Result.{IsErrAnd}
-use Rattle.std.proofs.lemmas.Bool.{false≢true}
+use Rattle.std.proofs.lemmas.Bool.{cases_lt, false≢true}
 use Rattle.std.proofs.lemmas.Grind.{flat_map-append}
-use Rattle.std.proofs.lemmas.List.{append-nil}
+use Rattle.std.proofs.lemmas.List.{append-nil, get_or_past}
 use Rattle.std.proofs.lemmas.List.Elements.{Contains-append_cases, Contains-append_right, Contains-get_or, Contains-push_cases}
 use Rattle.std.proofs.lemmas.List.Kept.{AllPairs-cons}
 use Rattle.nll_sets.specs.ElementSet.{flag, elements, elements_from}
 use Rattle.nll_core.specs.Values.{set_of, IsHeld}
-use Rattle.nll_core.proofs.SpreadingLemmas.{flag_within}
 use Rattle.nll_problem.specs.Problem.{Problem, IsSound, end_of}
 use Rattle.nll_problem.specs.Faults.{AreFaults}
-use Rattle.nll_report.specs.declared.answers.AnswerError.{AnswerError}
-use Rattle.nll_report.specs.declared.answers.AnswerError.TheVariants.{Memory}
-use Rattle.nll_report.specs.Answer.{IsAnswerError, status_of_faults}
+use Rattle.nll_reading.specs.Labels.{Labels}
 use Rattle.nll_report.specs.Report.{IsListed, IsValuesReport}
 
 cons_cases : (x : ℕ) (xs : List ℕ) (y : ℕ) → Contains (x ∷ xs) y → (x ≡ y) ⊎ Contains xs y
@@ -60,7 +57,10 @@ element_is_held flags e h =
 
 -- and so below the length of its flags
 pub element_within : (flags : List Bool) (e : ℕ) → Contains (elements flags) e → e < length flags
-element_within flags e h = flag_within flags e (element_is_held flags e h)
+element_within flags e h = ⊎_elim
+    (λ below. below)
+    (λ past. absurd (false≢true (sym (get_or_past flags e false past) ∙ element_is_held flags e h)))
+    (cases_lt e (length flags))
 
 -- the elements of a region's set list what the region holds
 pub elements_are_listed : (values : List (List Bool)) (r : ℕ) → IsListed (IsHeld values r) (elements (set_of values r))
@@ -82,9 +82,9 @@ lines_more line n =
     ∙ ap (λ last. flat_map line (range_with_len 0 n) ++ last) (append-nil (line n))
 
 -- a report of values is one of any values that hold the same
-pub report_carries : (q : Problem) (names : List (List ℕ)) (old new : ℕ → ℕ → Type 0) → ((r e : ℕ) → old r e ↔ new r e)
-    → (text : List ℕ) → IsValuesReport q names old text → IsValuesReport q names new text
-report_carries q names old new same text report = record {
+pub report_carries : (q : Problem) (labels : Labels) (old new : ℕ → ℕ → Type 0) → ((r e : ℕ) → old r e ↔ new r e)
+    → (text : List ℕ) → IsValuesReport q labels old text → IsValuesReport q labels new text
+report_carries q labels old new same text report = record {
   elements = report.elements;
   listed = λ r within. record {
     each = λ e. (λ h. (same r e).0 (((report.listed r within).each e).0 h), λ h. ((report.listed r within).each e).1 ((same r e).1 h));
@@ -110,18 +110,3 @@ faults_within q sound values faults are k d lt =
     let fault = get_or faults k d in
     let f = (are.each fault.0 fault.1).0 (Contains-get_or faults k d lt) in
     (omega (arith, f.0, sound.universals_are_regions), omega (arith, f.1, sound.universals_are_regions))
-
--- the status of no faults is 0
-pub told_none : (faults : List (ℕ × ℕ)) → length faults ≡ 0 → 0 ≡ status_of_faults faults
-told_none [] none = refl
-told_none (fault ∷ faults) none = absurd (omega (arith, none))
-
--- and of some it is 1
-pub told_some : (faults : List (ℕ × ℕ)) → (length faults ≡ 0 → ⊥) → 1 ≡ status_of_faults faults
-told_some [] some = absurd (some refl)
-told_some (fault ∷ faults) some = refl
-
--- that memory was refused is always an answer's error
-pub memory_is_told : {A : Type 0} (text : List ℕ) (answer : Result A AnswerError) → IsErrAnd answer (λ error. error ≡ Memory) → IfErr answer (IsAnswerError text)
-memory_is_told text (Ok answer) h = tt
-memory_is_told text (Err error) h = subst (IsAnswerError text) (sym h) tt

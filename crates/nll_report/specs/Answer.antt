@@ -4,7 +4,9 @@ use Rattle.std.specs.Prelude.{◌≡◌, ℕ, List, [], ◌∷◌}
 use Rattle.nll_problem.specs.Problem.{Problem}
 use Rattle.nll_problem.specs.Solution.{Least}
 use Rattle.nll_problem.specs.Faults.{AreFaults}
-use Rattle.nll_facts.specs.FactsText.{Means, IsFault}
+use Rattle.nll_facts.specs.FactsText.{Means, facts}
+use Rattle.nll_reading.specs.Labels.{Labels}
+use Rattle.nll_reading.specs.Text.{IsFault}
 use Rattle.nll_report.specs.Report.{IsValuesReport, faults_report}
 use Rattle.nll_report.specs.declared.answers.Command.{Command}
 use Rattle.nll_report.specs.declared.answers.Command.TheVariants.{Values, Check}
@@ -18,27 +20,27 @@ status_of_faults (fault ∷ faults) = 1
 
 -- The report is that of the faults of the problem's least values, and the status tells whether
 -- there are any.
-pub record IsCheckReport (q : Problem) (names : List (List ℕ)) (report : List ℕ) (status : ℕ)
+pub record IsCheckReport (q : Problem) (labels : Labels) (report : List ℕ) (status : ℕ)
     : Type 0 where
   pub faults : List (ℕ × ℕ)
   pub exact : AreFaults q (Least q) faults
-  pub printed : report ≡ faults_report names faults
+  pub printed : report ≡ faults_report labels faults
   pub told : status ≡ status_of_faults faults
 
 -- the report and the status are what the command asks of the problem
-abbrev pub IsProblemAnswer : Command → Problem → List (List ℕ) → List ℕ → ℕ → Type 0
-IsProblemAnswer Values q names report status =
-    IsValuesReport q names (Least q) report × (status ≡ 0)
-IsProblemAnswer Check q names report status = IsCheckReport q names report status
+abbrev pub IsProblemAnswer : Command → Problem → Labels → List ℕ → ℕ → Type 0
+IsProblemAnswer Values q labels report status =
+    IsValuesReport q labels (Least q) report × (status ≡ 0)
+IsProblemAnswer Check q labels report status = IsCheckReport q labels report status
 
 -- The text means a problem, and the report and the status are what the command asks of it.
 pub record IsAnswer (command : Command) (text report : List ℕ) (status : ℕ) : Type 0 where
   pub problem : Problem
-  pub names : List (List ℕ)
-  pub meaning : Means text problem names
-  pub answer : IsProblemAnswer command problem names report status
+  pub labels : Labels
+  pub meaning : Means text problem labels
+  pub answer : IsProblemAnswer command problem labels report status
 
 -- the error tells the text's fault, or that a growth of memory was refused
 abbrev pub IsAnswerError : List ℕ → AnswerError → Type 0
-IsAnswerError text (Text error) = IsFault text error.line error.kind
+IsAnswerError text (Text error) = IsFault facts text error.line error.kind
 IsAnswerError text Memory = Unit {0}

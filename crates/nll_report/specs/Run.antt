@@ -3,7 +3,8 @@
 use Rattle.std.specs.Prelude.{◌≡◌, ◌⊎◌, ℕ, List, Option, string_bytes}
 use Rattle.std.specs.Io.KnownBytes.{Appends}
 use Rattle.nll_reading.specs.declared.error.TextKind.{TextKind}
-use Rattle.nll_facts.specs.FactsText.{IsFault}
+use Rattle.nll_facts.specs.FactsText.{facts}
+use Rattle.nll_reading.specs.Text.{IsFault}
 use Rattle.nll_report.specs.declared.answers.Command.{Command}
 use Rattle.nll_report.specs.declared.answers.Command.TheVariants as command
 use Rattle.nll_report.specs.declared.messages.Refusal.{Refusal}
@@ -84,7 +85,7 @@ pub record IsBegun (holds : Holds) (words : Words) (room : Option ℕ) (old new 
 pub record IsFileFault (holds : Holds) (file : List ℕ) (line : ℕ) (kind : TextKind) : Type 0 where
   pub text : List ℕ
   pub held : holds file text
-  pub fault : IsFault text line kind
+  pub fault : IsFault facts text line kind
 
 -- the refusal tells the truth of a text of the file
 abbrev pub IsFileRefused : Holds → Lacks → List ℕ → Refusal → Type 0

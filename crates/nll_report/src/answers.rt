@@ -14,6 +14,7 @@ use crate::values_report::values_text;
 use nll_core::{Memory, Problem, RegionId, faults, solve};
 use nll_mir::{Facts, TextError, TextKind, read_facts};
 use std::alloc::Global;
+use thiserror::Error;
 
 /// What is asked of a text.
 #[derive(Clone, Copy, Debug, PartialEq, Eq)]
@@ -25,11 +26,13 @@ pub enum Command {
 }
 
 /// Why a text has no answer.
-#[derive(Clone, Copy, Debug, PartialEq, Eq)]
+#[derive(Clone, Copy, Debug, PartialEq, Eq, Error)]
 pub enum AnswerError {
     /// The text is faulty.
+    #[error(transparent)]
     Text(TextError),
     /// A growth of memory was refused.
+    #[error("memory was refused")]
     Memory,
 }
 
@@ -63,7 +66,7 @@ pub fn answer(alloc: Global, command: Command, text: &[u8]) -> Result<(Vec<u8>, 
 // The meaning of a text.
 fn facts_of(alloc: Global, text: &[u8]) -> Result<Facts, AnswerError>
     ensures ok { IfOk result (λ facts. Means text.now facts.problem facts.labels) }
-    ensures named { IfOk result (λ facts. length facts.labels ≡ facts.problem.regions) }
+    ensures named { IfOk result (λ facts. length facts.labels.names ≡ facts.problem.regions) }
     ensures err { IfErr result (IsAnswerError text.now) }
 {
     match read_facts(alloc, text) {
@@ -77,7 +80,7 @@ fn facts_of(alloc: Global, text: &[u8]) -> Result<Facts, AnswerError>
 
 // The answer to the command on facts.
 fn answer_of(alloc: Global, command: Command, facts: &Facts) -> Result<(Vec<u8>, u8), Memory>
-    requires { length facts.now.labels ≡ facts.now.problem.regions }
+    requires { length facts.now.labels.names ≡ facts.now.problem.regions }
     ensures ok { IfOk result (λ r.
         IsProblemAnswer command facts.now.problem facts.now.labels r.0.items r.1) }
     ensures status { IfOk result (λ r. r.1 ≤ 1) }
@@ -93,7 +96,7 @@ fn answer_of(alloc: Global, command: Command, facts: &Facts) -> Result<(Vec<u8>,
 
 // The report of the least values.
 fn values_of(alloc: Global, facts: &Facts) -> Result<Vec<u8>, Memory>
-    requires { length facts.now.labels ≡ facts.now.problem.regions }
+    requires { length facts.now.labels.names ≡ facts.now.problem.regions }
     ensures { IfOk result (λ report.
         IsValuesReport facts.now.problem facts.now.labels (Least facts.now.problem) report.items) }
 {
@@ -105,7 +108,7 @@ fn values_of(alloc: Global, facts: &Facts) -> Result<Vec<u8>, Memory>
 
 // The report of the faults of the least values, and the status.
 fn check_of(alloc: Global, facts: &Facts) -> Result<(Vec<u8>, u8), Memory>
-    requires { length facts.now.labels ≡ facts.now.problem.regions }
+    requires { length facts.now.labels.names ≡ facts.now.problem.regions }
     ensures ok { IfOk result (λ r.
         IsCheckReport facts.now.problem facts.now.labels r.0.items r.1) }
     ensures status { IfOk result (λ r. r.1 ≤ 1) }

@@ -8,13 +8,15 @@ use nll_mir::Labels;
 use std::alloc::{AllocError, Global};
 use std::fmt::Write;
 
-/// Prints the report of faults: a line for each, in their order, or the line `ok` where there is none.
+/// Prints the report of faults: a line for each, in their order, or the line `ok` where there is
+/// none.
 pub fn faults_text(
     alloc: Global,
     labels: &Labels,
     faults: &[(RegionId, RegionId)],
 ) -> Result<Vec<u8>, Memory>
-    requires { All (λ fault. (fault.0 < length labels.now) × (fault.1 < length labels.now)) faults.now }
+    requires { All (λ fault. (fault.0 < length labels.now.names)
+        × (fault.1 < length labels.now.names)) faults.now }
     ensures { IfOk result (λ bytes. bytes.items ≡ faults_report labels.now faults.now) }
 {
     let mut out = String::new(alloc);
@@ -34,9 +36,10 @@ fn push_fault(
     longer: RegionId,
     shorter: RegionId,
 ) -> Result<(), AllocError>
-    requires longer { longer < length labels.now }
-    requires shorter { shorter < length labels.now }
-    ensures { OnOk result (string_bytes out.new ≡ string_bytes out.old ++ fault_line labels.now (longer, shorter)) }
+    requires longer { longer < length labels.now.names }
+    requires shorter { shorter < length labels.now.names }
+    ensures { OnOk result (string_bytes out.new
+        ≡ string_bytes out.old ++ fault_line labels.now (longer, shorter)) }
 {
     let longer = labels.region(longer);
     let shorter = labels.region(shorter);

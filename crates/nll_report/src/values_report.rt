@@ -1,10 +1,10 @@
 //! The report of values.
 
-ghost use Rattle.std.specs.Prelude.{◌≡◌, ◌<◌, ◌≤◌, ◌++◌, ◌∷◌, [], ◌+◌, length, IfOk, OnOk, string_bytes};
+ghost use Rattle.std.specs.Prelude.{◌≡◌, ◌<◌, ◌≤◌, ◌++◌, ◌∷◌, ◌+◌, length, IfOk, OnOk};
+ghost use Rattle.std.specs.Prelude.{string_bytes};
 ghost use Rattle.nll_sets.specs.ElementSet.{elements};
-ghost use Rattle.nll_problem.specs.Graph.{element_count};
-ghost use Rattle.nll_core.specs.Values.{set_of, IsHeld, IsShaped};
-ghost use Rattle.nll_report.specs.Report.{region_text, element_text, value_line, IsValuesReport};
+ghost use Rattle.nll_core.specs.Values.{IsHeld, IsShaped, set_of};
+ghost use Rattle.nll_report.specs.Report.{IsValuesReport, element_text, point_text, value_line};
 
 use nll_core::{Element, Memory, Problem, RegionId, Values};
 use nll_mir::{Labels, PointName};
@@ -14,8 +14,9 @@ use std::fmt::Write;
 /// Prints the report of values: a line for each region.
 ///
 /// # Shape
-/// Lines in region order; each has the region's name, a colon, then each element of its value after one
-/// space, points ascending, then ends as `end('a)` in the order of the universal regions.
+/// Lines in region order; each has the region's name, a colon, then each element of its value after
+/// one space: points ascending, as `7` or, where the labels have blocks, as `bb2/1`; then ends as
+/// `end('a)` in the order of the universal regions.
 pub fn values_text(
     alloc: Global,
     problem: &Problem,
@@ -23,8 +24,9 @@ pub fn values_text(
     values: &Values,
 ) -> Result<Vec<u8>, Memory>
     requires shaped { IsShaped problem.now values.now }
-    requires named { length labels.now ≡ problem.now.regions }
-    ensures { IfOk result (λ bytes. IsValuesReport problem.now labels.now (IsHeld values.now) bytes.items) }
+    requires named { length labels.now.names ≡ problem.now.regions }
+    ensures { IfOk result (λ bytes.
+        IsValuesReport problem.now labels.now (IsHeld values.now) bytes.items) }
 {
     let mut out = String::new(alloc);
     let points = problem.points();
@@ -43,9 +45,10 @@ fn push_line(
     region: RegionId,
 ) -> Result<(), AllocError>
     requires region { region < length values.now }
-    requires named { region < length labels.now }
-    requires ends { length (set_of values.now region) ≤ points + length labels.now }
-    ensures { OnOk result (string_bytes out.new ≡ string_bytes out.old ++ value_line labels.now points region (elements (set_of values.now region))) }
+    requires named { region < length labels.now.names }
+    requires ends { length (set_of values.now region) ≤ points + length labels.now.names }
+    ensures { OnOk result (string_bytes out.new ≡ string_bytes out.old
+        ++ value_line labels.now points region (elements (set_of values.now region))) }
 {
     let name = labels.region(region);
     write!(out, "'{name}:")?;
@@ -63,15 +66,27 @@ fn push_element(
     points: u32,
     element: Element,
 ) -> Result<(), AllocError>
-    requires { element < points + length labels.now }
-    ensures { OnOk result (string_bytes out.new ≡ string_bytes out.old ++ 32 ∷ element_text labels.now points element) }
+    requires { element < points + length labels.now.names }
+    ensures { OnOk result (string_bytes out.new
+        ≡ string_bytes out.old ++ 32 ∷ element_text labels.now points element) }
 {
     if element.0 < points {
-        let PointName::Number(number) = labels.point(element.0);
-        write!(out, " {number}")?;
+        push_point(out, labels.point(element.0))?;
     } else {
         let name = labels.region(RegionId(element.0 - points));
         write!(out, " end('{name})")?;
+    }
+    Ok(())
+}
+
+// Puts a point at the end, after a space.
+fn push_point(out: &mut String, point: PointName) -> Result<(), AllocError>
+    ensures { OnOk result (string_bytes out.new
+        ≡ string_bytes out.old ++ 32 ∷ point_text point) }
+{
+    match point {
+        PointName::Number(number) => write!(out, " {number}")?,
+        PointName::Block(block, place) => write!(out, " bb{block}/{place}")?,
     }
     Ok(())
 }
