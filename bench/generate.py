@@ -8,8 +8,9 @@ Every text depends on its arguments and its seed alone.
     generate.py random [--seed S]                                 a small problem
     generate.py mutations FILE --into DIR                         each small change of a text
     generate.py limits --into DIR                                 texts at the limits of the format
+    generate.py line KIND MIB                                     one long line behind the header
 
-The first three write to standard output. `differential.py` uses the functions of this file.
+All but `mutations` and `limits` write to standard output. `differential.py` uses the functions of this file.
 """
 
 import argparse
@@ -87,6 +88,18 @@ def chain(points, regions):
     lines += [b"constraint 'r%d 'r%d 0" % (k, k - 1) for k in range(1, regions)]
     lines += [b"constraint 'r0 'a 0"]
     return b"\n".join(lines + [b"end", b""])
+
+
+# What is repeated in a long line, so that none of the forms has it; a remark is skipped.
+PIECES = {"signs": b"=", "words": b"a ", "regions": b"'a", "name": b"a", "blanks": b" ", "remark": b"#"}
+
+
+def line(kind, mebibytes):
+    """A text of this size, which is its header and one line of pieces of this kind."""
+    head = b"nll-facts 1\n"
+    room = (mebibytes << 20) - len(head)
+    piece = PIECES[kind]
+    return head + piece * (room // len(piece)) + b" " * (room % len(piece))
 
 
 # Small texts
@@ -327,6 +340,9 @@ def words():
     command = commands.add_parser("chain")
     command.add_argument("points", type=int)
     command.add_argument("regions", type=int)
+    command = commands.add_parser("line")
+    command.add_argument("kind", choices=sorted(PIECES))
+    command.add_argument("mebibytes", type=int)
     commands.add_parser("random").add_argument("--seed", type=int, default=1)
     command = commands.add_parser("mutations")
     command.add_argument("file")
@@ -342,6 +358,8 @@ def main():
         sys.stdout.buffer.write(out)
     elif args.command == "chain":
         sys.stdout.buffer.write(chain(args.points, args.regions))
+    elif args.command == "line":
+        sys.stdout.buffer.write(line(args.kind, args.mebibytes))
     elif args.command == "random":
         sys.stdout.buffer.write(small(random.Random(args.seed)))
     elif args.command == "mutations":

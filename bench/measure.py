@@ -1,8 +1,9 @@
 #!/usr/bin/env python3
-"""Times programs and prints Markdown tables; `reading.sh` and `real.sh` call it.
+"""Times programs and prints Markdown tables; `reading.sh`, `real.sh` and `line.sh` call it.
 
     measure.py reading --nllc PATH --baseline PATH --texts FOLDER [--runs N]
     measure.py real --nllc PATH --baseline PATH --inputs FOLDER --outputs FOLDER [--runs N]
+    measure.py line --nllc PATH --texts FOLDER [--most MIB]
 
 Wall time is from start to end of a process, user time and peak memory are the system's own figures
 of it (`wait4`). A process that is started counts the memory of the one that starts it as its own
@@ -132,11 +133,35 @@ def real(args):
     return 0 < len(names) == alike
 
 
+def line_row(args, name):
+    """The row of one text, which is a header and one long line; whether it is told in time and room."""
+    path = os.path.join(args.texts, name)
+    size = os.path.getsize(path) / (1 << 20)
+    found = run([args.nllc, "check", path], args.seconds)
+    over = found.peak - size
+    told = "line 2: end" if name.startswith(("blanks", "remark")) else "line 2: syntax"
+    fine = (found.status, found.err) == (2, f"nllc: {told}") and over <= args.most
+    print(f"| {name.removesuffix('.facts')} | {size:.1f} | {found.peak:.1f} | {over:.1f} "
+          f"| {found.wall:.3f} | {found.err}{'' if fine else ' (WRONG)'} |", flush=True)
+    return fine
+
+
+def line(args):
+    print(f"One line of a facts text that nllc refuses, and the memory of its process; "
+          f"{machine(args)}")
+    print("| line of | text MiB | peak MiB | peak above the text MiB | wall s | refusal |")
+    print("|---|---|---|---|---|---|")
+    fine = [line_row(args, name) for name in sorted(os.listdir(args.texts))]
+    return 0 < len(fine) == sum(fine)
+
+
 def main():
     parser = argparse.ArgumentParser(description=__doc__.split("\n", maxsplit=1)[0])
-    parser.add_argument("what", choices=["reading", "real"])
+    parser.add_argument("what", choices=["reading", "real", "line"])
     parser.add_argument("--nllc", required=True)
-    parser.add_argument("--baseline", required=True)
+    parser.add_argument("--baseline", help="the program to compare with; not for `line`")
+    parser.add_argument("--most", type=float, default=8.0,
+                        help="MiB that a process may take beside the text of one line")
     parser.add_argument("--texts", help="folder of refused-MIB.facts and accepted-MIB.facts")
     parser.add_argument("--sizes", default="8 64")
     parser.add_argument("--inputs", help="folder of facts texts")
@@ -145,7 +170,7 @@ def main():
     parser.add_argument("--seconds", type=float, default=60.0, help="time limit of a run")
     parser.add_argument("--commit", default="none", help="told beside the figures")
     args = parser.parse_args()
-    return 0 if (reading if args.what == "reading" else real)(args) else 1
+    return 0 if {"reading": reading, "real": real, "line": line}[args.what](args) else 1
 
 
 if __name__ == "__main__":

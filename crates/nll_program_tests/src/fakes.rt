@@ -1,0 +1,156 @@
+//! Words, texts and writers for the tests.
+ghost use Rattle.std.specs.Prelude.{◌≡◌, IfOk};
+ghost use Rattle.nll_report.specs.Run.{holds_anything, lacks_anything};
+
+use nll_report::{Texts, Unread};
+use std::alloc::{AllocError, Global};
+use std::io;
+use std::io::{ErrorKind, Write};
+
+/// The words between the bars of `text`, and none of an empty text.
+pub fn words_of(alloc: Global, text: &str) -> Result<Vec<String>, AllocError> {
+    let mut words = Vec::new(alloc);
+    if !text.is_empty() {
+        for word in text.split('|') {
+            words.push(String::from_str(alloc, word)?)?;
+        }
+    }
+    Ok(words)
+}
+
+const CHAIN: &[u8] = b"nll-facts 1
+points 3
+region '1
+region '2
+next 0 1
+next 1 2
+return 2
+base '1 1
+base '1 2
+constraint '2 '1 1
+end
+";
+
+const FAULT: &[u8] = b"nll-facts 1
+points 2
+universal 'a
+universal 'b
+next 0 1
+return 1
+constraint 'a 'b 0
+end
+";
+
+const HEALED: &[u8] = b"nll-facts 1
+points 2
+universal 'a
+universal 'b
+outlives 'a 'b
+next 0 1
+return 1
+constraint 'a 'b 0
+end
+";
+
+// The bytes of the text of a path, where there is one.
+fn text_at(path: &str) -> Option<&'static [u8]> {
+    match path {
+        "chain" => Some(CHAIN),
+        "fault" => Some(FAULT),
+        "healed" => Some(HEALED),
+        "empty" => Some(b""),
+        "utf" => Some(b"nll-facts 1\npoints 1\n# \xc3\n\xa9\nend\n"),
+        "syntax" => Some(b"nll-facts 1\n\npoints one\n"),
+        "unknown" => Some(b"nll-facts 1\npoints 1\noutlives 'static 'z\nend\n"),
+        "duplicate" => Some(b"nll-facts 1\npoints 1\nuniversal 'a\nregion 'a\nend\n"),
+        "range" => Some(b"nll-facts 1\npoints 1\nreturn 0\nnext 0 1\nend\n"),
+        "points" => Some(b"nll-facts 1\n# One too many.\npoints 1048577\nend\n"),
+        "end" => Some(b"nll-facts 1\npoints 1\nreturn 0\n# end\n"),
+        _ => None,
+    }
+}
+
+/// The texts of the table above; the text `large` wants memory.
+#[derive(Drop)]
+pub struct Shelf {
+    pub alloc: Global,
+}
+
+impl Texts for Shelf {
+    ghost holds = { λ _. holds_anything };
+
+    ghost lacks = { λ _. lacks_anything };
+
+    fn get(&self, path: &str) -> Result<Vec<u8>, Unread> {
+        if path == "large" {
+            return Err(Unread::Memory);
+        }
+        match text_at(path) {
+            Some(text) => text.to_vec(self.alloc).or(Err(Unread::Memory)),
+            None => Err(Unread::Cannot),
+        }
+    }
+}
+
+/// What a writer does at one of its calls.
+#[derive(Clone, Copy, Debug, PartialEq, Eq)]
+pub enum Fault {
+    /// The write fails.
+    Fails,
+    /// The write takes no byte.
+    TakesNone,
+    /// A signal interrupts the write.
+    IsInterrupted,
+    /// The flush fails, whatever its call.
+    FailsToFlush,
+}
+
+/// A writer that takes three bytes at a call, and has a fault at the call that is counted down to 0.
+#[derive(Drop)]
+pub struct Faulty {
+    pub held: Vec<u8>,
+    pub calls_before: u32,
+    pub fault: Fault,
+}
+
+impl Faulty {
+    pub fn new(alloc: Global, calls_before: u32, fault: Fault) -> Self {
+        Faulty {
+            held: Vec::new(alloc),
+            calls_before,
+            fault,
+        }
+    }
+
+    fn fail(&mut self) -> io::Result<usize>
+        ensures { IfOk result (λ n. n ≡ 0) }
+    {
+        match self.fault {
+            Fault::Fails => Err(io::Error::from(ErrorKind::StorageFull)),
+            Fault::IsInterrupted => {
+                self.calls_before = u32::MAX;
+                Err(io::Error::from(ErrorKind::Interrupted))
+            }
+            Fault::TakesNone | Fault::FailsToFlush => Ok(0),
+        }
+    }
+}
+
+impl Write for Faulty {
+    fn write(&mut self, buf: &[u8]) -> io::Result<usize> {
+        if self.calls_before == 0 && self.fault != Fault::FailsToFlush {
+            return self.fail();
+        }
+        self.calls_before = self.calls_before.saturating_sub(1);
+        let count = buf.len().min(3);
+        self.held.extend_from_slice(&buf[..count])?;
+        Ok(count)
+    }
+
+    fn flush(&mut self) -> io::Result<()> {
+        if self.fault == Fault::FailsToFlush {
+            return Err(io::Error::from(ErrorKind::StorageFull));
+        }
+        Ok(())
+    }
+}

@@ -1,0 +1,100 @@
+//! Names of regions and of points.
+use super::comparing::compare;
+use nll_core::RegionId;
+use nll_mir::Labels;
+use nll_reading::Names;
+use std::alloc::{AllocError, Global};
+
+// Adds a name where it isn't among them, and answers whether it wasn't.
+fn add(alloc: Global, names: &mut Names, name: &str) -> Result<bool, AllocError> {
+    if names.number_of(name.as_bytes()).is_some() {
+        return Ok(false);
+    }
+    names.add(alloc, name.as_bytes())?;
+    Ok(true)
+}
+
+// Adds names, and writes of each whether it is new.
+fn add_all(
+    alloc: Global,
+    out: &mut String,
+    names: &mut Names,
+    texts: &[&str],
+) -> Result<(), AllocError> {
+    for text in texts {
+        let new = add(alloc, names, text)?;
+        write!(out, "{text} {new}|")?;
+    }
+    Ok(())
+}
+
+// Writes the places of names.
+fn write_places(out: &mut String, names: &Names, texts: &[&str]) -> Result<(), AllocError> {
+    for text in texts {
+        write!(out, "{text} {:?}|", names.number_of(text.as_bytes()))?;
+    }
+    Ok(())
+}
+
+// Writes all names in their order.
+fn write_names(out: &mut String, names: &Names) -> Result<(), AllocError> {
+    for number in 0..names.len() {
+        write!(out, "{}|", names.name(number))?;
+    }
+    Ok(())
+}
+
+// What names tell where these are added.
+fn names_told(alloc: Global, texts: &[&str]) -> Result<String, AllocError> {
+    let mut out = String::new(alloc);
+    let mut names = Names::new(alloc)?;
+    let added = add_all(alloc, &mut out, &mut names, texts);
+    let written = write_names(&mut out, &names);
+    let placed = write_places(&mut out, &names, &["static", "b", "c"]);
+    drop(names);
+    added.and(written).and(placed).and(Ok(out))
+}
+
+// Names stand in the order in which they were added, each once, behind `static`.
+#[test]
+fn keeps_names_in_order(rt: HostRuntime) {
+    let told = names_told(rt.alloc(), &["a", "b", "a", "static"]);
+    let want = "a true|b true|a false|static false|static|a|b|static Some(0)|b Some(2)|c None|";
+    compare(&rt, "names", told, want);
+}
+
+// Writes how the first points are named, so many of them.
+fn write_points(out: &mut String, labels: &Labels, count: u32) -> Result<(), AllocError> {
+    for point in 0..count {
+        write!(out, "{:?}|", labels.point(point))?;
+    }
+    Ok(())
+}
+
+// What labels tell of 'static and of their first points, so many of them.
+fn labels_told(alloc: Global, labels: Labels, count: u32) -> Result<String, AllocError> {
+    let mut out = String::new(alloc);
+    let written = write_points(&mut out, &labels, count);
+    drop(labels);
+    written.and(Ok(out))
+}
+
+// Points of blocks that begin at 0, 3 and 4 are named by their block and their place in it.
+#[test]
+fn names_points_by_blocks(rt: HostRuntime) -> Result<(), AllocError> {
+    let starts = vec![in rt.alloc(); 0u32, 3, 4]?;
+    let labels = Labels::with_blocks(Names::new(rt.alloc())?, starts);
+    let told = labels_told(rt.alloc(), labels, 6);
+    let want = "Block(0, 0)|Block(0, 1)|Block(0, 2)|Block(1, 0)|Block(2, 0)|Block(2, 1)|";
+    compare(&rt, "blocks", told, want);
+    Ok(())
+}
+
+// Points without blocks are named by their numbers.
+#[test]
+fn names_points_by_numbers(rt: HostRuntime) -> Result<(), AllocError> {
+    let labels = Labels::new(Names::new(rt.alloc())?);
+    let told = labels_told(rt.alloc(), labels, 2);
+    compare(&rt, "numbers", told, "Number(0)|Number(1)|");
+    Ok(())
+}

@@ -1,0 +1,47 @@
+//! Tests of the readers of texts, of reports and of the program, by their public calls alone.
+//! Expected values are found by hand from the rules of the formats and from the definitions.
+//!
+//! The program is also run over texts and streams of which all is known (`known`), and its contract says
+//! then what they hold.
+//!
+//! Reading order: `known`, `comparing`, `reading`, `answers`, `fakes`, then each module of tests.
+#![tactic(auto)]
+
+mod known;
+mod page;
+
+pub use known::{Sheet, on_pages};
+pub use page::Page;
+
+#[cfg(test)]
+mod answers;
+#[cfg(test)]
+mod comparing;
+#[cfg(test)]
+mod fakes;
+#[cfg(test)]
+mod faults;
+#[cfg(test)]
+mod hostile;
+#[cfg(test)]
+mod labels;
+#[cfg(test)]
+mod limits;
+#[cfg(test)]
+mod meanings;
+#[cfg(test)]
+mod messages;
+#[cfg(test)]
+mod program;
+#[cfg(test)]
+mod reading;
+#[cfg(test)]
+mod refusals;
+#[cfg(test)]
+mod slow_reader;
+#[cfg(test)]
+mod values;
+#[cfg(test)]
+mod words;
+#[cfg(test)]
+mod writing;

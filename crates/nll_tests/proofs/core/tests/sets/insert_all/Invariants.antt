@@ -1,5 +1,0 @@
-use Rattle.std.proofs.Common.{◌≡◌, length}
-use Rattle.nll_core.proofs.tests.sets.insert_all.Given as goal
-
-abbrev pub invariant-loop-element : goal.invariant-loop-element
-invariant-loop-element g l = length (g.S.ElementSet.flags l.set) ≡ l.len

@@ -1,0 +1,28 @@
+//! Tests of sets, problems, solving and lines of texts, by their public calls alone.
+//! Expected values are found by hand from the definitions.
+//!
+//! Reading order: `comparing`, `telling`, `calls`, then each module of tests.
+#![tactic(auto)]
+
+#[cfg(test)]
+mod building;
+#[cfg(test)]
+mod calls;
+#[cfg(test)]
+mod comparing;
+#[cfg(test)]
+mod graphs;
+#[cfg(test)]
+mod headers;
+#[cfg(test)]
+mod lines;
+#[cfg(test)]
+mod messages;
+#[cfg(test)]
+mod sets;
+#[cfg(test)]
+mod solving;
+#[cfg(test)]
+mod telling;
+#[cfg(test)]
+mod tokens;
