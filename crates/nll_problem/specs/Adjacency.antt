@@ -1,7 +1,8 @@
 -- How a graph and its builder keep edges: each point has a list of its successors and one of its
 -- predecessors.
 -- Source: project's choice. Private contracts alone cite this file.
-use Rattle.std.specs.Prelude.{◌≡◌, ◌≢◌, ◌⊎◌, ◌↔◌, ℕ, ◌+◌, ◌<◌, Bool, true, false, List, [], ◌∷◌, ◌++◌, map, length, Contains, AllPairs, slice_index_or}
+use Rattle.std.specs.Prelude.{◌≡◌, ◌≢◌, ◌⊎◌, ◌↔◌, ℕ, ◌+◌, ◌<◌, Bool, true, false, List, [], ◌∷◌}
+use Rattle.std.specs.Prelude.{◌++◌, map, length, Contains, AllPairs, slice_index_or}
 use Rattle.nll_problem.specs.Graph.{Graph, IsSound}
 use Rattle.nll_problem.specs.Rows.{row_at}
 use Rattle.nll_problem.specs.declared.graph_builder.TheConstants.{SCANNED}

@@ -1,7 +1,8 @@
 -- How rows of numbers are kept: flat, in one list beside the places where the rows start; and,
 -- while they grow, in a list for each row.
 -- Source: project's choice. Private contracts alone cite this file.
-use Rattle.std.specs.Prelude.{◌≡◌, ℕ, ◌+◌, ◌-◌, ◌<◌, ◌≤◌, List, [], ◌∷◌, ◌++◌, map, length, slice_index, slice_index_or, slice_range, slice_set, sum_by}
+use Rattle.std.specs.Prelude.{◌≡◌, ℕ, ◌+◌, ◌-◌, ◌<◌, ◌≤◌, List, [], ◌∷◌, ◌++◌, map, length}
+use Rattle.std.specs.Prelude.{slice_index, slice_index_or, slice_range, slice_set, sum_by}
 use Rattle.std.specs.List.{range_with_len}
 
 -- the row at an index: the items from where it starts to where the next row starts

@@ -10,7 +10,8 @@ ghost use Rattle.nll_problem.specs.Adjacency.{HasEdgesTo, Indexes, IsIndexed, Is
 ghost use Rattle.nll_problem.specs.Answers.{Answers, AddsFact};
 ghost use Rattle.nll_problem.specs.Graph.{IsNext, IsSound};
 ghost use Rattle.nll_problem.specs.GraphBuilding as building;
-ghost use Rattle.nll_problem.specs.GraphBuilding.{bare_graph, graph_error, edge_error, return_error};
+ghost use Rattle.nll_problem.specs.GraphBuilding.{bare_graph, graph_error, edge_error};
+ghost use Rattle.nll_problem.specs.GraphBuilding.{return_error};
 ghost use Rattle.nll_problem.specs.Limits.{most_points, most_edges, most_universals};
 
 use crate::error::{BuildError, Kind};

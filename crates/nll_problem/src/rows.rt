@@ -1,6 +1,7 @@
 //! Rows of numbers: flat, or while they grow.
 
-ghost use Rattle.std.specs.Prelude.{◌≡◌, ◌+◌, ◌<◌, ◌≤◌, [], ◌∷◌, ◌++◌, map, replicate, length, slice_range, vec_len, vec_capacity, IfOk, OnOk};
+ghost use Rattle.std.specs.Prelude.{◌≡◌, ◌+◌, ◌<◌, ◌≤◌, [], ◌∷◌, ◌++◌, map, replicate, length};
+ghost use Rattle.std.specs.Prelude.{slice_range, vec_len, vec_capacity, IfOk, OnOk};
 ghost use Rattle.nll_problem.specs.Rows.{IsFlat, HasRoom, rows_of, item_count, row_at, with_item};
 
 use nll_sets::Memory;
