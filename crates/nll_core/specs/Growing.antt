@@ -31,8 +31,8 @@ IsBelow values assignment = (r e : ℕ) → IsHeld values r e → IsTrue (assign
 -- each assignment that satisfies the problem and has all of the old values has all of the new ones
 abbrev pub StaysBelow : Problem → List (List Bool) → List (List Bool) → Type 0
 StaysBelow q old new =
-    (assignment : ℕ → ℕ → Bool) → Satisfies q (λ s f. IsTrue (assignment s f)) → IsBelow old assignment
-    → IsBelow new assignment
+    (assignment : ℕ → ℕ → Bool) → Satisfies q (λ s f. IsTrue (assignment s f))
+    → IsBelow old assignment → IsBelow new assignment
 
 -- the universal regions hold all points
 abbrev pub HoldsPoints : Problem → List (List Bool) → Type 0

@@ -71,7 +71,8 @@ pub record Adds (kind : ℕ → Type 0) (old new : Search) : Type 0 where
   pub fresh : HoldsFrom (length old.list) new.list (λ x. flag old.reached x ≡ false)
   pub inside : HoldsFrom (length old.list) new.list (IsIn new.reached)
   pub cause : HoldsFrom (length old.list) new.list kind
-  pub once : (j : ℕ) → length old.list ≤ j → HoldsFrom (j + 1) new.list (λ x. slice_index new.list j ≢ x)
+  pub once : (j : ℕ) → length old.list ≤ j
+      → HoldsFrom (j + 1) new.list (λ x. slice_index new.list j ≢ x)
   pub only : (x : ℕ) → IsIn new.reached x → IsIn old.reached x ⊎ IsFrom (length old.list) new.list x
   pub count : missing new.reached + length new.list ≡ missing old.reached + length old.list
 
