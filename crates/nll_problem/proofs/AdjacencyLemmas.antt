@@ -1,14 +1,17 @@
--- The edges of a graph that is kept as lists of successors.
-use Rattle.std.proofs.Common.{◌≡◌, ◌≢◌, ℕ, zero, suc, ◌+◌, ◌-◌, ◌<◌, ◌≤◌, List, [], ◌∷◌, ◌++◌, map, ◌⊎◌, ◌↔◌, inl, inr, Contains, AllPairs, length, get_or, set, replicate, refl, sym, ap, ◌∙◌, subst, ⊎_elim, arith, length-append}
-use Rattle.std.proofs.Math.Seq.{map-set_same}
-use Rattle.std.proofs.lemmas.List.{get_or_append_left, get_or-append_right, map-set, get_or-set_other, get_or-set_same, length-set, get_or_default, get_or_past, get_or-replicate, length-replicate, get_or-map, length-map}
+-- The edges of a graph that is kept as lists of successors and of predecessors.
+use Rattle.std.proofs.Common.{◌≡◌, ◌≢◌, ℕ, zero, suc, ◌+◌, ◌-◌, ◌<◌, ◌≤◌, Bool, true, false, List, [], ◌∷◌, ◌++◌, map, ◌⊎◌, ◌↔◌, inl, inr, Contains, AllPairs, length, get_or, set, replicate, refl, sym, ap, ◌∙◌, subst, ⊎_elim, arith, length-append, length-set}
+use Rattle.std.proofs.lemmas.List.{get_or_append_left, get_or-append_right, get_or-set_other, get_or-set_same, get_or_default, get_or_past, get_or-replicate, length-replicate, get_or-map, length-map}
 use Rattle.std.proofs.lemmas.List.Elements.{Contains-get_or, Contains-push, Contains-push_cases, Contains-append_left, Contains-append_right, Contains-append_cases}
 use Rattle.std.proofs.lemmas.List.Quantifiers.{all_pairs_push}
-use Rattle.std.proofs.lemmas.Bool.{cases_eq, cases_lt}
-use Rattle.nll_problem.specs.Adjacency.{edges_from, edges_of, next_of, graph_of, Indexes, IsIndexed, IsStored}
-use Rattle.nll_problem.specs.Building.{AddsFact}
-use Rattle.nll_problem.specs.declared.graph.TheConstants.{SCANNED}
+use Rattle.std.proofs.lemmas.List.Sums.{sum_by-cons}
+use Rattle.std.proofs.lemmas.Bool.{cases_eq, cases_lt, false≢true}
+use Rattle.nll_problem.specs.Adjacency.{edges_from, edges_of, graph_of, AreLists, AreTurned, Indexes, IsIndexed, IsIndexedIfLong, IsKept}
+use Rattle.nll_problem.specs.Answers.{AddsFact}
+use Rattle.nll_problem.specs.GraphBuilding.{bare_graph}
 use Rattle.nll_problem.specs.Limits.{most_points, most_edges, most_universals}
+use Rattle.nll_problem.specs.Rows.{row_at, with_item, item_count}
+use Rattle.nll_problem.specs.declared.graph_builder.TheConstants.{SCANNED}
+use Rattle.nll_problem.proofs.RowLemmas.{counted_more}
 
 -- a list without elements contains nothing
 pub none_contained : {X : Type 0} (x : X) → Contains [] x → ⊥
@@ -57,7 +60,7 @@ listed_edge k (next ∷ lists) (suc i) q h =
     subst (λ a. Contains (edges_from k (next ∷ lists)) (a, q)) at (Contains-append_right (map (λ r. (k, r)) next) (edges_from (k + 1) lists) (k + 1 + i, q) (listed_edge (k + 1) lists i q h))
 
 -- an edge is there where its point's list has its end
-pub edges_exact : (lists : List (List ℕ)) (p q : ℕ) → Contains (edges_of lists) (p, q) ↔ Contains (next_of lists p) q
+pub edges_exact : (lists : List (List ℕ)) (p q : ℕ) → Contains (edges_of lists) (p, q) ↔ Contains (row_at lists p) q
 edges_exact lists p q =
     let at : p ≡ 0 + p = omega arith in
     let back : 0 + p ≡ p = omega arith in (
@@ -94,123 +97,187 @@ edges_from_once k (next ∷ lists) once =
     omega (arith, first.0, second, ap (λ (x : ℕ × ℕ). x.0) is))
 
 -- where each list has a successor once, each edge is there once
-pub edges_apart : (lists : List (List ℕ)) → ((p : ℕ) → AllPairs (λ q r. q ≢ r) (next_of lists p)) → AllPairs (λ x y. x ≢ y) (edges_of lists)
+pub edges_apart : (lists : List (List ℕ)) → ((p : ℕ) → AllPairs (λ q r. q ≢ r) (row_at lists p)) → AllPairs (λ x y. x ≢ y) (edges_of lists)
 edges_apart lists once = edges_from_once 0 lists once
 
--- one more successor is one more edge
-length_grown : (k : ℕ) (lists : List (List ℕ)) (i q : ℕ) → i < length lists → length (edges_from k (set lists i (get_or lists i [] ++ q ∷ []))) ≡ length (edges_from k lists) + 1
-length_grown k [] i q h = absurd (omega arith)
-length_grown k (next ∷ lists) zero q h =
-    let f : ℕ → ℕ × ℕ = λ r. (k, r) in
-    omega (arith, length-append (map f (next ++ q ∷ [])) (edges_from (k + 1) lists), length-append (map f next) (edges_from (k + 1) lists), length-map (next ++ q ∷ []) f, length-map next f, length-append next (q ∷ []))
-length_grown k (next ∷ lists) (suc i) q h =
-    let f : ℕ → ℕ × ℕ = λ r. (k, r) in
-    let rest : List (List ℕ) = set lists i (get_or lists i [] ++ q ∷ []) in
-    omega (arith, length-append (map f next) (edges_from (k + 1) rest), length-append (map f next) (edges_from (k + 1) lists), length_grown (k + 1) lists i q (omega arith))
+edges_from_counted : (k : ℕ) (lists : List (List ℕ)) → length (edges_from k lists) ≡ item_count lists
+edges_from_counted k [] = refl
+edges_from_counted k (next ∷ lists) =
+    let pair : ℕ → ℕ × ℕ = λ q. (k, q) in
+    omega (arith, length-append (map pair next) (edges_from (k + 1) lists), length-map next pair, edges_from_counted (k + 1) lists, sum_by-cons (length {A = ℕ}) next lists)
 
+-- there are as many edges as successors
+pub edges_counted : (lists : List (List ℕ)) → length (edges_of lists) ≡ item_count lists
+edges_counted lists = edges_from_counted 0 lists
+
+-- a fact behind others, among which it isn't
+pub adds_behind : {X : Type 0} (xs : List X) (x : X) → (Contains xs x → ⊥) → AddsFact xs (xs ++ x ∷ []) x
+adds_behind xs x absent = record {
+  each = λ y. (Contains-push_cases xs x y, ⊎_elim (Contains-append_left xs (x ∷ []) y) (λ is. subst (Contains (xs ++ x ∷ [])) is (Contains-push xs x)));
+  repeated = λ present. absurd (absent present);
+  counted = λ _. length-append xs (x ∷ []);
+}
+
+once_behind : (xs : List ℕ) (x : ℕ) → (Contains xs x → ⊥) → AllPairs (λ y z. y ≢ z) xs → AllPairs (λ y z. y ≢ z) (xs ++ x ∷ [])
+once_behind xs x absent once = all_pairs_push (λ y z. y ≢ z) xs x once (λ k d h is. absent (k, h, get_or_default xs k x d h ∙ is))
+
+-- Lists of which one, p's, gets q.
 module _ (lists : List (List ℕ)) (p q : ℕ) (within : p < length lists) where
-  -- the lists with one more successor of p
-  abbrev pub grown : List (List ℕ)
-  grown = set lists p (get_or lists p [] ++ q ∷ [])
+  pub row_same : row_at (with_item lists p q) p ≡ row_at lists p ++ q ∷ []
+  row_same = get_or-set_same lists p (row_at lists p ++ q ∷ []) [] within
 
-  pub next_of_same : next_of grown p ≡ next_of lists p ++ q ∷ []
-  next_of_same = get_or-set_same lists p (get_or lists p [] ++ q ∷ []) [] within
+  pub row_other : (a : ℕ) → a ≢ p → row_at (with_item lists p q) a ≡ row_at lists a
+  row_other a other = get_or-set_other lists p a (row_at lists p ++ q ∷ []) [] other
 
-  pub next_of_other : (a : ℕ) → a ≢ p → next_of grown a ≡ next_of lists a
-  next_of_other a other = get_or-set_other lists p a (get_or lists p [] ++ q ∷ []) [] other
+  -- they have what they had, and q in p's
+  pub grown_has : (a b : ℕ) → Contains (row_at (with_item lists p q) a) b ↔ (Contains (row_at lists a) b ⊎ ((p ≡ a) × (q ≡ b)))
+  grown_has a b = (
+    λ h. ⊎_elim
+        (λ same. ⊎_elim
+        (λ old. inl (subst (λ c. Contains (row_at lists c) b) (sym same) old))
+        (λ is. inr (sym same, is))
+        (Contains-push_cases (row_at lists p) q b (subst (λ xs. Contains xs b) (ap (row_at (with_item lists p q)) same ∙ row_same) h)))
+        (λ other. inl (subst (λ xs. Contains xs b) (row_other a other) h))
+        (cases_eq a p),
+    ⊎_elim
+        (λ old. ⊎_elim
+        (λ same. subst (λ xs. Contains xs b) (sym (ap (row_at (with_item lists p q)) same ∙ row_same)) (Contains-append_left (row_at lists p) (q ∷ []) b (subst (λ c. Contains (row_at lists c) b) same old)))
+        (λ other. subst (λ xs. Contains xs b) (sym (row_other a other)) old)
+        (cases_eq a p))
+        (λ is. subst (λ c. Contains (row_at (with_item lists p q) c) b) is.0 (subst (λ xs. Contains xs b) (sym row_same) (subst (Contains (row_at lists p ++ q ∷ [])) is.1 (Contains-push (row_at lists p) q)))),
+  )
 
-  pub adds_edge : (Contains (next_of lists p) q → ⊥) → AddsFact (edges_of lists) (edges_of grown) (p, q)
-  adds_edge absent = record {
-    each = λ x. (
-      λ h. let listed = (edges_exact grown x.0 x.1).0 h in
-          ⊎_elim
-          (λ same. ⊎_elim
-          (λ old. inl ((edges_exact lists x.0 x.1).1 (subst (λ a. Contains (next_of lists a) x.1) (sym same) old)))
-          (λ is. inr (pair_of p x.0 q x.1 (sym same) is))
-          (Contains-push_cases (next_of lists p) q x.1 (subst (λ xs. Contains xs x.1) next_of_same (subst (λ a. Contains (next_of grown a) x.1) same listed))))
-          (λ other. inl ((edges_exact lists x.0 x.1).1 (subst (λ xs. Contains xs x.1) (next_of_other x.0 other) listed)))
-          (cases_eq x.0 p),
-      ⊎_elim
-          (λ old. (edges_exact grown x.0 x.1).1 (⊎_elim
-          (λ same. subst (λ a. Contains (next_of grown a) x.1) (sym same) (subst (λ xs. Contains xs x.1) (sym next_of_same) (Contains-append_left (next_of lists p) (q ∷ []) x.1 (subst (λ a. Contains (next_of lists a) x.1) same ((edges_exact lists x.0 x.1).0 old)))))
-          (λ other. subst (λ xs. Contains xs x.1) (sym (next_of_other x.0 other)) ((edges_exact lists x.0 x.1).0 old))
-          (cases_eq x.0 p)))
-          (λ is. subst (Contains (edges_of grown)) is ((edges_exact grown p q).1 (subst (λ xs. Contains xs q) (sym next_of_same) (Contains-push (next_of lists p) q)))),
-    );
-    repeated = λ present. absurd (absent ((edges_exact lists p q).0 present));
-    counted = λ _. length_grown 0 lists p q within;
-  }
-    where
-      pair_of : (a b c d : ℕ) → a ≡ b → c ≡ d → ◌≡◌ {A = ℕ × ℕ} (a, c) (b, d)
-      pair_of a b c d h k = cc
+  module _ (absent : Contains (row_at lists p) q → ⊥) where
+    pub lists_grown : (points : ℕ) → AreLists points lists → AreLists points (with_item lists p q)
+    lists_grown points l = record {
+      listed = length-set lists p (row_at lists p ++ q ∷ []) ∙ l.listed;
+      once = λ a. ⊎_elim
+          (λ same. subst (λ xs. AllPairs (λ r s. r ≢ s) xs) (sym (ap (row_at (with_item lists p q)) same ∙ row_same)) (once_behind (row_at lists p) q absent (l.once p)))
+          (λ other. subst (λ xs. AllPairs (λ r s. r ≢ s) xs) (sym (row_other a other)) (l.once a))
+          (cases_eq a p);
+    }
+
+    pub adds_edge : AddsFact (edges_of lists) (edges_of (with_item lists p q)) (p, q)
+    adds_edge = record {
+      each = λ x. (
+        λ h. ⊎_elim
+            (λ old. inl ((edges_exact lists x.0 x.1).1 old))
+            (λ is. inr (pair_of p x.0 q x.1 is.0 is.1))
+            ((grown_has x.0 x.1).0 ((edges_exact (with_item lists p q) x.0 x.1).0 h)),
+        ⊎_elim
+            (λ old. (edges_exact (with_item lists p q) x.0 x.1).1 ((grown_has x.0 x.1).1 (inl ((edges_exact lists x.0 x.1).0 old))))
+            (λ is. subst (Contains (edges_of (with_item lists p q))) is ((edges_exact (with_item lists p q) p q).1 ((grown_has p q).1 (inr (refl, refl))))),
+      );
+      repeated = λ present. absurd (absent ((edges_exact lists p q).0 present));
+      counted = λ _. omega (arith, edges_counted lists, edges_counted (with_item lists p q), counted_more lists p q within);
+    }
+      where
+        pair_of : (a b c d : ℕ) → a ≡ b → c ≡ d → ◌≡◌ {A = ℕ × ℕ} (a, c) (b, d)
+        pair_of a b c d h k = cc
 
   -- The lists stay indexed where the index gets only edges of p, and all of them where its list is long.
-  pub indexed_grown : (old new : List (ℕ × ℕ)) → IsIndexed lists old → (Contains (next_of lists p) q → ⊥) → Indexes old new p (next_of lists p ++ q ∷ [])
-      → (SCANNED ≤ length (next_of lists p) → (r : ℕ) → Contains (next_of lists p ++ q ∷ []) r → Contains new (p, r))
-      → IsIndexed grown new
-  indexed_grown old new indexed absent indexes long = record {
-    once = λ a. ⊎_elim
-        (λ same. subst (λ xs. AllPairs (λ r s. r ≢ s) xs) (sym (ap (next_of grown) same ∙ next_of_same))
-        (all_pairs_push (λ r s. r ≢ s) (next_of lists p) q (indexed.once p) (λ k d h is. absent (k, h, get_or_default (next_of lists p) k q d h ∙ is))))
-        (λ other. subst (λ xs. AllPairs (λ r s. r ≢ s) xs) (sym (next_of_other a other)) (indexed.once a))
-        (cases_eq a p);
+  pub indexed_grown : (old new : List (ℕ × ℕ)) → IsIndexed lists old → Indexes old new p (row_at lists p ++ q ∷ [])
+      → IsIndexedIfLong new p (row_at lists p ++ q ∷ [])
+      → IsIndexed (with_item lists p q) new
+  indexed_grown old new indexed indexes long = record {
     only = λ a b h. ⊎_elim
-        (λ before. ⊎_elim
-        (λ same. subst (λ xs. Contains xs b) (sym (ap (next_of grown) same ∙ next_of_same)) (Contains-append_left (next_of lists p) (q ∷ []) b (subst (λ c. Contains (next_of lists c) b) same (indexed.only a b before))))
-        (λ other. subst (λ xs. Contains xs b) (sym (next_of_other a other)) (indexed.only a b before))
-        (cases_eq a p))
-        (λ added. subst (λ xs. Contains xs b) (sym (ap (next_of grown) added.0 ∙ next_of_same)) added.1)
+        (λ before. (grown_has a b).1 (inl (indexed.only a b before)))
+        (λ added. subst (λ xs. Contains xs b) (sym (ap (row_at (with_item lists p q)) added.0 ∙ row_same)) added.1)
         (indexes.only (a, b) h);
-    long = λ a b size h. ⊎_elim
+    long = λ a size b h. ⊎_elim
         (λ same.
-        let list : next_of grown a ≡ next_of lists p ++ q ∷ [] = ap (next_of grown) same ∙ next_of_same in
-        let counted : SCANNED < length (next_of lists p ++ q ∷ []) = subst (λ xs. SCANNED < length xs) list size in
-        subst (λ c. Contains {X = ℕ × ℕ} new (c, b)) (sym same) (long (omega (arith, counted, length-append (next_of lists p) (q ∷ []))) b (subst (λ xs. Contains xs b) list h)))
+        let list : row_at (with_item lists p q) a ≡ row_at lists p ++ q ∷ [] = ap (row_at (with_item lists p q)) same ∙ row_same in
+        let counted : SCANNED < length (row_at lists p ++ q ∷ []) = subst (λ xs. SCANNED < length xs) list size in
+        subst (λ c. Contains {X = ℕ × ℕ} new (c, b)) (sym same) (long counted b (subst (λ xs. Contains xs b) list h)))
         (λ other.
-        let list : next_of grown a ≡ next_of lists a = next_of_other a other in
-        indexes.kept (a, b) (indexed.long a b (subst (λ xs. SCANNED < length xs) list size) (subst (λ xs. Contains xs b) list h)))
+        let list : row_at (with_item lists p q) a ≡ row_at lists a = row_other a other in
+        indexes.kept (a, b) (indexed.long a (subst (λ xs. SCANNED < length xs) list size) b (subst (λ xs. Contains xs b) list h)))
         (cases_eq a p);
   }
 
-  -- a graph with one more edge is stored so
-  pub stored_grown : (points universals : ℕ) (index new : List (ℕ × ℕ)) (count : ℕ) (returns : List ℕ) → IsStored points universals lists index count returns → (Contains (next_of lists p) q → ⊥)
-      → q < points → count < most_edges → Indexes index new p (next_of lists p ++ q ∷ [])
-      → (SCANNED ≤ length (next_of lists p) → (r : ℕ) → Contains (next_of lists p ++ q ∷ []) r → Contains new (p, r))
-      → IsStored points universals grown new (count + 1) returns
-  stored_grown points universals index new count returns s absent point room indexes long =
-      let adds = adds_edge absent in
-      let grows = indexed_grown index new s.indexed absent indexes long in
+-- A graph that is kept, and an edge from p to q that isn't there.
+module _ (points universals : ℕ) (next previous : List (List ℕ)) (returns : List ℕ) (marks : List Bool) (k : IsKept points universals next previous returns marks) where
+  module _ (p q : ℕ) (from : p < points) (to : q < points) (absent : Contains (row_at next p) q → ⊥) where
+    within_next : p < length next
+    within_next = omega (arith, k.successors.listed, from)
+
+    within_previous : q < length previous
+    within_previous = omega (arith, k.predecessors.listed, to)
+
+    absent_back : Contains (row_at previous q) p → ⊥
+    absent_back h = absent ((k.turned p q).0 h)
+
+    turned_grown : AreTurned (with_item next p q) (with_item previous q p)
+    turned_grown a b = (
+      λ h. (grown_has next p q within_next a b).1 (⊎_elim
+          (λ old. inl ((k.turned a b).0 old))
+          (λ is. inr (is.1, is.0))
+          ((grown_has previous q p within_previous b a).0 h)),
+      λ h. (grown_has previous q p within_previous b a).1 (⊎_elim
+          (λ old. inl ((k.turned a b).1 old))
+          (λ is. inr (is.1, is.0))
+          ((grown_has next p q within_next a b).0 h)),
+    )
+
+    -- the graph is kept with the edge
+    pub kept_edge : item_count next < most_edges → IsKept points universals (with_item next p q) (with_item previous q p) returns marks
+    kept_edge room =
+        let adds = adds_edge next p q within_next absent in
+        let lists = lists_grown next p q within_next absent points k.successors in
+        record {
+          sound = record {
+            some_point = k.sound.some_point;
+            some_universal = k.sound.some_universal;
+            point_limit = k.sound.point_limit;
+            universal_limit = k.sound.universal_limit;
+            edge_limit = omega (arith, edges_counted (with_item next p q), counted_more next p q within_next, room);
+            edges_once = edges_apart (with_item next p q) lists.once;
+            edges_in_range = λ a b h. ⊎_elim
+                (k.sound.edges_in_range a b)
+                (λ is. subst (λ (x : ℕ × ℕ). (x.0 < points) × (x.1 < points)) is (from, to))
+                ((adds.each (a, b)).0 h);
+            returns_in_range = k.sound.returns_in_range;
+          };
+          successors = lists;
+          predecessors = lists_grown previous q p within_previous absent_back points k.predecessors;
+          turned = turned_grown;
+          marked = k.marked;
+        }
+
+  -- the graph is kept with one more return point
+  pub kept_return : (p : ℕ) → p < points → (get_or marks p false ≡ false) → IsKept points universals next previous (returns ++ p ∷ []) (set marks p true)
+  kept_return p point free =
+      let absent : Contains returns p → ⊥ = λ h. false≢true (sym free ∙ (k.marked.each p).0 h) in
+      let within : p < length marks = omega (arith, k.marked.listed, point) in
       record {
         sound = record {
-          some_point = s.sound.some_point;
-          some_universal = s.sound.some_universal;
-          point_limit = s.sound.point_limit;
-          universal_limit = s.sound.universal_limit;
-          edge_limit = omega (arith, length_grown 0 lists p q within, s.counted);
-          edges_once = edges_apart grown grows.once;
-          edges_in_range = λ a b h. ⊎_elim
-              (s.sound.edges_in_range a b)
-              (λ is. subst (λ (x : ℕ × ℕ). (x.0 < points) × (x.1 < points)) is (omega (arith, s.listed, within), point))
-              ((adds.each (a, b)).0 h);
-          returns_in_range = s.sound.returns_in_range;
+          some_point = k.sound.some_point;
+          some_universal = k.sound.some_universal;
+          point_limit = k.sound.point_limit;
+          universal_limit = k.sound.universal_limit;
+          edge_limit = k.sound.edge_limit;
+          edges_once = k.sound.edges_once;
+          edges_in_range = k.sound.edges_in_range;
+          returns_in_range = λ x h. ⊎_elim (k.sound.returns_in_range x) (λ is. subst (λ y. y < points) is point) (Contains-push_cases returns p x h);
         };
-        listed = length-set lists p (get_or lists p [] ++ q ∷ []) ∙ s.listed;
-        indexed = grows;
-        counted = omega (arith, length_grown 0 lists p q within, s.counted);
+        successors = k.successors;
+        predecessors = k.predecessors;
+        turned = k.turned;
+        marked = record {
+          listed = length-set marks p true ∙ k.marked.listed;
+          each = λ x. (
+            λ h. ⊎_elim
+                (λ same. ap (λ y. get_or (set marks p true) y false) same ∙ get_or-set_same marks p true false within)
+                (λ other. get_or-set_other marks p x true false other ∙ ⊎_elim (k.marked.each x).0 (λ is. absurd (other (sym is))) (Contains-push_cases returns p x h))
+                (cases_eq x p),
+            λ h. ⊎_elim
+                (λ same. subst (Contains (returns ++ p ∷ [])) (sym same) (Contains-push returns p))
+                (λ other. Contains-append_left returns (p ∷ []) x ((k.marked.each x).1 (sym (get_or-set_other marks p x true false other) ∙ h)))
+                (cases_eq x p),
+          );
+          once = once_behind returns p absent k.marked.once;
+        };
       }
-
--- a graph stays stored where the index gets edges of a point that are there
-pub stored_indexed : (points universals : ℕ) (lists : List (List ℕ)) (index new : List (ℕ × ℕ)) (count : ℕ) (returns : List ℕ) (p : ℕ) → IsStored points universals lists index count returns → Indexes index new p (next_of lists p) → IsStored points universals lists new count returns
-stored_indexed points universals lists index new count returns p s indexes = record {
-  sound = s.sound;
-  listed = s.listed;
-  indexed = record {
-    once = s.indexed.once;
-    only = λ a b h. ⊎_elim (s.indexed.only a b) (λ added. subst (λ c. Contains (next_of lists c) b) (sym added.0) added.1) (indexes.only (a, b) h);
-    long = λ a b size h. indexes.kept (a, b) (s.indexed.long a b size h);
-  };
-  counted = s.counted;
-}
 
 -- an index that is as it was
 pub indexes_none : (index : List (ℕ × ℕ)) (p : ℕ) (list : List ℕ) → Indexes index index p list
@@ -235,21 +302,30 @@ edges_none : (k n : ℕ) → edges_from k (replicate n []) ≡ []
 edges_none k zero = refl
 edges_none k (suc n) = edges_none (k + 1) n
 
-next_of_none : (n p : ℕ) → next_of (replicate n []) p ≡ []
-next_of_none n p = ⊎_elim
+row_none : (n p : ℕ) → row_at (replicate n []) p ≡ []
+row_none n p = ⊎_elim
     (λ within. get_or-replicate n p [] [] within)
     (λ past. get_or_past (replicate n []) p [] (subst (λ k. k ≤ p) (sym (length-replicate n [])) past))
     (cases_lt p n)
 
--- the view of a graph without edges and return points
-pub view_none : (points universals : ℕ) (lists : List (List ℕ)) → lists ≡ replicate points [] → graph_of points universals lists [] ≡ record { points = points; universals = universals; edges = []; returns = [] }
-view_none points universals lists is = ap (λ edges. record { points = points; universals = universals; edges = edges; returns = [] }) (ap edges_of is ∙ edges_none 0 points)
+-- a graph without edges
+pub graph_none : (points universals : ℕ) (next : List (List ℕ)) → next ≡ replicate points [] → graph_of points universals next [] ≡ bare_graph points universals
+graph_none points universals next is = ap (λ edges. record { points = points; universals = universals; edges = edges; returns = [] }) (ap edges_of is ∙ edges_none 0 points)
 
--- a graph without edges and return points is stored so
-pub stored_none : (points universals : ℕ) (lists : List (List ℕ)) → 0 < points → 0 < universals → points ≤ most_points → universals ≤ most_universals → lists ≡ replicate points [] → IsStored points universals lists [] 0 []
-stored_none points universals lists some_point some_universal point_limit universal_limit is =
-    let no_edges : edges_of lists ≡ [] = ap edges_of is ∙ edges_none 0 points in
-    let no_list : (p : ℕ) → next_of lists p ≡ [] = λ p. ap (λ xs. next_of xs p) is ∙ next_of_none points p in
+lists_none : (points : ℕ) → AreLists points (replicate points [])
+lists_none points = record {
+  listed = length-replicate points [];
+  once = λ p i j d i<j j<n. absurd (omega (arith, ap length (row_none points p)));
+}
+
+-- lists without points turn into such lists
+nothing_in : (n p : ℕ) (q : ℕ) → Contains (row_at (replicate n []) p) q → ⊥
+nothing_in n p q h = none_contained q (subst (λ xs. Contains xs q) (row_none n p) h)
+
+-- a graph without edges and return points is kept so
+pub kept_none : (points universals : ℕ) → 0 < points → 0 < universals → points ≤ most_points → universals ≤ most_universals → IsKept points universals (replicate points []) (replicate points []) [] (replicate points false)
+kept_none points universals some_point some_universal point_limit universal_limit =
+    let no_edges : edges_of (replicate points []) ≡ [] = edges_none 0 points in
     record {
       sound = record {
         some_point = some_point;
@@ -261,46 +337,32 @@ stored_none points universals lists some_point some_universal point_limit univer
         edges_in_range = λ p q h. absurd (none_contained (p, q) (subst (λ edges. Contains edges (p, q)) no_edges h));
         returns_in_range = λ p h. absurd (none_contained p h);
       };
-      listed = ap length is ∙ length-replicate points [];
-      indexed = record {
-        once = λ p i j d i<j j<n. absurd (omega (arith, ap length (no_list p)));
-        only = λ p q h. absurd (none_contained (p, q) h);
-        long = λ p q size h. absurd (omega (arith, ap length (no_list p)));
+      successors = lists_none points;
+      predecessors = lists_none points;
+      turned = λ p q. (λ h. absurd (nothing_in points q p h), λ h. absurd (nothing_in points p q h));
+      marked = record {
+        listed = length-replicate points false;
+        each = λ p. (λ h. absurd (none_contained p h), λ h. absurd (false≢true (sym (no_mark p) ∙ h)));
+        once = λ i j d i<j j<n. absurd (omega arith);
       };
-      counted = sym (ap length no_edges);
     }
+  where
+    no_mark : (p : ℕ) → get_or (replicate points false) p false ≡ false
+    no_mark p = ⊎_elim
+        (λ within. get_or-replicate points p false false within)
+        (λ past. get_or_past (replicate points false) p false (subst (λ k. k ≤ p) (sym (length-replicate points false)) past))
+        (cases_lt p points)
 
--- The lists that vectors hold, of which one is read at a place.
-module _ {V : Type 0} (f : V → List ℕ) (lists : List V) (p n : ℕ) (v : V) (size : length (map f lists) ≡ n) (within : p < n) (is : v ≡ get_or lists p v) where
-  place : p < length lists
-  place = omega (arith, length-map lists f)
+-- and it needs no index
+pub indexed_none : (points : ℕ) → IsIndexed (replicate points []) []
+indexed_none points = record {
+  only = λ p q h. absurd (none_contained (p, q) h);
+  long = λ p size q h. absurd (nothing_in points p q h);
+}
 
-  -- the list there
-  pub list_at : f v ≡ next_of (map f lists) p
-  list_at = sym (get_or-map f lists p v [] place ∙ ap f (sym is))
-
-  -- the lists after another vector of the same list is put there
-  pub lists_kept : (kept : V) → f kept ≡ f v → map f (set lists p kept) ≡ map f lists
-  lists_kept kept same = map-set_same f lists p kept v (same ∙ ap f is)
-
-  -- the lists after a vector of one more successor is put there
-  pub lists_pushed : (pushed : V) (q : ℕ) → f pushed ≡ f v ++ q ∷ [] → map f (set lists p pushed) ≡ set (map f lists) p (get_or (map f lists) p [] ++ q ∷ [])
-  lists_pushed pushed q more = map-set f lists p pushed ∙ ap (set (map f lists) p) (more ∙ ap (λ xs. xs ++ q ∷ []) list_at)
-
--- one more return point
-pub stored_returns : (points universals : ℕ) (lists : List (List ℕ)) (index : List (ℕ × ℕ)) (count : ℕ) (returns : List ℕ) → IsStored points universals lists index count returns → (new : List ℕ) (p : ℕ) → ((x : ℕ) → Contains new x → Contains returns x ⊎ (p ≡ x)) → p < points → IsStored points universals lists index count new
-stored_returns points universals lists index count returns s new p only point = record {
-  sound = record {
-    some_point = s.sound.some_point;
-    some_universal = s.sound.some_universal;
-    point_limit = s.sound.point_limit;
-    universal_limit = s.sound.universal_limit;
-    edge_limit = s.sound.edge_limit;
-    edges_once = s.sound.edges_once;
-    edges_in_range = s.sound.edges_in_range;
-    returns_in_range = λ x h. ⊎_elim (s.sound.returns_in_range x) (λ is. subst (λ y. y < points) is point) (only x h);
-  };
-  listed = s.listed;
-  indexed = s.indexed;
-  counted = s.counted;
+-- lists stay indexed where the index gets edges of a point that are there
+pub indexed_more : (next : List (List ℕ)) (index new : List (ℕ × ℕ)) (p : ℕ) → IsIndexed next index → Indexes index new p (row_at next p) → IsIndexed next new
+indexed_more next index new p indexed indexes = record {
+  only = λ a b h. ⊎_elim (indexed.only a b) (λ added. subst (λ c. Contains (row_at next c) b) (sym added.0) added.1) (indexes.only (a, b) h);
+  long = λ a size b h. indexes.kept (a, b) (indexed.long a size b h);
 }

@@ -1,5 +1,5 @@
 -- Sets of facts that are kept as lists: what a search finds in them, and what an insert adds.
-use Rattle.std.proofs.Common.{◌≡◌, ◌≢◌, ℕ, Bool, true, false, not, cond, nat_eq, ◌&&◌, List, [], ◌∷◌, ◌++◌, ◌<◌, ◌≤◌, ◌⊎◌, inl, Contains, AllPairs, length, refl, sym, ap, ◌∙◌, subst, ◌↔◌, ⊎_elim, length-append, arith}
+use Rattle.std.proofs.Common.{◌≡◌, ◌≢◌, ℕ, Bool, true, false, not, cond, nat_eq, leb, leb-false, ◌&&◌, List, [], ◌∷◌, ◌++◌, ◌≤◌, ◌⊎◌, inl, Contains, length, refl, sym, ap, ◌∙◌, subst, ◌↔◌, ⊎_elim, length-append, arith}
 use Rattle.std.specs.List.{list_any}
 use Rattle.std.specs.Cmp.{IsEquivalence}
 use Rattle.std.proofs.lemmas.List.{get_or_default}
@@ -138,14 +138,14 @@ pub once_constraint : (ks : List Constraint) (c : Constraint) → IsOnce ks → 
 once_constraint = once_key same_constraint constraint_is constraint_same
 
 -- a list of constraints stays within a limit as one is added that was there, or for which there was room
-pub within_added : (old new : List Constraint) (c : Constraint) (limit : ℕ) → AddsFact old new c → length old ≤ limit → (list_any (same_constraint c) old ≡ true) ⊎ (length old < limit) → length new ≤ limit
+pub within_added : (old new : List Constraint) (c : Constraint) (limit : ℕ) → AddsFact old new c → length old ≤ limit → (list_any (same_constraint c) old ≡ true) ⊎ (leb limit (length old) ≡ false) → length new ≤ limit
 within_added old new c limit adds within room = by (list_any (same_constraint c) old) refl room
   where
-    by : (b : Bool) → list_any (same_constraint c) old ≡ b → (b ≡ true) ⊎ (length old < limit) → length new ≤ limit
+    by : (b : Bool) → list_any (same_constraint c) old ≡ b → (b ≡ true) ⊎ (leb limit (length old) ≡ false) → length new ≤ limit
     by true present room = subst (λ xs. length xs ≤ limit) (sym (adds.repeated ((constraint_found old c).0 present))) within
     by false absent room = ⊎_elim
         (λ h. absurd (false≢true h))
-        (λ less. omega (arith, adds.counted (λ h. false≢true (sym absent ∙ (constraint_found old c).1 h))))
+        (λ less. omega (arith, leb-false limit (length old) less, adds.counted (λ h. false≢true (sym absent ∙ (constraint_found old c).1 h))))
         room
 
 -- a constraint that isn't there goes to the end

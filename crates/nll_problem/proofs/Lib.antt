@@ -1,6 +1,7 @@
 pub mod FactLemmas
 pub mod SameLemmas
 pub mod BaseLemmas
+pub mod RowLemmas
 pub mod AdjacencyLemmas
 pub mod ProblemLemmas
 pub mod WalkLemmas

@@ -1,13 +1,14 @@
 -- What each call of a problem's builder answers, and what it adds.
 -- Source: project's choice.
-use Rattle.std.specs.Prelude.{◌≡◌, ℕ, Bool, not, ◌==◌, ◌&&◌, nat_lt, nat_le, [], ◌∷◌, length, Option, None, Some, Result, Ok, Err}
+use Rattle.std.specs.Prelude.{◌≡◌, ℕ, Bool, not, ◌==◌, ◌&&◌, nat_lt, nat_le, [], ◌∷◌, length}
+use Rattle.std.specs.Prelude.{Option, None, Some, Result, Ok, Err}
 use Rattle.std.specs.List.{list_any}
 pub use Rattle.nll_problem.specs.Answers.{first_error, Answers, AddsFact}
 pub use Rattle.nll_problem.specs.GraphBuilding.{same_pair}
 use Rattle.nll_problem.specs.GraphBuilding as of_graph
 use Rattle.nll_problem.specs.Graph.{Graph}
 use Rattle.nll_problem.specs.Limits.{most_regions, most_constraints}
-use Rattle.nll_problem.specs.Problem.{Problem}
+use Rattle.nll_problem.specs.Problem.{Problem, problem_of}
 use Rattle.nll_problem.specs.declared.constraint.Constraint.{Constraint}
 use Rattle.nll_problem.specs.declared.error.BuildError.{BuildError}
 use Rattle.nll_problem.specs.declared.error.BuildError.TheVariants.{PointRange, RegionRange, Limit}
@@ -15,8 +16,7 @@ use Rattle.nll_problem.specs.declared.error.Kind.TheVariants.{Regions, Constrain
 
 -- the problem of the graph whose regions are the universal ones alone, and that has no fact
 abbrev pub bare_problem : Graph → Problem
-bare_problem g =
-    record { graph = g; regions = g.universals; bases = []; constraints = []; outlives = [] }
+bare_problem g = problem_of g g.universals [] [] []
 
 -- the call answers the error that is due, where one is, and else Ok: it takes no memory
 abbrev pub AnswersExactly : {T : Type 0} → Option BuildError → Result T BuildError → Type 0
@@ -49,6 +49,10 @@ has_edge q p r = of_graph.has_edge q.graph p r
 abbrev pub has_constraint : Problem → Constraint → Bool
 has_constraint q c = list_any (same_constraint c) q.constraints
 
+-- there is no room for one more constraint
+abbrev pub is_full : Problem → Bool
+is_full q = nat_le most_constraints (length q.constraints)
+
 -- ---- the error that is due, by the first row that holds
 
 -- of a further region
@@ -70,5 +74,5 @@ abbrev pub constraint_error : Problem → Constraint → Option BuildError
 constraint_error q c = first_error (
     (not (is_point q c.at), PointRange)
     ∷ (not (is_region q c.sup && is_region q c.sub), RegionRange)
-    ∷ (not (has_constraint q c) && nat_le most_constraints (length q.constraints), Limit Constraints)
+    ∷ (not (has_constraint q c) && is_full q, Limit Constraints)
     ∷ [])

@@ -7,7 +7,7 @@ pub mod Faults
 pub mod Answers
 pub mod GraphBuilding
 pub mod Building
+pub mod Rows
 pub mod Bases
 pub mod ConstraintIndex
 pub mod Adjacency
-pub use Rattle.nll_sets.specs.ElementSet

@@ -1,6 +1,6 @@
 -- How large texts, problems, bodies and runs may be, as numbers.
--- Source: project's choice; docs/FORMATS.md has the table. Contracts cite these numbers and no constant of the code, so that
--- a wrong constant is refused by a proof.
+-- Source: project's choice; docs/FORMATS.md has the table. Contracts cite these numbers and no
+-- constant of the code, so that a wrong constant is refused by a proof.
 use Rattle.std.specs.Prelude.{ℕ}
 
 -- the most bytes of a text: 64 MiB

@@ -1,23 +1,26 @@
 //! The builder of a problem.
 
-ghost use Rattle.std.specs.Prelude.{◌≡◌, ◌⊎◌, ◌+◌, ◌<◌, true, length, OnOk, OnErr, IfOk, IsOkAnd};
+ghost use Rattle.std.specs.Prelude.{◌≡◌, ◌⊎◌, ◌+◌, ◌<◌, IsTrue, IsFalse};
+ghost use Rattle.std.specs.Prelude.{OnOk, OnErr, IfOk, IsOkAnd};
 ghost use Rattle.nll_problem.specs.Answers.{Answers, AddsFact};
 ghost use Rattle.nll_problem.specs.Building as building;
 ghost use Rattle.nll_problem.specs.Building.{AnswersExactly, bare_problem};
-ghost use Rattle.nll_problem.specs.Building.{region_error, outlives_error, base_error, constraint_error};
-ghost use Rattle.nll_problem.specs.GraphBuilding.{bare_graph, graph_error, edge_error, return_error};
-ghost use Rattle.nll_problem.specs.Limits.{most_constraints};
-ghost use Rattle.nll_problem.specs.Problem.{IsSound, SameProblem};
+ghost use Rattle.nll_problem.specs.Building.{base_error, constraint_error, has_constraint, is_full};
+ghost use Rattle.nll_problem.specs.Building.{outlives_error, region_error};
+ghost use Rattle.nll_problem.specs.GraphBuilding.{bare_graph, edge_error, graph_error};
+ghost use Rattle.nll_problem.specs.GraphBuilding.{return_error};
+ghost use Rattle.nll_problem.specs.Problem.{SameProblem};
 
 use crate::bases::Bases;
 use crate::constraint::Constraint;
 use crate::constraint_set::ConstraintSet;
 use crate::error::{BuildError, Kind};
+use crate::graph::Graph;
 use crate::graph_builder::GraphBuilder;
 use crate::limits::{MAX_CONSTRAINTS, MAX_REGIONS};
+use crate::outlives::Outlives;
 use crate::problem::Problem;
 use crate::region::RegionId;
-use indexmap::IndexSet;
 use nll_sets::Memory;
 use std::alloc::Global;
 use std::marker::Model;
@@ -35,17 +38,19 @@ pub struct ProblemBuilder {
     regions: u32,
     bases: Bases,
     constraints: ConstraintSet,
-    outlives: IndexSet<(RegionId, RegionId)>,
+    outlives: Outlives,
 }
 
 impl Model for ProblemBuilder {
     ghost use Rattle.nll_problem.specs.Problem as spec;
+    ghost use Rattle.nll_problem.specs.Problem.{IsSound, problem_of};
 
     ghost Value = { spec.Problem };
 
-    ghost view = { λ b. record { graph = b.graph; regions = b.regions; bases = b.bases; constraints = b.constraints; outlives = b.outlives.keys } };
+    ghost view = { λ b. problem_of b.graph b.regions b.bases b.constraints b.outlives };
 
-    ghost invariant = { λ b. spec.IsSound (record { graph = b.graph; regions = b.regions; bases = b.bases; constraints = b.constraints; outlives = b.outlives.keys }) };
+    ghost invariant = { λ b.
+        IsSound (problem_of b.graph b.regions b.bases b.constraints b.outlives) };
 }
 
 impl ProblemBuilder {
@@ -67,6 +72,17 @@ impl ProblemBuilder {
         Ok(ProblemBuilder::of_builder(alloc, graph))
     }
 
+    /// A problem of this graph, whose regions are the universal ones alone, and with no fact.
+    ///
+    /// # Errors
+    /// - `Memory`.
+    pub fn of_graph(alloc: Global, graph: &Graph) -> Result<ProblemBuilder, Memory>
+        ensures { IfOk result (λ q. q ≡ bare_problem graph.now) }
+    {
+        let graph = GraphBuilder::of(alloc, graph)?;
+        Ok(ProblemBuilder::of_builder(alloc, graph))
+    }
+
     /// Adds a region variable, and answers its number. Takes no memory.
     ///
     /// # Errors
@@ -74,7 +90,8 @@ impl ProblemBuilder {
     pub fn region(&mut self) -> Result<RegionId, BuildError>
         ensures answers { AnswersExactly (region_error self.old) result }
         ensures ok { IfOk result (λ r. r ≡ self.old.regions) }
-        ensures added { OnOk result (self.new ≡ record self.old { regions = self.old.regions + 1 }) }
+        ensures added { OnOk result
+            (self.new ≡ record self.old { regions = self.old.regions + 1 }) }
         ensures err { OnErr result (self.new ≡ self.old) }
     {
         if self.regions >= MAX_REGIONS {
@@ -112,7 +129,9 @@ impl ProblemBuilder {
     pub fn next(&mut self, from: u32, to: u32) -> Result<(), BuildError>
         ensures answers { Answers (edge_error self.old.graph from to) result }
         ensures ok { OnOk result (AddsFact self.old.graph.edges self.new.graph.edges (from, to)) }
-        ensures others { self.new ≡ record self.old { graph = record self.old.graph { edges = self.new.graph.edges } } }
+        ensures others { self.new ≡ record self.old {
+          graph = record self.old.graph { edges = self.new.graph.edges };
+        } }
         ensures err { OnErr result (self.new ≡ self.old) }
     {
         self.graph.next(from, to)
@@ -126,7 +145,9 @@ impl ProblemBuilder {
     pub fn ret(&mut self, point: u32) -> Result<(), BuildError>
         ensures answers { Answers (return_error self.old.graph point) result }
         ensures ok { OnOk result (AddsFact self.old.graph.returns self.new.graph.returns point) }
-        ensures others { self.new ≡ record self.old { graph = record self.old.graph { returns = self.new.graph.returns } } }
+        ensures others { self.new ≡ record self.old {
+          graph = record self.old.graph { returns = self.new.graph.returns };
+        } }
         ensures err { OnErr result (self.new ≡ self.old) }
     {
         self.graph.ret(point)
@@ -185,14 +206,15 @@ impl ProblemBuilder {
     /// The problem of the facts that were accepted. Takes no memory, and is never refused.
     pub fn finish(self) -> Result<Problem, BuildError>
         ensures ok { IsOkAnd result (SameProblem self) }
-        ensures others { IfOk result (λ q. q ≡ record self { bases = q.bases }) }
+        ensures others { IfOk result (λ q.
+            q ≡ record self { bases = q.bases; outlives = q.outlives }) }
     {
         Ok(Problem::of(
             self.graph.finish(),
             self.regions,
             self.bases.finish(),
             self.constraints.finish(),
-            self.outlives,
+            self.outlives.finish(),
         ))
     }
 }
@@ -209,7 +231,7 @@ impl ProblemBuilder {
             regions: universals,
             bases: Bases::new(alloc),
             constraints: ConstraintSet::new(alloc),
-            outlives: IndexSet::new(alloc),
+            outlives: Outlives::new(alloc),
         }
     }
 
@@ -242,7 +264,7 @@ impl ProblemBuilder {
         ensures others { self.new ≡ record self.old { outlives = self.new.outlives } }
         ensures err { OnErr result (self.new ≡ self.old) }
     {
-        self.outlives.insert((longer, shorter))?;
+        self.outlives.insert(longer, shorter)?;
         Ok(())
     }
 
@@ -263,7 +285,7 @@ impl ProblemBuilder {
         requires sup { constraint.sup < self.old.regions }
         requires sub { constraint.sub < self.old.regions }
         requires at { constraint.at < self.old.graph.points }
-        requires room { (building.has_constraint self.old constraint ≡ true) ⊎ (length self.old.constraints < most_constraints) }
+        requires room { IsTrue (has_constraint self.old constraint) ⊎ IsFalse (is_full self.old) }
         ensures ok { OnOk result (AddsFact self.old.constraints self.new.constraints constraint) }
         ensures others { self.new ≡ record self.old { constraints = self.new.constraints } }
         ensures err { OnErr result (self.new ≡ self.old) }

@@ -48,12 +48,14 @@ impl ConstraintIndex {
         Ok(ConstraintIndex { constraints })
     }
 
-    /// The constraints that read a region, ascending by `sup` and those of one `sup` by `at`, each once.
+    /// The constraints that read a region, ascending by `sup` and those of one `sup` by `at`, each
+    /// once.
     ///
     /// # Cost
     /// Logarithmic in the number of constraints (not proved).
     pub fn reading(&self, sub: RegionId) -> &[Constraint]
-        ensures each { (c : spec.Constraint) → Contains result.now c ↔ (Contains self.now c × (c.sub ≡ sub)) }
+        ensures each { (c : spec.Constraint)
+            → Contains result.now c ↔ (Contains self.now c × (c.sub ≡ sub)) }
         ensures ascending { AllPairs IsLower result.now }
     {
         let constraints = self.constraints.as_slice();

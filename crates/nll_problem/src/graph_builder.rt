@@ -1,16 +1,30 @@
 //! The builder of a graph.
+//!
+//! Each point has a list of its successors. A list of up to `SCANNED` successors is searched from
+//! end to end; the edges of points with longer lists also stand in a hashed index. So adding an
+//! edge takes amortised constant time, and a point with few successors costs no more than these.
+//! The predecessors are listed beside, and the room for the finished graph grows with each edge.
 
-ghost use Rattle.std.specs.Prelude.{◌≡◌, ◌<◌, OnOk, OnErr, IfOk};
+ghost use Rattle.std.specs.Prelude.{◌≡◌, ◌<◌, ◌≤◌, [], ◌∷◌, ◌++◌, length, OnOk, OnErr, IfOk};
+ghost use Rattle.nll_problem.specs.Adjacency.{HasEdgesTo, Indexes, IsIndexed, IsIndexedIfLong};
 ghost use Rattle.nll_problem.specs.Answers.{Answers, AddsFact};
-ghost use Rattle.nll_problem.specs.Graph.{IsSound};
+ghost use Rattle.nll_problem.specs.Graph.{IsNext, IsSound};
 ghost use Rattle.nll_problem.specs.GraphBuilding as building;
-ghost use Rattle.nll_problem.specs.GraphBuilding.{bare_graph, graph_error, edge_error, return_error};
+ghost use Rattle.nll_problem.specs.GraphBuilding.{bare_graph, graph_error, edge_error};
+ghost use Rattle.nll_problem.specs.GraphBuilding.{return_error};
+ghost use Rattle.nll_problem.specs.Limits.{most_points, most_edges, most_universals};
 
 use crate::error::{BuildError, Kind};
 use crate::graph::Graph;
 use crate::limits::{MAX_EDGES, MAX_POINTS, MAX_UNIVERSALS};
+use crate::rows::{Rows, RowsBuilder};
+use indexmap::IndexSet;
+use nll_sets::Memory;
 use std::alloc::Global;
 use std::marker::Model;
+
+/// The most successors of a point that are searched without the index.
+pub const SCANNED: usize = 8;
 
 /// Makes a graph, one edge after another. Contracts see it as the graph of the edges so far.
 ///
@@ -21,15 +35,29 @@ use std::marker::Model;
 /// Each edge takes amortised constant time (not proved).
 #[derive(Drop)]
 pub struct GraphBuilder {
-    graph: Graph,
+    points: u32,
+    universals: u32,
+    // The successors of each point.
+    next: RowsBuilder,
+    // The predecessors of each point.
+    previous: RowsBuilder,
+    index: IndexSet<(u32, u32)>,
+    returns: Vec<u32>,
+    // Whether each point is a return point.
+    marks: Vec<bool>,
 }
 
 impl Model for GraphBuilder {
     ghost use Rattle.nll_problem.specs.Graph as spec;
+    ghost use Rattle.nll_problem.specs.Adjacency.{graph_of, IsIndexed, IsKept};
 
     ghost Value = { spec.Graph };
 
-    ghost view = { λ b. b.graph };
+    ghost view = { λ b. graph_of b.points b.universals b.next.rows b.returns.items };
+
+    ghost invariant = { λ b.
+        IsKept b.points b.universals b.next.rows b.previous.rows b.returns.items b.marks.items
+        × IsIndexed b.next.rows b.index.keys };
 }
 
 impl GraphBuilder {
@@ -59,8 +87,31 @@ impl GraphBuilder {
         if universals > MAX_UNIVERSALS {
             return Err(BuildError::Limit(Kind::Universals));
         }
-        let graph = Graph::new(alloc, points, universals)?;
-        Ok(GraphBuilder { graph })
+        let builder = GraphBuilder::bare(alloc, points, universals)?;
+        Ok(builder)
+    }
+
+    /// Starts from a finished graph.
+    ///
+    /// # Errors
+    /// `Memory` alone.
+    pub fn of(alloc: Global, graph: &Graph) -> Result<GraphBuilder, Memory>
+        ensures { IfOk result (λ g. g ≡ graph.now) }
+    {
+        let returns = Vec::from_slice(alloc, graph.returns.as_slice())?;
+        let marks = Vec::from_slice(alloc, graph.marks.as_slice())?;
+        let index = index_of(alloc, graph.points, &graph.next)?;
+        let next = RowsBuilder::of(alloc, &graph.next)?;
+        let previous = RowsBuilder::of(alloc, &graph.previous)?;
+        Ok(GraphBuilder {
+            points: graph.points,
+            universals: graph.universals,
+            next,
+            previous,
+            index,
+            returns,
+            marks,
+        })
     }
 
     /// How many points there are; they are numbered from 0.
@@ -68,7 +119,7 @@ impl GraphBuilder {
         ensures value { result ≡ self.now.points }
         ensures sound { IsSound self.now }
     {
-        self.graph.points()
+        self.points
     }
 
     /// How many universal regions there are; each has an end.
@@ -76,7 +127,7 @@ impl GraphBuilder {
         ensures value { result ≡ self.now.universals }
         ensures sound { IsSound self.now }
     {
-        self.graph.universals()
+        self.universals
     }
 
     /// Adds an edge.
@@ -92,26 +143,17 @@ impl GraphBuilder {
         ensures sound { IsSound self.new }
         ensures err { OnErr result (self.new ≡ self.old) }
     {
-        let points = self.graph.points();
-        if from >= points || to >= points {
+        if from >= self.points || to >= self.points {
             return Err(BuildError::PointRange);
         }
         if self.has_edge(from, to) {
             return Ok(());
         }
-        if self.graph.edge_count() >= MAX_EDGES {
+        if self.edge_count() >= MAX_EDGES {
             return Err(BuildError::Limit(Kind::Edges));
         }
-        self.graph.add_next(from, to)?;
+        self.add_edge(from, to)?;
         Ok(())
-    }
-
-    // Whether an edge is there; its first point is a point.
-    fn has_edge(&self, from: u32, to: u32) -> bool
-        requires { from < self.now.points }
-        ensures { result ≡ building.has_edge self.now from to }
-    {
-        self.graph.has_next(from, to)
     }
 
     /// Makes a point a return point.
@@ -126,10 +168,14 @@ impl GraphBuilder {
         ensures sound { IsSound self.new }
         ensures err { OnErr result (self.new ≡ self.old) }
     {
-        if point >= self.graph.points() {
+        if point >= self.points {
             return Err(BuildError::PointRange);
         }
-        self.graph.add_return(point)?;
+        if self.marks[point as usize] {
+            return Ok(());
+        }
+        self.returns.push(point)?;
+        self.marks[point as usize] = true;
         Ok(())
     }
 
@@ -137,6 +183,136 @@ impl GraphBuilder {
     pub fn finish(self) -> Graph
         ensures { result ≡ self }
     {
-        self.graph
+        Graph {
+            points: self.points,
+            universals: self.universals,
+            next: self.next.finish(),
+            previous: self.previous.finish(),
+            returns: self.returns,
+            marks: self.marks,
+        }
     }
+}
+
+// What the calls ask and add.
+impl GraphBuilder {
+    // A graph without edges and return points.
+    fn bare(alloc: Global, points: u32, universals: u32) -> Result<GraphBuilder, Memory>
+        requires some_point { 0 < points }
+        requires some_universal { 0 < universals }
+        requires point_limit { points ≤ most_points }
+        requires universal_limit { universals ≤ most_universals }
+        ensures { IfOk result (λ g. g ≡ bare_graph points universals) }
+    {
+        let marks = Vec::from_elem(alloc, false, points as usize)?;
+        let next = RowsBuilder::new(alloc, points)?;
+        let previous = RowsBuilder::new(alloc, points)?;
+        Ok(GraphBuilder {
+            points,
+            universals,
+            next,
+            previous,
+            index: IndexSet::new(alloc),
+            returns: Vec::new(alloc),
+            marks,
+        })
+    }
+
+    // How many edges there are.
+    fn edge_count(&self) -> usize
+        ensures { result ≡ length self.now.edges }
+    {
+        self.next.item_count()
+    }
+
+    // Whether an edge is there; its first point is a point.
+    fn has_edge(&self, from: u32, to: u32) -> bool
+        requires { from < self.now.points }
+        ensures { result ≡ building.has_edge self.now from to }
+    {
+        let list = self.next.row(from as usize);
+        if list.len() <= SCANNED {
+            list.contains(&to)
+        } else {
+            self.index.contains(&(from, to))
+        }
+    }
+
+    // Adds an edge that isn't there.
+    fn add_edge(&mut self, from: u32, to: u32) -> Result<(), Memory>
+        requires from { from < self.old.points }
+        requires to { to < self.old.points }
+        requires absent { IsNext self.old from to → ⊥ }
+        requires room { length self.old.edges < most_edges }
+        ensures ok { OnOk result (AddsFact self.old.edges self.new.edges (from, to)) }
+        ensures others { self.new ≡ record self.old { edges = self.new.edges } }
+        ensures sound { IsSound self.new }
+        ensures err { OnErr result (self.new ≡ self.old) }
+    {
+        self.next.reserve(from as usize)?;
+        self.previous.reserve(to as usize)?;
+        index_grown(&mut self.index, from, self.next.row(from as usize), to)?;
+        self.next.push_reserved(from as usize, to);
+        self.previous.push_reserved(to as usize, from);
+        Ok(())
+    }
+}
+
+// The edges of the points with long lists of successors.
+fn index_of(alloc: Global, points: u32, next: &Rows) -> Result<IndexSet<(u32, u32)>, Memory>
+    requires { length next.now ≡ points }
+    ensures { IfOk result (λ index. IsIndexed next.now index.keys) }
+{
+    let mut index = IndexSet::new(alloc);
+    for point in 0..points {
+        let list = next.row(point as usize);
+        if list.len() > SCANNED {
+            index_list(&mut index, point, list)?;
+        }
+    }
+    Ok(index)
+}
+
+// Puts the edges of a point into the index, the one that is added to its list included, where that
+// makes the list long.
+fn index_grown(
+    index: &mut IndexSet<(u32, u32)>,
+    from: u32,
+    list: &[u32],
+    to: u32,
+) -> Result<(), Memory>
+    requires { IsIndexedIfLong index.old.keys from list.now }
+    ensures ok { OnOk result (Indexes index.old.keys index.new.keys from (list.now ++ to ∷ [])) }
+    ensures err { OnErr result (Indexes index.old.keys index.new.keys from list.now) }
+    ensures long { OnOk result (IsIndexedIfLong index.new.keys from (list.now ++ to ∷ [])) }
+{
+    if list.len() >= SCANNED {
+        index_all(index, from, list)?;
+        index.insert((from, to))?;
+    }
+    Ok(())
+}
+
+// Puts the edges from a point to its successors into the index, unless these are so many that they
+// are there.
+fn index_all(index: &mut IndexSet<(u32, u32)>, from: u32, list: &[u32]) -> Result<(), Memory>
+    requires { IsIndexedIfLong index.old.keys from list.now }
+    ensures indexes { Indexes index.old.keys index.new.keys from list.now }
+    ensures all { OnOk result (HasEdgesTo index.new.keys from list.now) }
+{
+    if list.len() > SCANNED {
+        return Ok(());
+    }
+    index_list(index, from, list)
+}
+
+// Puts the edges from a point to its successors into the index.
+fn index_list(index: &mut IndexSet<(u32, u32)>, from: u32, list: &[u32]) -> Result<(), Memory>
+    ensures indexes { Indexes index.old.keys index.new.keys from list.now }
+    ensures all { OnOk result (HasEdgesTo index.new.keys from list.now) }
+{
+    for to in list {
+        index.insert((from, *to))?;
+    }
+    Ok(())
 }

@@ -1,7 +1,8 @@
 //! Problems of location-aware regions over a control-flow graph: what they are, and what they mean.
 //! It knows no text and no names.
 //!
-//! Reading order: `region`, `constraint`, `graph`, `graph_builder`, `problem`, `builder`. The definitions are in specs/.
+//! Reading order: `region`, `constraint`, `graph`, `graph_builder`, `problem`, `builder`,
+//! `constraint_index`. The definitions are in specs/.
 #![tactic(auto)]
 
 mod bases;
@@ -13,8 +14,10 @@ mod error;
 mod graph;
 mod graph_builder;
 mod limits;
+mod outlives;
 mod problem;
 mod region;
+mod rows;
 
 pub use builder::ProblemBuilder;
 pub use constraint::Constraint;

@@ -1,14 +1,12 @@
 //! Problems: regions over a graph, their base elements and the constraints between them.
 
-ghost use Rattle.std.specs.Prelude.{◌≡◌, ◌↔◌, AllPairs, Contains, IsTrue, List};
-ghost use Rattle.nll_problem.specs.Problem.{IsBase, IsEarlier, IsSound};
-ghost use Rattle.nll_problem.specs.Problem as spec;
+ghost use Rattle.std.specs.Prelude.{◌≡◌, ◌↔◌, AllPairs, Contains, IsTrue};
+ghost use Rattle.nll_problem.specs.Problem.{IsBase, IsEarlier, IsFinished, IsSound, problem_of};
 ghost use Rattle.nll_problem.specs.Building as building;
 
 use crate::constraint::Constraint;
 use crate::graph::Graph;
 use crate::region::RegionId;
-use indexmap::IndexSet;
 use nll_sets::Element;
 use std::marker::Model;
 
@@ -23,30 +21,34 @@ pub struct Problem {
     regions: u32,
     bases: Vec<(RegionId, u32)>,
     constraints: Vec<Constraint>,
-    outlives: IndexSet<(RegionId, RegionId)>,
+    outlives: Vec<(RegionId, RegionId)>,
 }
 
 impl Model for Problem {
     ghost use Rattle.nll_problem.specs.Problem as spec;
+    ghost use Rattle.nll_problem.specs.Problem.{IsFinished, problem_of};
 
     ghost Value = { spec.Problem };
 
-    ghost view = { λ q. record { graph = q.graph; regions = q.regions; bases = q.bases.items; constraints = q.constraints.items; outlives = q.outlives.keys } };
+    ghost view = { λ q.
+        problem_of q.graph q.regions q.bases.items q.constraints.items q.outlives.items };
 
-    ghost invariant = { λ q. spec.IsFinished (record { graph = q.graph; regions = q.regions; bases = q.bases.items; constraints = q.constraints.items; outlives = q.outlives.keys }) };
+    ghost invariant = { λ q. IsFinished
+        (problem_of q.graph q.regions q.bases.items q.constraints.items q.outlives.items) };
 }
 
 impl Problem {
-    // The problem of these parts, whose base facts ascend.
+    // The problem of these parts, whose base facts and outlives facts ascend.
     pub(crate) fn of(
         graph: Graph,
         regions: u32,
         bases: Vec<(RegionId, u32)>,
         constraints: Vec<Constraint>,
-        outlives: IndexSet<(RegionId, RegionId)>,
+        outlives: Vec<(RegionId, RegionId)>,
     ) -> Problem
-        requires { spec.IsFinished (record { graph = graph; regions = regions; bases = bases.items; constraints = constraints.items; outlives = outlives.keys }) }
-        ensures { result ≡ record { graph = graph; regions = regions; bases = bases.items; constraints = constraints.items; outlives = outlives.keys } }
+        requires { IsFinished
+            (problem_of graph regions bases.items constraints.items outlives.items) }
+        ensures { result ≡ problem_of graph regions bases.items constraints.items outlives.items }
     {
         Problem {
             graph,
@@ -97,7 +99,8 @@ impl Problem {
         self.constraints.as_slice()
     }
 
-    /// The base facts, ascending by their regions and those of one region by their points, each once.
+    /// The base facts, ascending by their regions and those of one region by their points, each
+    /// once.
     pub fn bases(&self) -> &[(RegionId, u32)]
         ensures value { result.now ≡ self.now.bases }
         ensures ascending { AllPairs IsEarlier result.now }
@@ -106,10 +109,11 @@ impl Problem {
         self.bases.as_slice()
     }
 
-    /// The outlives facts, each once: pairs of universal regions of which the first is known to outlive
-    /// the second.
+    /// The outlives facts: pairs of universal regions of which the first is known to outlive the
+    /// second, ascending by the first and then by the second, each once.
     pub fn outlives_facts(&self) -> &[(RegionId, RegionId)]
         ensures value { result.now ≡ self.now.outlives }
+        ensures ascending { AllPairs IsEarlier result.now }
         ensures sound { IsSound self.now }
     {
         self.outlives.as_slice()
@@ -118,11 +122,11 @@ impl Problem {
     /// Whether an outlives fact says that one region outlives another.
     ///
     /// # Cost
-    /// Constant (not proved).
+    /// Logarithmic in the number of outlives facts (not proved).
     pub fn has_outlives(&self, longer: RegionId, shorter: RegionId) -> bool
         ensures { IsTrue result ↔ Contains self.now.outlives (longer, shorter) }
     {
-        self.outlives.contains(&(longer, shorter))
+        self.outlives.binary_search(&(longer, shorter)).is_ok()
     }
 
     /// Whether an element is a base element of a region: one that was given, or what a universal
