@@ -1,9 +1,12 @@
 //! Names of regions and of points.
 use super::comparing::compare;
-use nll_core::RegionId;
+use nll_core::{BuildError, Memory, Problem, ProblemBuilder, solve};
 use nll_mir::Labels;
 use nll_reading::Names;
+use nll_report::values_text;
 use std::alloc::{AllocError, Global};
+use std::str;
+use std::test::Fail;
 
 // Adds a name where it isn't among them, and answers whether it wasn't.
 fn add(alloc: Global, names: &mut Names, name: &str) -> Result<bool, AllocError> {
@@ -96,5 +99,41 @@ fn names_points_by_numbers(rt: HostRuntime) -> Result<(), AllocError> {
     let labels = Labels::new(Names::new(rt.alloc())?);
     let told = labels_told(rt.alloc(), labels, 2);
     compare(&rt, "numbers", told, "Number(0)|Number(1)|");
+    Ok(())
+}
+
+// The values report of a problem where its points and regions have these names.
+fn values_report(alloc: Global, problem: &Problem, labels: &Labels) -> Result<Vec<u8>, Memory> {
+    let values = solve(alloc, problem)?;
+    let report = if labels.regions() == problem.regions() as usize {
+        values_text(alloc, problem, labels, &values)
+    } else {
+        Ok(Vec::new(alloc))
+    };
+    drop(values);
+    report
+}
+
+// The values report of a problem of 'static and so many points, which stand in blocks with these first
+// points.
+fn report_told(alloc: Global, points: u32, labels: Labels) -> Result<String, BuildError> {
+    let problem = ProblemBuilder::new(alloc, points, 1)?.finish()?;
+    let report = values_report(alloc, &problem, &labels);
+    drop(problem);
+    drop(labels);
+    Ok(String::from_str(
+        alloc,
+        str::from_utf8(report?.as_slice()).unwrap_or("not utf-8"),
+    )?)
+}
+
+// A report names the points of blocks by their block and their place in it.
+#[test]
+fn reports_points_by_blocks(rt: HostRuntime) -> Result<(), Fail> {
+    let starts = vec![in rt.alloc(); 0u32, 2]?;
+    let labels = Labels::with_blocks(Names::new(rt.alloc())?, starts);
+    let report = report_told(rt.alloc(), 3, labels)?;
+    let want = "'static: bb0/0 bb0/1 bb1/0 end('static)\n";
+    compare(&rt, "blocks", Ok(report), want);
     Ok(())
 }

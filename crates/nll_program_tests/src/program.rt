@@ -3,7 +3,7 @@ use super::comparing::compare;
 use super::fakes::{Fault, Faulty, Shelf, words_of};
 use super::known::{Sheet, on_pages};
 use super::page::Page;
-use nll_report::{USAGE, drive};
+use nll_report::{Disk, Texts, USAGE, Unread, drive};
 use std::alloc::AllocError;
 use std::str;
 
@@ -208,4 +208,15 @@ fn a_lost_line_changes_no_status(rt: HostRuntime) {
             }
         }
     }
+}
+
+// Files of the system are texts, and a path without a file has none.
+#[test]
+fn reads_files(rt: HostRuntime) {
+    let disk = Disk::new(&rt);
+    match disk.get("/dev/null") {
+        Ok(text) => assert!(rt; text.is_empty()),
+        Err(_) => assert!(rt; false, "/dev/null is not read"),
+    }
+    assert!(rt; disk.get("/dev/null/text").err() == Some(Unread::Cannot));
 }

@@ -2,7 +2,7 @@
 use super::hostile::told;
 use nll_core::{BuildError, Kind};
 use nll_mir::{TextError, TextKind, one_fault};
-use std::alloc::{AllocError, Global};
+use std::alloc::{AllocError, AllocFailed, Global};
 use std::process::Abort;
 use std::test::Fail;
 
@@ -280,6 +280,7 @@ const KINDS: &[(BuildError, TextKind)] = &[
 #[test]
 fn errors_of_calls_are_kinds(rt: HostRuntime) {
     assert!(rt; TextKind::from(AllocError) == TextKind::Memory);
+    assert!(rt; TextKind::from(AllocFailed { value: 1u8 }) == TextKind::Memory);
     for (error, kind) in KINDS {
         assert!(rt; TextKind::from(*error) == *kind);
     }
