@@ -1,5 +1,5 @@
 -- What a reader's tables say.
-use Rattle.std.proofs.Common.{◌≡◌, false, Option, Some, None, is_some, unwrap_or, refl}
+use Rattle.std.proofs.Common.{◌≡◌, Option, Some, None, unwrap_or}
 use Rattle.nll_problem.specs.Problem.{Problem}
 
 -- what a new builder has is what stood for it
@@ -10,7 +10,3 @@ made_for_none (Some p) b q none e = absurd cc
 -- a value is there or not
 pub some_is_not_none : {X : Type 0} {x : X} → Some x ≡ None → ⊥
 some_is_not_none h = cc
-
-pub none_from_test : {X : Type 0} (o : Option X) → is_some o ≡ false → o ≡ None
-none_from_test None e = refl
-none_from_test (Some x) e = absurd cc
