@@ -50,7 +50,8 @@ elif is_current "$unproved"; then
     exec "$unproved" "$@"
 else
     needs_rt
-    say "compiling a build that isn't proved, and is hundreds of times slower; $0 --prove makes the proved one"
+    say "compiling for about a minute; this build isn't proved, and is hundreds of times slower;" \
+        "$0 --prove makes the proved one"
     compile && exec "$unproved" "$@"
     say "nothing was compiled: see $here/out/compile.log"
     exit 127
