@@ -35,8 +35,14 @@ compile() (
 
 if [ "$#" = 1 ] && [ "$1" = --prove ]; then
     needs_rt
-    (cd "$here/crates/nllc" && rt run -- --help >/dev/null) || exit
-    say "proved and built: $proved"
+    say "proving every crate, which takes 5 to 15 minutes; $here/out/prove.log says how far it is"
+    mkdir -p "$here/out" && cd "$here/crates/nllc" || exit
+    if rt run -- --help >"$here/out/prove.log" 2>&1; then
+        say "proved and built: $proved"
+        exit
+    fi
+    say "not proved: see $here/out/prove.log"
+    exit 1
 elif is_current "$proved"; then
     exec "$proved" "$@"
 elif is_current "$unproved"; then
@@ -44,7 +50,8 @@ elif is_current "$unproved"; then
     exec "$unproved" "$@"
 else
     needs_rt
-    say "compiling a build that isn't proved, and is hundreds of times slower; $0 --prove makes the proved one"
+    say "compiling for about a minute; this build isn't proved, and is hundreds of times slower;" \
+        "$0 --prove makes the proved one"
     compile && exec "$unproved" "$@"
     say "nothing was compiled: see $here/out/compile.log"
     exit 127
