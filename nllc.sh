@@ -36,8 +36,9 @@ compile() (
 if [ "$#" = 1 ] && [ "$1" = --prove ]; then
     needs_rt
     say "proving every crate, which takes 5 to 15 minutes; $here/out/prove.log says how far it is"
-    mkdir -p "$here/out" && cd "$here/crates/nllc" || exit
+    mkdir -p "$here/out" && touch "$here/out/began" && cd "$here/crates/nllc" || exit
     if rt run -- --help >"$here/out/prove.log" 2>&1; then
+        touch -r "$here/out/began" "$proved" # rt leaves it as it is where no source has other words
         say "proved and built: $proved"
         exit
     fi
