@@ -105,7 +105,7 @@ pub enum Fault {
     FailsToFlush,
 }
 
-/// A writer that takes three bytes at a call, and has a fault at the call that is counted down to 0.
+/// A writer that takes three bytes a call, and has a fault at the call that is counted down to 0.
 #[derive(Drop)]
 pub struct Faulty {
     pub held: Vec<u8>,

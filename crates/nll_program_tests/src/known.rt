@@ -1,5 +1,6 @@
 //! The program over texts and streams of which all is known.
-ghost use Rattle.std.specs.Prelude.{◌≡◌, ◌⊎◌, ◌<◌, ◌≤◌, ◌++◌, ℕ, List, Some, map, length, string_bytes};
+ghost use Rattle.std.specs.Prelude.{◌≡◌, ◌⊎◌, ◌<◌, ◌≤◌, ◌++◌, ℕ};
+ghost use Rattle.std.specs.Prelude.{List, Some, map, length, string_bytes};
 ghost use Rattle.nll_report.specs.declared.messages.Refusal.{Refusal};
 ghost use Rattle.nll_report.specs.Refusal.{refusal_line, status_of};
 ghost use Rattle.nll_report.specs.Run.{IsRefused, IsRun};
@@ -59,8 +60,8 @@ pub fn on_pages<R: AllocGlobal>(
     ensures printed { result < 2 → (bytes : List ℕ) × (bytes_of out.new ≡ bytes_of out.old ++ bytes)
         × IsRun (is_sheet sheet.now) (map string_bytes words.now) bytes result }
     ensures told { 2 ≤ result → (refusal : Refusal) × (status_of refusal ≡ result)
-        × (IsRefused (is_sheet sheet.now) (is_elsewhere sheet.now) (map string_bytes words.now) refusal
-        ⊎ (refusal ≡ Refusal.CannotWrite))
+        × (IsRefused (is_sheet sheet.now) (is_elsewhere sheet.now)
+        (map string_bytes words.now) refusal ⊎ (refusal ≡ Refusal.CannotWrite))
         × ((bytes_of err.new ≡ bytes_of err.old ++ refusal_line refusal)
         ⊎ (room_of err.old < length (refusal_line refusal))) }
 {

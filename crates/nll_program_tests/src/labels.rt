@@ -114,8 +114,7 @@ fn values_report(alloc: Global, problem: &Problem, labels: &Labels) -> Result<Ve
     report
 }
 
-// The values report of a problem of 'static and so many points, which stand in blocks with these first
-// points.
+// The values report of a problem of 'static and so many points, which these labels name.
 fn report_told(alloc: Global, points: u32, labels: Labels) -> Result<String, BuildError> {
     let problem = ProblemBuilder::new(alloc, points, 1)?.finish()?;
     let report = values_report(alloc, &problem, &labels);

@@ -95,8 +95,8 @@ fn prints_errors(rt: HostRuntime) -> Result<(), AllocError> {
     let (line, kind) = (7, TextKind::Unknown);
     let error = TextError { line, kind };
     let text = format!(in rt.alloc(); "{error}|{}|{}", Unread::Cannot, LineError::Usage)?;
-    let want =
-        "line 7: a name that no earlier line declares|the text cannot be read|the words are none of the forms";
+    let want = "line 7: a name that no earlier line declares|the text cannot be read|\
+        the words are none of the forms";
     compare(&rt, "errors", Ok(text), want);
     Ok(())
 }

@@ -10,8 +10,13 @@ pub struct Page {
 }
 
 impl Page {
+    ghost use Rattle.std.specs.Prelude.{◌≡◌, []};
+    ghost use Rattle.nll_program_tests.specs.Known.{bytes_of};
+
     /// An empty page.
-    pub fn new() -> Page {
+    pub fn new() -> Page
+        ensures { bytes_of result ≡ [] }
+    {
         Page {
             bytes: [0; 1024],
             length: 0,
@@ -19,7 +24,9 @@ impl Page {
     }
 
     /// The bytes on the page.
-    pub fn written(&self) -> &[u8] {
+    pub fn written(&self) -> &[u8]
+        ensures { result.now ≡ bytes_of self.now }
+    {
         &self.bytes[..self.length]
     }
 }

@@ -1,6 +1,6 @@
 //! A slow reader of facts texts, written after the rules of lines and for tests alone. It keeps the
-//! lines themselves and goes through all of them for each question, where the reader has tables. Of the
-//! limits it knows that of points alone: its texts are small.
+//! lines themselves and goes through all of them for each question, where the reader has tables.
+//! Of the limits it knows that of points alone: its texts are small.
 use nll_core::Kind;
 use nll_mir::{TextError, TextKind};
 use std::alloc::{AllocError, Global};

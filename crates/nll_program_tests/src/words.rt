@@ -137,7 +137,7 @@ Options:
   -h, --help  Print help
 ";
 
-// Words that ask for help of the program, or of a command where they stand behind one, and the help.
+// Words that ask for help of the program, or of a command where they stand behind it, and the help.
 const HELPED: &[(&str, &str)] = &[
     ("--help", HELP),
     ("-h", HELP),

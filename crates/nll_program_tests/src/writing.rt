@@ -6,8 +6,8 @@ use std::alloc::Global;
 // Three bytes a call: twelve calls, and one more byte.
 const REPORT: &[u8] = b"'1: bb0/0 bb0/1\n'2: bb0/1 end('a)\nend";
 
-// How many bytes are told to be written where not all of the report is, and whether the writer, which
-// has a fault after so many calls, holds just these.
+// How many bytes are told to be written where not all of the report is, and whether the writer
+// holds just these. It has a fault after so many calls.
 fn put_report(alloc: Global, calls_before: u32, fault: Fault) -> (Option<usize>, bool) {
     let mut out = Faulty::new(alloc, calls_before, fault);
     let written = match put(&mut out, REPORT) {

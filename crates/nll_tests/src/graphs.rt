@@ -136,7 +136,8 @@ const GRAPHS: &[(&str, (u32, u32), &[Call], Then, &str)] = &[
         (2, 3),
         &[Next(0, 1), Ret(1)],
         Then::Continued(&[Next(0, 1), Next(1, 2), Next(1, 0), Ret(1), Ret(2), Ret(0)]),
-        "2 points, 3 ends|PointRange|PointRange|0 to [1] from [1] and out|1 to [0] from [0] and out|out [1, 0]|",
+        "2 points, 3 ends|PointRange|PointRange|0 to [1] from [1] and out|\
+         1 to [0] from [0] and out|out [1, 0]|",
     ),
     (
         "a problem's graph",

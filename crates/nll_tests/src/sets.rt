@@ -53,7 +53,8 @@ fn write_next_from<S: ElementSet>(
     Ok(())
 }
 
-// What a set of a length tells: of each insertion, of itself, and of the next element from numbers on.
+// What a set of a length tells: of each insertion, of itself, and of the next element from some
+// numbers on.
 fn told<S: ElementSet>(
     alloc: Global,
     len: u32,
@@ -68,7 +69,8 @@ fn told<S: ElementSet>(
     Ok(out)
 }
 
-// A length, elements that are put in, numbers that the next element is sought from, and what is told.
+// A length, elements that are put in, numbers that the next element is sought from, and what is
+// told.
 const TOLD: &[(u32, &[u32], &[u32], &str)] = &[
     (0, &[], &[0, 1], "has|gives"),
     (10, &[], &[0, 10], "has|gives"),

@@ -1,6 +1,6 @@
 //! What problems, values and sets tell, as text.
 ghost use Rattle.std.specs.Prelude.{◌<◌, length};
-ghost use Rattle.nll_core.specs.Values.{IsShaped};
+ghost use Rattle.nll_core.specs.Values.{IsShaped, set_of};
 
 use nll_core::{
     BuildError, Constraint, Element, ElementSet, Elements, Graph, Problem, RegionId, Values,
@@ -170,6 +170,21 @@ fn faults_of(alloc: Global, problem: &Problem) -> Result<String, BuildError> {
     Ok(shown?)
 }
 
+// Whether values have an element of a region, and what they answer where it is put in.
+fn put(
+    alloc: Global,
+    values: &mut Values,
+    region: RegionId,
+    element: Element,
+) -> Result<String, AllocError>
+    requires region { region < length values.old }
+    requires element { element < length (set_of values.old region) }
+{
+    let before = values.has(region, element);
+    let new = values.insert(region, element);
+    format!(in alloc; "{before} {new:?}")
+}
+
 // What values that hold nothing answer where an element is put into a region's.
 fn inserted(
     alloc: Global,
@@ -177,15 +192,12 @@ fn inserted(
     region: RegionId,
     element: Element,
 ) -> Result<String, BuildError> {
-    let mut out = String::new(alloc);
     let mut values = Values::empty(alloc, problem)?;
-    if region.0 < problem.regions() && element.0 < problem.points() + problem.universals() {
-        let before = values.has(region, element);
-        let new = values.insert(region, element);
-        let written = write_value(&mut out, &values, region);
-        drop(values);
-        written?;
-        write!(out, "{before} {new:?}")?;
-    }
-    Ok(out)
+    let told = if region.0 < problem.regions() && element.0 < problem.points() {
+        put(alloc, &mut values, region, element)
+    } else {
+        Ok(String::new(alloc))
+    };
+    drop(values);
+    Ok(told?)
 }
