@@ -7,8 +7,8 @@ use Rattle.clap.specs.declared.parser.matches.Found.{Found}
 use Rattle.clap.proofs.WalkLemmas.{first_value-rows}
 use Rattle.clap.proofs.OnLiterals.{clap_on_literals}
 use Rattle.nll_report.specs.declared.task.Line.{Line}
-use Rattle.nll_report.specs.declared.task.LineError.{LineError}
-use Rattle.nll_report.specs.declared.task.LineError.TheVariants.{Usage, Memory}
+use Rattle.nll_report.specs.declared.error.LineError.{LineError}
+use Rattle.nll_report.specs.declared.error.LineError.TheVariants.{Usage, Memory}
 use Rattle.nll_report.specs.declared.task.Task.{Task}
 use Rattle.nll_report.specs.Grammar.{line_of_found, program, task_named}
 

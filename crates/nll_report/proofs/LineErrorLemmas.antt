@@ -4,8 +4,8 @@ use Rattle.clap.specs.Words.{IsAmong, Text, fault_of, takes}
 use Rattle.clap.specs.declared.error.kind.ErrorKind.{ErrorKind}
 use Rattle.clap.specs.declared.error.kind.ErrorKind.TheVariants.{OutOfMemory}
 use Rattle.nll_report.specs.declared.task.Line.{Line}
-use Rattle.nll_report.specs.declared.task.LineError.{LineError}
-use Rattle.nll_report.specs.declared.task.LineError.TheVariants.{Help, Usage, Memory}
+use Rattle.nll_report.specs.declared.error.LineError.{LineError}
+use Rattle.nll_report.specs.declared.error.LineError.TheVariants.{Help, Usage, Memory}
 use Rattle.nll_report.specs.declared.task.Task.{Task}
 use Rattle.nll_report.specs.CommandLine.{IsNoPlainLine}
 use Rattle.nll_report.specs.Grammar.{IsHelpKind, IsLineError, line_by_grammar, program}

@@ -4,7 +4,7 @@ use Rattle.std.proofs.Math.Seq.{take-add}
 use Rattle.std.proofs.lemmas.List.{take_rest}
 use Rattle.std.proofs.KnownBytes.{Appends-kept, Appends-trans}
 use Rattle.std.specs.Io.KnownBytes.{Appends, Keeps}
-use Rattle.nll_report.specs.declared.writing.Unwritten.{Unwritten}
+use Rattle.nll_report.specs.declared.error.Unwritten.{Unwritten}
 
 -- the first i bytes and then the first n of the rest are the first i + n
 pub Appends-take : (old mid new : Option (List ℕ)) (bytes : List ℕ) (i n : ℕ)

@@ -9,8 +9,8 @@ use Rattle.clap.specs.Words.{subcommand_of, with_rule, with_subcommand}
 use Rattle.clap.specs.declared.builder.ArgAction.TheVariants.{Set}
 use Rattle.clap.specs.declared.error.kind.ErrorKind.{ErrorKind}
 use Rattle.clap.specs.declared.error.kind.ErrorKind.TheVariants.{DisplayHelp}
-use Rattle.nll_report.specs.declared.task.LineError.{LineError}
-use Rattle.nll_report.specs.declared.task.LineError.TheVariants.{Help, Usage, Memory}
+use Rattle.nll_report.specs.declared.error.LineError.{LineError}
+use Rattle.nll_report.specs.declared.error.LineError.TheVariants.{Help, Usage, Memory}
 use Rattle.nll_report.specs.declared.task.Task.{Task}
 use Rattle.nll_report.specs.declared.task.Task.TheVariants.{Values, Check}
 use Rattle.nll_report.specs.CommandLine.{IsNoPlainLine, name_of}

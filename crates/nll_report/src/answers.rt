@@ -9,12 +9,12 @@ ghost use Rattle.nll_report.specs.Answer.{IsAnswer, IsAnswerError, IsCheckReport
 ghost use Rattle.nll_report.specs.Answer.{IsProblemAnswer, status_of_faults};
 ghost use Rattle.nll_report.specs.Report.{IsValuesReport};
 
+use crate::error::AnswerError;
 use crate::faults_report::faults_text;
 use crate::values_report::values_text;
 use nll_core::{Memory, Problem, RegionId, faults, solve};
-use nll_mir::{Facts, TextError, TextKind, read_facts};
+use nll_mir::{Facts, TextKind, read_facts};
 use std::alloc::Global;
-use thiserror::Error;
 
 /// What is asked of a text.
 #[derive(Clone, Copy, Debug, PartialEq, Eq)]
@@ -23,28 +23,6 @@ pub enum Command {
     Values,
     /// The universal region errors.
     Check,
-}
-
-/// Why a text has no answer.
-#[derive(Clone, Copy, Debug, PartialEq, Eq, Error)]
-pub enum AnswerError {
-    /// The text is faulty.
-    #[error(transparent)]
-    Text(TextError),
-    /// A growth of memory was refused.
-    #[error("memory was refused")]
-    Memory,
-}
-
-impl From<Memory> for AnswerError {
-    ghost use Rattle.std.specs.Prelude.{◌≡◌};
-    ghost use Rattle.nll_report.specs.declared.answers.AnswerError.TheVariants.{Memory as memory};
-
-    ghost from_gives = { λ _ error. error ≡ memory };
-
-    fn from(_: Memory) -> AnswerError {
-        AnswerError::Memory
-    }
 }
 
 /// Answers a command on a text: the report's bytes and the program's status.

@@ -9,7 +9,8 @@ ghost use Rattle.clap.specs.declared.builder.Command.TheViews.{out-Command};
 ghost use Rattle.nll_report.specs.Grammar.{IsHelpKind, IsLineError, bare_program, file_rule};
 ghost use Rattle.nll_report.specs.Grammar.{line_of_found, line_of_matches, program, task_named};
 
-use crate::task::{Line, LineError, Task};
+use crate::error::LineError;
+use crate::task::{Line, Task};
 use clap::error::ErrorKind;
 use clap::{Arg, ArgAction, ArgMatches, Command, Error};
 use std::alloc::{AllocError, Global};

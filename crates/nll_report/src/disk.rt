@@ -2,7 +2,8 @@
 ghost use Rattle.std.specs.Prelude.{◌≡◌};
 ghost use Rattle.nll_report.specs.Run.{holds_anything, lacks_anything};
 
-use crate::program::{Texts, Unread};
+use crate::error::Unread;
+use crate::program::Texts;
 use std::alloc::Global;
 use std::fs::OpenFile;
 use std::io::Read;

@@ -7,6 +7,7 @@
 mod answers;
 mod command_line;
 mod disk;
+mod error;
 mod faults_report;
 mod messages;
 mod program;
@@ -15,13 +16,14 @@ mod task;
 mod values_report;
 mod writing;
 
-pub use answers::{AnswerError, Command, answer};
+pub use answers::{Command, answer};
 pub use command_line::line;
 pub use disk::Disk;
+pub use error::{AnswerError, LineError, Unread, Unwritten};
 pub use faults_report::faults_text;
 pub use messages::{Refusal, USAGE};
-pub use program::{Texts, Unread, drive, run_in_process};
+pub use program::{Texts, drive, run_in_process};
 pub use sink::Sink;
-pub use task::{Line, LineError, Task};
+pub use task::{Line, Task};
 pub use values_report::values_text;
-pub use writing::{Unwritten, put};
+pub use writing::put;

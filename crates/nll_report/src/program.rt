@@ -12,13 +12,13 @@ ghost use Rattle.nll_report.specs.Sink.{IsCut, IsPut};
 use crate::answers::{Command, answer};
 use crate::command_line::line;
 use crate::disk::Disk;
+use crate::error::{LineError, Unread};
 use crate::messages::Refusal;
 use crate::sink::Sink;
-use crate::task::{Line, LineError, Task};
+use crate::task::{Line, Task};
 use std::alloc::Global;
 use std::rt::{Env, Files};
 use std::{env, io};
-use thiserror::Error;
 
 /// The texts that the program can read, by their paths.
 pub trait Texts {
@@ -32,17 +32,6 @@ pub trait Texts {
     fn get(&self, path: &str) -> Result<Vec<u8>, Unread>
         ensures held { IfOk result (λ text. holds self.now path.now text.items) }
         ensures lacking { IfErr result (λ e. e ≡ Unread.Cannot → lacks self.now path.now) };
-}
-
-/// Why a text was not given.
-#[derive(Clone, Copy, Debug, PartialEq, Eq, Error)]
-pub enum Unread {
-    /// There is no such text, or it cannot be read.
-    #[error("the text cannot be read")]
-    Cannot,
-    /// An allocation was refused.
-    #[error("memory was refused")]
-    Memory,
 }
 
 /// Runs the program on its words, without its name, and answers its status.

@@ -5,7 +5,8 @@ ghost use Rattle.std.specs.Io.KnownBytes.{Appends};
 ghost use Rattle.std.specs.List.{flat_map};
 ghost use Rattle.nll_report.specs.Sink.{IsCut, LeavesRoom, MayRefuse};
 
-use crate::writing::{Unwritten, put};
+use crate::error::Unwritten;
+use crate::writing::put;
 use std::io::Write;
 
 /// What a stream of bytes goes to. Each `std::io::Write` is one.

@@ -2,16 +2,8 @@
 ghost use Rattle.std.specs.Prelude.{◌<◌, ◌≤◌, IfErr, IfSome, IsNone, OnOk, length, take};
 ghost use Rattle.std.specs.Io.KnownBytes.{Appends, Keeps};
 
+use crate::error::Unwritten;
 use std::io::{ErrorKind, Write};
-use thiserror::Error;
-
-/// A report that was not written to its end.
-#[derive(Clone, Copy, Debug, PartialEq, Eq, Error)]
-#[error("writing stopped behind {written} bytes")]
-pub struct Unwritten {
-    /// How many of its bytes were written, from the first on.
-    pub written: usize,
-}
 
 /// Writes the bytes, in pieces as large as the writer takes, and does not flush.
 ///
