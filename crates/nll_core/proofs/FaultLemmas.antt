@@ -3,9 +3,9 @@ use Rattle.std.proofs.Common.{◌≡◌, ◌≢◌, ℕ, ◌+◌, ◌<◌, Bool,
 use Rattle.std.proofs.lemmas.Bool.{cases_eq, false≢true}
 use Rattle.std.proofs.lemmas.List.Elements.{Contains-push, Contains-push_cases, Contains-append_left, Contains-get_or}
 use Rattle.std.proofs.lemmas.List.Quantifiers.{all_pairs_push}
-use Rattle.nll_problem.specs.Problem.{Problem, IsSound, IsUniversal, end_of}
+use Rattle.nll_problem.specs.Problem.{Problem, IsUniversal, end_of}
 use Rattle.nll_core.specs.Values.{holds, IsHeld}
-use Rattle.nll_problem.specs.Faults.{IsAbove, IsFault, IsEarlier, AreFaults}
+use Rattle.nll_problem.specs.Faults.{IsFault, IsEarlier, AreFaults}
 use Rattle.nll_core.specs.Outliving.{ListsUpTo, FindsUpTo}
 
 -- ---- pairs in order

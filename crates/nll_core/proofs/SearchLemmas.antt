@@ -1,13 +1,13 @@
 -- What a search adds, step after step, and what it has reached when nothing is left to expand.
-use Rattle.std.proofs.Common.{◌≡◌, ◌⊎◌, ℕ, ◌+◌, ◌<◌, ◌≤◌, Bool, true, false, not, cond, List, [], ◌∷◌, ◌++◌, ◌↔◌, replicate, Contains, length, get_or, set, refl, sym, ap, ◌∙◌, subst, inl, inr, ⊎_elim, arith, length-append}
+use Rattle.std.proofs.Common.{◌≡◌, ℕ, ◌+◌, ◌<◌, ◌≤◌, Bool, true, false, not, cond, List, [], ◌∷◌, ◌++◌, ◌↔◌, replicate, Contains, length, get_or, set, refl, sym, ap, ◌∙◌, subst, inl, inr, ⊎_elim, arith, length-append}
 use Rattle.std.specs.Prelude.{⊤}
 use Rattle.std.proofs.lemmas.Bool.{cases_lt, cases_eq, false≢true, false_from_ne_true}
-use Rattle.std.proofs.lemmas.List.{get_or-set_other, get_or-set_same, length-set, get_or_append_left, get_or_at, get_or_past, get_or_default, get_or-replicate, length-replicate}
+use Rattle.std.proofs.lemmas.List.{get_or-set_other, get_or-set_same, set-get_or, length-set, get_or_append_left, get_or_at, get_or_past, get_or_default, get_or-replicate, length-replicate}
 use Rattle.std.proofs.lemmas.List.Sums.{sum_by-set}
 use Rattle.nll_sets.specs.ElementSet.{flag}
 use Rattle.nll_problem.specs.Graph.{Graph, element_count, IsNext, IsReturn, IsStep, IsSound}
 use Rattle.nll_problem.specs.Walks.{IsWalk, Reaches}
-use Rattle.nll_core.specs.Search.{Search, LeadsTo, IsStepInside, missing, Adds, IsFrom, IsCovered, IsLedTo}
+use Rattle.nll_core.specs.Search.{Search, LeadsTo, IsIn, Within, IsStepInside, missing, Adds, Visits, IsPending, Spreads, IsFound, IsCovered, IsLedTo}
 use Rattle.nll_problem.proofs.WalkLemmas.{walk_first, walk_more, walk_carries, walk_other}
 
 -- ---- flags and lists
@@ -61,7 +61,7 @@ module _ (kind : ℕ → Type 0) where
     fresh = λ k l h. absurd (omega arith);
     inside = λ k l h. absurd (omega arith);
     cause = λ k l h. absurd (omega arith);
-    once = λ j k l m h. absurd (omega arith);
+    once = λ j l k m h. absurd (omega arith);
     only = λ x h. inl h;
     count = refl;
   }
@@ -76,11 +76,11 @@ module _ (kind : ℕ → Type 0) where
     fresh = λ k l h. ⊎_elim (λ m. rw (q.front k m) (p.fresh k l m)) (λ m. false_from_ne_true _ (λ e. false≢true (sym (q.fresh k m h) ∙ p.kept _ e))) (cases_lt k (length middle.list));
     inside = λ k l h. ⊎_elim (λ m. q.kept (get_or new.list k 0) (subst (λ v. flag middle.reached v ≡ true) (sym (q.front k m)) (p.inside k l m))) (λ m. q.inside k m h) (cases_lt k (length middle.list));
     cause = λ k l h. ⊎_elim (λ m. rw (q.front k m) (p.cause k l m)) (λ m. q.cause k m h) (cases_lt k (length middle.list));
-    once = λ j k l m h. ⊎_elim
-        (λ below. λ e. p.once j k l m below (sym (q.front j (omega arith)) ∙ (e ∙ q.front k below)))
+    once = λ j l k m h. ⊎_elim
+        (λ below. λ e. p.once j l k m below (sym (q.front j (omega arith)) ∙ (e ∙ q.front k below)))
         (λ above. ⊎_elim
         (λ low. λ e. false≢true (sym (q.fresh k above h) ∙ (ap (flag middle.reached) (sym e) ∙ subst (λ v. flag middle.reached v ≡ true) (sym (q.front j low)) (p.inside j l low))))
-        (λ high. q.once j k high m h)
+        (λ high. q.once j high k m h)
         (cases_lt j (length middle.list)))
         (cases_lt k (length middle.list));
     only = λ x h. ⊎_elim
@@ -103,7 +103,7 @@ module _ (kind : ℕ → Type 0) where
         fresh = λ k l m. rw (at k l m) new;
         inside = λ k l m. rw (at k l m) (get_or-set_same s.reached e true false within);
         cause = λ k l m. rw (at k l m) h;
-        once = λ j k l m n. absurd (omega arith);
+        once = λ j l k m n. absurd (omega arith);
         only = λ x k. ⊎_elim
             (λ same. inr (length s.list, omega arith, omega (arith, len), get_or_at s.list e [] 0 (length s.list) refl ∙ sym same))
             (λ other. inl (sym (get_or-set_other s.reached e x true false other) ∙ k))
@@ -126,6 +126,20 @@ adds_weaker kind larger has old new p = record {
   count = p.count;
 }
 
+-- what was new was visited
+pub visits_one : (s : Search) (e : ℕ) → e < length s.reached → flag s.reached e ≡ false → Visits (λ x. x ≡ e) s (record { reached = set s.reached e true; list = s.list ++ e ∷ [] })
+visits_one s e within new = record {
+  adds = adds_one (λ x. x ≡ e) s e within new refl;
+  all = λ x is. subst (IsIn (set s.reached e true)) (sym is) (get_or-set_same s.reached e true false within);
+}
+
+-- and what wasn't
+pub visits_again : (s : Search) (e : ℕ) → flag s.reached e ≡ true → Visits (λ x. x ≡ e) s (record { reached = set s.reached e true; list = s.list })
+visits_again s e old =
+    let same : set s.reached e true ≡ s.reached = subst (λ b. set s.reached e b ≡ s.reached) old (set-get_or s.reached e false) in
+    subst (λ flags. Visits (λ x. x ≡ e) s (record { reached = flags; list = s.list })) (sym same)
+    (record { adds = adds_none (λ x. x ≡ e) s; all = λ x is. subst (IsIn s.reached) (sym is) old })
+
 -- ---- walks
 
 module _ (step : ℕ → ℕ → Type 0) where
@@ -140,15 +154,15 @@ module _ (step : ℕ → ℕ → Type 0) where
   leads_carries holds along x y here h = walk_carries step (λ _. ⊤) holds (λ a b k s _. along a b k s) x h.0 y here h.1
 
 -- from an element of the set, walks inside it and walks by the steps that lead into it reach the same
-pub leads_inside : (g : Graph) (inside : ℕ → Type 0) (x y : ℕ) → inside x → LeadsTo (IsStepInside g inside) x y ↔ Reaches g inside x y
-leads_inside g inside x y here = (
-  λ h. (h.0, walk_other (IsStepInside g inside) (IsStep g) (λ _. ⊤) inside (λ a b s. s) x h.0 y here h.1),
+pub leads_inside : (g : Graph) (set : List Bool) (x y : ℕ) → IsIn set x → LeadsTo (IsStepInside g set) x y ↔ Reaches g (IsIn set) x y
+leads_inside g set x y here = (
+  λ h. (h.0, walk_other (IsStepInside g set) (IsStep g) (λ _. ⊤) (IsIn set) (λ a b s. s) x h.0 y here h.1),
   λ h. (h.0, walk_into x h.0 y h.1),
 )
   where
-    walk_into : (x : ℕ) (way : List ℕ) (y : ℕ) → IsWalk (IsStep g) inside x way y → IsWalk (IsStepInside g inside) (λ _. ⊤) x way y
+    walk_into : (x : ℕ) (way : List ℕ) (y : ℕ) → IsWalk (IsStep g) (IsIn set) x way y → IsWalk (IsStepInside g set) (λ _. ⊤) x way y
     walk_into x [] y h = (tt, h.1)
-    walk_into x (next ∷ way) y h = (tt, (h.1, walk_first (IsStep g) inside next way y h.2), walk_into next way y h.2)
+    walk_into x (next ∷ way) y h = (tt, (h.1, walk_first (IsStep g) (IsIn set) next way y h.2), walk_into next way y h.2)
 
 -- ---- what expanding one element of a graph adds
 
@@ -158,117 +172,122 @@ no_step_past g s e past x = ⊎_elim
     (λ h. let range = s.edges_in_range e x h in omega (arith, range.0))
     (λ h. let range = s.returns_in_range e h.0 in omega arith)
 
-module _ (g : Graph) (inside : ℕ → Type 0) (e : ℕ) (next : List ℕ) (each : (q : ℕ) → Contains next q ↔ IsNext g e q) where
-  -- visiting the successors adds what is one step away
-  pub next_adds : (old new : Search) → Adds (λ x. Contains next x × inside x) old new → Adds (IsStepInside g inside e) old new
-  next_adds old new a = adds_weaker _ _ (λ x h. (inl ((each x).0 h.0), h.1)) old new a
+module _ (g : Graph) (set : List Bool) (e : ℕ) where
+  -- of an element past the points nothing is to be visited
+  pub past_visits : IsSound g → g.points ≤ e → (s : Search) → Visits (IsStepInside g set e) s s
+  past_visits sound past s = record {
+    adds = adds_none _ s;
+    all = λ x step. absurd (no_step_past g sound e past x step.0);
+  }
 
-  -- where that is all, the element is covered
-  pub next_covers : (reached : List Bool) → (IsReturn g e → ⊥) → ((x : ℕ) → Contains next x → inside x → flag reached x ≡ true) → IsCovered (IsStepInside g inside) reached e
-  next_covers reached no_return covers = λ x step. ⊎_elim (λ h. covers x ((each x).1 h) step.1) (λ h. absurd (no_return h.0)) step.0
+  module _ (next : List ℕ) (each : (q : ℕ) → Contains next q ↔ IsNext g e q) where
+    next_adds : (old new : Search) → Adds (Within set (Contains next)) old new → Adds (IsStepInside g set e) old new
+    next_adds old new a = adds_weaker _ _ (λ x h. (inl ((each x).0 h.0), h.1)) old new a
 
-  -- Then the ends are visited.
-  module _ (from to : ℕ) (starts : from ≡ g.points) (ends : to ≡ element_count g) (returns : IsReturn g e) (old middle new : Search)
-      (a : Adds (λ x. Contains next x × inside x) old middle)
-      (b : Adds (λ x. ((from ≤ x) × (x < to)) × inside x) middle new) where
-    pub ends_adds : Adds (IsStepInside g inside e) old new
-    ends_adds = adds_append _ old middle new (next_adds old middle a)
-        (adds_weaker _ _ (λ x h. (inr (returns, (omega (arith, h.0), omega (arith, h.0))), h.1)) middle new b)
+    -- where it is no return point, its successors are visited
+    pub next_visits : (old new : Search) → (IsReturn g e → ⊥) → Visits (Within set (Contains next)) old new → Visits (IsStepInside g set e) old new
+    next_visits old new no_return v = record {
+      adds = next_adds old new v.adds;
+      all = λ x step. ⊎_elim (λ h. v.all x ((each x).1 h, step.1)) (λ h. absurd (no_return h.0)) step.0;
+    }
 
-    pub ends_cover : ((x : ℕ) → Contains next x → inside x → flag middle.reached x ≡ true) → ((x : ℕ) → from ≤ x → x < to → inside x → flag new.reached x ≡ true) → IsCovered (IsStepInside g inside) new.reached e
-    ends_cover first then = λ x step. ⊎_elim
-        (λ h. b.kept x (first x ((each x).1 h) step.1))
-        (λ h. then x (omega (arith, h.1)) (omega (arith, h.1)) step.1)
-        step.0
+    -- where it is one, the ends too
+    pub ends_visits : (from to : ℕ) → from ≡ g.points → to ≡ element_count g → IsReturn g e → (old middle new : Search) → Visits (Within set (Contains next)) old middle → Visits (Within set (λ x. (from ≤ x) × (x < to))) middle new → Visits (IsStepInside g set e) old new
+    ends_visits from to starts ends returns old middle new v w = record {
+      adds = adds_append _ old middle new (next_adds old middle v.adds)
+          (adds_weaker _ _ (λ x h. (inr (returns, (omega (arith, h.0), omega (arith, h.0))), h.1)) middle new w.adds);
+      all = λ x step. ⊎_elim
+          (λ h. w.adds.kept x (v.all x ((each x).1 h, step.1)))
+          (λ h. w.all x ((omega (arith, h.1), omega (arith, h.1)), step.1))
+          step.0;
+    }
 
--- ---- the loop that expands the list from `at` on
+-- ---- the loop that expands the list from a place on
 
--- The elements of the list from `at` on are still to be expanded, and those of the set before them are covered.
-pub record Spreading (step : ℕ → ℕ → Type 0) (old new : Search) (from at : ℕ) : Type 0 where
+-- What was added is led to, and the elements of the list from `at` on are still to be expanded.
+pub record Spreading (step : ℕ → ℕ → Type 0) (old new : Search) (at : ℕ) : Type 0 where
   pub adds : Adds (IsLedTo step old.reached) old new
-  pub low : from ≤ at
-  pub high : at ≤ length new.list
-  pub listed : (k : ℕ) → from ≤ k → k < length new.list → flag new.reached (get_or new.list k 0) ≡ true
-  pub sound : (x : ℕ) → flag new.reached x ≡ true → IsLedTo step old.reached x
-  pub pending : (x : ℕ) → flag new.reached x ≡ true → IsFrom at new.list x ⊎ IsCovered step new.reached x
+  pub sound : (x : ℕ) → IsIn new.reached x → IsLedTo step old.reached x
+  pub pending : IsPending step new at
 
-module _ (step : ℕ → ℕ → Type 0) (old : Search) (from : ℕ) where
-  pub spreading_first : from ≤ length old.list → ((k : ℕ) → from ≤ k → k < length old.list → flag old.reached (get_or old.list k 0) ≡ true) → ((x : ℕ) → flag old.reached x ≡ true → IsFrom from old.list x ⊎ IsCovered step old.reached x) → Spreading step old old from from
-  spreading_first place listed pending = record {
+module _ (step : ℕ → ℕ → Type 0) (old : Search) where
+  pub spreading_first : (from : ℕ) → IsPending step old from → Spreading step old old from
+  spreading_first from pending = record {
     adds = adds_none (IsLedTo step old.reached) old;
-    low = omega arith;
-    high = place;
-    listed = listed;
     sound = λ x h. (x, h, leads_first step x);
     pending = pending;
   }
 
-  -- what expanding an element adds
-  pub spreading_adds : (middle new : Search) (e : ℕ) → IsLedTo step old.reached e → Adds (step e) middle new → Adds (IsLedTo step old.reached) middle new
-  spreading_adds middle new e led a = adds_weaker _ _ (λ x h. (led.0, led.1, leads_more step led.0 e x led.2 h)) middle new a
-
-  pub spreading_more : (middle new : Search) (at e : ℕ) → at < length middle.list → get_or middle.list at 0 ≡ e → Spreading step old middle from at → Adds (step e) middle new → IsCovered step new.reached e → Spreading step old new from (at + 1)
-  spreading_more middle new at e within is s a covered =
-      let led : IsLedTo step old.reached e = subst (IsLedTo step old.reached) is (s.sound _ (s.listed at s.low within)) in
-      let b : Adds (IsLedTo step old.reached) middle new = spreading_adds middle new e led a in
+  pub spreading_more : (middle new : Search) (at e : ℕ) → at < length middle.list → get_or middle.list at 0 ≡ e → Spreading step old middle at → Visits (step e) middle new → Spreading step old new (at + 1)
+  spreading_more middle new at e within is s v =
+      let led : IsLedTo step old.reached e = subst (IsLedTo step old.reached) is (s.sound _ (s.pending.listed at (omega arith) within)) in
+      let b : Adds (IsLedTo step old.reached) middle new = adds_weaker _ _ (λ x h. (led.0, led.1, leads_more step led.0 e x led.2 h)) middle new v.adds in
       record {
         adds = adds_append (IsLedTo step old.reached) old middle new s.adds b;
-        low = omega (arith, s.low);
-        high = omega (arith, b.longer);
-        listed = λ k l h. ⊎_elim (λ m. subst (λ v. flag new.reached v ≡ true) (sym (b.front k m)) (b.kept (get_or middle.list k 0) (s.listed k l m))) (λ m. b.inside k m h) (cases_lt k (length middle.list));
         sound = λ x h. ⊎_elim (s.sound x) (λ w. subst (IsLedTo step old.reached) w.3 (b.cause w.0 w.1 w.2)) (b.only x h);
-        pending = λ x h. ⊎_elim
-            (λ before. ⊎_elim
-            (λ w. ⊎_elim
-            (λ same. inr (subst (IsCovered step new.reached) (sym is ∙ (ap (λ k. get_or middle.list k 0) (sym same) ∙ w.3)) covered))
-            (λ other. inl (w.0, omega (arith, w.1), omega (arith, w.2, b.longer), b.front w.0 w.2 ∙ w.3))
-            (cases_eq w.0 at))
-            (λ c. inr (λ y r. b.kept y (c y r)))
-            (s.pending x before))
-            (λ w. inl (w.0, omega (arith, w.1), w.2, w.3))
-            (b.only x h);
+        pending = record {
+          within = omega (arith, b.longer);
+          listed = λ k l h. ⊎_elim (λ m. subst (IsIn new.reached) (sym (b.front k m)) (b.kept (get_or middle.list k 0) (s.pending.listed k (omega (arith, l)) m))) (λ m. b.inside k m h) (cases_lt k (length middle.list));
+          others = λ x h. ⊎_elim
+              (λ before. ⊎_elim
+              (λ w. ⊎_elim
+              (λ same. inr (subst (IsCovered step new.reached) (sym is ∙ (ap (λ k. get_or middle.list k 0) (sym same) ∙ w.3)) v.all))
+              (λ other. inl (w.0, omega (arith, w.1), omega (arith, w.2, b.longer), b.front w.0 w.2 ∙ w.3))
+              (cases_eq w.0 at))
+              (λ c. inr (λ y r. b.kept y (c y r)))
+              (s.pending.others x before))
+              (λ w. inl (w.0, omega (arith, w.1, s.pending.within, within), w.2, w.3))
+              (b.only x h);
+        };
       }
 
+  -- where the list is at its end all is covered
+  pub spreading_done : (new : Search) (at : ℕ) → length new.list ≤ at → Spreading step old new at → Spreads step old new
+  spreading_done new at done s = record {
+    adds = s.adds;
+    closed = λ x h. ⊎_elim (λ w. absurd (omega (arith, w.1, w.2))) (λ covered. covered) (s.pending.others x h);
+  }
+
 -- What the first visit puts into an empty search is all still to be expanded.
-module _ (kind : ℕ → Type 0) (width : ℕ) (first : Search) (a : Adds kind (record { reached = replicate width false; list = [] }) first) where
-  pub begun_listed : (k : ℕ) → 0 ≤ k → k < length first.list → flag first.reached (get_or first.list k 0) ≡ true
-  begun_listed k low h = a.inside k low h
+module _ (step : ℕ → ℕ → Type 0) (at width : ℕ) (first : Search) (a : Visits (λ x. x ≡ at) (record { reached = replicate width false; list = [] }) first) where
+  pub begun : IsPending step first 0
+  begun = record {
+    within = omega arith;
+    listed = λ k l h. a.adds.inside k l h;
+    others = λ x h. ⊎_elim (λ e. absurd (none_in_empty width x e)) inl (a.adds.only x h);
+  }
 
-  pub begun_pending : (step : ℕ → ℕ → Type 0) (x : ℕ) → flag first.reached x ≡ true → IsFrom 0 first.list x ⊎ IsCovered step first.reached x
-  begun_pending step x h = ⊎_elim (λ e. absurd (none_in_empty width x e)) inl (a.only x h)
+  -- Then it spreads.
+  module _ (new : Search) (s : Spreads step first new) where
+    is_start : (x : ℕ) → IsIn first.reached x → x ≡ at
+    is_start x h = ⊎_elim
+        (λ e. absurd (none_in_empty width x e))
+        (λ w. subst (λ v. v ≡ at) w.3 (a.adds.cause w.0 w.1 w.2))
+        (a.adds.only x h)
 
--- Then it spreads.
-module _ (step : ℕ → ℕ → Type 0) (at width : ℕ) (first new : Search)
-    (a : Adds (λ x. x ≡ at) (record { reached = replicate width false; list = [] }) first)
-    (start : flag first.reached at ≡ true)
-    (b : Adds (IsLedTo step first.reached) first new)
-    (covers : (x : ℕ) → flag new.reached x ≡ true → IsCovered step new.reached x) where
-  is_start : (x : ℕ) → flag first.reached x ≡ true → x ≡ at
-  is_start x h = ⊎_elim
-      (λ e. absurd (none_in_empty width x e))
-      (λ w. subst (λ v. v ≡ at) w.3 (a.cause w.0 w.1 w.2))
-      (a.only x h)
+    -- the set is what walks reach
+    set_exact : (x : ℕ) → IsIn new.reached x ↔ LeadsTo step at x
+    set_exact x = (
+      λ h. ⊎_elim
+          (λ early. subst (LeadsTo step at) (sym (is_start x early)) (leads_first step at))
+          (λ w. let led = s.adds.cause w.0 w.1 w.2 in
+          subst (LeadsTo step at) w.3 (subst (λ v. LeadsTo step v (get_or new.list w.0 0)) (is_start led.0 led.1) led.2))
+          (s.adds.only x h),
+      λ h. leads_carries step (IsIn new.reached) (λ y z t r. s.closed y t z r) at x (s.adds.kept at (a.all at refl)) h,
+    )
 
-  -- the set is what walks reach
-  pub set_exact : (x : ℕ) → (flag new.reached x ≡ true) ↔ LeadsTo step at x
-  set_exact x = (
-    λ h. ⊎_elim
-        (λ early. subst (LeadsTo step at) (sym (is_start x early)) (leads_first step at))
-        (λ w. let led = b.cause w.0 w.1 w.2 in
-        subst (LeadsTo step at) w.3 (subst (λ v. LeadsTo step v (get_or new.list w.0 0)) (is_start led.0 led.1) led.2))
-        (b.only x h),
-    λ h. leads_carries step (λ z. flag new.reached z ≡ true) (λ y z t r. covers y t z r) at x (b.kept at start) h,
-  )
+    -- the list has just what is in the set
+    list_exact : (x : ℕ) → Contains new.list x ↔ LeadsTo step at x
+    list_exact x = (
+      λ h. (set_exact x).0 (subst (IsIn new.reached) (contains_at new.list x h) (⊎_elim
+          (λ early. s.adds.kept _ (subst (IsIn first.reached) (sym (s.adds.front h.0 early)) (a.adds.inside h.0 (omega arith) early)))
+          (λ late. s.adds.inside h.0 late h.1)
+          (cases_lt h.0 (length first.list)))),
+      λ h. ⊎_elim
+          (λ early. ⊎_elim (λ e. absurd (none_in_empty width x e)) (λ w. contains_from new.list x w.0 (omega (arith, w.2, s.adds.longer)) (s.adds.front w.0 w.2 ∙ w.3)) (a.adds.only x early))
+          (λ w. contains_from new.list x w.0 w.2 w.3)
+          (s.adds.only x ((set_exact x).1 h)),
+    )
 
-  -- the list has just what is in the set
-  pub list_exact : (x : ℕ) → Contains new.list x ↔ LeadsTo step at x
-  list_exact x = (
-    λ h. (set_exact x).0 (subst (λ v. flag new.reached v ≡ true) (contains_at new.list x h) (⊎_elim
-        (λ early. b.kept _ (subst (λ v. flag first.reached v ≡ true) (sym (b.front h.0 early)) (a.inside h.0 (omega arith) early)))
-        (λ late. b.inside h.0 late h.1)
-        (cases_lt h.0 (length first.list)))),
-    λ h. ⊎_elim
-        (λ early. ⊎_elim (λ e. absurd (none_in_empty width x e)) (λ w. contains_from new.list x w.0 (omega (arith, w.2, b.longer)) (b.front w.0 w.2 ∙ w.3)) (a.only x early))
-        (λ w. contains_from new.list x w.0 w.2 w.3)
-        (b.only x ((set_exact x).1 h)),
-  )
+    pub found : IsFound step at new
+    found = record { set = set_exact; list = list_exact }

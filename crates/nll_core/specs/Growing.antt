@@ -1,7 +1,8 @@
 -- How values grow towards the least solution of a problem.
 -- Source: project's choice. Private contracts alone cite this file.
-use Rattle.std.specs.Prelude.{◌≡◌, ◌⊎◌, ℕ, ◌<◌, Bool, true, false, IsTrue, List, length, Contains, sum_by}
-use Rattle.nll_problem.specs.Problem.{Problem}
+use Rattle.std.specs.Prelude.{◌≡◌, ◌⊎◌, ℕ, ◌<◌, Bool, true, false, IsTrue}
+use Rattle.std.specs.Prelude.{List, length, Contains, sum_by}
+use Rattle.nll_problem.specs.Problem.{Problem, IsUniversal, end_of}
 use Rattle.nll_problem.specs.Solution.{Asks, Satisfies}
 use Rattle.nll_core.specs.Search.{missing}
 use Rattle.nll_core.specs.Values.{set_of, IsHeld}
@@ -29,11 +30,33 @@ IsBelow values assignment = (r e : ℕ) → IsHeld values r e → IsTrue (assign
 
 -- each assignment that satisfies the problem and has all of the old values has all of the new ones
 abbrev pub StaysBelow : Problem → List (List Bool) → List (List Bool) → Type 0
-StaysBelow q old new = (assignment : ℕ → ℕ → Bool) → Satisfies q (λ s f. IsTrue (assignment s f)) → IsBelow old assignment → IsBelow new assignment
+StaysBelow q old new =
+    (assignment : ℕ → ℕ → Bool) → Satisfies q (λ s f. IsTrue (assignment s f))
+    → IsBelow old assignment → IsBelow new assignment
+
+-- the universal regions hold all points
+abbrev pub HoldsPoints : Problem → List (List Bool) → Type 0
+HoldsPoints q values = (r e : ℕ) → IsUniversal q r → e < q.graph.points → IsHeld values r e
+
+-- each universal region holds its own end
+abbrev pub HoldsEnds : Problem → List (List Bool) → Type 0
+HoldsEnds q values = (r : ℕ) → IsUniversal q r → IsHeld values r (end_of q r)
+
+-- the values hold what the base facts say
+abbrev pub HoldsFacts : Problem → List (List Bool) → Type 0
+HoldsFacts q values = (r e : ℕ) → Contains q.bases (r, e) → IsHeld values r e
+
+-- the constraint asks the region r, its `sup`, for e
+abbrev pub IsAskedBy : Problem → List (List Bool) → Constraint → ℕ → ℕ → Type 0
+IsAskedBy q values c r e = (r ≡ c.sup) × Asks q.graph (IsHeld values) c e
+
+-- the new values hold all that the constraint asked for by the old ones
+abbrev pub Meets : Problem → List (List Bool) → Constraint → List (List Bool) → Type 0
+Meets q old c new = (e : ℕ) → Asks q.graph (IsHeld old) c e → IsHeld new c.sup e
 
 -- the values hold all that the constraint asks of them
 abbrev pub IsMet : Problem → List (List Bool) → Constraint → Type 0
-IsMet q values c = (e : ℕ) → Asks q.graph (IsHeld values) c e → IsHeld values c.sup e
+IsMet q values c = Meets q values c values
 
 -- the values meet each constraint
 abbrev pub IsClosed : Problem → List (List Bool) → Type 0

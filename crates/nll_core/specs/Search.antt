@@ -1,48 +1,98 @@
 -- What a search through a relation has reached, and what it adds.
 -- Source: project's choice. Private contracts alone cite this file.
-use Rattle.std.specs.Prelude.{◌≡◌, ◌≢◌, ◌⊎◌, ℕ, ◌+◌, ◌<◌, ◌≤◌, Bool, true, false, not, List, length, count_by, slice_index, ⊤}
+use Rattle.std.specs.Prelude.{◌≡◌, ◌≢◌, ◌⊎◌, ◌↔◌, ℕ, ◌+◌, ◌<◌, ◌≤◌, Bool, true, false, not, ⊤}
+use Rattle.std.specs.Prelude.{List, Contains, length, count_by, slice_index}
 use Rattle.nll_sets.specs.ElementSet.{flag}
 use Rattle.nll_problem.specs.Graph.{Graph, IsStep}
-use Rattle.nll_problem.specs.Walks.{IsWalk}
+use Rattle.nll_problem.specs.Walks.{IsWalk, Reaches}
 
 -- The elements that were reached: as a set, and as a list in the order in which they came.
 pub record Search : Type 0 where
   pub reached : List Bool
   pub list : List ℕ
 
--- a walk by steps of the relation, which may go anywhere, leads from x to y
-abbrev pub LeadsTo : (ℕ → ℕ → Type 0) → ℕ → ℕ → Type 0
-LeadsTo step x y = (way : List ℕ) × IsWalk step (λ _. ⊤) x way y
+-- ---- sets
 
--- after x may come y, and y lies inside the set
-abbrev pub IsStepInside : Graph → (ℕ → Type 0) → ℕ → ℕ → Type 0
-IsStepInside g inside x y = IsStep g x y × inside y
+-- the set has x
+abbrev pub IsIn : List Bool → ℕ → Type 0
+IsIn flags x = flag flags x ≡ true
+
+-- the set has all elements of this kind
+abbrev pub HasAll : (ℕ → Type 0) → List Bool → Type 0
+HasAll kind flags = (x : ℕ) → kind x → IsIn flags x
+
+-- x is of this kind and in the set
+abbrev pub Within : List Bool → (ℕ → Type 0) → ℕ → Type 0
+Within set kind x = kind x × IsIn set x
 
 -- how many elements are not in the set
 abbrev pub missing : List Bool → ℕ
 missing flags = count_by not flags
 
+-- ---- walks
+
+-- after x may come y, and the set has y
+abbrev pub IsStepInside : Graph → List Bool → ℕ → ℕ → Type 0
+IsStepInside g set x = Within set (IsStep g x)
+
+-- a walk by steps of the relation, which may go anywhere, leads from x to y
+abbrev pub LeadsTo : (ℕ → ℕ → Type 0) → ℕ → ℕ → Type 0
+LeadsTo step x y = (way : List ℕ) × IsWalk step (λ _. ⊤) x way y
+
+-- a walk leads to x from an element of the set
+abbrev pub IsLedTo : (ℕ → ℕ → Type 0) → List Bool → ℕ → Type 0
+IsLedTo step reached x = (y : ℕ) × IsIn reached y × LeadsTo step y x
+
+-- the set has all that one step from x leads to
+abbrev pub IsCovered : (ℕ → ℕ → Type 0) → List Bool → ℕ → Type 0
+IsCovered step reached x = HasAll (step x) reached
+
+-- the list is of what the walks of the graph inside the set reach from `at`
+abbrev pub AreReached : Graph → List Bool → ℕ → List ℕ → Type 0
+AreReached g set at list = (x : ℕ) → Contains list x ↔ Reaches g (IsIn set) at x
+
+-- ---- what a search adds
+
 -- x is at a place of the list that isn't before `place`
 abbrev pub IsFrom : ℕ → List ℕ → ℕ → Type 0
 IsFrom place list x = (k : ℕ) × (place ≤ k) × (k < length list) × (slice_index list k ≡ x)
 
--- Elements of this kind were put into the set and at the end of the list, each new to the set and each once, and no others.
+-- what holds at each place of the list that isn't before `place`
+abbrev pub HoldsFrom : ℕ → List ℕ → (ℕ → Type 0) → Type 0
+HoldsFrom place list kind = (k : ℕ) → place ≤ k → k < length list → kind (slice_index list k)
+
+-- Elements of this kind were put into the set and at the end of the list, each new to the set and
+-- each once, and no others.
 pub record Adds (kind : ℕ → Type 0) (old new : Search) : Type 0 where
   pub width : length new.reached ≡ length old.reached
-  pub kept : (x : ℕ) → flag old.reached x ≡ true → flag new.reached x ≡ true
+  pub kept : HasAll (IsIn old.reached) new.reached
   pub longer : length old.list ≤ length new.list
   pub front : (k : ℕ) → k < length old.list → slice_index new.list k ≡ slice_index old.list k
-  pub fresh : (k : ℕ) → length old.list ≤ k → k < length new.list → flag old.reached (slice_index new.list k) ≡ false
-  pub inside : (k : ℕ) → length old.list ≤ k → k < length new.list → flag new.reached (slice_index new.list k) ≡ true
-  pub cause : (k : ℕ) → length old.list ≤ k → k < length new.list → kind (slice_index new.list k)
-  pub once : (j k : ℕ) → length old.list ≤ j → j < k → k < length new.list → slice_index new.list j ≢ slice_index new.list k
-  pub only : (x : ℕ) → flag new.reached x ≡ true → (flag old.reached x ≡ true) ⊎ IsFrom (length old.list) new.list x
+  pub fresh : HoldsFrom (length old.list) new.list (λ x. flag old.reached x ≡ false)
+  pub inside : HoldsFrom (length old.list) new.list (IsIn new.reached)
+  pub cause : HoldsFrom (length old.list) new.list kind
+  pub once : (j : ℕ) → length old.list ≤ j
+      → HoldsFrom (j + 1) new.list (λ x. slice_index new.list j ≢ x)
+  pub only : (x : ℕ) → IsIn new.reached x → IsIn old.reached x ⊎ IsFrom (length old.list) new.list x
   pub count : missing new.reached + length new.list ≡ missing old.reached + length old.list
 
--- the set has all that one step from x leads to
-abbrev pub IsCovered : (ℕ → ℕ → Type 0) → List Bool → ℕ → Type 0
-IsCovered step reached x = (y : ℕ) → step x y → flag reached y ≡ true
+-- The elements of this kind were visited: those that were new are added, and the set has all.
+pub record Visits (kind : ℕ → Type 0) (old new : Search) : Type 0 where
+  pub adds : Adds kind old new
+  pub all : HasAll kind new.reached
 
--- a walk leads to x from an element of the set
-abbrev pub IsLedTo : (ℕ → ℕ → Type 0) → List Bool → ℕ → Type 0
-IsLedTo step reached x = (y : ℕ) × (flag reached y ≡ true) × LeadsTo step y x
+-- The list from `place` on is of reached elements, and each other reached element is covered.
+pub record IsPending (step : ℕ → ℕ → Type 0) (s : Search) (place : ℕ) : Type 0 where
+  pub within : place ≤ length s.list
+  pub listed : HoldsFrom place s.list (IsIn s.reached)
+  pub others : (x : ℕ) → IsIn s.reached x → IsFrom place s.list x ⊎ IsCovered step s.reached x
+
+-- What walks lead to from the set was added, until each step from the set leads into it.
+pub record Spreads (step : ℕ → ℕ → Type 0) (old new : Search) : Type 0 where
+  pub adds : Adds (IsLedTo step old.reached) old new
+  pub closed : (x : ℕ) → IsIn new.reached x → IsCovered step new.reached x
+
+-- Both the set and the list are of what walks lead to from `at`.
+pub record IsFound (step : ℕ → ℕ → Type 0) (at : ℕ) (s : Search) : Type 0 where
+  pub set : (x : ℕ) → IsIn s.reached x ↔ LeadsTo step at x
+  pub list : (x : ℕ) → Contains s.list x ↔ LeadsTo step at x

@@ -1,11 +1,10 @@
 //! Universal region errors: which universal regions must outlive another and aren't known to.
 
-ghost use Rattle.std.specs.Prelude.{◌≡◌, ◌≢◌, ◌↔◌, ℕ, ◌+◌, true, false, length, IsTrue, IfOk, OnOk};
-ghost use Rattle.nll_sets.specs.ElementSet.{flag};
-ghost use Rattle.nll_problem.specs.Problem.{IsUniversal, SameSet, end_of};
-ghost use Rattle.nll_core.specs.Values.{holds, IsHeld, IsShaped};
-ghost use Rattle.nll_problem.specs.Faults.{IsKnown, IsFault, AreFaults};
-ghost use Rattle.nll_core.specs.Outliving.{FindsUpTo};
+ghost use Rattle.std.specs.Prelude.{◌≡◌, ◌↔◌, ◌+◌, false, length, IsTrue, IfOk, OnOk};
+ghost use Rattle.nll_problem.specs.Problem.{IsUniversal, SameSet};
+ghost use Rattle.nll_core.specs.Values.{IsHeld, IsShaped};
+ghost use Rattle.nll_problem.specs.Faults.{IsFault, AreFaults};
+ghost use Rattle.nll_core.specs.Outliving.{AreOutlived, HasNoForeignEnd, FindsUpTo};
 
 use crate::outlives_index::OutlivesIndex;
 use crate::outliving::outlived_by;
@@ -14,8 +13,8 @@ use nll_problem::{Problem, RegionId};
 use nll_sets::{BitSet, Element, ElementSet, Memory};
 use std::alloc::Global;
 
-/// Finds the universal region errors of the values, which may be any: the pairs of universal regions
-/// of which the first holds the end of the second and isn't known to outlive it.
+/// Finds the universal region errors of the values, which may be any: the pairs of universal
+/// regions of which the first holds the end of the second and isn't known to outlive it.
 ///
 /// # Errors
 /// - `Memory`.
@@ -32,7 +31,7 @@ pub fn faults(
     values: &Values,
 ) -> Result<Vec<(RegionId, RegionId)>, Memory>
     requires { IsShaped problem.now values.now }
-    ensures { IfOk result (λ faults. AreFaults problem.now (IsHeld values.now) faults.items) }
+    ensures exact { IfOk result (λ faults. AreFaults problem.now (IsHeld values.now) faults.items) }
 {
     let facts = OutlivesIndex::of(alloc, problem)?;
     let told = faults_of(alloc, problem, &facts, values);
@@ -64,7 +63,7 @@ fn faults_of(
 fn holds_foreign_end(problem: &Problem, values: &Values, region: u32) -> bool
     requires shaped { IsShaped problem.now values.now }
     requires universal { IsUniversal problem.now region }
-    ensures { result ≡ false → (other : ℕ) → IsUniversal problem.now other → other ≢ region → holds values.now region (end_of problem.now other) ≡ false }
+    ensures { result ≡ false → HasNoForeignEnd problem.now values.now region }
 {
     let points = problem.points();
     for other in 0..problem.universals() {
@@ -107,7 +106,7 @@ fn add_unknown(
     requires shaped { IsShaped problem.now values.now }
     requires universal { IsUniversal problem.now longer }
     requires width { length outlived.now ≡ problem.now.graph.universals }
-    requires known { (b : ℕ) → (flag outlived.now b ≡ true) ↔ IsKnown problem.now longer b }
+    requires known { AreOutlived problem.now longer outlived.now }
     requires before { FindsUpTo problem.now values.now faults.old.items longer 0 }
     ensures { OnOk result (FindsUpTo problem.now values.now faults.new.items (longer + 1) 0) }
 {
@@ -131,7 +130,7 @@ fn is_fault(
     requires longer { IsUniversal problem.now longer }
     requires shorter { IsUniversal problem.now shorter }
     requires width { length outlived.now ≡ problem.now.graph.universals }
-    requires known { (b : ℕ) → (flag outlived.now b ≡ true) ↔ IsKnown problem.now longer b }
+    requires known { AreOutlived problem.now longer outlived.now }
     ensures { IsTrue result ↔ IsFault problem.now (IsHeld values.now) longer shorter }
 {
     let end = Element(problem.points() + shorter.0);

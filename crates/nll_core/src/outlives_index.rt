@@ -39,7 +39,7 @@ impl OutlivesIndex {
 
     /// The facts that say what a region outlives.
     pub fn of_region(&self, longer: RegionId) -> &[(RegionId, RegionId)]
-        ensures { (fact : ℕ × ℕ) → Contains result.now fact ↔ (Contains self.now fact × (fact.0 ≡ longer)) }
+        ensures { (x : ℕ × ℕ) → Contains result.now x ↔ (Contains self.now x × (x.0 ≡ longer)) }
     {
         let facts = self.facts.as_slice();
         let first = facts.partition_point(|fact| fact.0.0 < longer.0);

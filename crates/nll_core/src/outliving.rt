@@ -1,11 +1,9 @@
 //! Which universal regions are known to outlive which.
 
-ghost use Rattle.std.specs.Prelude.{◌≡◌, ◌↔◌, ℕ, ◌<◌, true, Contains, length, IfOk, OnOk};
-ghost use Rattle.nll_sets.specs.ElementSet.{flag};
+ghost use Rattle.std.specs.Prelude.{◌≡◌, ℕ, ◌<◌, length, IfOk, OnOk};
 ghost use Rattle.nll_problem.specs.Problem.{IsUniversal, SameSet};
-ghost use Rattle.nll_problem.specs.Faults.{IsKnown};
-ghost use Rattle.nll_core.specs.Outliving.{IsListedAbove};
-ghost use Rattle.nll_core.specs.Search.{Adds};
+ghost use Rattle.nll_core.specs.Outliving.{IsListedAbove, IsShorterOf, AreOutlived};
+ghost use Rattle.nll_core.specs.Search.{Visits};
 
 use crate::outlives_index::OutlivesIndex;
 use crate::search::{Relation, Search, search_from};
@@ -18,7 +16,7 @@ use std::alloc::Global;
 struct Outliving<'a> {
     universals: u32,
     facts: &'a OutlivesIndex,
-    ghost in_range: { (a b : ℕ) → Contains facts.now (a, b) → b < universals },
+    ghost in_range: { (b : ℕ) → IsShorterOf facts.now b → b < universals },
 }
 
 impl<'a> Relation for Outliving<'a> {
@@ -47,8 +45,7 @@ impl<'a> Relation for Outliving<'a> {
 // Visits each element below a number.
 fn visit_below<R: ElementSet>(count: u32, search: &mut Search<R>) -> Result<(), Memory>
     requires { length search.old.reached ≡ count }
-    ensures adds { OnOk result (Adds (λ x. x < count) search.old search.new) }
-    ensures covers { OnOk result ((x : ℕ) → x < count → flag search.new.reached x ≡ true) }
+    ensures { OnOk result (Visits (λ x. x < count) search.old search.new) }
 {
     for number in 0..count {
         search.visit(Element(number))?;
@@ -61,9 +58,8 @@ fn visit_shorter<R: ElementSet>(
     facts: &[(RegionId, RegionId)],
     search: &mut Search<R>,
 ) -> Result<(), Memory>
-    requires { (a b : ℕ) → Contains facts.now (a, b) → b < length search.old.reached }
-    ensures adds { OnOk result (Adds (λ b. (a : ℕ) × Contains facts.now (a, b)) search.old search.new) }
-    ensures covers { OnOk result ((a b : ℕ) → Contains facts.now (a, b) → flag search.new.reached b ≡ true) }
+    requires { (b : ℕ) → IsShorterOf facts.now b → b < length search.old.reached }
+    ensures { OnOk result (Visits (IsShorterOf facts.now) search.old search.new) }
 {
     for fact in facts {
         let (_, shorter) = *fact;
@@ -82,7 +78,7 @@ pub fn outlived_by(
     requires universal { IsUniversal problem.now longer }
     requires facts { SameSet facts.now problem.now.outlives }
     ensures width { IfOk result (λ outlived. length outlived ≡ problem.now.graph.universals) }
-    ensures exact { IfOk result (λ outlived. (b : ℕ) → (flag outlived b ≡ true) ↔ IsKnown problem.now longer b) }
+    ensures exact { IfOk result (AreOutlived problem.now longer) }
 {
     let outliving = Outliving {
         universals: problem.universals(),

@@ -1,10 +1,8 @@
 //! Which elements of a graph the walks from a point reach that stay inside a set.
 
-ghost use Rattle.std.specs.Prelude.{◌≡◌, ℕ, ◌≤◌, ◌<◌, ◌↔◌, true, Contains, length, slice_index, IfOk, OnOk};
-ghost use Rattle.nll_sets.specs.ElementSet.{flag};
+ghost use Rattle.std.specs.Prelude.{◌≡◌, ◌≤◌, ◌<◌, Contains, length, IfOk, OnOk};
 ghost use Rattle.nll_problem.specs.Graph.{element_count};
-ghost use Rattle.nll_problem.specs.Walks.{Reaches};
-ghost use Rattle.nll_core.specs.Search.{Adds, IsStepInside};
+ghost use Rattle.nll_core.specs.Search.{HoldsFrom, IsStepInside, Within, Visits, AreReached};
 
 use crate::search::{Relation, Search, search_from};
 use nll_problem::Graph;
@@ -24,8 +22,7 @@ impl<'a, S: ElementSet> Inside<'a, S> {
     fn visit<R: ElementSet>(&self, element: Element, search: &mut Search<R>) -> Result<(), Memory>
         requires width { length search.old.reached ≡ element_count self.now.graph.now }
         requires element { element < element_count self.now.graph.now }
-        ensures adds { OnOk result (Adds (λ x. (x ≡ element) × (flag (S.flags self.now.set.now) x ≡ true)) search.old search.new) }
-        ensures covers { OnOk result (flag (S.flags self.now.set.now) element ≡ true → flag search.new.reached element ≡ true) }
+        ensures { OnOk result (Visits (Within (S.flags self.now.set.now) (λ x. x ≡ element)) search.old search.new) }
     {
         if self.set.has(element) {
             search.visit(element)?;
@@ -40,9 +37,8 @@ impl<'a, S: ElementSet> Inside<'a, S> {
         search: &mut Search<R>,
     ) -> Result<(), Memory>
         requires width { length search.old.reached ≡ element_count self.now.graph.now }
-        requires points { (k : ℕ) → k < length points.now → slice_index points.now k < element_count self.now.graph.now }
-        ensures adds { OnOk result (Adds (λ x. Contains points.now x × (flag (S.flags self.now.set.now) x ≡ true)) search.old search.new) }
-        ensures covers { OnOk result ((x : ℕ) → Contains points.now x → flag (S.flags self.now.set.now) x ≡ true → flag search.new.reached x ≡ true) }
+        requires points { HoldsFrom 0 points.now (λ x. x < element_count self.now.graph.now) }
+        ensures { OnOk result (Visits (Within (S.flags self.now.set.now) (Contains points.now)) search.old search.new) }
     {
         for point in points {
             self.visit(Element(*point), search)?;
@@ -59,8 +55,7 @@ impl<'a, S: ElementSet> Inside<'a, S> {
     ) -> Result<(), Memory>
         requires width { length search.old.reached ≡ element_count self.now.graph.now }
         requires to { to ≤ element_count self.now.graph.now }
-        ensures adds { OnOk result (Adds (λ x. ((from ≤ x) × (x < to)) × (flag (S.flags self.now.set.now) x ≡ true)) search.old search.new) }
-        ensures covers { OnOk result ((x : ℕ) → from ≤ x → x < to → flag (S.flags self.now.set.now) x ≡ true → flag search.new.reached x ≡ true) }
+        ensures { OnOk result (Visits (Within (S.flags self.now.set.now) (λ x. (from ≤ x) × (x < to))) search.old search.new) }
     {
         for number in from..to {
             self.visit(Element(number), search)?;
@@ -70,7 +65,7 @@ impl<'a, S: ElementSet> Inside<'a, S> {
 }
 
 impl<'a, S: ElementSet> Relation for Inside<'a, S> {
-    ghost step = { λ inside. IsStepInside inside.graph.now (λ x. flag (S.flags inside.set.now) x ≡ true) };
+    ghost step = { λ inside. IsStepInside inside.graph.now (S.flags inside.set.now) };
 
     ghost count = { λ inside. element_count inside.graph.now };
 
@@ -104,7 +99,7 @@ pub fn reached_from<S: ElementSet>(
 ) -> Result<Vec<Element>, Memory>
     requires width { length (S.flags set.now) ≡ element_count graph.now }
     requires at { at < element_count graph.now }
-    ensures { IfOk result (λ reached. (x : ℕ) → Contains reached.items x ↔ Reaches graph.now (λ z. flag (S.flags set.now) z ≡ true) at x) }
+    ensures { IfOk result (λ reached. AreReached graph.now (S.flags set.now) at reached.items) }
 {
     if !set.has(at) {
         return Ok(Vec::new(alloc));

@@ -7,8 +7,8 @@ ghost use Rattle.nll_sets.specs.ElementSet.{elements};
 use nll_sets::{BitSet, Element, Elements};
 use std::marker::Model;
 
-/// The elements of the value of a region that are still to come, ascending. Contracts see it as their
-/// list.
+/// The elements of the value of a region that are still to come, ascending. Contracts see it as
+/// their list.
 #[derive(Drop)]
 pub struct RegionElements<'a> {
     elements: Elements<'a, BitSet>,

@@ -1,11 +1,11 @@
 //! Searches: what the walks of a relation reach from an element.
 //!
-//! A search keeps the elements that it has reached twice: as a set, which tells what is new, and as a
-//! list in the order in which they came, whose end is the work that is left.
+//! A search keeps the elements that it has reached twice: as a set, which tells what is new, and as
+//! a list in the order in which they came, whose end is the work that is left.
 
-ghost use Rattle.std.specs.Prelude.{◌≡◌, ◌⊎◌, ◌↔◌, ℕ, ◌≤◌, ◌<◌, false, true, List, [], Contains, length, replicate, slice_index, IfOk, OnOk};
-ghost use Rattle.nll_sets.specs.ElementSet.{flag};
-ghost use Rattle.nll_core.specs.Search.{Adds, IsCovered, IsFrom, IsLedTo, LeadsTo};
+ghost use Rattle.std.specs.Prelude.{◌≡◌, ℕ, ◌<◌, false, [], length, replicate, slice_index};
+ghost use Rattle.std.specs.Prelude.{IfOk, OnOk};
+ghost use Rattle.nll_core.specs.Search.{Visits, IsPending, Spreads, IsFound};
 
 use nll_sets::{Element, ElementSet, Memory};
 use std::alloc::Global;
@@ -26,8 +26,7 @@ pub trait Relation {
     /// Visits each element that one step from this one leads to.
     fn visit_next<R: ElementSet>(&self, from: Element, search: &mut Search<R>) -> Result<(), Memory>
         requires { length search.old.reached ≡ count self.now }
-        ensures adds { OnOk result (Adds (step self.now from) search.old search.new) }
-        ensures covers { OnOk result (IsCovered (step self.now) search.new.reached from) };
+        ensures { OnOk result (Visits (step self.now from) search.old search.new) };
 }
 
 /// What a search has reached. It owns no relation, so one that is kept can go on through another.
@@ -42,13 +41,13 @@ impl<R: ElementSet> Model for Search<R> {
 
     ghost Value = { spec.Search };
 
-    ghost view = { λ search. record { reached = R.flags search.reached; list = search.list.items } };
+    ghost view = { λ s. record { reached = R.flags s.reached; list = s.list.items } };
 }
 
 impl<R: ElementSet> Search<R> {
     /// A search among the elements below a number, which has reached none.
     pub fn new(alloc: Global, count: u32) -> Result<Search<R>, Memory>
-        ensures { IfOk result (λ search. search ≡ record { reached = replicate count false; list = [] }) }
+        ensures { IfOk result (λ s. s ≡ record { reached = replicate count false; list = [] }) }
     {
         Ok(Search {
             reached: R::empty(alloc, count)?,
@@ -59,8 +58,7 @@ impl<R: ElementSet> Search<R> {
     /// Puts an element into the set and at the end of the list, where it is new.
     pub fn visit(&mut self, element: Element) -> Result<(), Memory>
         requires { element < length self.old.reached }
-        ensures adds { OnOk result (Adds (λ x. x ≡ element) self.old self.new) }
-        ensures covers { OnOk result (flag self.new.reached element ≡ true) }
+        ensures { OnOk result (Visits (λ x. x ≡ element) self.old self.new) }
     {
         if self.reached.insert(element)? {
             self.list.push(element)?;
@@ -68,15 +66,12 @@ impl<R: ElementSet> Search<R> {
         Ok(())
     }
 
-    /// Goes on from the elements of the list from a place on, until each step from the set leads into
-    /// it.
+    /// Goes on from the elements of the list from a place on, until each step from the set leads
+    /// into it.
     pub fn spread<P: Relation>(&mut self, relation: &P, from: usize) -> Result<(), Memory>
         requires width { length self.old.reached ≡ P.count relation.now }
-        requires place { from ≤ length self.old.list }
-        requires listed { (k : ℕ) → from ≤ k → k < length self.old.list → flag self.old.reached (slice_index self.old.list k) ≡ true }
-        requires pending { (x : ℕ) → flag self.old.reached x ≡ true → IsFrom from self.old.list x ⊎ IsCovered (P.step relation.now) self.old.reached x }
-        ensures adds { OnOk result (Adds (IsLedTo (P.step relation.now) self.old.reached) self.old self.new) }
-        ensures covers { OnOk result ((x : ℕ) → flag self.new.reached x ≡ true → IsCovered (P.step relation.now) self.new.reached x) }
+        requires pending { IsPending (P.step relation.now) self.old from }
+        ensures { OnOk result (Spreads (P.step relation.now) self.old self.new) }
     {
         let mut place = from;
         while place < self.len() {
@@ -125,8 +120,7 @@ pub fn search_from<P: Relation, R: ElementSet>(
 ) -> Result<Search<R>, Memory>
     requires { at < P.count relation.now }
     ensures width { IfOk result (λ search. length search.reached ≡ P.count relation.now) }
-    ensures set { IfOk result (λ search. (x : ℕ) → (flag search.reached x ≡ true) ↔ LeadsTo (P.step relation.now) at x) }
-    ensures list { IfOk result (λ search. (x : ℕ) → Contains search.list x ↔ LeadsTo (P.step relation.now) at x) }
+    ensures found { IfOk result (IsFound (P.step relation.now) at) }
 {
     let mut search = Search::new(alloc, relation.count())?;
     search.visit(at)?;

@@ -2,11 +2,12 @@
 //!
 //! This is the plain solver: it forgets after each constraint what it has reached.
 
-ghost use Rattle.std.specs.Prelude.{◌≡◌, ℕ, ◌+◌, ◌≤◌, ◌<◌, ◌↔◌, false, Contains, length, IfOk, OnOk};
-ghost use Rattle.nll_problem.specs.Problem.{IsBase, IsUniversal};
-ghost use Rattle.nll_problem.specs.Solution.{Asks, Least};
+ghost use Rattle.std.specs.Prelude.{◌≡◌, ℕ, ◌≤◌, ◌<◌, ◌↔◌, false, Contains, length, IfOk, OnOk};
+ghost use Rattle.nll_problem.specs.Problem.{IsBase};
+ghost use Rattle.nll_problem.specs.Solution.{Least};
 ghost use Rattle.nll_core.specs.Values.{set_of, IsHeld, IsShaped};
-ghost use Rattle.nll_core.specs.Growing.{Gains, Tells, StaysBelow, IsMet, IsClosed};
+ghost use Rattle.nll_core.specs.Growing.{Gains, Tells, StaysBelow, IsAskedBy, Meets, IsClosed};
+ghost use Rattle.nll_core.specs.Growing.{HoldsPoints, HoldsEnds, HoldsFacts};
 
 use crate::reachability::reached_from;
 use crate::values::Values;
@@ -20,8 +21,8 @@ use std::alloc::Global;
 /// - `Memory`.
 ///
 /// # Cost
-/// A round goes through the graph once for each constraint whose point is in the value of its `sub`,
-/// and each round but the last adds an element (not proved).
+/// A round goes through the graph once for each constraint whose point is in the value of its
+/// `sub`, and each round but the last adds an element (not proved).
 ///
 /// # Source
 /// RFC 2094, "Solving constraints".
@@ -49,8 +50,8 @@ fn base_values(alloc: Global, problem: &Problem) -> Result<Values, Memory>
 fn insert_universals(problem: &Problem, values: &mut Values) -> Result<(), Memory>
     requires { IsShaped problem.now values.old }
     ensures gains { Gains (IsBase problem.now) values.old values.new }
-    ensures points { OnOk result ((r e : ℕ) → IsUniversal problem.now r → e < problem.now.graph.points → IsHeld values.new r e) }
-    ensures ends { OnOk result ((r : ℕ) → IsUniversal problem.now r → IsHeld values.new r (problem.now.graph.points + r)) }
+    ensures points { OnOk result (HoldsPoints problem.now values.new) }
+    ensures ends { OnOk result (HoldsEnds problem.now values.new) }
 {
     let points = problem.points();
     for number in 0..problem.universals() {
@@ -78,7 +79,7 @@ fn insert_points(values: &mut Values, region: RegionId, points: u32) -> Result<(
 fn insert_bases(problem: &Problem, values: &mut Values) -> Result<(), Memory>
     requires { IsShaped problem.now values.old }
     ensures gains { Gains (IsBase problem.now) values.old values.new }
-    ensures covers { OnOk result ((r e : ℕ) → Contains problem.now.bases (r, e) → IsHeld values.new r e) }
+    ensures covers { OnOk result (HoldsFacts problem.now values.new) }
 {
     let facts = problem.bases();
     for base in facts {
@@ -114,8 +115,8 @@ fn apply(
 ) -> Result<bool, Memory>
     requires shaped { IsShaped problem.now values.old }
     requires of_problem { Contains problem.now.constraints constraint }
-    ensures gains { Gains (λ r e. (r ≡ constraint.sup) × Asks problem.now.graph (IsHeld values.old) constraint e) values.old values.new }
-    ensures asks { OnOk result ((e : ℕ) → Asks problem.now.graph (IsHeld values.old) constraint e → IsHeld values.new constraint.sup e) }
+    ensures gains { Gains (IsAskedBy problem.now values.old constraint) values.old values.new }
+    ensures asks { OnOk result (Meets problem.now values.old constraint values.new) }
     ensures tells { IfOk result (λ changed. Tells changed values.old values.new) }
 {
     let graph = problem.graph();

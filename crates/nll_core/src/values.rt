@@ -1,9 +1,8 @@
 //! The values of regions: a set of elements for each.
 
-ghost use Rattle.std.specs.Prelude.{◌≡◌, ◌<◌, false, not, length, replicate, IfOk, OnOk, OnErr};
-ghost use Rattle.nll_problem.specs.Graph.{element_count};
+ghost use Rattle.std.specs.Prelude.{◌≡◌, ◌<◌, not, length, IfOk, OnOk, OnErr};
 ghost use Rattle.nll_sets.specs.ElementSet.{elements};
-ghost use Rattle.nll_core.specs.Values.{set_of, holds, with_element};
+ghost use Rattle.nll_core.specs.Values.{set_of, holds, with_element, empty_values};
 
 use crate::region_elements::RegionElements;
 use nll_problem::{Problem, RegionId};
@@ -28,7 +27,7 @@ impl Model for Values {
 impl Values {
     /// The values of a problem's regions that hold nothing.
     pub fn empty(alloc: Global, problem: &Problem) -> Result<Values, Memory>
-        ensures { IfOk result (λ values. values ≡ replicate problem.now.regions (replicate (element_count problem.now.graph) false)) }
+        ensures { IfOk result (λ values. values ≡ empty_values problem.now) }
     {
         let len = problem.points() + problem.universals();
         let mut sets = Vec::new(alloc);

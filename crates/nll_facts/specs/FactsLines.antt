@@ -2,7 +2,9 @@
 -- Source: project's choice. Only private contracts cite this file.
 use Rattle.std.specs.Prelude.{ℕ, List, [], ◌∷◌, Option, Some, None}
 use Rattle.nll_text.specs.Tokens.{Token}
-use Rattle.nll_facts.specs.FactsForms.{Name, Form, points, universal, outlives, further, next, return, base, constraint, end, Part, number, region, AreSpelled}
+use Rattle.nll_facts.specs.FactsForms.{Name, Form, points, universal, outlives, further, next}
+use Rattle.nll_facts.specs.FactsForms.{return, base, constraint, end, Part, number, region}
+use Rattle.nll_facts.specs.FactsForms.{AreSpelled}
 use Rattle.nll_facts.specs.declared.line.Line.{Line}
 use Rattle.nll_facts.specs.declared.line.Line.TheVariants as lines
 

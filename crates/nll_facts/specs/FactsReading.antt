@@ -1,6 +1,7 @@
 -- What a reader of facts texts holds, and how a line changes it.
 -- Source: project's choice. Only private contracts cite this file.
-use Rattle.std.specs.Prelude.{◌≡◌, ◌⊎◌, ℕ, ◌+◌, ◌<◌, ◌≤◌, true, List, [], ◌∷◌, ◌++◌, Some, None, IsSome, unwrap_or, length}
+use Rattle.std.specs.Prelude.{◌≡◌, ◌⊎◌, ℕ, ◌+◌, ◌<◌, ◌≤◌, true, List, [], ◌∷◌, ◌++◌, Some, None}
+use Rattle.std.specs.Prelude.{IsSome, unwrap_or, length}
 use Rattle.std.specs.List.{AllByRecursion}
 use Rattle.std.specs.Str.{IsUtf8}
 use Rattle.nll_problem.specs.Limits.{most_points, most_universals, most_regions}
@@ -14,7 +15,8 @@ use Rattle.nll_reading.specs.Text.{Says, IsFault, IsHeaded, IsRefusal}
 use Rattle.nll_reading.specs.declared.error.TextError.{TextError}
 use Rattle.nll_reading.specs.declared.error.TextKind.{TextKind}
 use Rattle.nll_reading.specs.declared.error.TextKind.TheVariants.{Memory}
-use Rattle.nll_facts.specs.FactsForms.{Form, points, universal, outlives, further, next, return, base, constraint, end, Part, keyword, number, region, parts}
+use Rattle.nll_facts.specs.FactsForms.{Form, points, universal, outlives, further, next, return}
+use Rattle.nll_facts.specs.FactsForms.{base, constraint, end, Part, keyword, number, region, parts}
 use Rattle.nll_facts.specs.FactsSaid.{Said, said, group, is_in_order, first_fault}
 use Rattle.nll_facts.specs.FactsText.{facts}
 use Rattle.nll_facts.specs.declared.reader.Reader.{Reader}
@@ -89,7 +91,7 @@ Takes s (constraint a b p) t =
     (t.names ≡ s.names)
     × (t.problem ≡ record s.problem { constraints = t.problem.constraints })
     × AddsFact s.problem.constraints t.problem.constraints
-        (record { sup = number_of s.names a; sub = number_of s.names b; at = p })
+    (record { sup = number_of s.names a; sub = number_of s.names b; at = p })
 Takes s end t = (t.names ≡ s.names) × (t.problem ≡ s.problem)
 
 -- t is what is said after a line of the form

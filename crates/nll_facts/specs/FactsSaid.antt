@@ -1,19 +1,25 @@
 -- What the lines of a facts text say together, and what is wrong with a further line.
 -- Source: project's choice; docs/FORMATS.md says the same in words. The code keeps tables; this
 -- speaks of whole lists of lines.
-use Rattle.std.specs.Prelude.{ℕ, max, Bool, false, ◌==◌, nat_lt, nat_le, ◌&&◌, ◌||◌, not, List, [], ◌∷◌, ◌++◌, length, codes, find, Option, Some, None}
+use Rattle.std.specs.Prelude.{ℕ, max, Bool, false, ◌==◌, nat_lt, nat_le, ◌&&◌, ◌||◌, not, List, []}
+use Rattle.std.specs.Prelude.{◌∷◌, ◌++◌, length, codes, find, Option, Some, None}
 use Rattle.std.specs.List.{filter_map}
 use Rattle.indexmap.specs.IndexSet.{insert_all}
 use Rattle.nll_problem.specs.Problem.{Problem}
-use Rattle.nll_problem.specs.Building.{same_pair, same_constraint, is_point, has_edge, has_constraint}
+use Rattle.nll_problem.specs.Building.{same_pair, same_constraint, is_point, has_edge}
+use Rattle.nll_problem.specs.Building.{has_constraint}
 use Rattle.nll_problem.specs.declared.constraint.Constraint.{Constraint}
-use Rattle.nll_problem.specs.Limits.{most_points, most_edges, most_universals, most_regions, most_constraints}
-use Rattle.nll_problem.specs.declared.error.Kind.TheVariants.{Points, Edges, Universals, Regions, Constraints}
+use Rattle.nll_problem.specs.Limits.{most_points, most_edges, most_universals, most_regions}
+use Rattle.nll_problem.specs.Limits.{most_constraints}
+use Rattle.nll_problem.specs.declared.error.Kind.TheVariants.{Points, Edges, Universals, Regions}
+use Rattle.nll_problem.specs.declared.error.Kind.TheVariants.{Constraints}
 use Rattle.nll_reading.specs.Names.{number_of}
 use Rattle.nll_reading.specs.Kinds.{kinds}
-use Rattle.nll_facts.specs.FactsForms.{Name, Form, points, universal, outlives, further, next, return, base, constraint, end}
+use Rattle.nll_facts.specs.FactsForms.{Name, Form, points, universal, outlives, further, next}
+use Rattle.nll_facts.specs.FactsForms.{return, base, constraint, end}
 use Rattle.nll_reading.specs.declared.error.TextKind.{TextKind}
-use Rattle.nll_reading.specs.declared.error.TextKind.TheVariants.{Syntax, Unknown, Duplicate, Range, Limit}
+use Rattle.nll_reading.specs.declared.error.TextKind.TheVariants.{Syntax, Unknown, Duplicate, Range}
+use Rattle.nll_reading.specs.declared.error.TextKind.TheVariants.{Limit}
 
 -- ---- what one line says
 
@@ -169,7 +175,7 @@ has_fault s (constraint a b p) Unknown = not (is_declared s a && is_declared s b
 has_fault s (constraint a b p) Range = not (is_point s.problem p)
 has_fault s (constraint a b p) (Limit Constraints) =
     is_full_of_constraints s
-        (record { sup = number_of s.names a; sub = number_of s.names b; at = p })
+    (record { sup = number_of s.names a; sub = number_of s.names b; at = p })
 has_fault s _ _ = false
 
 -- the first kind of fault that a line of the form has, by the order of kinds

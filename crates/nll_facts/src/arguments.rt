@@ -75,7 +75,8 @@ pub fn region_number<'a>(tokens: &[Token<'a>]) -> Option<(&'a [u8], u32)>
 
 /// Two regions' names and a number.
 pub fn two_regions_number<'a>(tokens: &[Token<'a>]) -> Option<(&'a [u8], &'a [u8], u32)>
-    ensures { Reads shapes.two_regions_number (λ n. (n.0.now, n.1.now, n.2)) (views tokens.now) result }
+    ensures { Reads shapes.two_regions_number (λ n. (n.0.now, n.1.now, n.2))
+        (views tokens.now) result }
 {
     match tokens {
         [

@@ -1,6 +1,7 @@
 //! Reading a whole facts text.
 
-ghost use Rattle.std.specs.Prelude.{◌≡◌, ◌≢◌, ◌⊎◌, ◌<◌, ◌^◌, ℕ, List, [], OnOk, IfOk, IfErr, length};
+ghost use Rattle.std.specs.Prelude.{◌≡◌, ◌≢◌, ◌⊎◌, ◌<◌, ◌^◌, ℕ, List, [], length};
+ghost use Rattle.std.specs.Prelude.{OnOk, IfOk, IfErr};
 ghost use Rattle.std.specs.Str.{IsUtf8};
 ghost use Rattle.nll_text.specs.Lines.{lines_left};
 ghost use Rattle.nll_reading.specs.Text.{IsFault, IsHeaded, IsHeader, IsHeaderFault, IsRefusal};
@@ -25,7 +26,8 @@ pub struct Facts {
 // The error of a line; want of memory is no line's.
 fn refusal(line: u64, kind: TextKind) -> TextError
     ensures memory { kind ≡ TextKind.Memory → result ≡ record { line = 0; kind = TextKind.Memory } }
-    ensures fault { (result ≡ record { line = 0; kind = TextKind.Memory }) ⊎ ((result ≡ record { line = line; kind = kind }) × (kind ≢ TextKind.Memory)) }
+    ensures fault { (result ≡ record { line = 0; kind = TextKind.Memory })
+        ⊎ ((result ≡ record { line = line; kind = kind }) × (kind ≢ TextKind.Memory)) }
 {
     match kind {
         TextKind::Memory => TextError { line: 0, kind },
@@ -34,11 +36,7 @@ fn refusal(line: u64, kind: TextKind) -> TextError
 }
 
 // Takes in the lines behind the header, to the end.
-fn read_lines(
-    reader: &mut Reader,
-    alloc: Global,
-    body: Option<&[u8]>,
-) -> Result<(), TextError>
+fn read_lines(reader: &mut Reader, alloc: Global, body: Option<&[u8]>) -> Result<(), TextError>
     requires start { said_by reader.old ≡ said [] }
     requires ready { IsReady reader.old }
     requires long { length (lines_left body) < 2 ^ 32 }
@@ -92,8 +90,8 @@ fn read_body(alloc: Global, body: Option<&[u8]>) -> Result<Facts, TextError>
 /// Reads a facts text, version 1.
 ///
 /// # Errors
-/// The text's one fault: its first faulty line, and of that line the first kind in the order of `TextKind`;
-/// or `Memory` at line 0, where a growth of memory was refused.
+/// The text's one fault: its first faulty line, and of that line the first kind in the order of
+/// `TextKind`; or `Memory` at line 0, where a growth of memory was refused.
 ///
 /// # Cost
 /// Time linear in the text, and memory for what it says; the text isn't copied (not proved).

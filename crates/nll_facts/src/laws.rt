@@ -21,7 +21,7 @@ pub fn not_both()
         → Means text problem labels → IsFault facts text line kind → ⊥ }
 {}
 
-/// States that a text means at most one problem, and gives its regions and points one set of labels.
+/// States that a text means at most one problem, with one set of labels.
 pub fn one_meaning()
     ensures { (text : List ℕ) (problem other : Problem) (labels other_labels : Labels)
         → Means text problem labels → Means text other other_labels

@@ -1,27 +1,27 @@
 //! The reader of the lines of a facts text: what they say so far.
 //!
-//! The problem's builder wants the number of universal regions, so it is made at the first line that
-//! stands behind them.
+//! The problem's builder wants the number of universal regions, so it is made at the first line
+//! that stands behind them.
 
-ghost use Rattle.std.specs.Prelude.{◌≡◌, ◌⊎◌, ◌<◌, ◌≤◌, ◌+◌, ◌∷◌, [], ◌++◌, ℕ, List, OnOk, IfErr, IfOk, IsSome, IsTrue, ◌↔◌, Some, None, true, false, length};
-ghost use Rattle.std.specs.Str.{IsUtf8};
+ghost use Rattle.std.specs.Prelude.{◌≡◌, ◌⊎◌, ◌↔◌, ◌<◌, ◌≤◌, ℕ, [], length, Some, true, false};
+ghost use Rattle.std.specs.Prelude.{IsTrue, IfOk, IfErr, OnOk, OnErr};
 ghost use Rattle.nll_problem.specs.Limits.{most_regions};
 ghost use Rattle.nll_problem.specs.Problem.{SameProblem};
 ghost use Rattle.nll_facts.specs.FactsForms as forms;
 ghost use Rattle.nll_facts.specs.FactsLines.{view};
 ghost use Rattle.nll_facts.specs.FactsSaid as specs;
-ghost use Rattle.nll_facts.specs.FactsSaid.{first_fault, is_in_order, said};
-ghost use Rattle.nll_facts.specs.FactsReading.{said_by, IsKept, IsReady, IsDue, IsTaken, IsRefused, HasTexts, ReadsLine};
+ghost use Rattle.nll_facts.specs.FactsSaid.{first_fault, is_declared, is_in_order, said};
+ghost use Rattle.nll_facts.specs.FactsReading.{said_by, IsKept, IsReady, HasTexts, ReadsLine};
+ghost use Rattle.nll_facts.specs.FactsReading.{IsDue, IsTaken, IsRefused};
 ghost use Rattle.nll_facts.specs.FactsText.{facts};
 ghost use Rattle.nll_reading.specs.Text.{IsFaulty};
 ghost use Rattle.nll_reading.specs.Names.{number_of};
 
-use nll_reading::TextKind;
 use crate::line::{Line, line_of};
-use nll_reading::Names;
 use nll_problem::{
     Constraint, Kind, MAX_POINTS, MAX_UNIVERSALS, Problem, ProblemBuilder, RegionId,
 };
+use nll_reading::{Names, TextKind};
 use nll_text::{ScanError, Scanned, Token, scan_line};
 use std::alloc::Global;
 
@@ -51,7 +51,6 @@ fn group(line: &Line<'_>) -> u8
         Line::End => 6,
     }
 }
-
 
 impl Reader {
     /// No line is read yet, and `'static` is declared.
@@ -96,8 +95,10 @@ impl Reader {
     // The number of a declared name.
     fn region(&self, name: &[u8]) -> Result<RegionId, TextKind>
         requires { length self.now.names ≤ most_regions }
-        ensures ok { IfOk result (λ r. (r ≡ number_of self.now.names name.now) × (specs.is_declared (said_by self.now) name.now ≡ true)) }
-        ensures err { IfErr result (λ kind. (kind ≡ TextKind.Unknown) × (specs.is_declared (said_by self.now) name.now ≡ false)) }
+        ensures ok { IfOk result (λ r. r ≡ number_of self.now.names name.now) }
+        ensures declared { OnOk result (is_declared (said_by self.now) name.now ≡ true) }
+        ensures unknown { OnErr result (is_declared (said_by self.now) name.now ≡ false) }
+        ensures err { IfErr result (λ kind. kind ≡ TextKind.Unknown) }
     {
         match self.names.number_of(name) {
             Some(number) => Ok(RegionId(number as u32)),
@@ -116,7 +117,8 @@ impl Reader {
         ensures err { IfErr result (λ kind. kind ≡ TextKind.Memory) }
     {
         let universals = self.names.len() as u32;
-        self.builder = Some(ProblemBuilder::new(self.alloc, self.points, universals)?);
+        let builder = ProblemBuilder::new(self.alloc, self.points, universals)?;
+        drop(self.builder.replace(builder));
         Ok(())
     }
 
@@ -124,7 +126,8 @@ impl Reader {
     fn set_points(&mut self, count: u32) -> Result<(), TextKind>
         requires { IsDue self.old (forms.points count) }
         ensures taken { OnOk result (IsTaken (said_by self.old) (forms.points count) self.new) }
-        ensures refused { IfErr result (λ kind. first_fault (said_by self.old) (forms.points count) ≡ Some kind) }
+        ensures refused { IfErr result
+            (λ kind. first_fault (said_by self.old) (forms.points count) ≡ Some kind) }
     {
         if count == 0 {
             return Err(TextKind::Range);
@@ -140,7 +143,8 @@ impl Reader {
     // Adds a universal region.
     fn add_universal(&mut self, name: &[u8]) -> Result<(), TextKind>
         requires { IsDue self.old (forms.universal name.now) }
-        ensures taken { OnOk result (IsTaken (said_by self.old) (forms.universal name.now) self.new) }
+        ensures taken { OnOk result
+            (IsTaken (said_by self.old) (forms.universal name.now) self.new) }
         ensures refused { IfErr result (IsRefused (said_by self.old) (forms.universal name.now)) }
     {
         if self.names.number_of(name).is_some() {
@@ -203,8 +207,10 @@ impl Reader {
     // Adds an outlives fact.
     fn add_outlives(&mut self, longer: &[u8], shorter: &[u8]) -> Result<(), TextKind>
         requires { IsDue self.old (forms.outlives longer.now shorter.now) }
-        ensures taken { OnOk result (IsTaken (said_by self.old) (forms.outlives longer.now shorter.now) self.new) }
-        ensures refused { IfErr result (IsRefused (said_by self.old) (forms.outlives longer.now shorter.now)) }
+        ensures taken { OnOk result
+            (IsTaken (said_by self.old) (forms.outlives longer.now shorter.now) self.new) }
+        ensures refused { IfErr result
+            (IsRefused (said_by self.old) (forms.outlives longer.now shorter.now)) }
     {
         let longer = self.region(longer)?;
         let shorter = self.region(shorter)?;
@@ -219,7 +225,8 @@ impl Reader {
     // Adds a base fact.
     fn add_base(&mut self, name: &[u8], point: u32) -> Result<(), TextKind>
         requires { IsDue self.old (forms.base name.now point) }
-        ensures taken { OnOk result (IsTaken (said_by self.old) (forms.base name.now point) self.new) }
+        ensures taken { OnOk result
+            (IsTaken (said_by self.old) (forms.base name.now point) self.new) }
         ensures refused { IfErr result (IsRefused (said_by self.old) (forms.base name.now point)) }
     {
         let region = self.region(name)?;
@@ -234,8 +241,10 @@ impl Reader {
     // Adds a constraint.
     fn add_constraint(&mut self, sup: &[u8], sub: &[u8], at: u32) -> Result<(), TextKind>
         requires { IsDue self.old (forms.constraint sup.now sub.now at) }
-        ensures taken { OnOk result (IsTaken (said_by self.old) (forms.constraint sup.now sub.now at) self.new) }
-        ensures refused { IfErr result (IsRefused (said_by self.old) (forms.constraint sup.now sub.now at)) }
+        ensures taken { OnOk result
+            (IsTaken (said_by self.old) (forms.constraint sup.now sub.now at) self.new) }
+        ensures refused { IfErr result
+            (IsRefused (said_by self.old) (forms.constraint sup.now sub.now at)) }
     {
         let sup = self.region(sup)?;
         let sub = self.region(sub)?;
@@ -281,7 +290,8 @@ impl Reader {
         requires ready { IsReady self.old }
         ensures ok { OnOk result (ReadsLine (said_by self.old) line.now (said_by self.new)) }
         ensures ready { OnOk result (IsReady self.new) }
-        ensures fault { IfErr result (λ kind. (kind ≡ TextKind.Memory) ⊎ IsFaulty facts (said_by self.old) line.now kind) }
+        ensures fault { IfErr result
+            (λ kind. (kind ≡ TextKind.Memory) ⊎ IsFaulty facts (said_by self.old) line.now kind) }
     {
         match scan_line(line, MOST_TOKENS, tokens) {
             Ok(Scanned::Skipped) => return Ok(()),

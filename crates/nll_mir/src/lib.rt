@@ -1,5 +1,7 @@
 //! Readers of the texts that problems are made of, with the names that reports print.
 #![tactic(auto)]
 
-pub use nll_facts::{Facts, not_both, one_fault, one_meaning, read_facts, some_meaning_or_fault};
+pub use nll_facts::{
+    Facts, few_tokens, not_both, one_fault, one_meaning, read_facts, some_meaning_or_fault,
+};
 pub use nll_reading::{Labels, MAX_TEXT, PointName, TextError, TextKind};

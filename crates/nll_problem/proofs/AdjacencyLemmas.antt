@@ -1,11 +1,11 @@
 -- The edges of a graph that is kept as lists of successors and of predecessors.
-use Rattle.std.proofs.Common.{◌≡◌, ◌≢◌, ℕ, zero, suc, ◌+◌, ◌-◌, ◌<◌, ◌≤◌, Bool, true, false, List, [], ◌∷◌, ◌++◌, map, ◌⊎◌, ◌↔◌, inl, inr, Contains, AllPairs, length, get_or, set, replicate, refl, sym, ap, ◌∙◌, subst, ⊎_elim, arith, add-one, length-append, length-set}
+use Rattle.std.proofs.Common.{◌≡◌, ◌≢◌, ℕ, zero, suc, ◌+◌, ◌-◌, ◌<◌, ◌≤◌, Bool, true, false, List, [], ◌∷◌, ◌++◌, map, ◌⊎◌, ◌↔◌, inl, inr, Contains, AllPairs, length, get_or, set, replicate, refl, sym, ap, ◌∙◌, subst, ⊎_elim, arith, length-append, length-set}
 use Rattle.std.proofs.lemmas.List.{get_or_append_left, get_or-append_right, get_or-set_other, get_or-set_same, get_or_default, get_or_past, get_or-replicate, length-replicate, get_or-map, length-map}
 use Rattle.std.proofs.lemmas.List.Elements.{Contains-get_or, Contains-push, Contains-push_cases, Contains-append_left, Contains-append_right, Contains-append_cases}
 use Rattle.std.proofs.lemmas.List.Quantifiers.{all_pairs_push}
 use Rattle.std.proofs.lemmas.List.Sums.{sum_by-cons}
 use Rattle.std.proofs.lemmas.Bool.{cases_eq, cases_lt, false≢true}
-use Rattle.nll_problem.specs.Adjacency.{edges_from, edges_of, graph_of, AreLists, AreMarked, AreTurned, Indexes, IsIndexed, IsKept}
+use Rattle.nll_problem.specs.Adjacency.{edges_from, edges_of, graph_of, AreLists, AreTurned, Indexes, IsIndexed, IsIndexedIfLong, IsKept}
 use Rattle.nll_problem.specs.Answers.{AddsFact}
 use Rattle.nll_problem.specs.GraphBuilding.{bare_graph}
 use Rattle.nll_problem.specs.Limits.{most_points, most_edges, most_universals}
@@ -177,21 +177,21 @@ module _ (lists : List (List ℕ)) (p q : ℕ) (within : p < length lists) where
 
   -- The lists stay indexed where the index gets only edges of p, and all of them where its list is long.
   pub indexed_grown : (old new : List (ℕ × ℕ)) → IsIndexed lists old → Indexes old new p (row_at lists p ++ q ∷ [])
-      → (SCANNED ≤ length (row_at lists p) → (r : ℕ) → Contains (row_at lists p ++ q ∷ []) r → Contains new (p, r))
+      → IsIndexedIfLong new p (row_at lists p ++ q ∷ [])
       → IsIndexed (with_item lists p q) new
   indexed_grown old new indexed indexes long = record {
     only = λ a b h. ⊎_elim
         (λ before. (grown_has a b).1 (inl (indexed.only a b before)))
         (λ added. subst (λ xs. Contains xs b) (sym (ap (row_at (with_item lists p q)) added.0 ∙ row_same)) added.1)
         (indexes.only (a, b) h);
-    long = λ a b size h. ⊎_elim
+    long = λ a size b h. ⊎_elim
         (λ same.
         let list : row_at (with_item lists p q) a ≡ row_at lists p ++ q ∷ [] = ap (row_at (with_item lists p q)) same ∙ row_same in
         let counted : SCANNED < length (row_at lists p ++ q ∷ []) = subst (λ xs. SCANNED < length xs) list size in
-        subst (λ c. Contains {X = ℕ × ℕ} new (c, b)) (sym same) (long (omega (arith, counted, length-append (row_at lists p) (q ∷ []))) b (subst (λ xs. Contains xs b) list h)))
+        subst (λ c. Contains {X = ℕ × ℕ} new (c, b)) (sym same) (long counted b (subst (λ xs. Contains xs b) list h)))
         (λ other.
         let list : row_at (with_item lists p q) a ≡ row_at lists a = row_other a other in
-        indexes.kept (a, b) (indexed.long a b (subst (λ xs. SCANNED < length xs) list size) (subst (λ xs. Contains xs b) list h)))
+        indexes.kept (a, b) (indexed.long a (subst (λ xs. SCANNED < length xs) list size) b (subst (λ xs. Contains xs b) list h)))
         (cases_eq a p);
   }
 
@@ -357,12 +357,12 @@ kept_none points universals some_point some_universal point_limit universal_limi
 pub indexed_none : (points : ℕ) → IsIndexed (replicate points []) []
 indexed_none points = record {
   only = λ p q h. absurd (none_contained (p, q) h);
-  long = λ p q size h. absurd (nothing_in points p q h);
+  long = λ p size q h. absurd (nothing_in points p q h);
 }
 
 -- lists stay indexed where the index gets edges of a point that are there
 pub indexed_more : (next : List (List ℕ)) (index new : List (ℕ × ℕ)) (p : ℕ) → IsIndexed next index → Indexes index new p (row_at next p) → IsIndexed next new
 indexed_more next index new p indexed indexes = record {
   only = λ a b h. ⊎_elim (indexed.only a b) (λ added. subst (λ c. Contains (row_at next c) b) (sym added.0) added.1) (indexes.only (a, b) h);
-  long = λ a b size h. indexes.kept (a, b) (indexed.long a b size h);
+  long = λ a size b h. indexes.kept (a, b) (indexed.long a size b h);
 }

@@ -1,5 +1,5 @@
--- Base facts that are kept with the repeated ones: what they are as a set, what is left once they are sorted and each is
--- there once, and what a search among these finds.
+-- Base facts, or outlives facts, that are kept with the repeated ones: what they are as a set, what is left once they are
+-- sorted and each is there once, and what a search among these finds.
 use Rattle.std.proofs.Common.{◌≡◌, ◌↔◌, ◌⊎◌, ℕ, zero, suc, ◌<◌, true, List, [], ◌∷◌, ◌++◌, AllPairs, Contains, length, get_or, Result, Ok, Err, Less, Equal, Greater, refl, sym, ◌∙◌, subst, inl, inr, ⊎_elim, arith}
 use Rattle.std.specs.List.Sorted.{IsPermutation, IsSorted, IsSearchInRange, IsBinarySearchResult}
 use Rattle.std.specs.Cmp.{tied_itself}

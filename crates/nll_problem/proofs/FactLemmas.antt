@@ -1,5 +1,5 @@
 -- Sets of facts that are kept as lists: what a search finds in them, and what an insert adds.
-use Rattle.std.proofs.Common.{◌≡◌, ◌≢◌, ℕ, Bool, true, false, not, cond, nat_eq, leb, leb-false, ◌&&◌, List, [], ◌∷◌, ◌++◌, ◌<◌, ◌≤◌, ◌⊎◌, inl, Contains, AllPairs, length, refl, sym, ap, ◌∙◌, subst, ◌↔◌, ⊎_elim, length-append, arith}
+use Rattle.std.proofs.Common.{◌≡◌, ◌≢◌, ℕ, Bool, true, false, not, cond, nat_eq, leb, leb-false, ◌&&◌, List, [], ◌∷◌, ◌++◌, ◌≤◌, ◌⊎◌, inl, Contains, length, refl, sym, ap, ◌∙◌, subst, ◌↔◌, ⊎_elim, length-append, arith}
 use Rattle.std.specs.List.{list_any}
 use Rattle.std.specs.Cmp.{IsEquivalence}
 use Rattle.std.proofs.lemmas.List.{get_or_default}

@@ -1,7 +1,6 @@
 -- Constraints by the region that they read: their order, and the part of a list in that order that has one region's.
-use Rattle.std.proofs.Common.{◌≡◌, ◌↔◌, ◌⊎◌, ℕ, zero, ◌+◌, ◌-◌, ◌<◌, ◌≤◌, Bool, true, false, ltb, leb, List, AllPairs, Contains, length, get_or, take, drop, inl, inr, ⊎_elim, Ordering, Less, Equal, Greater, nat_cmp, is_lt, refl, sym, ap, subst, ◌∙◌, IsSorted, length-take, length-drop, get_or-take, get_or-drop, ltb-true, ltb-false, leb-true, leb-false, lt-ltb, le-leb, arith}
+use Rattle.std.proofs.Common.{◌≡◌, ◌↔◌, ℕ, ◌+◌, ◌-◌, ◌<◌, ◌≤◌, true, false, ltb, leb, List, AllPairs, Contains, length, get_or, take, drop, inl, inr, ⊎_elim, Ordering, Less, Equal, Greater, nat_cmp, sym, ap, subst, ◌∙◌, IsSorted, length-take, length-drop, get_or-take, get_or-drop, ltb-true, ltb-false, leb-true, leb-false, arith}
 use Rattle.std.specs.Ordering.{MatchOrdering, ordering_then}
-use Rattle.std.specs.List.{AllWithin}
 use Rattle.std.specs.List.Sorted.{IsNonDecreasingBy, IsPartitionPoint, IsPermutation}
 use Rattle.std.specs.Cmp.{IsTotalOrder, then_total, on_total, nat_cmp_total, ranks}
 use Rattle.std.proofs.lemmas.Bool.{cases_lt}
@@ -11,7 +10,7 @@ use Rattle.std.proofs.lemmas.Map.Keys.{IsDistinct-IsPermutation}
 use Rattle.std.proofs.lemmas.Map.Made.{AllPairs-from_IsDistinct, IsDistinct-from_AllPairs}
 use Rattle.nll_problem.specs.Building.{same_constraint}
 use Rattle.nll_problem.proofs.FactLemmas.{constraint_is, constraint_same, exact_equivalence}
-use Rattle.nll_problem.specs.Problem.{IsEarlier, IsOnce, SameSet}
+use Rattle.nll_problem.specs.Problem.{IsOnce, SameSet}
 use Rattle.nll_problem.specs.ConstraintIndex.{IsLower, IsReadEarlier, constraint_cmp}
 use Rattle.nll_problem.specs.declared.constraint.Constraint.{Constraint}
 use Rattle.nll_problem.proofs.OrderLemmas.{pair_ranks, sorted_once_ascends}
@@ -21,6 +20,7 @@ constraint_ranks c d = by (nat_cmp c.sub d.sub) (ordering_then (nat_cmp c.sup d.
   where
     same : (a b : ℕ) (x y : ℕ × ℕ) → a ≡ b → x ≡ y → ◌≡◌ {A = Constraint} (record { sub = a; sup = x.0; at = x.1 }) (record { sub = b; sup = y.0; at = y.1 })
     same a b x y p q = cc
+
     by : (a b : Ordering) → MatchOrdering a (c.sub < d.sub) (c.sub ≡ d.sub) (d.sub < c.sub) → MatchOrdering b (IsLower c d) (◌≡◌ {A = ℕ × ℕ} (c.sup, c.at) (d.sup, d.at)) (IsLower d c) → MatchOrdering (ordering_then a b) (IsReadEarlier c d) (c ≡ d) (IsReadEarlier d c)
     by Less b h k = inl h
     by Equal Less h k = inr (h, k)
@@ -88,9 +88,9 @@ module _ (xs : List Constraint) (sub first count : ℕ) (within_all : first ≤ 
   pub part_has : (c : Constraint) → Contains (take count (rest_of xs first)) c ↔ (Contains xs c × (c.sub ≡ sub))
   part_has c = (
     λ h.
-      let lt : h.0 < count = omega (arith, h.1, length_part) in
-      let is = sym (at_part h.0 c lt) ∙ h.2 in
-      ((first + h.0, omega (arith, length_rest, within), is), subst (λ (x : Constraint). x.sub ≡ sub) is (reads h.0 c lt)),
+        let lt : h.0 < count = omega (arith, h.1, length_part) in
+        let is = sym (at_part h.0 c lt) ∙ h.2 in
+        ((first + h.0, omega (arith, length_rest, within), is), subst (λ (x : Constraint). x.sub ≡ sub) is (reads h.0 c lt)),
     λ h. there h.0.0 h.0.1 h.0.2 h.1,
   )
     where
@@ -101,9 +101,9 @@ module _ (xs : List Constraint) (sub first count : ℕ) (within_all : first ≤ 
           let moved : first + (k - first) ≡ k = omega arith in
           let at : get_or (rest_of xs first) (k - first) c ≡ c = at_rest (k - first) c (omega arith) ∙ ap (λ n. get_or xs n c) moved ∙ is in
           let lt : k - first < count = ⊎_elim
-              (λ lt. lt)
-              (λ le. absurd (omega (arith, leb-false _ sub (parted_rest.1 (k - first) c le (omega (arith, length_rest))), ap (λ (x : Constraint). x.sub) at)))
-              (cases_lt (k - first) count) in
+          (λ lt. lt)
+          (λ le. absurd (omega (arith, leb-false _ sub (parted_rest.1 (k - first) c le (omega (arith, length_rest))), ap (λ (x : Constraint). x.sub) at)))
+          (cases_lt (k - first) count) in
           (k - first, omega (arith, length_part, lt), at_part (k - first) c lt ∙ ap (λ n. get_or xs n c) moved ∙ is)
 
   -- and these ascend

@@ -1,5 +1,5 @@
 -- Orders of facts, and lists that ascend by them.
-use Rattle.std.proofs.Common.{◌≡◌, ◌≢◌, ℕ, ◌+◌, ◌<◌, ◌≤◌, Bool, true, false, List, AllPairs, length, get_or, inl, inr, ⊎_elim, Ordering, Less, Equal, Greater, nat_cmp, is_lt, is_eq, refl, sym, ap, subst, ◌∙◌, IsSorted, arith}
+use Rattle.std.proofs.Common.{◌≡◌, ℕ, ◌+◌, ◌<◌, true, false, List, AllPairs, get_or, inl, inr, ⊎_elim, Ordering, Less, Equal, Greater, nat_cmp, is_lt, is_eq, refl, sym, ap, subst, IsSorted, arith}
 use Rattle.std.specs.Ordering.{MatchOrdering, ordering_then, eq_by_cmp}
 use Rattle.std.specs.List.Sorted.{IsStrictlySortedBy}
 use Rattle.std.specs.Cmp.{IsTotalOrder, then_total, on_total, nat_cmp_total, ranks, both_ways, tied_itself}
@@ -51,6 +51,7 @@ pair_ranks x y = by (nat_cmp x.0 y.0) (nat_cmp x.1 y.1) (ranks x.0 y.0) (ranks x
   where
     same : (a b c d : ℕ) → a ≡ b → c ≡ d → ◌≡◌ {A = ℕ × ℕ} (a, c) (b, d)
     same a b c d p q = cc
+
     by : (a b : Ordering) → MatchOrdering a (x.0 < y.0) (x.0 ≡ y.0) (y.0 < x.0) → MatchOrdering b (x.1 < y.1) (x.1 ≡ y.1) (y.1 < x.1) → MatchOrdering (ordering_then a b) (IsEarlier x y) (x ≡ y) (IsEarlier y x)
     by Less b h k = inl h
     by Equal Less h k = inr (h, k)

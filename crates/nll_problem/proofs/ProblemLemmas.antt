@@ -46,8 +46,9 @@ module _ (q : Problem) (s : IsSound q) where
     outlives_once = s.outlives_once;
   }
 
-  pub sound_outlives : (new : List (ℕ × ℕ)) (a b : ℕ) → ((x : ℕ × ℕ) → Contains new x → Contains q.outlives x ⊎ ((a, b) ≡ x)) → IsOnce new → a < q.graph.universals → b < q.graph.universals → IsSound (record q { outlives = new })
-  sound_outlives new a b only once longer shorter = record {
+  -- outlives facts that are all in range
+  pub sound_other_outlives : (new : List (ℕ × ℕ)) → ((a b : ℕ) → Contains new (a, b) → IsUniversal q a × IsUniversal q b) → IsOnce new → IsSound (record q { outlives = new })
+  sound_other_outlives new in_range once = record {
     graph = s.graph;
     universals_are_regions = s.universals_are_regions;
     region_limit = s.region_limit;
@@ -55,14 +56,17 @@ module _ (q : Problem) (s : IsSound q) where
     bases_in_range = s.bases_in_range;
     constraint_regions = s.constraint_regions;
     constraint_points = s.constraint_points;
-    outlives_in_range = λ x y h. ⊎_elim
-        (s.outlives_in_range x y)
-        (λ is. subst (λ (z : ℕ × ℕ). IsUniversal q z.0 × IsUniversal q z.1) is (longer, shorter))
-        (only (x, y) h);
+    outlives_in_range = in_range;
     bases_once = s.bases_once;
     constraints_once = s.constraints_once;
     outlives_once = once;
   }
+
+  pub sound_outlives : (new : List (ℕ × ℕ)) (a b : ℕ) → ((x : ℕ × ℕ) → Contains new x → Contains q.outlives x ⊎ ((a, b) ≡ x)) → IsOnce new → a < q.graph.universals → b < q.graph.universals → IsSound (record q { outlives = new })
+  sound_outlives new a b only once longer shorter = sound_other_outlives new (λ x y h. ⊎_elim
+      (s.outlives_in_range x y)
+      (λ is. subst (λ (z : ℕ × ℕ). IsUniversal q z.0 × IsUniversal q z.1) is (longer, shorter))
+      (only (x, y) h)) once
 
   -- base facts that are all in range
   pub sound_other_bases : (new : List (ℕ × ℕ)) → ((r e : ℕ) → Contains new (r, e) → (r < q.regions) × (e < q.graph.points)) → IsOnce new → IsSound (record q { bases = new })
@@ -82,16 +86,9 @@ module _ (q : Problem) (s : IsSound q) where
 
   pub sound_bases : (new : List (ℕ × ℕ)) (r p : ℕ) → ((x : ℕ × ℕ) → Contains new x → Contains q.bases x ⊎ ((r, p) ≡ x)) → IsOnce new → r < q.regions → p < q.graph.points → IsSound (record q { bases = new })
   sound_bases new r p only once region point = sound_other_bases new (λ x y h. ⊎_elim
-        (s.bases_in_range x y)
-        (λ is. subst (λ (z : ℕ × ℕ). (z.0 < q.regions) × (z.1 < q.graph.points)) is (region, point))
-        (only (x, y) h)) once
-
-  -- the same base facts in a list that ascends
-  pub finished : (new : List (ℕ × ℕ)) → SameSet q.bases new → AllPairs IsEarlier new → IsFinished (record q { bases = new })
-  finished new same ascend = record {
-    sound = sound_other_bases new (λ r e h. s.bases_in_range r e ((same (r, e)).1 h)) (ascending_once new ascend);
-    ascending = ascend;
-  }
+      (s.bases_in_range x y)
+      (λ is. subst (λ (z : ℕ × ℕ). (z.0 < q.regions) × (z.1 < q.graph.points)) is (region, point))
+      (only (x, y) h)) once
 
   pub sound_constraints : (new : List Constraint) (c : Constraint) → ((d : Constraint) → Contains new d → Contains q.constraints d ⊎ (c ≡ d)) → IsOnce new → c.sup < q.regions → c.sub < q.regions → c.at < q.graph.points → length new ≤ most_constraints → IsSound (record q { constraints = new })
   sound_constraints new c only once sup sub at room = record {
@@ -130,15 +127,25 @@ module _ (q : Problem) (s : IsSound q) where
     outlives_once = s.outlives_once;
   }
 
--- the problem with other base facts that are the same set
-pub same_bases : (q : Problem) (new : List (ℕ × ℕ)) → SameSet q.bases new → SameProblem q (record q { bases = new })
-same_bases q new same = record {
-  points = refl;
-  universals = refl;
-  regions = refl;
-  edges = same_set _;
-  returns = same_set _;
-  bases = same;
-  constraints = same_set _;
-  outlives = same_set _;
-}
+-- the same base facts and outlives facts in lists that ascend
+module _ (q : Problem) (s : IsSound q) (bases outlives : List (ℕ × ℕ)) (same_bases : SameSet q.bases bases) (same_outlives : SameSet q.outlives outlives) where
+  pub finished : AllPairs IsEarlier bases → AllPairs IsEarlier outlives → IsFinished (record q { bases = bases; outlives = outlives })
+  finished ascend ascend_too = record {
+    sound = sound_other_outlives (record q { bases = bases })
+        (sound_other_bases q s bases (λ r e h. s.bases_in_range r e ((same_bases (r, e)).1 h)) (ascending_once bases ascend))
+        outlives (λ a b h. s.outlives_in_range a b ((same_outlives (a, b)).1 h)) (ascending_once outlives ascend_too);
+    bases_ascend = ascend;
+    outlives_ascend = ascend_too;
+  }
+
+  pub same_finished : SameProblem q (record q { bases = bases; outlives = outlives })
+  same_finished = record {
+    points = refl;
+    universals = refl;
+    regions = refl;
+    edges = same_set _;
+    returns = same_set _;
+    bases = same_bases;
+    constraints = same_set _;
+    outlives = same_outlives;
+  }

@@ -1,8 +1,8 @@
 -- Rows that are kept flat, and rows that grow.
-use Rattle.std.proofs.Common.{◌≡◌, ℕ, zero, suc, ◌+◌, ◌-◌, ◌<◌, ◌≤◌, List, [], ◌∷◌, ◌++◌, map, length, get_or, set, take, drop, replicate, slice_range, sum_by, refl, sym, ap, ◌∙◌, subst, ⊎_elim, arith, add-one, length-append, length-drop}
+use Rattle.std.proofs.Common.{◌≡◌, ℕ, zero, suc, ◌+◌, ◌-◌, ◌<◌, ◌≤◌, List, [], ◌∷◌, ◌++◌, map, length, get_or, set, take, drop, replicate, slice_range, refl, sym, ap, ◌∙◌, subst, ⊎_elim, arith, add-one, length-append, length-drop}
 use Rattle.std.specs.List.{range_with_len}
 use Rattle.std.proofs.Math.Seq.{drop-cons, drop-append_seam, take-length, map-set_same}
-use Rattle.std.proofs.lemmas.List.{take-append-le, drop-append-le, length-take-le, get_or_append_left, get_or-append_right, get_or-map, length-map, map-set, get_or-set_same, length-set}
+use Rattle.std.proofs.lemmas.List.{take-append-le, drop-append-le, length-take-le, get_or_append_left, get_or-append_right, get_or-map, length-map, map-set, get_or-set_same}
 use Rattle.std.proofs.lemmas.List.FromFn.{length-map-range_with_len, get_or-map-range_with_len, fill_by_all, sum_by-map-range_with_len_more}
 use Rattle.std.proofs.lemmas.List.Sums.{sum_by-cons, sum_by-set}
 use Rattle.std.proofs.lemmas.Bool.{cases_lt}

@@ -1,6 +1,8 @@
--- How a graph and its builder keep edges: for each point a list of its successors, and a list of its predecessors.
+-- How a graph and its builder keep edges: each point has a list of its successors and one of its
+-- predecessors.
 -- Source: project's choice. Private contracts alone cite this file.
-use Rattle.std.specs.Prelude.{◌≡◌, ◌≢◌, ◌⊎◌, ◌↔◌, ℕ, ◌+◌, ◌<◌, Bool, true, false, List, [], ◌∷◌, ◌++◌, map, length, Contains, AllPairs, slice_index_or}
+use Rattle.std.specs.Prelude.{◌≡◌, ◌≢◌, ◌⊎◌, ◌↔◌, ℕ, ◌+◌, ◌<◌, Bool, true, false, List, [], ◌∷◌}
+use Rattle.std.specs.Prelude.{◌++◌, map, length, Contains, AllPairs, slice_index_or}
 use Rattle.nll_problem.specs.Graph.{Graph, IsSound}
 use Rattle.nll_problem.specs.Rows.{row_at}
 use Rattle.nll_problem.specs.declared.graph_builder.TheConstants.{SCANNED}
@@ -24,32 +26,38 @@ pub record AreLists (points : ℕ) (lists : List (List ℕ)) : Type 0 where
   pub listed : length lists ≡ points
   pub once : (p : ℕ) → AllPairs (λ q r. q ≢ r) (row_at lists p)
 
--- the lists of predecessors are those of successors read backwards: p is before q where q is after p
+-- the lists of predecessors are those of successors, turned: p is before q just where q is after p
 abbrev pub AreTurned : List (List ℕ) → List (List ℕ) → Type 0
 AreTurned next previous = (p q : ℕ) → Contains (row_at previous q) p ↔ Contains (row_at next p) q
 
--- There is a mark for each point; those of the return points are set, and none of these is listed twice.
+-- There is a mark for each point, set just for the return points; none of these is listed twice.
 pub record AreMarked (points : ℕ) (returns : List ℕ) (marks : List Bool) : Type 0 where
   pub listed : length marks ≡ points
   pub each : (p : ℕ) → Contains returns p ↔ (slice_index_or marks p false ≡ true)
   pub once : AllPairs (λ p q. p ≢ q) returns
 
--- The graph is sound, its edges are listed forwards and backwards, and its return points are marked.
-pub record IsKept (points universals : ℕ) (next previous : List (List ℕ)) (returns : List ℕ) (marks : List Bool) : Type 0 where
+-- The graph is sound, its edges are listed forwards and backwards, its return points are marked.
+pub record IsKept
+    (points universals : ℕ) (next previous : List (List ℕ)) (returns : List ℕ) (marks : List Bool)
+    : Type 0 where
   pub sound : IsSound (graph_of points universals next returns)
   pub successors : AreLists points next
   pub predecessors : AreLists points previous
   pub turned : AreTurned next previous
   pub marked : AreMarked points returns marks
 
--- The index has just edges, all of them at the points with long lists.
-pub record IsIndexed (next : List (List ℕ)) (index : List (ℕ × ℕ)) : Type 0 where
-  pub only : (p q : ℕ) → Contains index (p, q) → Contains (row_at next p) q
-  pub long : (p q : ℕ) → SCANNED < length (row_at next p) → Contains (row_at next p) q → Contains index (p, q)
+-- the index has the edges from the point to all of the list
+abbrev pub HasEdgesTo : List (ℕ × ℕ) → ℕ → List ℕ → Type 0
+HasEdgesTo index point list = (q : ℕ) → Contains list q → Contains index (point, q)
 
 -- where the list of successors of the point is long, the index has the edges to all of them
 abbrev pub IsIndexedIfLong : List (ℕ × ℕ) → ℕ → List ℕ → Type 0
-IsIndexedIfLong index point list = SCANNED < length list → (q : ℕ) → Contains list q → Contains index (point, q)
+IsIndexedIfLong index point list = SCANNED < length list → HasEdgesTo index point list
+
+-- The index has just edges, and all of those of the points with long lists.
+pub record IsIndexed (next : List (List ℕ)) (index : List (ℕ × ℕ)) : Type 0 where
+  pub only : (p q : ℕ) → Contains index (p, q) → Contains (row_at next p) q
+  pub long : (p : ℕ) → IsIndexedIfLong index p (row_at next p)
 
 -- The index kept its edges, and got some from a point to successors of the list alone.
 pub record Indexes (old new : List (ℕ × ℕ)) (from : ℕ) (list : List ℕ) : Type 0 where

@@ -10,7 +10,7 @@ use Rattle.nll_problem.specs.declared.constraint.Constraint.{Constraint}
 abbrev pub IsLower : Constraint → Constraint → Type 0
 IsLower c d = IsEarlier (c.sup, c.at) (d.sup, d.at)
 
--- the same among all constraints of an index: by the region that is read, and only then so
+-- one stands before another among all constraints of an index: by its sub, and then as above
 abbrev pub IsReadEarlier : Constraint → Constraint → Type 0
 IsReadEarlier c d = (c.sub < d.sub) ⊎ ((c.sub ≡ d.sub) × IsLower c d)
 

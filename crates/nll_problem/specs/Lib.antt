@@ -11,4 +11,3 @@ pub mod Rows
 pub mod Bases
 pub mod ConstraintIndex
 pub mod Adjacency
-pub use Rattle.nll_sets.specs.ElementSet

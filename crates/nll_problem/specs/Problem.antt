@@ -81,7 +81,8 @@ pub record IsSound (q : Problem) : Type 0 where
   pub constraints_once : IsOnce q.constraints
   pub outlives_once : IsOnce q.outlives
 
--- a finished problem is sound, and its base facts ascend
+-- a finished problem is sound, and its base facts and outlives facts ascend
 pub record IsFinished (q : Problem) : Type 0 where
   pub sound : IsSound q
-  pub ascending : AllPairs IsEarlier q.bases
+  pub bases_ascend : AllPairs IsEarlier q.bases
+  pub outlives_ascend : AllPairs IsEarlier q.outlives

@@ -1,11 +1,14 @@
--- How rows of numbers are kept: flat, in one list beside the places where the rows start; and, while they grow, a list a row.
+-- How rows of numbers are kept: flat, in one list beside the places where the rows start; and,
+-- while they grow, in a list for each row.
 -- Source: project's choice. Private contracts alone cite this file.
-use Rattle.std.specs.Prelude.{◌≡◌, ℕ, ◌+◌, ◌-◌, ◌<◌, ◌≤◌, List, [], ◌∷◌, ◌++◌, map, length, slice_index, slice_index_or, slice_range, slice_set, sum_by}
+use Rattle.std.specs.Prelude.{◌≡◌, ℕ, ◌+◌, ◌-◌, ◌<◌, ◌≤◌, List, [], ◌∷◌, ◌++◌, map, length}
+use Rattle.std.specs.Prelude.{slice_index, slice_index_or, slice_range, slice_set, sum_by}
 use Rattle.std.specs.List.{range_with_len}
 
 -- the row at an index: the items from where it starts to where the next row starts
 abbrev pub row_of : List ℕ → List ℕ → ℕ → List ℕ
-row_of starts items index = slice_range items (slice_index starts index) (slice_index starts (index + 1))
+row_of starts items index =
+    slice_range items (slice_index starts index) (slice_index starts (index + 1))
 
 -- the rows that are kept so: one for each start but the last, which is where the items end
 abbrev pub rows_of : List ℕ → List ℕ → List (List ℕ)
@@ -30,7 +33,8 @@ row_at rows index = slice_index_or rows index []
 abbrev pub with_item : List (List ℕ) → ℕ → ℕ → List (List ℕ)
 with_item rows index item = slice_set rows index (row_at rows index ++ item ∷ [])
 
--- Rows that grow: what they are, how many items each has room for, and how many more items fit into the room of the flat form.
+-- Rows that grow: what they are, how many items each has room for, and how many more items fit into
+-- the room of the flat form.
 pub record Growing : Type 0 where
   pub rows : List (List ℕ)
   pub rooms : List ℕ

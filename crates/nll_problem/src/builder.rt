@@ -9,7 +9,7 @@ ghost use Rattle.nll_problem.specs.Building.{base_error, constraint_error, has_c
 ghost use Rattle.nll_problem.specs.Building.{outlives_error, region_error};
 ghost use Rattle.nll_problem.specs.GraphBuilding.{bare_graph, edge_error, graph_error};
 ghost use Rattle.nll_problem.specs.GraphBuilding.{return_error};
-ghost use Rattle.nll_problem.specs.Problem.{IsSound, SameProblem};
+ghost use Rattle.nll_problem.specs.Problem.{SameProblem};
 
 use crate::bases::Bases;
 use crate::constraint::Constraint;
@@ -18,9 +18,9 @@ use crate::error::{BuildError, Kind};
 use crate::graph::Graph;
 use crate::graph_builder::GraphBuilder;
 use crate::limits::{MAX_CONSTRAINTS, MAX_REGIONS};
+use crate::outlives::Outlives;
 use crate::problem::Problem;
 use crate::region::RegionId;
-use indexmap::IndexSet;
 use nll_sets::Memory;
 use std::alloc::Global;
 use std::marker::Model;
@@ -38,7 +38,7 @@ pub struct ProblemBuilder {
     regions: u32,
     bases: Bases,
     constraints: ConstraintSet,
-    outlives: IndexSet<(RegionId, RegionId)>,
+    outlives: Outlives,
 }
 
 impl Model for ProblemBuilder {
@@ -47,10 +47,10 @@ impl Model for ProblemBuilder {
 
     ghost Value = { spec.Problem };
 
-    ghost view = { λ b. problem_of b.graph b.regions b.bases b.constraints b.outlives.keys };
+    ghost view = { λ b. problem_of b.graph b.regions b.bases b.constraints b.outlives };
 
     ghost invariant = { λ b.
-        IsSound (problem_of b.graph b.regions b.bases b.constraints b.outlives.keys) };
+        IsSound (problem_of b.graph b.regions b.bases b.constraints b.outlives) };
 }
 
 impl ProblemBuilder {
@@ -130,7 +130,8 @@ impl ProblemBuilder {
         ensures answers { Answers (edge_error self.old.graph from to) result }
         ensures ok { OnOk result (AddsFact self.old.graph.edges self.new.graph.edges (from, to)) }
         ensures others { self.new ≡ record self.old {
-            graph = record self.old.graph { edges = self.new.graph.edges } } }
+          graph = record self.old.graph { edges = self.new.graph.edges };
+        } }
         ensures err { OnErr result (self.new ≡ self.old) }
     {
         self.graph.next(from, to)
@@ -145,7 +146,8 @@ impl ProblemBuilder {
         ensures answers { Answers (return_error self.old.graph point) result }
         ensures ok { OnOk result (AddsFact self.old.graph.returns self.new.graph.returns point) }
         ensures others { self.new ≡ record self.old {
-            graph = record self.old.graph { returns = self.new.graph.returns } } }
+          graph = record self.old.graph { returns = self.new.graph.returns };
+        } }
         ensures err { OnErr result (self.new ≡ self.old) }
     {
         self.graph.ret(point)
@@ -204,14 +206,15 @@ impl ProblemBuilder {
     /// The problem of the facts that were accepted. Takes no memory, and is never refused.
     pub fn finish(self) -> Result<Problem, BuildError>
         ensures ok { IsOkAnd result (SameProblem self) }
-        ensures others { IfOk result (λ q. q ≡ record self { bases = q.bases }) }
+        ensures others { IfOk result (λ q.
+            q ≡ record self { bases = q.bases; outlives = q.outlives }) }
     {
         Ok(Problem::of(
             self.graph.finish(),
             self.regions,
             self.bases.finish(),
             self.constraints.finish(),
-            self.outlives,
+            self.outlives.finish(),
         ))
     }
 }
@@ -228,7 +231,7 @@ impl ProblemBuilder {
             regions: universals,
             bases: Bases::new(alloc),
             constraints: ConstraintSet::new(alloc),
-            outlives: IndexSet::new(alloc),
+            outlives: Outlives::new(alloc),
         }
     }
 
@@ -261,7 +264,7 @@ impl ProblemBuilder {
         ensures others { self.new ≡ record self.old { outlives = self.new.outlives } }
         ensures err { OnErr result (self.new ≡ self.old) }
     {
-        self.outlives.insert((longer, shorter))?;
+        self.outlives.insert(longer, shorter)?;
         Ok(())
     }
 

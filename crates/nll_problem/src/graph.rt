@@ -1,7 +1,6 @@
 //! The control-flow graph of a problem, finished: flat, to be walked forwards and backwards.
 
 ghost use Rattle.std.specs.Prelude.{◌≡◌, ◌≢◌, ◌↔◌, ℕ, ◌<◌, Contains, AllPairs, IsTrue, IfOk};
-ghost use Rattle.nll_problem.specs.Adjacency.{IsKept, graph_of};
 ghost use Rattle.nll_problem.specs.Graph.{IsNext, IsReturn, IsSound};
 
 use crate::rows::Rows;
@@ -32,7 +31,8 @@ impl Model for Graph {
 
     ghost view = { λ g. graph_of g.points g.universals g.next g.returns.items };
 
-    ghost invariant = { λ g. IsKept g.points g.universals g.next g.previous g.returns.items g.marks.items };
+    ghost invariant = { λ g.
+        IsKept g.points g.universals g.next g.previous g.returns.items g.marks.items };
 }
 
 impl Graph {

@@ -1,18 +1,18 @@
 //! The builder of a graph.
 //!
-//! Each point has a list of its successors. A list of up to `SCANNED` successors is searched from end
-//! to end; the edges of points with longer lists also stand in a hashed index. So adding an edge takes
-//! amortised constant time, and a point with few successors costs no more than these. Predecessors
-//! are listed beside, and the room for the finished graph grows with each edge.
+//! Each point has a list of its successors. A list of up to `SCANNED` successors is searched from
+//! end to end; the edges of points with longer lists also stand in a hashed index. So adding an
+//! edge takes amortised constant time, and a point with few successors costs no more than these.
+//! The predecessors are listed beside, and the room for the finished graph grows with each edge.
 
-ghost use Rattle.std.specs.Prelude.{◌≡◌, ◌≢◌, ◌⊎◌, ◌↔◌, ℕ, ◌+◌, ◌<◌, ◌≤◌, List, [], ◌∷◌, ◌++◌, length, Contains, AllPairs, OnOk, OnErr, IfOk};
-ghost use Rattle.nll_problem.specs.Adjacency.{Indexes, IsIndexed, IsIndexedIfLong, IsKept};
+ghost use Rattle.std.specs.Prelude.{◌≡◌, ◌<◌, ◌≤◌, [], ◌∷◌, ◌++◌, length, OnOk, OnErr, IfOk};
+ghost use Rattle.nll_problem.specs.Adjacency.{HasEdgesTo, Indexes, IsIndexed, IsIndexedIfLong};
 ghost use Rattle.nll_problem.specs.Answers.{Answers, AddsFact};
 ghost use Rattle.nll_problem.specs.Graph.{IsNext, IsSound};
 ghost use Rattle.nll_problem.specs.GraphBuilding as building;
-ghost use Rattle.nll_problem.specs.GraphBuilding.{bare_graph, graph_error, edge_error, return_error};
+ghost use Rattle.nll_problem.specs.GraphBuilding.{bare_graph, graph_error, edge_error};
+ghost use Rattle.nll_problem.specs.GraphBuilding.{return_error};
 ghost use Rattle.nll_problem.specs.Limits.{most_points, most_edges, most_universals};
-ghost use Rattle.nll_problem.specs.Rows.{row_at};
 
 use crate::error::{BuildError, Kind};
 use crate::graph::Graph;
@@ -48,7 +48,6 @@ pub struct GraphBuilder {
 }
 
 impl Model for GraphBuilder {
-    ghost use Rattle.std.specs.Prelude.{List};
     ghost use Rattle.nll_problem.specs.Graph as spec;
     ghost use Rattle.nll_problem.specs.Adjacency.{graph_of, IsIndexed, IsKept};
 
@@ -56,7 +55,9 @@ impl Model for GraphBuilder {
 
     ghost view = { λ b. graph_of b.points b.universals b.next.rows b.returns.items };
 
-    ghost invariant = { λ b. IsKept b.points b.universals b.next.rows b.previous.rows b.returns.items b.marks.items × IsIndexed b.next.rows b.index.keys };
+    ghost invariant = { λ b.
+        IsKept b.points b.universals b.next.rows b.previous.rows b.returns.items b.marks.items
+        × IsIndexed b.next.rows b.index.keys };
 }
 
 impl GraphBuilder {
@@ -283,7 +284,7 @@ fn index_grown(
     requires { IsIndexedIfLong index.old.keys from list.now }
     ensures ok { OnOk result (Indexes index.old.keys index.new.keys from (list.now ++ to ∷ [])) }
     ensures err { OnErr result (Indexes index.old.keys index.new.keys from list.now) }
-    ensures all { OnOk result (SCANNED ≤ length list.now → (q : ℕ) → Contains (list.now ++ to ∷ []) q → Contains index.new.keys (from, q)) }
+    ensures long { OnOk result (IsIndexedIfLong index.new.keys from (list.now ++ to ∷ [])) }
 {
     if list.len() >= SCANNED {
         index_all(index, from, list)?;
@@ -297,7 +298,7 @@ fn index_grown(
 fn index_all(index: &mut IndexSet<(u32, u32)>, from: u32, list: &[u32]) -> Result<(), Memory>
     requires { IsIndexedIfLong index.old.keys from list.now }
     ensures indexes { Indexes index.old.keys index.new.keys from list.now }
-    ensures all { OnOk result ((q : ℕ) → Contains list.now q → Contains index.new.keys (from, q)) }
+    ensures all { OnOk result (HasEdgesTo index.new.keys from list.now) }
 {
     if list.len() > SCANNED {
         return Ok(());
@@ -308,7 +309,7 @@ fn index_all(index: &mut IndexSet<(u32, u32)>, from: u32, list: &[u32]) -> Resul
 // Puts the edges from a point to its successors into the index.
 fn index_list(index: &mut IndexSet<(u32, u32)>, from: u32, list: &[u32]) -> Result<(), Memory>
     ensures indexes { Indexes index.old.keys index.new.keys from list.now }
-    ensures all { OnOk result ((q : ℕ) → Contains list.now q → Contains index.new.keys (from, q)) }
+    ensures all { OnOk result (HasEdgesTo index.new.keys from list.now) }
 {
     for to in list {
         index.insert((from, *to))?;

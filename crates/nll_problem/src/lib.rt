@@ -14,6 +14,7 @@ mod error;
 mod graph;
 mod graph_builder;
 mod limits;
+mod outlives;
 mod problem;
 mod region;
 mod rows;

@@ -7,7 +7,6 @@ ghost use Rattle.nll_problem.specs.Building as building;
 use crate::constraint::Constraint;
 use crate::graph::Graph;
 use crate::region::RegionId;
-use indexmap::IndexSet;
 use nll_sets::Element;
 use std::marker::Model;
 
@@ -22,7 +21,7 @@ pub struct Problem {
     regions: u32,
     bases: Vec<(RegionId, u32)>,
     constraints: Vec<Constraint>,
-    outlives: IndexSet<(RegionId, RegionId)>,
+    outlives: Vec<(RegionId, RegionId)>,
 }
 
 impl Model for Problem {
@@ -32,24 +31,24 @@ impl Model for Problem {
     ghost Value = { spec.Problem };
 
     ghost view = { λ q.
-        problem_of q.graph q.regions q.bases.items q.constraints.items q.outlives.keys };
+        problem_of q.graph q.regions q.bases.items q.constraints.items q.outlives.items };
 
     ghost invariant = { λ q. IsFinished
-        (problem_of q.graph q.regions q.bases.items q.constraints.items q.outlives.keys) };
+        (problem_of q.graph q.regions q.bases.items q.constraints.items q.outlives.items) };
 }
 
 impl Problem {
-    // The problem of these parts, whose base facts ascend.
+    // The problem of these parts, whose base facts and outlives facts ascend.
     pub(crate) fn of(
         graph: Graph,
         regions: u32,
         bases: Vec<(RegionId, u32)>,
         constraints: Vec<Constraint>,
-        outlives: IndexSet<(RegionId, RegionId)>,
+        outlives: Vec<(RegionId, RegionId)>,
     ) -> Problem
         requires { IsFinished
-            (problem_of graph regions bases.items constraints.items outlives.keys) }
-        ensures { result ≡ problem_of graph regions bases.items constraints.items outlives.keys }
+            (problem_of graph regions bases.items constraints.items outlives.items) }
+        ensures { result ≡ problem_of graph regions bases.items constraints.items outlives.items }
     {
         Problem {
             graph,
@@ -110,10 +109,11 @@ impl Problem {
         self.bases.as_slice()
     }
 
-    /// The outlives facts, each once: pairs of universal regions of which the first is known to
-    /// outlive the second.
+    /// The outlives facts: pairs of universal regions of which the first is known to outlive the
+    /// second, ascending by the first and then by the second, each once.
     pub fn outlives_facts(&self) -> &[(RegionId, RegionId)]
         ensures value { result.now ≡ self.now.outlives }
+        ensures ascending { AllPairs IsEarlier result.now }
         ensures sound { IsSound self.now }
     {
         self.outlives.as_slice()
@@ -122,11 +122,11 @@ impl Problem {
     /// Whether an outlives fact says that one region outlives another.
     ///
     /// # Cost
-    /// Constant (not proved).
+    /// Logarithmic in the number of outlives facts (not proved).
     pub fn has_outlives(&self, longer: RegionId, shorter: RegionId) -> bool
         ensures { IsTrue result ↔ Contains self.now.outlives (longer, shorter) }
     {
-        self.outlives.contains(&(longer, shorter))
+        self.outlives.binary_search(&(longer, shorter)).is_ok()
     }
 
     /// Whether an element is a base element of a region: one that was given, or what a universal

@@ -1,6 +1,7 @@
 //! Rows of numbers: flat, or while they grow.
 
-ghost use Rattle.std.specs.Prelude.{◌≡◌, ℕ, ◌+◌, ◌<◌, ◌≤◌, List, [], ◌∷◌, ◌++◌, map, replicate, length, slice_index, slice_index_or, slice_range, slice_set, vec_len, vec_capacity, IfOk, OnOk};
+ghost use Rattle.std.specs.Prelude.{◌≡◌, ◌+◌, ◌<◌, ◌≤◌, [], ◌∷◌, ◌++◌, map, replicate, length};
+ghost use Rattle.std.specs.Prelude.{slice_range, vec_len, vec_capacity, IfOk, OnOk};
 ghost use Rattle.nll_problem.specs.Rows.{IsFlat, HasRoom, rows_of, item_count, row_at, with_item};
 
 use nll_sets::Memory;
@@ -64,9 +65,16 @@ impl Model for RowsBuilder {
 
     ghost Value = { spec.Growing };
 
-    ghost view = { λ b. record { rows = map (λ list. list.items) b.lists.items; rooms = map (λ list. list.capacity) b.lists.items; spare = vec_capacity b.items - vec_len b.items } };
+    ghost view = { λ b. record {
+      rows = map (λ list. list.items) b.lists.items;
+      rooms = map (λ list. list.capacity) b.lists.items;
+      spare = vec_capacity b.items - vec_len b.items;
+    } };
 
-    ghost invariant = { λ b. (b.starts.items ≡ []) × (length b.lists.items < vec_capacity b.starts) × (vec_len b.items ≡ item_count (map (λ list. list.items) b.lists.items)) };
+    ghost invariant = { λ b.
+        (b.starts.items ≡ [])
+        × (length b.lists.items < vec_capacity b.starts)
+        × (vec_len b.items ≡ item_count (map (λ list. list.items) b.lists.items)) };
 }
 
 impl RowsBuilder {
@@ -142,7 +150,11 @@ impl RowsBuilder {
     pub fn finish(self) -> Rows
         ensures { result ≡ self.rows }
     {
-        let RowsBuilder { lists, starts, items } = self;
+        let RowsBuilder {
+            lists,
+            starts,
+            items,
+        } = self;
         let rows = flat(lists.as_slice(), starts, items);
         drop(lists);
         rows
@@ -192,9 +204,12 @@ fn push_row(starts: &mut Vec<usize>, items: &mut Vec<u32>, row: &[u32])
     requires starts { vec_len starts.old < vec_capacity starts.old }
     requires items { vec_len items.old + length row.now ≤ vec_capacity items.old }
     ensures flat { IsFlat starts.new.items items.new.items }
-    ensures rows { rows_of starts.new.items items.new.items ≡ rows_of starts.old.items items.old.items ++ row.now ∷ [] }
-    ensures starts { (vec_len starts.new ≡ vec_len starts.old + 1) × (vec_capacity starts.new ≡ vec_capacity starts.old) }
-    ensures items { (vec_len items.new ≡ vec_len items.old + length row.now) × (vec_capacity items.old ≤ vec_capacity items.new) }
+    ensures rows { rows_of starts.new.items items.new.items
+        ≡ rows_of starts.old.items items.old.items ++ row.now ∷ [] }
+    ensures starts_len { vec_len starts.new ≡ vec_len starts.old + 1 }
+    ensures starts_room { vec_capacity starts.new ≡ vec_capacity starts.old }
+    ensures items_len { vec_len items.new ≡ vec_len items.old + length row.now }
+    ensures items_room { vec_capacity items.old ≤ vec_capacity items.new }
 {
     append_reserved(items, row);
     starts.push_reserved(items.len());

@@ -8,18 +8,12 @@ use Rattle.std.proofs.lemmas.Slice.Eq.{bytes_eq-Decides, slice_eq-Decides}
 use Rattle.std.proofs.lemmas.Option.{none-some, same_Some}
 use Rattle.nll_text.specs.Lines.{lines_of, without_last_feed, is_skipped}
 use Rattle.nll_text.specs.Header.{runs}
-use Rattle.nll_text.proofs.DecisionLemmas.{holds_or_not, utf8_or_not}
+use Rattle.nll_text.proofs.DecisionLemmas.{holds_or_not, same_first, same_rest, utf8_or_not}
 use Rattle.nll_problem.specs.Limits.{most_bytes}
 use Rattle.nll_problem.specs.declared.error.Kind.TheVariants.{Text}
 use Rattle.nll_reading.specs.Text.{Format, IsHeader, Fits, skipped, of_form, IsFaulty, not_utf8, no_form, at_form, Says, HasFault, IsCut, IsHeaded, IsText, IsFault, too_long, header_not_utf8, no_header, at_line, no_end}
 use Rattle.nll_reading.specs.declared.error.TextKind.{TextKind}
 use Rattle.nll_reading.specs.declared.error.TextKind.TheVariants.{NotUtf8, Header, Syntax, Limit, End}
-
-same_first : {X : Type 0} {x y : X} {xs ys : List X} → x ∷ xs ≡ y ∷ ys → x ≡ y
-same_first e = cc
-
-same_rest : {X : Type 0} {x y : X} {xs ys : List X} → x ∷ xs ≡ y ∷ ys → xs ≡ ys
-same_rest e = cc
 
 -- ---- what the laws ask of a format
 

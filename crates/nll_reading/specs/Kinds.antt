@@ -1,11 +1,15 @@
 -- The kinds of fault of a text, in the order in which one is told before another.
 -- Source: project's choice; docs/FORMATS.md has the table.
 use Rattle.std.specs.Prelude.{List, [], ◌∷◌}
-use Rattle.nll_problem.specs.declared.error.Kind.TheVariants.{Text, Points, Edges, Universals, Regions, Constraints, Variables, Structs}
+use Rattle.nll_problem.specs.declared.error.Kind.TheVariants.{Text, Points, Edges, Universals}
+use Rattle.nll_problem.specs.declared.error.Kind.TheVariants.{Regions, Constraints, Variables}
+use Rattle.nll_problem.specs.declared.error.Kind.TheVariants.{Structs}
 use Rattle.nll_reading.specs.declared.error.TextKind.{TextKind}
 use Rattle.nll_problem.specs.declared.error.BuildError.{BuildError}
 use Rattle.nll_problem.specs.declared.error.BuildError.TheVariants as build
-use Rattle.nll_reading.specs.declared.error.TextKind.TheVariants.{NotUtf8, Header, Syntax, Unknown, Duplicate, Range, Shape, TypeSize, Limit, End, Memory}
+use Rattle.nll_reading.specs.declared.error.TextKind.TheVariants.{NotUtf8, Header, Syntax, Unknown}
+use Rattle.nll_reading.specs.declared.error.TextKind.TheVariants.{Duplicate, Range, Shape, TypeSize}
+use Rattle.nll_reading.specs.declared.error.TextKind.TheVariants.{Limit, End, Memory}
 
 -- all kinds that a text can have, the first to be told in front
 abbrev pub kinds : List TextKind

@@ -1,6 +1,7 @@
 -- How a text names regions and points.
 -- Source: project's choice; docs/FORMATS.md says the same in words.
-use Rattle.std.specs.Prelude.{◌≡◌, ℕ, ◌-◌, nat_le, List, length, filter, slice_get, slice_index, Some}
+use Rattle.std.specs.Prelude.{◌≡◌, ℕ, ◌-◌, nat_le, List, length, filter, slice_get, slice_index}
+use Rattle.std.specs.Prelude.{Some}
 use Rattle.std.specs.List.Sorted.{IsStrictlyIncreasing}
 use Rattle.nll_reading.specs.declared.labels.PointName.{PointName}
 use Rattle.nll_reading.specs.declared.labels.PointName.TheVariants.{Number, Block}

@@ -1,7 +1,8 @@
 -- A text of any format: that it fits, or its one fault.
 -- Source: project's choice; docs/FORMATS.md says the same in words. A format is given as a record.
 -- The words speak of whole lists of lines, and know nothing of how a text is read.
-use Rattle.std.specs.Prelude.{◌≡◌, ◌⊎◌, ℕ, ◌+◌, ◌<◌, ◌≤◌, true, false, List, [], ◌∷◌, ◌++◌, length, Option, Some, None}
+use Rattle.std.specs.Prelude.{◌≡◌, ◌⊎◌, ℕ, ◌+◌, ◌<◌, ◌≤◌, true, false, List, [], ◌∷◌, ◌++◌, length}
+use Rattle.std.specs.Prelude.{Option, Some, None}
 use Rattle.std.specs.Str.{IsUtf8}
 use Rattle.nll_text.specs.Lines.{lines_of, is_skipped}
 use Rattle.nll_text.specs.Header as header
@@ -10,7 +11,8 @@ use Rattle.nll_problem.specs.Limits.{most_bytes}
 use Rattle.nll_problem.specs.declared.error.Kind.TheVariants.{Text}
 use Rattle.nll_reading.specs.declared.error.TextError.{TextError}
 use Rattle.nll_reading.specs.declared.error.TextKind.{TextKind}
-use Rattle.nll_reading.specs.declared.error.TextKind.TheVariants.{NotUtf8, Header, Syntax, Limit, End, Memory}
+use Rattle.nll_reading.specs.declared.error.TextKind.TheVariants.{NotUtf8, Header, Syntax, Limit}
+use Rattle.nll_reading.specs.declared.error.TextKind.TheVariants.{End, Memory}
 
 -- What a format of texts is.
 pub record Format : Type 1 where
@@ -90,7 +92,7 @@ pub record IsHeaded (format : Format) (text : List ℕ) (body : List (List ℕ))
   pub utf8 : IsUtf8 header
   pub is_header : IsHeader format header
 
--- The text fits: a header, and lines without a fault that have these forms; behind them it may stop.
+-- The text fits: a header, and lines without a fault of these forms, behind which it may stop.
 pub record IsText (format : Format) (text : List ℕ) (forms : List format.Form) : Type 0 where
   pub body : List (List ℕ)
   pub headed : IsHeaded format text body

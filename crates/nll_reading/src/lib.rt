@@ -1,5 +1,5 @@
-//! What all texts share above their lines and tokens: what a text is, the kinds of its faults, names
-//! and labels.
+//! What all texts share above their lines and tokens: what a text is, the kinds of its faults,
+//! names and labels.
 //!
 //! Reading order: `limits`, `error`, `names`, `labels`.
 #![tactic(auto)]

@@ -1,6 +1,7 @@
 //! Sets of elements with one bit for each.
 
-ghost use Rattle.std.specs.Prelude.{◌≡◌, ◌≤◌, ◌<◌, ◌*◌, ◌^◌, true, not, length, slice_set, IfSome, IsOkAnd};
+ghost use Rattle.std.specs.Prelude.{◌≡◌, ◌≤◌, ◌<◌, ◌*◌, ◌^◌, true, not, length, slice_set};
+ghost use Rattle.std.specs.Prelude.{IfSome, IsOkAnd};
 ghost use Rattle.nll_sets.specs.BitSet.{bit_flag, word_flag, SetsPlace, IsNext};
 ghost use Rattle.nll_sets.specs.ElementSet.{flag, elements};
 

@@ -1,6 +1,8 @@
 //! Sets of elements.
 
-ghost use Rattle.std.specs.Prelude.{◌≡◌, ℕ, ◌≤◌, ◌<◌, Bool, true, false, not, List, length, replicate, slice_set, IfOk, OnOk, OnErr, IfSome, IfNone};
+ghost use Rattle.std.specs.Prelude.{◌≡◌, ℕ, ◌≤◌, ◌<◌, Bool, true, false, not};
+ghost use Rattle.std.specs.Prelude.{List, length, replicate, slice_set};
+ghost use Rattle.std.specs.Prelude.{IfOk, OnOk, OnErr, IfSome, IfNone};
 ghost use Rattle.nll_sets.specs.ElementSet.{flag};
 
 use crate::element::Element;

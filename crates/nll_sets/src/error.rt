@@ -5,9 +5,9 @@ use thiserror::Error;
 
 /// A growth of memory was refused.
 ///
-/// Nothing but the conversions from `std`'s allocation errors makes one. So a call that answers it had
-/// such an error in hand. That isn't proved, and neither is that a growth was in fact refused: any code
-/// may make a `std::alloc::AllocError`.
+/// Nothing but the conversions from `std`'s allocation errors makes one, so a call that answers it
+/// had such an error in hand. It doesn't say that a growth was in fact refused: any code may make a
+/// `std::alloc::AllocError`, and no clause says when memory suffices.
 #[derive(Clone, Copy, Debug, PartialEq, Eq, Error)]
 #[error("a growth of memory was refused")]
 pub struct Memory(());

@@ -1,6 +1,7 @@
 -- How a text is cut into lines, which bytes are blanks, and which lines say nothing.
 -- Source: project's choice.
-use Rattle.std.specs.Prelude.{ℕ, List, [], ◌∷◌, ◌==◌, ◌||◌, Bool, true, if◌then◌else◌, Option, Some, None, drop}
+use Rattle.std.specs.Prelude.{ℕ, List, [], ◌∷◌, ◌==◌, ◌||◌, Bool, true, if◌then◌else◌, Option, Some}
+use Rattle.std.specs.Prelude.{None, drop}
 use Rattle.std.specs.List.{slice_split, prefix_len}
 use denote.Ref.{Bor}
 

@@ -1,9 +1,11 @@
 //! A line as tokens.
 
-ghost use Rattle.std.specs.Prelude.{◌≡◌, List, MatchOption, OnOk, IfOk, IfErr, false, ◌<◌, ◌≤◌, length};
+ghost use Rattle.std.specs.Prelude.{◌≡◌, List, MatchOption, OnOk, IfOk, IfErr, false, ◌<◌, ◌≤◌};
+ghost use Rattle.std.specs.Prelude.{length};
 ghost use Rattle.nll_text.specs.Lines as lines;
 ghost use Rattle.nll_text.specs.Tokens as specs;
-ghost use Rattle.nll_text.specs.Tokens.{AreTokens, IsMadeOf, IsNotMade, IsNotMadeWithin, view, views, first_passes};
+ghost use Rattle.nll_text.specs.Tokens.{AreTokens, IsMadeOf, IsNotMade, IsNotMadeWithin, view};
+ghost use Rattle.nll_text.specs.Tokens.{views, first_passes};
 ghost use Rattle.nll_text.specs.Lexing.{BeginsWith, HasNoToken};
 
 use crate::bytes::{is_sign, split_gap, split_word};

@@ -54,8 +54,8 @@ fn check_remark(line: &[u8], most: usize) -> Result<(), ScanError>
 /// - `NoTokens`: the line isn't skipped, and no list of at most `most` tokens makes it.
 /// - `Memory`: the list could not grow.
 ///
-/// What the list holds at a skipped line and after an error is left open, but never more than `most`
-/// tokens.
+/// What the list holds at a skipped line and after an error is left open, but never more than
+/// `most` tokens.
 ///
 /// # Cost
 /// The length of the line (not proved), and room for at most `most` tokens.

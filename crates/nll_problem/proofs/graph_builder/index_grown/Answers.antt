@@ -11,8 +11,8 @@ returns-in_ok-insert-clause-ok c =
     rw c.in_ok-insert.ensures.keys
     (indexes_more _ _ _ _ _ c.args.to (indexes_longer _ _ _ _ c.args.to c.index_all.ensures.indexes) (adds_pair c.index_all.new.index.keys (c.args.from, c.args.to)) (Contains-push c.args.list.now c.args.to))
 
-pub returns-in_ok-insert-clause-all : goal.returns-in_ok-insert-clause-all
-returns-in_ok-insert-clause-all c =
+pub returns-in_ok-insert-clause-long : goal.returns-in_ok-insert-clause-long
+returns-in_ok-insert-clause-long c =
     let adds = adds_pair c.index_all.new.index.keys (c.args.from, c.args.to) in
     λ long q h. rw c.in_ok-insert.ensures.keys
     (⊎_elim

@@ -1,4 +1,4 @@
-use Rattle.std.proofs.Common.{◌≡◌, ◌<◌, ℕ, ◌+◌, ◌++◌, ◌∷◌, List, [], take, length, map, ap, sym, ◌∙◌, arith}
+use Rattle.std.proofs.Common.{◌≡◌, ◌<◌, ℕ, ◌++◌, ◌∷◌, List, [], take, length, map, ap, sym, ◌∙◌, arith}
 use Rattle.std.proofs.lemmas.List.{length-map, take_more}
 use Rattle.nll_problem.specs.Rows.{row_at}
 use Rattle.nll_problem.proofs.RowLemmas.{row_here, counted_from}
@@ -27,7 +27,7 @@ loop-list-preserved c =
     record {
       flat = c.push_row.ensures.flat;
       rows = c.push_row.ensures.rows ∙ (ap (λ xs. xs ++ c.as_slice.result.now ∷ []) c.loop-list.invariant.rows ∙ (ap (λ x. take i (rows d) ++ x ∷ []) (is_row d) ∙ sym (take_more (rows d) i [] (within d))));
-      len = omega (arith, c.push_row.ensures.starts.0, c.loop-list.invariant.len);
-      starts = omega (arith, c.push_row.ensures.starts.1, c.loop-list.invariant.starts);
-      items = omega (arith, c.push_row.ensures.items.0, c.push_row.ensures.items.1, c.loop-list.invariant.items, counted_from (rows d) i (within d), ap length (is_row d));
+      len = omega (arith, c.push_row.ensures.starts_len, c.loop-list.invariant.len);
+      starts = omega (arith, c.push_row.ensures.starts_room, c.loop-list.invariant.starts);
+      items = omega (arith, c.push_row.ensures.items_len, c.push_row.ensures.items_room, c.loop-list.invariant.items, counted_from (rows d) i (within d), ap length (is_row d));
     }

@@ -1,4 +1,4 @@
-use Rattle.std.proofs.Common.{◌≡◌, ℕ, ◌+◌, ◌<◌, ◌≤◌, length, map, take, drop, vec_len, vec_capacity}
+use Rattle.std.proofs.Common.{◌≡◌, ◌+◌, ◌<◌, ◌≤◌, length, map, take, drop, vec_len, vec_capacity}
 use Rattle.nll_problem.specs.Rows.{IsFlat, rows_of, item_count}
 use Rattle.nll_problem.proofs.rows.flat.Given as goal
 

@@ -1,5 +1,4 @@
 use Rattle.std.proofs.Common.{◌≡◌, map, take}
-use Rattle.nll_problem.specs.Rows.{rows_of}
 use Rattle.nll_problem.proofs.rows.lists_of.Given as goal
 
 abbrev pub invariant-loop-index : goal.invariant-loop-index

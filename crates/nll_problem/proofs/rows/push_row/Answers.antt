@@ -1,4 +1,4 @@
-use Rattle.std.proofs.Common.{◌≡◌, ◌++◌, ◌∷◌, [], length, ap, ◌∙◌, arith}
+use Rattle.std.proofs.Common.{◌≡◌, ◌++◌, length, ap, ◌∙◌}
 use Rattle.nll_problem.proofs.RowLemmas.{rows_pushed}
 use Rattle.nll_problem.proofs.rows.push_row.Goals as goal
 

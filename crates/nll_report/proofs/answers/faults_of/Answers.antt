@@ -5,4 +5,4 @@ use Rattle.nll_report.proofs.answers.faults_of.Goals as goal
 pub returns-clause-exact : goal.returns-clause-exact
 returns-clause-exact c = IfOk-weaker c.faults-found.result _ _
     (λ found. faults_carry c.args.problem.now _ _ c.in_ok-values.ensures.least found.items)
-    c.faults-found.ensures
+    c.faults-found.ensures.exact

@@ -1,7 +1,7 @@
 use Rattle.std.proofs.Common.{◌≡◌, ◌↔◌, true, false, ltb, leb, AllPairs, Contains, take, subst, sym, ◌∙◌, rules}
 use Rattle.std.specs.List.Sorted.{IsPartitionPoint}
 use Rattle.std.proofs.lemmas.List.Sorted.{IsPartitionPoint-from_clause, IsPartitionedBy-leb, IsPartitionedBy-ltb}
-use Rattle.nll_problem.specs.ConstraintIndex.{IsLower, IsReadEarlier}
+use Rattle.nll_problem.specs.ConstraintIndex.{IsReadEarlier}
 use Rattle.nll_problem.specs.declared.constraint.Constraint.{Constraint}
 use Rattle.nll_problem.proofs.IndexLemmas.{subs_rise, rest_of, rest_rise, part_has, part_ascends}
 use Rattle.nll_problem.proofs.constraint_index.ConstraintIndex.reading.Goals as goal

@@ -1,4 +1,4 @@
-use Rattle.std.proofs.Common.{◌≡◌, ◌≢◌, Contains, AllPairs, subst, sym, arith}
+use Rattle.std.proofs.Common.{◌≢◌, Contains, AllPairs, subst, sym, arith}
 use Rattle.nll_problem.proofs.AdjacencyLemmas.{edges_exact}
 use Rattle.nll_problem.proofs.graph.Graph.next_of.Goals as goal
 

@@ -1,7 +1,6 @@
-use Rattle.std.proofs.Common.{◌≡◌, ℕ, ◌<◌, ◌≤◌, ◌∷◌, [], ◌++◌, Contains, length, ap, subst, sym, ◌∙◌, arith}
-use Rattle.nll_problem.specs.Adjacency.{Indexes, IsIndexed, IsKept}
+use Rattle.std.proofs.Common.{◌≡◌, ◌<◌, ◌∷◌, [], ◌++◌, Contains, length, ap, subst, ◌∙◌, arith}
+use Rattle.nll_problem.specs.Adjacency.{Indexes, IsIndexed, IsIndexedIfLong, IsKept}
 use Rattle.nll_problem.specs.Rows.{row_at, with_item}
-use Rattle.nll_problem.specs.declared.graph_builder.TheConstants.{SCANNED}
 use Rattle.nll_problem.proofs.AdjacencyLemmas.{adds_edge, edges_counted, edges_exact, indexed_grown, indexed_more, kept_edge}
 use Rattle.nll_problem.proofs.graph_builder.GraphBuilder.add_edge.Goals as goal
 use Rattle.nll_problem.proofs.graph_builder.GraphBuilder.add_edge.Goals.{After-row, After-push_reserved-2}
@@ -42,7 +41,7 @@ indexed c =
     let new = c.index_grown.new.index.keys in
     indexed_grown c.self.inside.next.rows c.args.from c.args.to (within c) c.self.inside.index.keys new c.self.invariant.1
     (subst (λ xs. Indexes c.self.inside.index.keys new c.args.from (xs ++ c.args.to ∷ [])) row c.in_ok-index_grown.ensures.ok)
-    (subst (λ xs. SCANNED ≤ length xs → (q : ℕ) → Contains (xs ++ c.args.to ∷ []) q → Contains {X = ℕ × ℕ} new (c.args.from, q)) row c.in_ok-index_grown.ensures.all)
+    (subst (λ xs. IsIndexedIfLong new c.args.from (xs ++ c.args.to ∷ [])) row c.in_ok-index_grown.ensures.long)
 
 pub invariant_of-self-2 : goal.invariant_of-self-2
 invariant_of-self-2 c =

@@ -1,4 +1,3 @@
-use Rattle.std.proofs.Common.{◌≡◌}
 use Rattle.nll_problem.proofs.AdjacencyLemmas.{graph_none, indexed_none, kept_none}
 use Rattle.nll_problem.proofs.graph_builder.GraphBuilder.bare.Goals as goal
 

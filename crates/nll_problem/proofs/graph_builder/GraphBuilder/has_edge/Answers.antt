@@ -1,4 +1,4 @@
-use Rattle.std.proofs.Common.{◌≡◌, ◌<◌, Contains, length, subst, sym, ◌∙◌}
+use Rattle.std.proofs.Common.{◌<◌, Contains, length, subst, sym, ◌∙◌}
 use Rattle.std.proofs.lemmas.Bool.Decides.{same_from_decides}
 use Rattle.nll_problem.specs.Adjacency.{edges_of}
 use Rattle.nll_problem.specs.Rows.{row_at}
@@ -23,5 +23,5 @@ returns-else-list-le-SCANNED c =
     let long : SCANNED < length (row_at c.self.inside.next.rows c.args.from) = subst (λ xs. SCANNED < length xs) c.row-list.ensures c.if-list-le-SCANNED.false in
     rw (← c.self.view_is) (same_from_decides _ _ (
       λ h. exact.1 (c.self.invariant.1.only c.args.from c.args.to (found.0 (sym c.contains-else-list-le-SCANNED.ensures ∙ h))),
-      λ h. c.contains-else-list-le-SCANNED.ensures ∙ found.1 (c.self.invariant.1.long c.args.from c.args.to long (exact.0 h)),
+      λ h. c.contains-else-list-le-SCANNED.ensures ∙ found.1 (c.self.invariant.1.long c.args.from long c.args.to (exact.0 h)),
     ) (pair_found (edges_of c.self.inside.next.rows) c.args.from c.args.to))

@@ -1,5 +1,4 @@
-use Rattle.std.proofs.Common.{ℕ, Contains, sym, subst, ◌∙◌}
-use Rattle.std.proofs.Common.{AllPairs}
+use Rattle.std.proofs.Common.{ℕ, AllPairs, Contains, sym, subst, ◌∙◌}
 use Rattle.nll_problem.specs.Problem.{IsEarlier}
 use Rattle.nll_problem.proofs.BaseLemmas.{searched}
 use Rattle.nll_problem.proofs.problem.Problem.has_base.Goals as goal
@@ -8,7 +7,7 @@ pub returns : goal.returns
 returns c =
     let pair : ℕ × ℕ = (c.args.region, c.args.point) in
     let is = c.deref.ensures.value in
-    let found = searched c.deref.result.now pair (subst (AllPairs IsEarlier) (sym is) c.self.invariant.ascending) c.binary_search.result c.binary_search.ensures.bound c.binary_search.ensures.position in
+    let found = searched c.deref.result.now pair (subst (AllPairs IsEarlier) (sym is) c.self.invariant.bases_ascend) c.binary_search.result c.binary_search.ensures.bound c.binary_search.ensures.position in
     rw (← c.self.view_is) (
       λ h. subst (λ xs. Contains {X = ℕ × ℕ} xs pair) is (found.0 (sym c.is_ok.ensures.value ∙ h)),
       λ h. c.is_ok.ensures.value ∙ found.1 (subst (λ xs. Contains {X = ℕ × ℕ} xs pair) (sym is) h),

@@ -1,6 +1,5 @@
-use Rattle.std.proofs.Common.{◌≡◌, ℕ, List, [], replicate, length, map, ap, ◌∙◌, arith}
+use Rattle.std.proofs.Common.{◌≡◌, ℕ, List, [], length, ap, ◌∙◌, arith}
 use Rattle.std.proofs.lemmas.List.{length-map, length-replicate}
-use Rattle.nll_problem.specs.Rows.{item_count}
 use Rattle.nll_problem.proofs.RowLemmas.{counted_none}
 use Rattle.nll_problem.proofs.rows.RowsBuilder.new.Goals as goal
 

@@ -1,6 +1,6 @@
-use Rattle.std.proofs.Common.{◌≡◌, ℕ, ◌-◌, length, map, ap, sym, ◌∙◌, arith}
+use Rattle.std.proofs.Common.{◌≡◌, length, map, ap, sym, ◌∙◌, arith}
 use Rattle.std.proofs.lemmas.List.{length-map}
-use Rattle.nll_problem.specs.Rows.{rows_of, item_count}
+use Rattle.nll_problem.specs.Rows.{rows_of}
 use Rattle.nll_problem.proofs.RowLemmas.{rows_length, rows_counted}
 use Rattle.nll_problem.proofs.rows.RowsBuilder.of.Goals as goal
 
