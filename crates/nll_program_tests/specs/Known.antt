@@ -1,6 +1,6 @@
 -- Texts and streams of which all is known.
 -- Source: project's choice.
-use Rattle.std.specs.Prelude.{◌≡◌, ◌≢◌, ℕ, ◌-◌, List, Option, Some, take}
+use Rattle.std.specs.Prelude.{◌≡◌, ◌≢◌, ℕ, ◌-◌, List, take}
 use Rattle.nll_program_tests.specs.declared.known.Sheet.{Sheet}
 use Rattle.nll_program_tests.specs.declared.page.Page.{Page}
 
