@@ -1,5 +1,4 @@
 pub mod SearchLemmas
 pub mod GrowingLemmas
 pub mod SolverLemmas
-pub mod OutlivesLemmas
 pub mod FaultLemmas

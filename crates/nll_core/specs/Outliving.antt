@@ -1,15 +1,11 @@
--- What the fault check knows from a list of outlives facts, and how it goes through the pairs of
--- universal regions, one after another.
+-- What the fault check reads off the outlives facts, and how it goes through the pairs of universal
+-- regions, one after another.
 -- Source: project's choice. Private contracts alone cite this file.
-use Rattle.std.specs.Prelude.{◌≡◌, ◌≢◌, ◌⊎◌, ◌↔◌, ℕ, ◌<◌, Bool, false, List, Contains, AllPairs}
+use Rattle.std.specs.Prelude.{◌≡◌, ◌≢◌, ◌↔◌, ℕ, Bool, false, List, Contains, AllPairs}
 use Rattle.nll_problem.specs.Problem.{Problem, IsUniversal, end_of}
 use Rattle.nll_problem.specs.Faults.{IsEarlier, IsFault, IsKnown}
 use Rattle.nll_core.specs.Search.{IsIn}
 use Rattle.nll_core.specs.Values.{holds, IsHeld}
-
--- a fact of the list says that a outlives b, or a is 'static and b one of so many universal regions
-abbrev pub IsListedAbove : ℕ → List (ℕ × ℕ) → ℕ → ℕ → Type 0
-IsListedAbove count facts a b = Contains facts (a, b) ⊎ ((a ≡ 0) × (b < count))
 
 -- a fact of the list says that some region outlives b
 abbrev pub IsShorterOf : List (ℕ × ℕ) → ℕ → Type 0

@@ -25,6 +25,10 @@ HasAll kind flags = (x : ℕ) → kind x → IsIn flags x
 abbrev pub Within : List Bool → (ℕ → Type 0) → ℕ → Type 0
 Within set kind x = kind x × IsIn set x
 
+-- x is at least `from` and below `to`
+abbrev pub IsInRange : ℕ → ℕ → ℕ → Type 0
+IsInRange from to x = (from ≤ x) × (x < to)
+
 -- how many elements are not in the set
 abbrev pub missing : List Bool → ℕ
 missing flags = count_by not flags
@@ -80,6 +84,10 @@ pub record Adds (kind : ℕ → Type 0) (old new : Search) : Type 0 where
 pub record Visits (kind : ℕ → Type 0) (old new : Search) : Type 0 where
   pub adds : Adds kind old new
   pub all : HasAll kind new.reached
+
+-- the elements of this kind that are in the set were visited
+abbrev pub VisitsWithin : List Bool → (ℕ → Type 0) → Search → Search → Type 0
+VisitsWithin set kind old new = Visits (Within set kind) old new
 
 -- The list from `place` on is of reached elements, and each other reached element is covered.
 pub record IsPending (step : ℕ → ℕ → Type 0) (s : Search) (place : ℕ) : Type 0 where

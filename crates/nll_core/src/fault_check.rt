@@ -1,12 +1,11 @@
 //! Universal region errors: which universal regions must outlive another and aren't known to.
 
 ghost use Rattle.std.specs.Prelude.{◌≡◌, ◌↔◌, ◌+◌, false, length, IsTrue, IfOk, OnOk};
-ghost use Rattle.nll_problem.specs.Problem.{IsUniversal, SameSet};
+ghost use Rattle.nll_problem.specs.Problem.{IsUniversal};
 ghost use Rattle.nll_core.specs.Values.{IsHeld, IsShaped};
 ghost use Rattle.nll_problem.specs.Faults.{IsFault, AreFaults};
 ghost use Rattle.nll_core.specs.Outliving.{AreOutlived, HasNoForeignEnd, FindsUpTo};
 
-use crate::outlives_index::OutlivesIndex;
 use crate::outliving::outlived_by;
 use crate::values::Values;
 use nll_problem::{Problem, RegionId};
@@ -33,27 +32,10 @@ pub fn faults(
     requires { IsShaped problem.now values.now }
     ensures exact { IfOk result (λ faults. AreFaults problem.now (IsHeld values.now) faults.items) }
 {
-    let facts = OutlivesIndex::of(alloc, problem)?;
-    let told = faults_of(alloc, problem, &facts, values);
-    drop(facts);
-    told
-}
-
-// The same, by an index of the outlives facts.
-fn faults_of(
-    alloc: Global,
-    problem: &Problem,
-    facts: &OutlivesIndex,
-    values: &Values,
-) -> Result<Vec<(RegionId, RegionId)>, Memory>
-    requires facts { SameSet facts.now problem.now.outlives }
-    requires shaped { IsShaped problem.now values.now }
-    ensures { IfOk result (λ faults. AreFaults problem.now (IsHeld values.now) faults.items) }
-{
     let mut faults = Vec::new(alloc);
     for longer in 0..problem.universals() {
         if holds_foreign_end(problem, values, longer) {
-            add_faults(alloc, problem, facts, values, RegionId(longer), &mut faults)?;
+            add_faults(alloc, problem, values, RegionId(longer), &mut faults)?;
         }
     }
     Ok(faults)
@@ -78,18 +60,16 @@ fn holds_foreign_end(problem: &Problem, values: &Values, region: u32) -> bool
 fn add_faults(
     alloc: Global,
     problem: &Problem,
-    facts: &OutlivesIndex,
     values: &Values,
     longer: RegionId,
     faults: &mut Vec<(RegionId, RegionId)>,
 ) -> Result<(), Memory>
-    requires facts { SameSet facts.now problem.now.outlives }
     requires shaped { IsShaped problem.now values.now }
     requires universal { IsUniversal problem.now longer }
     requires before { FindsUpTo problem.now values.now faults.old.items longer 0 }
     ensures { OnOk result (FindsUpTo problem.now values.now faults.new.items (longer + 1) 0) }
 {
-    let outlived = outlived_by(alloc, problem, facts, longer)?;
+    let outlived = outlived_by(alloc, problem, longer)?;
     let told = add_unknown(problem, values, &outlived, longer, faults);
     drop(outlived);
     told

@@ -1,12 +1,11 @@
 //! The least solution of a problem of location-aware regions, and its faults.
 //! The problem is that of `nll_problem`, the sets are those of `nll_sets`; both are found here too.
 //!
-//! Reading order: `values`, `search`, `reachability`, `solver`, `outlives_index`, `outliving`,
-//! `fault_check`. The definitions are in specs/.
+//! Reading order: `values`, `search`, `reachability`, `solver`, `outliving`, `fault_check`.
+//! The definitions are in specs/.
 #![tactic(auto)]
 
 mod fault_check;
-mod outlives_index;
 mod outliving;
 mod reachability;
 mod region_elements;

@@ -1,31 +1,29 @@
 //! Which universal regions are known to outlive which.
 
-ghost use Rattle.std.specs.Prelude.{◌≡◌, ℕ, ◌<◌, length, IfOk, OnOk};
-ghost use Rattle.nll_problem.specs.Problem.{IsUniversal, SameSet};
-ghost use Rattle.nll_core.specs.Outliving.{IsListedAbove, IsShorterOf, AreOutlived};
+ghost use Rattle.std.specs.Prelude.{◌≡◌, ◌↔◌, ℕ, ◌<◌, AllPairs, Contains, length, IfOk, OnOk};
+ghost use Rattle.nll_problem.specs.Problem.{IsUniversal, IsEarlier};
+ghost use Rattle.nll_problem.specs.Faults.{IsAbove};
+ghost use Rattle.nll_core.specs.Outliving.{IsShorterOf, AreOutlived};
 ghost use Rattle.nll_core.specs.Search.{Visits};
 
-use crate::outlives_index::OutlivesIndex;
 use crate::search::{Relation, Search, search_from};
 use nll_problem::{Problem, RegionId};
 use nll_sets::{BitSet, Element, ElementSet, Memory};
 use std::alloc::Global;
 
-// The universal regions, each with those that it is directly known to outlive.
+// The universal regions of a problem, each with those that it is directly known to outlive.
 #[derive(Drop)]
 struct Outliving<'a> {
-    universals: u32,
-    facts: &'a OutlivesIndex,
-    ghost in_range: { (b : ℕ) → IsShorterOf facts.now b → b < universals },
+    problem: &'a Problem,
 }
 
 impl<'a> Relation for Outliving<'a> {
-    ghost step = { λ outliving. IsListedAbove outliving.universals outliving.facts.now };
+    ghost step = { λ outliving. IsAbove outliving.problem.now };
 
-    ghost count = { λ outliving. outliving.universals };
+    ghost count = { λ outliving. outliving.problem.now.graph.universals };
 
     fn count(&self) -> u32 {
-        self.universals
+        self.problem.universals()
     }
 
     // 'static outlives each of them.
@@ -35,11 +33,23 @@ impl<'a> Relation for Outliving<'a> {
         search: &mut Search<R>,
     ) -> Result<(), Memory> {
         if from.0 == 0 {
-            visit_below(self.universals, search)
+            visit_below(self.problem.universals(), search)
         } else {
-            visit_shorter(self.facts.of_region(RegionId(from.0)), search)
+            let facts = self.problem.outlives_facts();
+            visit_shorter(facts_of(facts, RegionId(from.0)), search)
         }
     }
+}
+
+// Of ascending facts those that say what a region outlives.
+fn facts_of(facts: &[(RegionId, RegionId)], longer: RegionId) -> &[(RegionId, RegionId)]
+    requires { AllPairs IsEarlier facts.now }
+    ensures { (x : ℕ × ℕ) → Contains result.now x ↔ (Contains facts.now x × (x.0 ≡ longer)) }
+{
+    let first = facts.partition_point(|fact| fact.0.0 < longer.0);
+    let rest = &facts[first..];
+    let count = rest.partition_point(|fact| fact.0.0 <= longer.0);
+    &rest[..count]
 }
 
 // Visits each element below a number.
@@ -69,21 +79,12 @@ fn visit_shorter<R: ElementSet>(
 }
 
 /// The universal regions that one of them is known to outlive.
-pub fn outlived_by(
-    alloc: Global,
-    problem: &Problem,
-    facts: &OutlivesIndex,
-    longer: RegionId,
-) -> Result<BitSet, Memory>
-    requires universal { IsUniversal problem.now longer }
-    requires facts { SameSet facts.now problem.now.outlives }
+pub fn outlived_by(alloc: Global, problem: &Problem, longer: RegionId) -> Result<BitSet, Memory>
+    requires { IsUniversal problem.now longer }
     ensures width { IfOk result (λ outlived. length outlived ≡ problem.now.graph.universals) }
     ensures exact { IfOk result (AreOutlived problem.now longer) }
 {
-    let outliving = Outliving {
-        universals: problem.universals(),
-        facts,
-    };
+    let outliving = Outliving { problem };
     let search = search_from::<Outliving, BitSet>(alloc, &outliving, Element(longer.0))?;
     Ok(search.into_set())
 }

@@ -2,7 +2,8 @@
 
 ghost use Rattle.std.specs.Prelude.{◌≡◌, ◌≤◌, ◌<◌, Contains, length, IfOk, OnOk};
 ghost use Rattle.nll_problem.specs.Graph.{element_count};
-ghost use Rattle.nll_core.specs.Search.{HoldsFrom, IsStepInside, Within, Visits, AreReached};
+ghost use Rattle.nll_core.specs.Search.{HoldsFrom, IsInRange, IsStepInside, VisitsWithin};
+ghost use Rattle.nll_core.specs.Search.{AreReached};
 
 use crate::search::{Relation, Search, search_from};
 use nll_problem::Graph;
@@ -22,7 +23,8 @@ impl<'a, S: ElementSet> Inside<'a, S> {
     fn visit<R: ElementSet>(&self, element: Element, search: &mut Search<R>) -> Result<(), Memory>
         requires width { length search.old.reached ≡ element_count self.now.graph.now }
         requires element { element < element_count self.now.graph.now }
-        ensures { OnOk result (Visits (Within (S.flags self.now.set.now) (λ x. x ≡ element)) search.old search.new) }
+        ensures { OnOk result
+            (VisitsWithin (S.flags self.now.set.now) (λ x. x ≡ element) search.old search.new) }
     {
         if self.set.has(element) {
             search.visit(element)?;
@@ -38,7 +40,8 @@ impl<'a, S: ElementSet> Inside<'a, S> {
     ) -> Result<(), Memory>
         requires width { length search.old.reached ≡ element_count self.now.graph.now }
         requires points { HoldsFrom 0 points.now (λ x. x < element_count self.now.graph.now) }
-        ensures { OnOk result (Visits (Within (S.flags self.now.set.now) (Contains points.now)) search.old search.new) }
+        ensures { OnOk result
+            (VisitsWithin (S.flags self.now.set.now) (Contains points.now) search.old search.new) }
     {
         for point in points {
             self.visit(Element(*point), search)?;
@@ -55,7 +58,8 @@ impl<'a, S: ElementSet> Inside<'a, S> {
     ) -> Result<(), Memory>
         requires width { length search.old.reached ≡ element_count self.now.graph.now }
         requires to { to ≤ element_count self.now.graph.now }
-        ensures { OnOk result (Visits (Within (S.flags self.now.set.now) (λ x. (from ≤ x) × (x < to))) search.old search.new) }
+        ensures { OnOk result
+            (VisitsWithin (S.flags self.now.set.now) (IsInRange from to) search.old search.new) }
     {
         for number in from..to {
             self.visit(Element(number), search)?;

@@ -1,4 +1,4 @@
--- Constraints by the region that they read: their order, and the part of a list in that order that has one region's.
+-- Lists by a key of their elements: the part that has one key. Constraints by the region that they read: their order, and the part of one region.
 use Rattle.std.proofs.Common.{◌≡◌, ◌↔◌, ℕ, ◌+◌, ◌-◌, ◌<◌, ◌≤◌, true, false, ltb, leb, List, AllPairs, Contains, length, get_or, take, drop, inl, inr, ⊎_elim, Ordering, Less, Equal, Greater, nat_cmp, sym, ap, subst, ◌∙◌, IsSorted, length-take, length-drop, get_or-take, get_or-drop, ltb-true, ltb-false, leb-true, leb-false, arith}
 use Rattle.std.specs.Ordering.{MatchOrdering, ordering_then}
 use Rattle.std.specs.List.Sorted.{IsNonDecreasingBy, IsPartitionPoint, IsPermutation}
@@ -47,68 +47,90 @@ constraints_ascend xs ys moved once sorted = sorted_once_ascends constraint_cmp 
 pub constraints_same : (xs ys : List Constraint) → IsPermutation xs ys → SameSet ys xs
 constraints_same xs ys moved c = (Contains-permutation ys xs c (IsPermutation-sym xs ys moved), Contains-permutation xs ys c moved)
 
--- ---- the part of one region
+-- ---- the part of one key
 
--- along ascending constraints the region that is read doesn't fall
-pub subs_rise : (xs : List Constraint) → AllPairs IsReadEarlier xs → IsNonDecreasingBy (λ (c : Constraint). c.sub) xs
-subs_rise xs ascend i j d le within = ⊎_elim
-    (λ before. ⊎_elim (λ less. omega (arith, less)) (λ same. omega (arith, same.0)) (ascend i j d before within))
-    (λ back. let here : i ≡ j = omega arith in omega (arith, ap (λ k. (get_or xs k d).sub) here))
+-- where elements that stand before others have no larger key, keys don't fall
+pub keys_rise : {X : Type 0} (key : X → ℕ) (L : X → X → Type 0) → ((x y : X) → L x y → key x ≤ key y) → (xs : List X) → AllPairs L xs → IsNonDecreasingBy key xs
+keys_rise key L rises xs pairs i j d le within = ⊎_elim
+    (λ before. rises _ _ (pairs i j d before within))
+    (λ back. let here : i ≡ j = omega arith in omega (arith, ap (λ k. key (get_or xs k d)) here))
     (cases_lt i j)
 
--- what follows the first constraints
-abbrev pub rest_of : List Constraint → ℕ → List Constraint
-rest_of xs first = take (length xs - first) (drop first xs)
+-- what follows the first elements
+abbrev pub rest_of : {X : Type 0} → List X → ℕ → List X
+rest_of {X} xs first = take (length xs - first) (drop first xs)
 
-pub rest_rise : (xs : List Constraint) (first : ℕ) → AllPairs IsReadEarlier xs → IsNonDecreasingBy (λ (c : Constraint). c.sub) (rest_of xs first)
-rest_rise xs first ascend = IsNonDecreasingBy-take (λ (c : Constraint). c.sub) (length xs - first) _ (IsNonDecreasingBy-drop (λ (c : Constraint). c.sub) first xs (subs_rise xs ascend))
+pub rest_keys_rise : {X : Type 0} (key : X → ℕ) (xs : List X) (first : ℕ) → IsNonDecreasingBy key xs → IsNonDecreasingBy key (rest_of xs first)
+rest_keys_rise key xs first rise = IsNonDecreasingBy-take key (length xs - first) _ (IsNonDecreasingBy-drop key first xs rise)
 
-module _ (xs : List Constraint) (sub first count : ℕ) (within_all : first ≤ length xs) (within : count ≤ length (rest_of xs first))
-    (parted : IsPartitionPoint (λ (c : Constraint). ltb c.sub sub ≡ true) (λ (c : Constraint). ltb c.sub sub ≡ false) xs first)
-    (parted_rest : IsPartitionPoint (λ (c : Constraint). leb c.sub sub ≡ true) (λ (c : Constraint). leb c.sub sub ≡ false) (rest_of xs first) count) where
+module _ {X : Type 0} (key : X → ℕ) (xs : List X) (wanted first count : ℕ) (within_all : first ≤ length xs) (within : count ≤ length (rest_of xs first))
+    (parted : IsPartitionPoint (λ (x : X). ltb (key x) wanted ≡ true) (λ (x : X). ltb (key x) wanted ≡ false) xs first)
+    (parted_rest : IsPartitionPoint (λ (x : X). leb (key x) wanted ≡ true) (λ (x : X). leb (key x) wanted ≡ false) (rest_of xs first) count) where
   length_rest : length (rest_of xs first) ≡ length xs - first
   length_rest = let a = length-take (length xs - first) (drop first xs) in let b = length-drop first xs in omega arith
 
-  at_rest : (k : ℕ) (d : Constraint) → k < length xs - first → get_or (rest_of xs first) k d ≡ get_or xs (first + k) d
+  at_rest : (k : ℕ) (d : X) → k < length xs - first → get_or (rest_of xs first) k d ≡ get_or xs (first + k) d
   at_rest k d lt = get_or-take (length xs - first) (drop first xs) k d lt ∙ get_or-drop first xs k d
 
   length_part : length (take count (rest_of xs first)) ≡ count
   length_part = let a = length-take count (rest_of xs first) in omega (arith, within)
 
-  at_part : (k : ℕ) (d : Constraint) → k < count → get_or (take count (rest_of xs first)) k d ≡ get_or xs (first + k) d
+  at_part : (k : ℕ) (d : X) → k < count → get_or (take count (rest_of xs first)) k d ≡ get_or xs (first + k) d
   at_part k d lt = get_or-take count (rest_of xs first) k d lt ∙ at_rest k d (omega (arith, length_rest, within))
 
-  reads : (k : ℕ) (d : Constraint) → k < count → (get_or xs (first + k) d).sub ≡ sub
-  reads k d lt =
-      let low = ltb-false _ sub (parted.1 (first + k) d (omega arith) (omega (arith, length_rest, within))) in
-      let high = leb-true _ sub (parted_rest.0 k d (omega arith) lt) in
-      omega (arith, ap (λ (c : Constraint). c.sub) (at_rest k d (omega (arith, length_rest, within))))
+  has_key : (k : ℕ) (d : X) → k < count → key (get_or xs (first + k) d) ≡ wanted
+  has_key k d lt =
+      let low = ltb-false _ wanted (parted.1 (first + k) d (omega arith) (omega (arith, length_rest, within))) in
+      let high = leb-true _ wanted (parted_rest.0 k d (omega arith) lt) in
+      omega (arith, ap key (at_rest k d (omega (arith, length_rest, within))))
 
-  -- it has just the constraints that read the region
-  pub part_has : (c : Constraint) → Contains (take count (rest_of xs first)) c ↔ (Contains xs c × (c.sub ≡ sub))
-  part_has c = (
+  -- the part has just the elements of the key
+  pub key_part_has : (x : X) → Contains (take count (rest_of xs first)) x ↔ (Contains xs x × (key x ≡ wanted))
+  key_part_has x = (
     λ h.
         let lt : h.0 < count = omega (arith, h.1, length_part) in
-        let is = sym (at_part h.0 c lt) ∙ h.2 in
-        ((first + h.0, omega (arith, length_rest, within), is), subst (λ (x : Constraint). x.sub ≡ sub) is (reads h.0 c lt)),
+        let is = sym (at_part h.0 x lt) ∙ h.2 in
+        ((first + h.0, omega (arith, length_rest, within), is), subst (λ (y : X). key y ≡ wanted) is (has_key h.0 x lt)),
     λ h. there h.0.0 h.0.1 h.0.2 h.1,
   )
     where
-      there : (k : ℕ) → k < length xs → get_or xs k c ≡ c → c.sub ≡ sub → Contains (take count (rest_of xs first)) c
-      there k below is of_sub =
-          let read = ap (λ (x : Constraint). x.sub) is in
-          let past_first : first ≤ k = ⊎_elim (λ lt. absurd (omega (arith, ltb-true _ sub (parted.0 k c (omega arith) lt)))) (λ le. le) (cases_lt k first) in
+      there : (k : ℕ) → k < length xs → get_or xs k x ≡ x → key x ≡ wanted → Contains (take count (rest_of xs first)) x
+      there k below is of_key =
+          let read = ap key is in
+          let past_first : first ≤ k = ⊎_elim (λ lt. absurd (omega (arith, ltb-true _ wanted (parted.0 k x (omega arith) lt)))) (λ le. le) (cases_lt k first) in
           let moved : first + (k - first) ≡ k = omega arith in
-          let at : get_or (rest_of xs first) (k - first) c ≡ c = at_rest (k - first) c (omega arith) ∙ ap (λ n. get_or xs n c) moved ∙ is in
+          let at : get_or (rest_of xs first) (k - first) x ≡ x = at_rest (k - first) x (omega arith) ∙ ap (λ n. get_or xs n x) moved ∙ is in
           let lt : k - first < count = ⊎_elim
           (λ lt. lt)
-          (λ le. absurd (omega (arith, leb-false _ sub (parted_rest.1 (k - first) c le (omega (arith, length_rest))), ap (λ (x : Constraint). x.sub) at)))
+          (λ le. absurd (omega (arith, leb-false _ wanted (parted_rest.1 (k - first) x le (omega (arith, length_rest))), ap key at)))
           (cases_lt (k - first) count) in
-          (k - first, omega (arith, length_part, lt), at_part (k - first) c lt ∙ ap (λ n. get_or xs n c) moved ∙ is)
+          (k - first, omega (arith, length_part, lt), at_part (k - first) x lt ∙ ap (λ n. get_or xs n x) moved ∙ is)
+
+  -- and these stand to one another as in the list
+  pub key_part_pairs : (L : X → X → Type 0) → AllPairs L xs → AllPairs (λ x y. (key x ≡ wanted) × (key y ≡ wanted) × L x y) (take count (rest_of xs first))
+  key_part_pairs L pairs i j d before inside =
+      let lt : j < count = omega (arith, inside, length_part) in
+      rw (at_part i d (omega arith), at_part j d lt)
+      (has_key i d (omega arith), has_key j d lt, pairs (first + i) (first + j) d (omega arith) (omega (arith, length_rest, within)))
+
+-- ---- the part of one region
+
+-- along ascending constraints the region that is read doesn't fall
+pub subs_rise : (xs : List Constraint) → AllPairs IsReadEarlier xs → IsNonDecreasingBy (λ (c : Constraint). c.sub) xs
+subs_rise = keys_rise (λ (c : Constraint). c.sub) IsReadEarlier (λ c d. ⊎_elim (λ less. omega (arith, less)) (λ same. omega (arith, same.0)))
+
+pub rest_rise : (xs : List Constraint) (first : ℕ) → AllPairs IsReadEarlier xs → IsNonDecreasingBy (λ (c : Constraint). c.sub) (rest_of xs first)
+rest_rise xs first ascend = rest_keys_rise (λ (c : Constraint). c.sub) xs first (subs_rise xs ascend)
+
+module _ (xs : List Constraint) (sub first count : ℕ) (within_all : first ≤ length xs) (within : count ≤ length (rest_of xs first))
+    (parted : IsPartitionPoint (λ (c : Constraint). ltb c.sub sub ≡ true) (λ (c : Constraint). ltb c.sub sub ≡ false) xs first)
+    (parted_rest : IsPartitionPoint (λ (c : Constraint). leb c.sub sub ≡ true) (λ (c : Constraint). leb c.sub sub ≡ false) (rest_of xs first) count) where
+  -- it has just the constraints that read the region
+  pub part_has : (c : Constraint) → Contains (take count (rest_of xs first)) c ↔ (Contains xs c × (c.sub ≡ sub))
+  part_has = key_part_has (λ (c : Constraint). c.sub) xs sub first count within_all within parted parted_rest
 
   -- and these ascend
   pub part_ascends : AllPairs IsReadEarlier xs → AllPairs IsLower (take count (rest_of xs first))
   part_ascends ascend i j d before inside =
-      let lt : j < count = omega (arith, inside, length_part) in
-      rw (at_part i d (omega arith), at_part j d lt)
-      (⊎_elim (λ less. absurd (omega (arith, reads i d (omega arith), reads j d lt))) (λ same. same.1) (ascend (first + i) (first + j) d (omega arith) (omega (arith, length_rest, within))))
+      let h = key_part_pairs (λ (c : Constraint). c.sub) xs sub first count within_all within parted parted_rest IsReadEarlier ascend i j d before inside in
+      ⊎_elim (λ less. absurd (omega (arith, h.0, h.1, less))) (λ same. same.1) h.2
