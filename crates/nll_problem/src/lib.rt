@@ -17,6 +17,7 @@ mod limits;
 mod problem;
 mod region;
 mod rows;
+mod turning;
 
 pub use builder::ProblemBuilder;
 pub use constraint::Constraint;
