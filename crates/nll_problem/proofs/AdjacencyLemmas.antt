@@ -5,12 +5,12 @@ use Rattle.std.proofs.lemmas.List.Elements.{Contains-get_or, Contains-push, Cont
 use Rattle.std.proofs.lemmas.List.Quantifiers.{all_pairs_push}
 use Rattle.std.proofs.lemmas.List.Sums.{sum_by-cons}
 use Rattle.std.proofs.lemmas.Bool.{cases_eq, cases_lt, false≢true}
-use Rattle.nll_problem.specs.Adjacency.{edges_from, edges_of, graph_of, AreLists, AreTurned, Indexes, IsIndexed, IsIndexedIfLong, IsKept}
+use Rattle.nll_problem.specs.Adjacency.{edges_from, edges_of, graph_of, AreLists, Indexes, IsIndexed, IsIndexedIfLong, IsKept}
 use Rattle.nll_problem.specs.Answers.{AddsFact}
 use Rattle.nll_problem.specs.GraphBuilding.{bare_graph}
 use Rattle.nll_problem.specs.Limits.{most_points, most_edges, most_universals}
 use Rattle.nll_problem.specs.Rows.{row_at, with_item, item_count}
-use Rattle.nll_problem.specs.Turning.{AreNamed}
+use Rattle.nll_problem.specs.Turning.{AreIndices}
 use Rattle.nll_problem.specs.declared.graph_builder.TheConstants.{SCANNED}
 use Rattle.nll_problem.proofs.RowLemmas.{counted_more}
 
@@ -226,8 +226,8 @@ module _ (points universals : ℕ) (next : List (List ℕ)) (returns : List ℕ)
         }
 
   -- each successor is the index of a list
-  pub named_kept : AreNamed next
-  named_kept p q h = omega (arith, (k.sound.edges_in_range p q ((edges_exact next p q).1 h)).1, k.successors.listed)
+  pub indices_kept : AreIndices next
+  indices_kept p q h = omega (arith, (k.sound.edges_in_range p q ((edges_exact next p q).1 h)).1, k.successors.listed)
 
   -- the graph is kept with one more return point
   pub kept_return : (p : ℕ) → p < points → (get_or marks p false ≡ false) → IsKept points universals next (returns ++ p ∷ []) (set marks p true)

@@ -1,5 +1,5 @@
--- How a graph and its builder keep edges: each point has a list of its successors and one of its
--- predecessors.
+-- How a graph and its builder keep edges: each point has a list of its successors, and in a
+-- finished graph one of its predecessors.
 -- Source: project's choice. Private contracts alone cite this file.
 use Rattle.std.specs.Prelude.{◌≡◌, ◌≢◌, ◌⊎◌, ◌↔◌, ℕ, ◌+◌, ◌<◌, Bool, true, false, List, [], ◌∷◌, ◌++◌, map, length, Contains, AllPairs, slice_index_or}
 use Rattle.nll_problem.specs.Graph.{Graph, IsSound}
