@@ -5,11 +5,12 @@ use Rattle.std.proofs.lemmas.List.Elements.{Contains-get_or, Contains-push, Cont
 use Rattle.std.proofs.lemmas.List.Quantifiers.{all_pairs_push}
 use Rattle.std.proofs.lemmas.List.Sums.{sum_by-cons}
 use Rattle.std.proofs.lemmas.Bool.{cases_eq, cases_lt, false≢true}
-use Rattle.nll_problem.specs.Adjacency.{edges_from, edges_of, graph_of, AreLists, AreTurned, Indexes, IsIndexed, IsIndexedIfLong, IsKept}
+use Rattle.nll_problem.specs.Adjacency.{edges_from, edges_of, graph_of, AreLists, Indexes, IsIndexed, IsIndexedIfLong, IsKept}
 use Rattle.nll_problem.specs.Answers.{AddsFact}
 use Rattle.nll_problem.specs.GraphBuilding.{bare_graph}
 use Rattle.nll_problem.specs.Limits.{most_points, most_edges, most_universals}
 use Rattle.nll_problem.specs.Rows.{row_at, with_item, item_count}
+use Rattle.nll_problem.specs.Turning.{AreIndices}
 use Rattle.nll_problem.specs.declared.graph_builder.TheConstants.{SCANNED}
 use Rattle.nll_problem.proofs.RowLemmas.{counted_more}
 
@@ -196,31 +197,13 @@ module _ (lists : List (List ℕ)) (p q : ℕ) (within : p < length lists) where
   }
 
 -- A graph that is kept, and an edge from p to q that isn't there.
-module _ (points universals : ℕ) (next previous : List (List ℕ)) (returns : List ℕ) (marks : List Bool) (k : IsKept points universals next previous returns marks) where
+module _ (points universals : ℕ) (next : List (List ℕ)) (returns : List ℕ) (marks : List Bool) (k : IsKept points universals next returns marks) where
   module _ (p q : ℕ) (from : p < points) (to : q < points) (absent : Contains (row_at next p) q → ⊥) where
     within_next : p < length next
     within_next = omega (arith, k.successors.listed, from)
 
-    within_previous : q < length previous
-    within_previous = omega (arith, k.predecessors.listed, to)
-
-    absent_back : Contains (row_at previous q) p → ⊥
-    absent_back h = absent ((k.turned p q).0 h)
-
-    turned_grown : AreTurned (with_item next p q) (with_item previous q p)
-    turned_grown a b = (
-      λ h. (grown_has next p q within_next a b).1 (⊎_elim
-          (λ old. inl ((k.turned a b).0 old))
-          (λ is. inr (is.1, is.0))
-          ((grown_has previous q p within_previous b a).0 h)),
-      λ h. (grown_has previous q p within_previous b a).1 (⊎_elim
-          (λ old. inl ((k.turned a b).1 old))
-          (λ is. inr (is.1, is.0))
-          ((grown_has next p q within_next a b).0 h)),
-    )
-
     -- the graph is kept with the edge
-    pub kept_edge : item_count next < most_edges → IsKept points universals (with_item next p q) (with_item previous q p) returns marks
+    pub kept_edge : item_count next < most_edges → IsKept points universals (with_item next p q) returns marks
     kept_edge room =
         let adds = adds_edge next p q within_next absent in
         let lists = lists_grown next p q within_next absent points k.successors in
@@ -239,13 +222,15 @@ module _ (points universals : ℕ) (next previous : List (List ℕ)) (returns : 
             returns_in_range = k.sound.returns_in_range;
           };
           successors = lists;
-          predecessors = lists_grown previous q p within_previous absent_back points k.predecessors;
-          turned = turned_grown;
           marked = k.marked;
         }
 
+  -- each successor is the index of a list
+  pub indices_kept : AreIndices next
+  indices_kept p q h = omega (arith, (k.sound.edges_in_range p q ((edges_exact next p q).1 h)).1, k.successors.listed)
+
   -- the graph is kept with one more return point
-  pub kept_return : (p : ℕ) → p < points → (get_or marks p false ≡ false) → IsKept points universals next previous (returns ++ p ∷ []) (set marks p true)
+  pub kept_return : (p : ℕ) → p < points → (get_or marks p false ≡ false) → IsKept points universals next (returns ++ p ∷ []) (set marks p true)
   kept_return p point free =
       let absent : Contains returns p → ⊥ = λ h. false≢true (sym free ∙ (k.marked.each p).0 h) in
       let within : p < length marks = omega (arith, k.marked.listed, point) in
@@ -261,8 +246,6 @@ module _ (points universals : ℕ) (next previous : List (List ℕ)) (returns : 
           returns_in_range = λ x h. ⊎_elim (k.sound.returns_in_range x) (λ is. subst (λ y. y < points) is point) (Contains-push_cases returns p x h);
         };
         successors = k.successors;
-        predecessors = k.predecessors;
-        turned = k.turned;
         marked = record {
           listed = length-set marks p true ∙ k.marked.listed;
           each = λ x. (
@@ -302,7 +285,7 @@ edges_none : (k n : ℕ) → edges_from k (replicate n []) ≡ []
 edges_none k zero = refl
 edges_none k (suc n) = edges_none (k + 1) n
 
-row_none : (n p : ℕ) → row_at (replicate n []) p ≡ []
+pub row_none : (n p : ℕ) → row_at (replicate n []) p ≡ []
 row_none n p = ⊎_elim
     (λ within. get_or-replicate n p [] [] within)
     (λ past. get_or_past (replicate n []) p [] (subst (λ k. k ≤ p) (sym (length-replicate n [])) past))
@@ -312,18 +295,18 @@ row_none n p = ⊎_elim
 pub graph_none : (points universals : ℕ) (next : List (List ℕ)) → next ≡ replicate points [] → graph_of points universals next [] ≡ bare_graph points universals
 graph_none points universals next is = ap (λ edges. record { points = points; universals = universals; edges = edges; returns = [] }) (ap edges_of is ∙ edges_none 0 points)
 
-lists_none : (points : ℕ) → AreLists points (replicate points [])
+pub lists_none : (points : ℕ) → AreLists points (replicate points [])
 lists_none points = record {
   listed = length-replicate points [];
   once = λ p i j d i<j j<n. absurd (omega (arith, ap length (row_none points p)));
 }
 
 -- lists without points turn into such lists
-nothing_in : (n p : ℕ) (q : ℕ) → Contains (row_at (replicate n []) p) q → ⊥
+pub nothing_in : (n p : ℕ) (q : ℕ) → Contains (row_at (replicate n []) p) q → ⊥
 nothing_in n p q h = none_contained q (subst (λ xs. Contains xs q) (row_none n p) h)
 
 -- a graph without edges and return points is kept so
-pub kept_none : (points universals : ℕ) → 0 < points → 0 < universals → points ≤ most_points → universals ≤ most_universals → IsKept points universals (replicate points []) (replicate points []) [] (replicate points false)
+pub kept_none : (points universals : ℕ) → 0 < points → 0 < universals → points ≤ most_points → universals ≤ most_universals → IsKept points universals (replicate points []) [] (replicate points false)
 kept_none points universals some_point some_universal point_limit universal_limit =
     let no_edges : edges_of (replicate points []) ≡ [] = edges_none 0 points in
     record {
@@ -338,8 +321,6 @@ kept_none points universals some_point some_universal point_limit universal_limi
         returns_in_range = λ p h. absurd (none_contained p h);
       };
       successors = lists_none points;
-      predecessors = lists_none points;
-      turned = λ p q. (λ h. absurd (nothing_in points q p h), λ h. absurd (nothing_in points p q h));
       marked = record {
         listed = length-replicate points false;
         each = λ p. (λ h. absurd (none_contained p h), λ h. absurd (false≢true (sym (no_mark p) ∙ h)));

@@ -3,6 +3,7 @@ pub mod SameLemmas
 pub mod BaseLemmas
 pub mod RowLemmas
 pub mod AdjacencyLemmas
+pub mod TurningLemmas
 pub mod ProblemLemmas
 pub mod WalkLemmas
 pub mod OrderLemmas

@@ -22,7 +22,7 @@ module _ (starts items : List ℕ) where
     pub starts_within : (i : ℕ) → i < length starts → get_or starts i 0 ≤ length items
     starts_within i h = omega (arith, flat.ordered i (length starts - 1) (omega arith) (omega arith), flat.last)
 
-    length_row : (i : ℕ) → i + 1 < length starts → length (row_of starts items i) + get_or starts i 0 ≡ get_or starts (i + 1) 0
+    pub length_row : (i : ℕ) → i + 1 < length starts → length (row_of starts items i) + get_or starts i 0 ≡ get_or starts (i + 1) 0
     length_row i h =
         let below = starts_within (i + 1) h in
         let order = flat.ordered i (i + 1) (omega arith) h in

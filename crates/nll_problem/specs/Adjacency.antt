@@ -1,5 +1,5 @@
--- How a graph and its builder keep edges: each point has a list of its successors and one of its
--- predecessors.
+-- How a graph and its builder keep edges: each point has a list of its successors, and in a
+-- finished graph one of its predecessors.
 -- Source: project's choice. Private contracts alone cite this file.
 use Rattle.std.specs.Prelude.{◌≡◌, ◌≢◌, ◌⊎◌, ◌↔◌, ℕ, ◌+◌, ◌<◌, Bool, true, false, List, [], ◌∷◌}
 use Rattle.std.specs.Prelude.{◌++◌, map, length, Contains, AllPairs, slice_index_or}
@@ -36,14 +36,12 @@ pub record AreMarked (points : ℕ) (returns : List ℕ) (marks : List Bool) : T
   pub each : (p : ℕ) → Contains returns p ↔ (slice_index_or marks p false ≡ true)
   pub once : AllPairs (λ p q. p ≢ q) returns
 
--- The graph is sound, its edges are listed forwards and backwards, its return points are marked.
+-- The graph is sound, its edges are listed by their first points, its return points are marked.
 pub record IsKept
-    (points universals : ℕ) (next previous : List (List ℕ)) (returns : List ℕ) (marks : List Bool)
+    (points universals : ℕ) (next : List (List ℕ)) (returns : List ℕ) (marks : List Bool)
     : Type 0 where
   pub sound : IsSound (graph_of points universals next returns)
   pub successors : AreLists points next
-  pub predecessors : AreLists points previous
-  pub turned : AreTurned next previous
   pub marked : AreMarked points returns marks
 
 -- the index has the edges from the point to all of the list

@@ -25,14 +25,16 @@ pub struct Graph {
 
 impl Model for Graph {
     ghost use Rattle.nll_problem.specs.Graph as spec;
-    ghost use Rattle.nll_problem.specs.Adjacency.{graph_of, IsKept};
+    ghost use Rattle.nll_problem.specs.Adjacency.{graph_of, AreLists, AreTurned, IsKept};
 
     ghost Value = { spec.Graph };
 
     ghost view = { λ g. graph_of g.points g.universals g.next g.returns.items };
 
     ghost invariant = { λ g.
-        IsKept g.points g.universals g.next g.previous g.returns.items g.marks.items };
+        IsKept g.points g.universals g.next g.returns.items g.marks.items
+        × AreLists g.points g.previous
+        × AreTurned g.next g.previous };
 }
 
 impl Graph {

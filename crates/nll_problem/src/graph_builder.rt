@@ -3,7 +3,8 @@
 //! Each point has a list of its successors. A list of up to `SCANNED` successors is searched from
 //! end to end; the edges of points with longer lists also stand in a hashed index. So adding an
 //! edge takes amortised constant time, and a point with few successors costs no more than these.
-//! The predecessors are listed beside, and the room for the finished graph grows with each edge.
+//! The room for the finished graph, its lists of predecessors included, grows with each edge; these
+//! are made at the end, of the lists of successors.
 
 ghost use Rattle.std.specs.Prelude.{◌≡◌, ◌<◌, ◌≤◌, [], ◌∷◌, ◌++◌, length, OnOk, OnErr, IfOk};
 ghost use Rattle.nll_problem.specs.Adjacency.{HasEdgesTo, Indexes, IsIndexed, IsIndexedIfLong};
@@ -18,6 +19,7 @@ use crate::error::{BuildError, Kind};
 use crate::graph::Graph;
 use crate::limits::{MAX_EDGES, MAX_POINTS, MAX_UNIVERSALS};
 use crate::rows::{Rows, RowsBuilder};
+use crate::turning::TurnedRoom;
 use indexmap::IndexSet;
 use nll_sets::Memory;
 use std::alloc::Global;
@@ -39,8 +41,8 @@ pub struct GraphBuilder {
     universals: u32,
     // The successors of each point.
     next: RowsBuilder,
-    // The predecessors of each point.
-    previous: RowsBuilder,
+    // The room of the predecessors.
+    previous: TurnedRoom,
     index: IndexSet<(u32, u32)>,
     returns: Vec<u32>,
     // Whether each point is a return point.
@@ -50,14 +52,16 @@ pub struct GraphBuilder {
 impl Model for GraphBuilder {
     ghost use Rattle.nll_problem.specs.Graph as spec;
     ghost use Rattle.nll_problem.specs.Adjacency.{graph_of, IsIndexed, IsKept};
+    ghost use Rattle.nll_problem.specs.Turning.{IsRoomOf};
 
     ghost Value = { spec.Graph };
 
     ghost view = { λ b. graph_of b.points b.universals b.next.rows b.returns.items };
 
     ghost invariant = { λ b.
-        IsKept b.points b.universals b.next.rows b.previous.rows b.returns.items b.marks.items
-        × IsIndexed b.next.rows b.index.keys };
+        IsKept b.points b.universals b.next.rows b.returns.items b.marks.items
+        × IsIndexed b.next.rows b.index.keys
+        × IsRoomOf b.next.rows b.previous };
 }
 
 impl GraphBuilder {
@@ -102,7 +106,7 @@ impl GraphBuilder {
         let marks = Vec::from_slice(alloc, graph.marks.as_slice())?;
         let index = index_of(alloc, graph.points, &graph.next)?;
         let next = RowsBuilder::of(alloc, &graph.next)?;
-        let previous = RowsBuilder::of(alloc, &graph.previous)?;
+        let previous = TurnedRoom::of(alloc, &graph.next)?;
         Ok(GraphBuilder {
             points: graph.points,
             universals: graph.universals,
@@ -183,11 +187,13 @@ impl GraphBuilder {
     pub fn finish(self) -> Graph
         ensures { result ≡ self }
     {
+        let next = self.next.finish();
+        let previous = self.previous.turned(&next);
         Graph {
             points: self.points,
             universals: self.universals,
-            next: self.next.finish(),
-            previous: self.previous.finish(),
+            next,
+            previous,
             returns: self.returns,
             marks: self.marks,
         }
@@ -206,7 +212,7 @@ impl GraphBuilder {
     {
         let marks = Vec::from_elem(alloc, false, points as usize)?;
         let next = RowsBuilder::new(alloc, points)?;
-        let previous = RowsBuilder::new(alloc, points)?;
+        let previous = TurnedRoom::new(alloc, points)?;
         Ok(GraphBuilder {
             points,
             universals,
@@ -250,10 +256,10 @@ impl GraphBuilder {
         ensures err { OnErr result (self.new ≡ self.old) }
     {
         self.next.reserve(from as usize)?;
-        self.previous.reserve(to as usize)?;
+        self.previous.reserve()?;
         index_grown(&mut self.index, from, self.next.row(from as usize), to)?;
         self.next.push_reserved(from as usize, to);
-        self.previous.push_reserved(to as usize, from);
+        self.previous.push_reserved();
         Ok(())
     }
 }

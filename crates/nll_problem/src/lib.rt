@@ -18,6 +18,7 @@ mod outlives;
 mod problem;
 mod region;
 mod rows;
+mod turning;
 
 pub use builder::ProblemBuilder;
 pub use constraint::Constraint;

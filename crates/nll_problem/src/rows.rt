@@ -1,6 +1,6 @@
 //! Rows of numbers: flat, or while they grow.
 
-ghost use Rattle.std.specs.Prelude.{◌≡◌, ◌+◌, ◌<◌, ◌≤◌, [], ◌∷◌, ◌++◌, map, replicate, length};
+ghost use Rattle.std.specs.Prelude.{◌≡◌, ◌+◌, ◌<◌, ◌≤◌, ◌^◌, [], ◌∷◌, ◌++◌, map, replicate, length};
 ghost use Rattle.std.specs.Prelude.{slice_range, vec_len, vec_capacity, IfOk, OnOk};
 ghost use Rattle.nll_problem.specs.Rows.{IsFlat, HasRoom, rows_of, item_count, row_at, with_item};
 
@@ -12,8 +12,8 @@ use std::marker::Model;
 /// Rows of numbers, flat: where each row starts, and the items of all rows in one list.
 #[derive(Drop)]
 pub struct Rows {
-    starts: Vec<usize>,
-    items: Vec<u32>,
+    pub(crate) starts: Vec<u32>,
+    pub(crate) items: Vec<u32>,
 }
 
 impl Model for Rows {
@@ -28,6 +28,13 @@ impl Model for Rows {
 }
 
 impl Rows {
+    /// How many rows there are.
+    pub fn len(&self) -> usize
+        ensures { result ≡ length self.now }
+    {
+        self.starts.len() - 1
+    }
+
     /// The row at an index.
     pub fn row(&self, index: usize) -> &[u32]
         requires { index < length self.now }
@@ -35,7 +42,7 @@ impl Rows {
     {
         let start = self.starts[index];
         let end = self.starts[index + 1];
-        part(self.items.as_slice(), start, end)
+        part(self.items.as_slice(), start as usize, end as usize)
     }
 
     /// The same rows again.
@@ -53,7 +60,7 @@ impl Rows {
 pub struct RowsBuilder {
     lists: Vec<SmallVec<u32, 2>>,
     // Empty, with room for one start more than there are rows.
-    starts: Vec<usize>,
+    starts: Vec<u32>,
     // The items of all rows, as they came: so there is room for each.
     items: Vec<u32>,
 }
@@ -148,6 +155,7 @@ impl RowsBuilder {
 
     /// The rows, flat. Takes no memory.
     pub fn finish(self) -> Rows
+        requires { item_count self.rows < 2 ^ 32 }
         ensures { result ≡ self.rows }
     {
         let RowsBuilder {
@@ -174,7 +182,7 @@ fn part(items: &[u32], start: usize, end: usize) -> &[u32]
 fn lists_of(alloc: Global, rows: &Rows) -> Result<Vec<SmallVec<u32, 2>>, Memory>
     ensures { IfOk result (λ lists. map (λ list. list.items) lists.items ≡ rows.now) }
 {
-    let count = rows.starts.len() - 1;
+    let count = rows.len();
     let mut lists = Vec::with_capacity(alloc, count)?;
     for index in 0..count {
         let list = SmallVec::from_slice(alloc, rows.row(index))?;
@@ -184,10 +192,11 @@ fn lists_of(alloc: Global, rows: &Rows) -> Result<Vec<SmallVec<u32, 2>>, Memory>
 }
 
 // The lists, flat, in the room of the two vectors.
-fn flat(lists: &[SmallVec<u32, 2>], mut starts: Vec<usize>, mut items: Vec<u32>) -> Rows
+fn flat(lists: &[SmallVec<u32, 2>], mut starts: Vec<u32>, mut items: Vec<u32>) -> Rows
     requires none { starts.items ≡ [] }
     requires starts { length lists.now < vec_capacity starts }
     requires items { item_count (map (λ list. list.items) lists.now) ≤ vec_capacity items }
+    requires few { item_count (map (λ list. list.items) lists.now) < 2 ^ 32 }
     ensures { result ≡ map (λ list. list.items) lists.now }
 {
     items.clear();
@@ -199,10 +208,11 @@ fn flat(lists: &[SmallVec<u32, 2>], mut starts: Vec<usize>, mut items: Vec<u32>)
 }
 
 // Puts one more row behind the others, for which there is room.
-fn push_row(starts: &mut Vec<usize>, items: &mut Vec<u32>, row: &[u32])
+fn push_row(starts: &mut Vec<u32>, items: &mut Vec<u32>, row: &[u32])
     requires flat { IsFlat starts.old.items items.old.items }
     requires starts { vec_len starts.old < vec_capacity starts.old }
     requires items { vec_len items.old + length row.now ≤ vec_capacity items.old }
+    requires few { vec_len items.old + length row.now < 2 ^ 32 }
     ensures flat { IsFlat starts.new.items items.new.items }
     ensures rows { rows_of starts.new.items items.new.items
         ≡ rows_of starts.old.items items.old.items ++ row.now ∷ [] }
@@ -212,7 +222,7 @@ fn push_row(starts: &mut Vec<usize>, items: &mut Vec<u32>, row: &[u32])
     ensures items_room { vec_capacity items.old ≤ vec_capacity items.new }
 {
     append_reserved(items, row);
-    starts.push_reserved(items.len());
+    starts.push_reserved(items.len() as u32);
 }
 
 // Puts a row behind the items, for which there is room.

@@ -18,7 +18,12 @@ is_row c = c.as_slice.ensures ∙ row_here (λ list. list.items) c.args.lists.no
 pub push_row-requires-clause-items : goal.push_row-requires-clause-items
 push_row-requires-clause-items c =
     let d = (goal.at.push_row-requires-clause-items c).After-as_slice in
-    omega (arith, c.loop-list.invariant.items, counted_from (rows d) c.loop-list.list-index (within d), ap length (is_row d))
+    omega (arith, c.loop-list.invariant.items, c.loop-list.invariant.counted, counted_from (rows d) c.loop-list.list-index (within d), ap length (is_row d))
+
+pub push_row-requires-clause-few : goal.push_row-requires-clause-few
+push_row-requires-clause-few c =
+    let d = (goal.at.push_row-requires-clause-few c).After-as_slice in
+    omega (arith, c.requires.few, c.loop-list.invariant.counted, counted_from (rows d) c.loop-list.list-index (within d), ap length (is_row d))
 
 pub loop-list-preserved : goal.loop-list-preserved
 loop-list-preserved c =
@@ -29,5 +34,6 @@ loop-list-preserved c =
       rows = c.push_row.ensures.rows ∙ (ap (λ xs. xs ++ c.as_slice.result.now ∷ []) c.loop-list.invariant.rows ∙ (ap (λ x. take i (rows d) ++ x ∷ []) (is_row d) ∙ sym (take_more (rows d) i [] (within d))));
       len = omega (arith, c.push_row.ensures.starts_len, c.loop-list.invariant.len);
       starts = omega (arith, c.push_row.ensures.starts_room, c.loop-list.invariant.starts);
-      items = omega (arith, c.push_row.ensures.items_len, c.push_row.ensures.items_room, c.loop-list.invariant.items, counted_from (rows d) i (within d), ap length (is_row d));
+      items = omega (arith, c.push_row.ensures.items_room, c.loop-list.invariant.items);
+      counted = omega (arith, c.push_row.ensures.items_len, c.loop-list.invariant.counted, counted_from (rows d) i (within d), ap length (is_row d));
     }

@@ -8,5 +8,6 @@ invariant-loop-list l = record {
   rows : rows_of l.starts.items l.items.items ≡ take l.list-index (map (λ list. list.items) l.lists);
   len : vec_len l.starts ≡ l.list-index + 1;
   starts : length l.lists < vec_capacity l.starts;
-  items : vec_len l.items + item_count (drop l.list-index (map (λ list. list.items) l.lists)) ≤ vec_capacity l.items;
+  items : item_count (map (λ list. list.items) l.lists) ≤ vec_capacity l.items;
+  counted : vec_len l.items + item_count (drop l.list-index (map (λ list. list.items) l.lists)) ≡ item_count (map (λ list. list.items) l.lists);
 }

@@ -1,7 +1,9 @@
-use Rattle.std.proofs.Common.{◌≡◌, ◌<◌, ◌∷◌, [], ◌++◌, Contains, length, ap, subst, ◌∙◌, arith}
+use Rattle.std.proofs.Common.{◌≡◌, ◌+◌, ◌<◌, ◌∷◌, [], ◌++◌, Contains, length, ap, subst, ◌∙◌, arith}
 use Rattle.nll_problem.specs.Adjacency.{Indexes, IsIndexed, IsIndexedIfLong, IsKept}
 use Rattle.nll_problem.specs.Rows.{row_at, with_item}
 use Rattle.nll_problem.proofs.AdjacencyLemmas.{adds_edge, edges_counted, edges_exact, indexed_grown, indexed_more, kept_edge}
+use Rattle.nll_problem.proofs.TurningLemmas.{room_more}
+use Rattle.nll_problem.specs.Turning.{IsRoomOf}
 use Rattle.nll_problem.proofs.graph_builder.GraphBuilder.add_edge.Goals as goal
 use Rattle.nll_problem.proofs.graph_builder.GraphBuilder.add_edge.Goals.{After-row, After-push_reserved-2}
 
@@ -11,24 +13,22 @@ is_row c = c.row.ensures ∙ ap (λ rows. row_at rows c.args.from) c.reserve.ens
 pub invariant_of-self-in_err-index_grown : goal.invariant_of-self-in_err-index_grown
 invariant_of-self-in_err-index_grown c =
     let d = (goal.at.invariant_of-self-in_err-index_grown c).After-row in
-    rw (c.reserve.ensures.rows, c.reserve-2.ensures.rows) (
+    rw c.reserve.ensures.rows (
       c.self.invariant.0,
       indexed_more c.self.inside.next.rows c.self.inside.index.keys c.index_grown.new.index.keys c.args.from c.self.invariant.1 (subst (λ xs. Indexes c.self.inside.index.keys c.index_grown.new.index.keys c.args.from xs) (is_row d) c.in_err-index_grown.ensures.err),
+      record { rows_counted = c.reserve-2.ensures.rows ∙ c.self.invariant.2.rows_counted; items_counted = c.reserve-2.ensures.items ∙ c.self.invariant.2.items_counted },
     )
 
 next_is : (c : After-push_reserved-2) → c.push_reserved.new.self.rows ≡ with_item c.self.inside.next.rows c.args.from c.args.to
 next_is c = c.push_reserved.ensures ∙ ap (λ rows. with_item rows c.args.from c.args.to) c.reserve.ensures.rows
 
-previous_is : (c : After-push_reserved-2) → c.push_reserved-2.new.self.rows ≡ with_item c.self.inside.previous.rows c.args.to c.args.from
-previous_is c = c.push_reserved-2.ensures ∙ ap (λ rows. with_item rows c.args.to c.args.from) c.reserve-2.ensures.rows
-
 absent : (c : After-push_reserved-2) → Contains (row_at c.self.inside.next.rows c.args.from) c.args.to → ⊥
 absent c h = (rw (← c.self.view_is) at c.requires.absent) ((edges_exact c.self.inside.next.rows c.args.from c.args.to).1 h)
 
-kept : (c : After-push_reserved-2) → IsKept c.self.inside.points c.self.inside.universals (with_item c.self.inside.next.rows c.args.from c.args.to) (with_item c.self.inside.previous.rows c.args.to c.args.from) c.self.inside.returns.items c.self.inside.marks.items
+kept : (c : After-push_reserved-2) → IsKept c.self.inside.points c.self.inside.universals (with_item c.self.inside.next.rows c.args.from c.args.to) c.self.inside.returns.items c.self.inside.marks.items
 kept c =
     let room = rw (← c.self.view_is) at c.requires.room in
-    kept_edge _ _ _ _ _ _ c.self.invariant.0 c.args.from c.args.to (rw (← c.self.view_is) at c.requires.from) (rw (← c.self.view_is) at c.requires.to) (absent c) (omega (arith, room, edges_counted c.self.inside.next.rows))
+    kept_edge _ _ _ _ _ c.self.invariant.0 c.args.from c.args.to (rw (← c.self.view_is) at c.requires.from) (rw (← c.self.view_is) at c.requires.to) (absent c) (omega (arith, room, edges_counted c.self.inside.next.rows))
 
 within : (c : After-push_reserved-2) → c.args.from < length c.self.inside.next.rows
 within c =
@@ -43,10 +43,13 @@ indexed c =
     (subst (λ xs. Indexes c.self.inside.index.keys new c.args.from (xs ++ c.args.to ∷ [])) row c.in_ok-index_grown.ensures.ok)
     (subst (λ xs. IsIndexedIfLong new c.args.from (xs ++ c.args.to ∷ [])) row c.in_ok-index_grown.ensures.long)
 
+room : (c : After-push_reserved-2) → IsRoomOf (with_item c.self.inside.next.rows c.args.from c.args.to) c.push_reserved-2.new.self
+room c = room_more c.self.inside.next.rows c.args.from c.args.to c.self.inside.previous c.push_reserved-2.new.self (within c) c.self.invariant.2 (c.push_reserved-2.ensures.rows ∙ c.reserve-2.ensures.rows) (c.push_reserved-2.ensures.items ∙ ap (λ n. n + 1) c.reserve-2.ensures.items)
+
 pub invariant_of-self-2 : goal.invariant_of-self-2
 invariant_of-self-2 c =
     let d = (goal.at.invariant_of-self-2 c).After-push_reserved-2 in
-    rw (next_is d, previous_is d) (kept d, indexed d)
+    rw (next_is d) (kept d, indexed d, room d)
 
 pub returns-clause-ok : goal.returns-clause-ok
 returns-clause-ok c =

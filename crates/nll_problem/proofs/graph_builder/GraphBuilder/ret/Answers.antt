@@ -10,11 +10,11 @@ use Rattle.nll_problem.proofs.graph_builder.GraphBuilder.ret.Goals.{After-push}
 free : (c : After-push) → get_or c.self.inside.marks.items c.args.point false ≡ false
 free c = get_or_default c.self.inside.marks.items c.args.point false c.index.result.now (omega (arith, c.if-point-self.false, c.self.invariant.0.marked.listed)) ∙ (sym c.index.ensures ∙ c.if-index.false)
 
-kept : (c : After-push) → IsKept c.self.inside.points c.self.inside.universals c.self.inside.next.rows c.self.inside.previous.rows (c.self.inside.returns.items ++ c.args.point ∷ []) (set c.self.inside.marks.items c.args.point true)
-kept c = kept_return _ _ _ _ _ _ c.self.invariant.0 c.args.point c.if-point-self.false (free c)
+kept : (c : After-push) → IsKept c.self.inside.points c.self.inside.universals c.self.inside.next.rows (c.self.inside.returns.items ++ c.args.point ∷ []) (set c.self.inside.marks.items c.args.point true)
+kept c = kept_return _ _ _ _ _ c.self.invariant.0 c.args.point c.if-point-self.false (free c)
 
 pub invariant_of-self-2 : goal.invariant_of-self-2
-invariant_of-self-2 c = (rw c.in_ok-push.ensures.items (kept (goal.at.invariant_of-self-2 c).After-push), c.self.invariant.1)
+invariant_of-self-2 c = (rw c.in_ok-push.ensures.items (kept (goal.at.invariant_of-self-2 c).After-push), c.self.invariant.1, c.self.invariant.2)
 
 pub returns-clause-ok : goal.returns-clause-ok
 returns-clause-ok c =
