@@ -1,10 +1,4 @@
-pub mod FileWordLemmas
-pub mod GrammarLemmas
-pub mod LineErrorLemmas
-pub mod LineLemmas
-pub mod PlainLineLemmas
 pub mod ReportLemmas
 pub mod RunLemmas
 pub mod SinkLemmas
-pub mod TaskWordLemmas
 pub mod WritingLemmas

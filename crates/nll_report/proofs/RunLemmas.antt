@@ -3,7 +3,7 @@ use Rattle.std.proofs.Common.{◌≡◌, ◌⊎◌, ℕ, List, [], Option, lengt
 use Rattle.std.specs.Io.KnownBytes.{Appends}
 use Rattle.nll_report.specs.declared.messages.Refusal.{Refusal}
 use Rattle.nll_report.specs.declared.messages.Refusal.TheVariants.{Usage, Memory}
-use Rattle.nll_report.specs.CommandLine.{IsNoPlainLine}
+use Rattle.nll_command_line.specs.CommandLine.{IsNoPlainLine}
 use Rattle.nll_report.specs.Run.{Holds, Lacks, Words, IsBegun, IsRefused, IsRun}
 use Rattle.nll_report.specs.Sink.{IsCut, MayRefuse}
 

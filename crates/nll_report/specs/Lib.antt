@@ -1,6 +1,4 @@
-pub mod CommandLine
 pub mod Disk
-pub mod Grammar
 pub mod Refusal
 pub mod Report
 pub mod Answer

@@ -10,11 +10,11 @@ use Rattle.nll_report.specs.declared.answers.Command.TheVariants as command
 use Rattle.nll_report.specs.declared.messages.Refusal.{Refusal}
 use Rattle.nll_report.specs.declared.messages.Refusal.TheVariants.{Usage, CannotRead, Text}
 use Rattle.nll_report.specs.declared.messages.Refusal.TheVariants.{Memory, CannotWrite}
-use Rattle.nll_report.specs.declared.task.Task.{Task}
-use Rattle.nll_report.specs.declared.task.Task.TheVariants.{Values, Check}
+use Rattle.nll_command_line.specs.declared.task.Task.{Task}
+use Rattle.nll_command_line.specs.declared.task.Task.TheVariants.{Values, Check}
 use Rattle.nll_report.specs.Answer.{IsAnswer}
-use Rattle.nll_report.specs.CommandLine.{IsLine, IsNoPlainLine}
-use Rattle.nll_report.specs.Grammar.{AsksForHelp}
+use Rattle.nll_command_line.specs.CommandLine.{IsLine, IsNoPlainLine}
+use Rattle.nll_command_line.specs.Grammar.{AsksForHelp}
 use Rattle.nll_report.specs.Sink.{IsCut}
 
 -- which bytes may be held at a path

@@ -1,34 +1,8 @@
-//! Why a command line isn't taken, a text isn't given or has no answer, and a report isn't written.
+//! Why a text isn't given or has no answer, and a report isn't written.
 
 use nll_core::Memory;
 use nll_mir::TextError;
-use std::alloc::AllocError;
 use thiserror::Error;
-
-/// Why a command line is not taken.
-#[derive(Debug, PartialEq, Eq, Drop, Error)]
-pub enum LineError {
-    /// Help is asked for; the text is for standard output.
-    #[error("help is asked for")]
-    Help(String),
-    /// The words are none of the forms.
-    #[error("the words are none of the forms")]
-    Usage,
-    /// An allocation was refused.
-    #[error("memory was refused")]
-    Memory,
-}
-
-impl From<AllocError> for LineError {
-    ghost use Rattle.std.specs.Prelude.{◌≡◌};
-    ghost use Rattle.nll_report.specs.declared.error.LineError.TheVariants.{Memory as memory};
-
-    ghost from_gives = { λ _ error. error ≡ memory };
-
-    fn from(_refused: AllocError) -> LineError {
-        LineError::Memory
-    }
-}
 
 /// Why a text was not given.
 #[derive(Clone, Copy, Debug, PartialEq, Eq, Error)]

@@ -10,12 +10,11 @@ ghost use Rattle.nll_report.specs.Run.{Words, holds_anything, lacks_anything};
 ghost use Rattle.nll_report.specs.Sink.{IsCut, IsPut};
 
 use crate::answers::{Command, answer};
-use crate::command_line::line;
 use crate::disk::Disk;
-use crate::error::{LineError, Unread};
+use crate::error::Unread;
 use crate::messages::Refusal;
 use crate::sink::Sink;
-use crate::task::{Line, Task};
+use nll_command_line::{Line, LineError, Task, line};
 use std::alloc::Global;
 use std::rt::{Env, Files};
 use std::{env, io};

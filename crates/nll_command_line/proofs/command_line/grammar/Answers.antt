@@ -1,7 +1,7 @@
 use Rattle.std.proofs.Common.{◌∙◌, rules, ap, ap₂}
 use Rattle.std.proofs.lemmas.Result.{IfOk-weaker}
 use Rattle.clap.specs.Words.{App, with_subcommand}
-use Rattle.nll_report.proofs.command_line.grammar.Goals as goal
+use Rattle.nll_command_line.proofs.command_line.grammar.Goals as goal
 
 pub returns : goal.returns
 returns c =

@@ -2,10 +2,10 @@
 use Rattle.std.proofs.Common.{◌≡◌, ℕ, Bool, true, false, nat_eq, List, [], ◌∷◌, Some, codes, inl, inr, refl, ap, ◌∙◌}
 use Rattle.clap.specs.Words.{Text, takes}
 use Rattle.clap.proofs.OnLiterals.{clap_on_literals}
-use Rattle.nll_report.specs.declared.task.Task.{Task}
-use Rattle.nll_report.specs.declared.task.Task.TheVariants.{Values, Check}
-use Rattle.nll_report.specs.CommandLine.{IsPlainLine, begins_as_option, name_of}
-use Rattle.nll_report.specs.Grammar.{line_by_grammar, program}
+use Rattle.nll_command_line.specs.declared.task.Task.{Task}
+use Rattle.nll_command_line.specs.declared.task.Task.TheVariants.{Values, Check}
+use Rattle.nll_command_line.specs.CommandLine.{IsPlainLine, begins_as_option, name_of}
+use Rattle.nll_command_line.specs.Grammar.{line_by_grammar, program}
 
 -- a file of one byte, a hyphen or not
 takes-byte : (task : Task) (b : ℕ) (x : Bool) → nat_eq b 45 ≡ x → takes program (name_of task ∷ (b ∷ []) ∷ []) ≡ true

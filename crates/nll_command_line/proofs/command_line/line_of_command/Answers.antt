@@ -1,7 +1,7 @@
 use Rattle.std.proofs.Common.{inr, refl}
 use Rattle.clap.specs.Words.{found_of}
-use Rattle.nll_report.proofs.GrammarLemmas.{line_of_found-None, line_of_found-Some}
-use Rattle.nll_report.proofs.command_line.line_of_command.Goals as goal
+use Rattle.nll_command_line.proofs.GrammarLemmas.{line_of_found-None, line_of_found-Some}
+use Rattle.nll_command_line.proofs.command_line.line_of_command.Goals as goal
 
 pub returns-in_default-get_str-clause-err : goal.returns-in_default-get_str-clause-err
 returns-in_default-get_str-clause-err c =

@@ -1,13 +1,13 @@
 //! What the words of the command line ask for.
 ghost use Rattle.std.specs.Prelude.{◌≡◌, ◌⊎◌, ℕ, List, MatchResult, IfErr, IfOk, None, Some, false};
 ghost use Rattle.std.specs.Prelude.{map, string_bytes};
-ghost use Rattle.nll_report.specs.declared.task.Task.{Task};
-ghost use Rattle.nll_report.specs.CommandLine.{IsLine, IsPlainLine};
+ghost use Rattle.nll_command_line.specs.declared.task.Task.{Task};
+ghost use Rattle.nll_command_line.specs.CommandLine.{IsLine, IsPlainLine};
 ghost use Rattle.clap.specs.Words.{app_of, found_of, kind_of, rows_of, rule_of};
 ghost use Rattle.clap.specs.Words.{new_app, subcommand_rows_of, with_rule};
 ghost use Rattle.clap.specs.declared.builder.Command.TheViews.{out-Command};
-ghost use Rattle.nll_report.specs.Grammar.{IsHelpKind, IsLineError, bare_program, file_rule};
-ghost use Rattle.nll_report.specs.Grammar.{line_of_found, line_of_matches, program, task_named};
+ghost use Rattle.nll_command_line.specs.Grammar.{IsHelpKind, IsLineError, bare_program, file_rule};
+ghost use Rattle.nll_command_line.specs.Grammar.{line_of_found, line_of_matches, program, task_named};
 
 use crate::error::LineError;
 use crate::task::{Line, Task};

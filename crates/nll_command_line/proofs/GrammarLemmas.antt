@@ -6,11 +6,11 @@ use Rattle.clap.specs.Faults.{is_simple_and_free}
 use Rattle.clap.specs.declared.parser.matches.Found.{Found}
 use Rattle.clap.proofs.WalkLemmas.{first_value-rows}
 use Rattle.clap.proofs.OnLiterals.{clap_on_literals}
-use Rattle.nll_report.specs.declared.task.Line.{Line}
-use Rattle.nll_report.specs.declared.error.LineError.{LineError}
-use Rattle.nll_report.specs.declared.error.LineError.TheVariants.{Usage, Memory}
-use Rattle.nll_report.specs.declared.task.Task.{Task}
-use Rattle.nll_report.specs.Grammar.{line_of_found, program, task_named}
+use Rattle.nll_command_line.specs.declared.task.Line.{Line}
+use Rattle.nll_command_line.specs.declared.error.LineError.{LineError}
+use Rattle.nll_command_line.specs.declared.error.LineError.TheVariants.{Usage, Memory}
+use Rattle.nll_command_line.specs.declared.task.Task.{Task}
+use Rattle.nll_command_line.specs.Grammar.{line_of_found, program, task_named}
 
 pub is_simple-program : is_simple program ≡ true
 unfolding clap_on_literals

@@ -1,12 +1,12 @@
 use Rattle.std.proofs.Common.{◌≡◌, ◌∙◌, map, string_bytes, sym, ap, subst}
 use Rattle.std.proofs.lemmas.Result.{IfOk-weaker}
 use Rattle.clap.specs.Words.{HasKind, fault_of, is_simple, is_simple_and_free, kind_of, subcommand_of, subcommand_rows_of, takes}
-use Rattle.nll_report.specs.Grammar.{line_of_matches, program}
-use Rattle.nll_report.proofs.GrammarLemmas.{is_simple-program, is_simple_and_free-program, plain_result}
-use Rattle.nll_report.proofs.LineErrorLemmas.{matches_without_line, words_without_matches}
-use Rattle.nll_report.proofs.LineLemmas.{line_is}
-use Rattle.nll_report.proofs.PlainLineLemmas.{line_by_grammar-plain, takes-plain}
-use Rattle.nll_report.proofs.command_line.line.Goals as goal
+use Rattle.nll_command_line.specs.Grammar.{line_of_matches, program}
+use Rattle.nll_command_line.proofs.GrammarLemmas.{is_simple-program, is_simple_and_free-program, plain_result}
+use Rattle.nll_command_line.proofs.LineErrorLemmas.{matches_without_line, words_without_matches}
+use Rattle.nll_command_line.proofs.LineLemmas.{line_is}
+use Rattle.nll_command_line.proofs.PlainLineLemmas.{line_by_grammar-plain, takes-plain}
+use Rattle.nll_command_line.proofs.command_line.line.Goals as goal
 
 pub returns-in-Ok : goal.returns-in-Ok
 returns-in-Ok c =

@@ -9,11 +9,11 @@ use Rattle.clap.specs.Words.{subcommand_of, with_rule, with_subcommand}
 use Rattle.clap.specs.declared.builder.ArgAction.TheVariants.{Set}
 use Rattle.clap.specs.declared.error.kind.ErrorKind.{ErrorKind}
 use Rattle.clap.specs.declared.error.kind.ErrorKind.TheVariants.{DisplayHelp}
-use Rattle.nll_report.specs.declared.error.LineError.{LineError}
-use Rattle.nll_report.specs.declared.error.LineError.TheVariants.{Help, Usage, Memory}
-use Rattle.nll_report.specs.declared.task.Task.{Task}
-use Rattle.nll_report.specs.declared.task.Task.TheVariants.{Values, Check}
-use Rattle.nll_report.specs.CommandLine.{IsNoPlainLine, name_of}
+use Rattle.nll_command_line.specs.declared.error.LineError.{LineError}
+use Rattle.nll_command_line.specs.declared.error.LineError.TheVariants.{Help, Usage, Memory}
+use Rattle.nll_command_line.specs.declared.task.Task.{Task}
+use Rattle.nll_command_line.specs.declared.task.Task.TheVariants.{Values, Check}
+use Rattle.nll_command_line.specs.CommandLine.{IsNoPlainLine, name_of}
 
 -- the place of the file among the words of a command
 abbrev pub file_rule : Rule

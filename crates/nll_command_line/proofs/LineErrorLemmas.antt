@@ -3,13 +3,13 @@ use Rattle.std.proofs.Common.{◌≡◌, ◌∙◌, ◌⊎◌, true, List, Optio
 use Rattle.clap.specs.Words.{IsAmong, Text, fault_of, takes}
 use Rattle.clap.specs.declared.error.kind.ErrorKind.{ErrorKind}
 use Rattle.clap.specs.declared.error.kind.ErrorKind.TheVariants.{OutOfMemory}
-use Rattle.nll_report.specs.declared.task.Line.{Line}
-use Rattle.nll_report.specs.declared.error.LineError.{LineError}
-use Rattle.nll_report.specs.declared.error.LineError.TheVariants.{Help, Usage, Memory}
-use Rattle.nll_report.specs.declared.task.Task.{Task}
-use Rattle.nll_report.specs.CommandLine.{IsNoPlainLine}
-use Rattle.nll_report.specs.Grammar.{IsHelpKind, IsLineError, line_by_grammar, program}
-use Rattle.nll_report.proofs.PlainLineLemmas.{line_by_grammar-plain, takes-plain}
+use Rattle.nll_command_line.specs.declared.task.Line.{Line}
+use Rattle.nll_command_line.specs.declared.error.LineError.{LineError}
+use Rattle.nll_command_line.specs.declared.error.LineError.TheVariants.{Help, Usage, Memory}
+use Rattle.nll_command_line.specs.declared.task.Task.{Task}
+use Rattle.nll_command_line.specs.CommandLine.{IsNoPlainLine}
+use Rattle.nll_command_line.specs.Grammar.{IsHelpKind, IsLineError, line_by_grammar, program}
+use Rattle.nll_command_line.proofs.PlainLineLemmas.{line_by_grammar-plain, takes-plain}
 
 -- words whose matches have no line are no plain line
 no_plain_line : (words : List Text) → line_by_grammar words ≡ None → IsNoPlainLine words

@@ -4,12 +4,12 @@ use Rattle.std.specs.Prelude.{unwrap_or}
 use Rattle.clap.specs.Walk.{Text, rows_after, stop_after}
 use Rattle.clap.specs.Simple.{built}
 use Rattle.clap.specs.Faults.{entered_fault, fault_of, walk_fault}
-use Rattle.nll_report.specs.declared.task.Task.{Task}
-use Rattle.nll_report.specs.declared.task.Task.TheVariants.{Check, Values}
-use Rattle.nll_report.specs.CommandLine.{IsLine, name_of}
-use Rattle.nll_report.specs.Grammar.{line_by_grammar, line_of_matches, program}
-use Rattle.nll_report.proofs.FileWordLemmas.{file_in, level, takes_file}
-use Rattle.nll_report.proofs.TaskWordLemmas.{is_none, names, or_else-left, or_else-right, rules_for, start, stops, subcommand_of-named, task_first, top}
+use Rattle.nll_command_line.specs.declared.task.Task.{Task}
+use Rattle.nll_command_line.specs.declared.task.Task.TheVariants.{Check, Values}
+use Rattle.nll_command_line.specs.CommandLine.{IsLine, name_of}
+use Rattle.nll_command_line.specs.Grammar.{line_by_grammar, line_of_matches, program}
+use Rattle.nll_command_line.proofs.FileWordLemmas.{file_in, level, takes_file}
+use Rattle.nll_command_line.proofs.TaskWordLemmas.{is_none, names, or_else-left, or_else-right, rules_for, start, stops, subcommand_of-named, task_first, top}
 
 entered_fault-named : (task : Task) (rest : List Text) → entered_fault (built program) (Some (name_of task, rest)) ≡ level (name_of task) rest
 entered_fault-named Values rest = refl

@@ -10,10 +10,10 @@ use Rattle.clap.specs.Simple.{Shape, built, entered, names_of, subcommand_of}
 use Rattle.clap.specs.Faults.{fault_of, flags_fault, long_fault, turn_fault, walk_fault, word_fault}
 use Rattle.clap.proofs.WalkLemmas.{walk_stopped}
 use Rattle.clap.proofs.OnLiterals.{clap_on_literals}
-use Rattle.nll_report.specs.declared.task.Task.{Task}
-use Rattle.nll_report.specs.declared.task.Task.TheVariants.{Check, Values}
-use Rattle.nll_report.specs.CommandLine.{name_of}
-use Rattle.nll_report.specs.Grammar.{program}
+use Rattle.nll_command_line.specs.declared.task.Task.{Task}
+use Rattle.nll_command_line.specs.declared.task.Task.TheVariants.{Check, Values}
+use Rattle.nll_command_line.specs.CommandLine.{name_of}
+use Rattle.nll_command_line.specs.Grammar.{program}
 
 abbrev pub is_none : Kinds → Bool
 is_none [] = true

@@ -8,9 +8,9 @@ use Rattle.clap.specs.Walk.{Held, Step, Text, Walk, after_step, arg_by_long, bun
 use Rattle.clap.specs.Simple.{Shape, built}
 use Rattle.clap.specs.Faults.{flags_fault, level_fault, long_fault, step_fault, turn_fault, walk_fault, word_fault}
 use Rattle.clap.proofs.OnLiterals.{clap_on_literals}
-use Rattle.nll_report.specs.CommandLine.{NamesFile}
-use Rattle.nll_report.specs.Grammar.{program}
-use Rattle.nll_report.proofs.TaskWordLemmas.{bytes_are, first_shape, is_none, or_else-left, or_else-right, rules_for}
+use Rattle.nll_command_line.specs.CommandLine.{NamesFile}
+use Rattle.nll_command_line.specs.Grammar.{program}
+use Rattle.nll_command_line.proofs.TaskWordLemmas.{bytes_are, first_shape, is_none, or_else-left, or_else-right, rules_for}
 
 -- a command as built, by its name
 abbrev pub shape_for : Text → Shape

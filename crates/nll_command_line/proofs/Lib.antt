@@ -1,0 +1,6 @@
+pub mod FileWordLemmas
+pub mod GrammarLemmas
+pub mod LineErrorLemmas
+pub mod LineLemmas
+pub mod PlainLineLemmas
+pub mod TaskWordLemmas

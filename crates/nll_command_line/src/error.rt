@@ -1,0 +1,29 @@
+//! Why words are no command line.
+
+use std::alloc::AllocError;
+use thiserror::Error;
+
+/// Why a command line is not taken.
+#[derive(Debug, PartialEq, Eq, Drop, Error)]
+pub enum LineError {
+    /// Help is asked for; the text is for standard output.
+    #[error("help is asked for")]
+    Help(String),
+    /// The words are none of the forms.
+    #[error("the words are none of the forms")]
+    Usage,
+    /// An allocation was refused.
+    #[error("memory was refused")]
+    Memory,
+}
+
+impl From<AllocError> for LineError {
+    ghost use Rattle.std.specs.Prelude.{◌≡◌};
+    ghost use Rattle.nll_command_line.specs.declared.error.LineError.TheVariants.{Memory as memory};
+
+    ghost from_gives = { λ _ error. error ≡ memory };
+
+    fn from(_refused: AllocError) -> LineError {
+        LineError::Memory
+    }
+}
