@@ -1,4 +1,3 @@
-pub mod ReportLemmas
 pub mod RunLemmas
 pub mod SinkLemmas
 pub mod WritingLemmas

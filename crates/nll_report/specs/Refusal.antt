@@ -7,8 +7,8 @@ use Rattle.nll_problem.specs.declared.error.Kind.TheVariants as limit
 use Rattle.nll_reading.specs.declared.error.TextError.{TextError}
 use Rattle.nll_reading.specs.declared.error.TextKind.{TextKind}
 use Rattle.nll_reading.specs.declared.error.TextKind.TheVariants as kind
-use Rattle.nll_report.specs.declared.error.AnswerError.{AnswerError}
-use Rattle.nll_report.specs.declared.error.AnswerError.TheVariants as answer
+use Rattle.nll_answer.specs.declared.error.AnswerError.{AnswerError}
+use Rattle.nll_answer.specs.declared.error.AnswerError.TheVariants as answer
 use Rattle.nll_report.specs.declared.messages.Refusal.{Refusal}
 use Rattle.nll_report.specs.declared.messages.Refusal.TheVariants.{Usage, CannotRead, Text}
 use Rattle.nll_report.specs.declared.messages.Refusal.TheVariants.{Memory, CannotWrite}

@@ -5,14 +5,14 @@ use Rattle.std.specs.Io.KnownBytes.{Appends}
 use Rattle.nll_reading.specs.declared.error.TextKind.{TextKind}
 use Rattle.nll_facts.specs.FactsText.{facts}
 use Rattle.nll_reading.specs.Text.{IsFault}
-use Rattle.nll_report.specs.declared.answers.Command.{Command}
-use Rattle.nll_report.specs.declared.answers.Command.TheVariants as command
+use Rattle.nll_answer.specs.declared.answers.Command.{Command}
+use Rattle.nll_answer.specs.declared.answers.Command.TheVariants as command
 use Rattle.nll_report.specs.declared.messages.Refusal.{Refusal}
 use Rattle.nll_report.specs.declared.messages.Refusal.TheVariants.{Usage, CannotRead, Text}
 use Rattle.nll_report.specs.declared.messages.Refusal.TheVariants.{Memory, CannotWrite}
 use Rattle.nll_command_line.specs.declared.task.Task.{Task}
 use Rattle.nll_command_line.specs.declared.task.Task.TheVariants.{Values, Check}
-use Rattle.nll_report.specs.Answer.{IsAnswer}
+use Rattle.nll_answer.specs.Answer.{IsAnswer}
 use Rattle.nll_command_line.specs.CommandLine.{IsLine, IsNoPlainLine}
 use Rattle.nll_command_line.specs.Grammar.{AsksForHelp}
 use Rattle.nll_report.specs.Sink.{IsCut}

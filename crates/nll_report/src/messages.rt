@@ -6,9 +6,10 @@ ghost use Rattle.nll_report.specs.Refusal.{refusal_of_text, refusal_text, status
 ghost use Rattle.nll_report.specs.declared.messages.Refusal.TheVariants.{CannotRead, Memory, Text};
 ghost use Rattle.nll_report.specs.Sink.{IsCut};
 
-use crate::error::{AnswerError, Unwritten};
+use crate::error::Unwritten;
 use crate::sink::{Sink, put_pieces};
 use itoa::Buffer;
+use nll_answer::AnswerError;
 use nll_core::Kind;
 use nll_mir::{TextError, TextKind};
 use std::alloc::AllocError;

@@ -9,11 +9,11 @@ ghost use Rattle.nll_report.specs.Run.{IsRefused, IsRun, command_of};
 ghost use Rattle.nll_report.specs.Run.{Words, holds_anything, lacks_anything};
 ghost use Rattle.nll_report.specs.Sink.{IsCut, IsPut};
 
-use crate::answers::{Command, answer};
 use crate::disk::Disk;
 use crate::error::Unread;
 use crate::messages::Refusal;
 use crate::sink::Sink;
+use nll_answer::{Command, answer};
 use nll_command_line::{Line, LineError, Task, line};
 use std::alloc::Global;
 use std::rt::{Env, Files};

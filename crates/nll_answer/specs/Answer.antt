@@ -7,11 +7,11 @@ use Rattle.nll_problem.specs.Faults.{AreFaults}
 use Rattle.nll_facts.specs.FactsText.{Means, facts}
 use Rattle.nll_reading.specs.Labels.{Labels}
 use Rattle.nll_reading.specs.Text.{IsFault}
-use Rattle.nll_report.specs.Report.{IsValuesReport, faults_report}
-use Rattle.nll_report.specs.declared.answers.Command.{Command}
-use Rattle.nll_report.specs.declared.answers.Command.TheVariants.{Values, Check}
-use Rattle.nll_report.specs.declared.error.AnswerError.{AnswerError}
-use Rattle.nll_report.specs.declared.error.AnswerError.TheVariants.{Text, Memory}
+use Rattle.nll_answer.specs.Report.{IsValuesReport, faults_report}
+use Rattle.nll_answer.specs.declared.answers.Command.{Command}
+use Rattle.nll_answer.specs.declared.answers.Command.TheVariants.{Values, Check}
+use Rattle.nll_answer.specs.declared.error.AnswerError.{AnswerError}
+use Rattle.nll_answer.specs.declared.error.AnswerError.TheVariants.{Text, Memory}
 
 -- 1 where there is a fault, else 0
 abbrev pub status_of_faults : List (ℕ × ℕ) → ℕ

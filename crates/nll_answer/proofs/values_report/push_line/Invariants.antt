@@ -3,8 +3,8 @@ use Rattle.std.specs.Prelude.{string_bytes}
 use Rattle.std.specs.List.{flat_map}
 use Rattle.nll_sets.specs.ElementSet.{elements}
 use Rattle.nll_core.specs.Values.{set_of}
-use Rattle.nll_report.specs.Report.{element_text}
-use Rattle.nll_report.proofs.values_report.push_line.Given as goal
+use Rattle.nll_answer.specs.Report.{element_text}
+use Rattle.nll_answer.proofs.values_report.push_line.Given as goal
 
 abbrev pub invariant-loop-element : goal.invariant-loop-element
 invariant-loop-element l = record {

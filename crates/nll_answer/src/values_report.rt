@@ -4,7 +4,7 @@ ghost use Rattle.std.specs.Prelude.{◌≡◌, ◌<◌, ◌≤◌, ◌++◌, ◌
 ghost use Rattle.std.specs.Prelude.{string_bytes};
 ghost use Rattle.nll_sets.specs.ElementSet.{elements};
 ghost use Rattle.nll_core.specs.Values.{IsHeld, IsShaped, set_of};
-ghost use Rattle.nll_report.specs.Report.{IsValuesReport, element_text, point_text, value_line};
+ghost use Rattle.nll_answer.specs.Report.{IsValuesReport, element_text, point_text, value_line};
 
 use nll_core::{Element, Memory, Problem, RegionId, Values};
 use nll_mir::{Labels, PointName};

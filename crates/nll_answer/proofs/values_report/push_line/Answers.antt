@@ -1,8 +1,8 @@
 use Rattle.std.proofs.Common.{◌++◌, ◌∷◌, Contains, List, ℕ, ap, ◌∙◌, subst, sym, refl, arith}
 use Rattle.std.proofs.lemmas.List.Elements.{Contains-append_right}
 use Rattle.nll_core.specs.Values.{set_of}
-use Rattle.nll_report.proofs.ReportLemmas.{element_within}
-use Rattle.nll_report.proofs.values_report.push_line.Goals as goal
+use Rattle.nll_answer.proofs.ReportLemmas.{element_within}
+use Rattle.nll_answer.proofs.values_report.push_line.Goals as goal
 
 pub push_element-requires : goal.push_element-requires
 push_element-requires c =

@@ -1,7 +1,7 @@
 //! The report of faults.
 
 ghost use Rattle.std.specs.Prelude.{◌≡◌, ◌<◌, ◌++◌, length, All, IfOk, OnOk, string_bytes};
-ghost use Rattle.nll_report.specs.Report.{fault_line, faults_report};
+ghost use Rattle.nll_answer.specs.Report.{fault_line, faults_report};
 
 use nll_core::{Memory, RegionId};
 use nll_mir::Labels;

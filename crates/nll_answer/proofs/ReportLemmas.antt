@@ -11,7 +11,7 @@ use Rattle.nll_core.specs.Values.{set_of, IsHeld}
 use Rattle.nll_problem.specs.Problem.{Problem, IsSound, end_of}
 use Rattle.nll_problem.specs.Faults.{AreFaults}
 use Rattle.nll_reading.specs.Labels.{Labels}
-use Rattle.nll_report.specs.Report.{IsListed, IsValuesReport}
+use Rattle.nll_answer.specs.Report.{IsListed, IsValuesReport}
 
 cons_cases : (x : ℕ) (xs : List ℕ) (y : ℕ) → Contains (x ∷ xs) y → (x ≡ y) ⊎ Contains xs y
 cons_cases x xs y h = ⊎_elim

@@ -2,9 +2,9 @@ use Rattle.std.proofs.Common.{◌≡◌, ◌++◌, ℕ, List, ◌∙◌, sym, ap
 use Rattle.std.specs.List.{flat_map, range_with_len}
 use Rattle.nll_sets.specs.ElementSet.{elements}
 use Rattle.nll_core.specs.Values.{set_of}
-use Rattle.nll_report.specs.Report.{value_line}
-use Rattle.nll_report.proofs.ReportLemmas.{elements_are_listed, lines_more}
-use Rattle.nll_report.proofs.values_report.values_text.Goals as goal
+use Rattle.nll_answer.specs.Report.{value_line}
+use Rattle.nll_answer.proofs.ReportLemmas.{elements_are_listed, lines_more}
+use Rattle.nll_answer.proofs.values_report.values_text.Goals as goal
 
 pub loop-number-preserved : goal.loop-number-preserved
 loop-number-preserved c =

@@ -1,6 +1,6 @@
 use Rattle.std.proofs.lemmas.Result.{IfOk-weaker}
-use Rattle.nll_report.proofs.ReportLemmas.{faults_carry}
-use Rattle.nll_report.proofs.answers.faults_of.Goals as goal
+use Rattle.nll_answer.proofs.ReportLemmas.{faults_carry}
+use Rattle.nll_answer.proofs.answers.faults_of.Goals as goal
 
 pub returns-clause-exact : goal.returns-clause-exact
 returns-clause-exact c = IfOk-weaker c.faults-found.result _ _

@@ -1,6 +1,6 @@
 use Rattle.std.proofs.Common.{◌<◌, All, subst, sym}
-use Rattle.nll_report.proofs.ReportLemmas.{faults_within}
-use Rattle.nll_report.proofs.answers.check_of.Goals as goal
+use Rattle.nll_answer.proofs.ReportLemmas.{faults_within}
+use Rattle.nll_answer.proofs.answers.check_of.Goals as goal
 
 pub faults_text-report-requires : goal.faults_text-report-requires
 faults_text-report-requires c =

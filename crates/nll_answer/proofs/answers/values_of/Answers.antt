@@ -1,6 +1,6 @@
 use Rattle.std.proofs.lemmas.Result.{IfOk-weaker}
-use Rattle.nll_report.proofs.ReportLemmas.{report_carries}
-use Rattle.nll_report.proofs.answers.values_of.Goals as goal
+use Rattle.nll_answer.proofs.ReportLemmas.{report_carries}
+use Rattle.nll_answer.proofs.answers.values_of.Goals as goal
 
 pub returns : goal.returns
 returns c = IfOk-weaker c.values_text-report.result _ _

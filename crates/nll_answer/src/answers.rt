@@ -5,9 +5,9 @@ ghost use Rattle.nll_problem.specs.Faults.{AreFaults};
 ghost use Rattle.nll_problem.specs.Problem.{IsSound};
 ghost use Rattle.nll_problem.specs.Solution.{Least};
 ghost use Rattle.nll_facts.specs.FactsText.{Means};
-ghost use Rattle.nll_report.specs.Answer.{IsAnswer, IsAnswerError, IsCheckReport};
-ghost use Rattle.nll_report.specs.Answer.{IsProblemAnswer, status_of_faults};
-ghost use Rattle.nll_report.specs.Report.{IsValuesReport};
+ghost use Rattle.nll_answer.specs.Answer.{IsAnswer, IsAnswerError, IsCheckReport};
+ghost use Rattle.nll_answer.specs.Answer.{IsProblemAnswer, status_of_faults};
+ghost use Rattle.nll_answer.specs.Report.{IsValuesReport};
 
 use crate::error::AnswerError;
 use crate::faults_report::faults_text;

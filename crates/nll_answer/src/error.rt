@@ -1,0 +1,27 @@
+//! Why a text has no answer.
+
+use nll_core::Memory;
+use nll_mir::TextError;
+use thiserror::Error;
+
+/// Why a text has no answer.
+#[derive(Clone, Copy, Debug, PartialEq, Eq, Error)]
+pub enum AnswerError {
+    /// The text is faulty.
+    #[error(transparent)]
+    Text(TextError),
+    /// A growth of memory was refused.
+    #[error("memory was refused")]
+    Memory,
+}
+
+impl From<Memory> for AnswerError {
+    ghost use Rattle.std.specs.Prelude.{◌≡◌};
+    ghost use Rattle.nll_answer.specs.declared.error.AnswerError.TheVariants.{Memory as memory};
+
+    ghost from_gives = { λ _ error. error ≡ memory };
+
+    fn from(_: Memory) -> AnswerError {
+        AnswerError::Memory
+    }
+}
