@@ -4,7 +4,7 @@ ghost use Rattle.std.specs.Prelude.{map, string_bytes};
 ghost use Rattle.nll_command_line.specs.declared.task.Task.{Task};
 ghost use Rattle.nll_command_line.specs.CommandLine.{IsLine, IsPlainLine};
 ghost use Rattle.clap.specs.Words.{app_of, found_of, kind_of, rows_of, rule_of};
-ghost use Rattle.clap.specs.Words.{new_app, subcommand_rows_of, with_rule};
+ghost use Rattle.clap.specs.Words.{new_app, subcommand_rows_of, with_rule, with_subcommand};
 ghost use Rattle.clap.specs.declared.builder.Command.TheViews.{out-Command};
 ghost use Rattle.nll_command_line.specs.Grammar.{IsHelpKind, IsLineError, bare_program, file_rule};
 ghost use Rattle.nll_command_line.specs.Grammar.{line_of_found, line_of_matches, program, task_named};
@@ -47,8 +47,16 @@ pub fn line(alloc: Global, words: &[String]) -> Result<Line, LineError>
     ensures err { IfErr result (IsLineError (map string_bytes words.now)) }
 {
     match grammar(alloc)?.try_get_matches_from(words) {
-        Ok(matches) => line_of(alloc, &matches),
-        Err(error) => Err(refusal(alloc, &error)),
+        Ok(matches) => {
+            let line = line_of(alloc, &matches);
+            drop(matches);
+            line
+        }
+        Err(error) => {
+            let refusal = refusal(alloc, &error);
+            drop(error);
+            Err(refusal)
+        }
     }
 }
 
@@ -56,10 +64,38 @@ pub fn line(alloc: Global, words: &[String]) -> Result<Line, LineError>
 fn grammar<'a>(alloc: Global) -> Result<Command<'a>, AllocError>
     ensures { IfOk result (λ c. app_of c ≡ program) }
 {
-    let values = command(alloc, VALUES, "Prints the values of the regions of FILE")?;
-    let with_values = bare_program(alloc)?.subcommand(values)?;
-    let check = command(alloc, CHECK, "Checks the universal regions of FILE")?;
-    with_values.subcommand(check)
+    let bare = bare_program(alloc)?;
+    let with_values = with_command(
+        alloc,
+        bare,
+        VALUES,
+        "Prints the values of the regions of FILE",
+    )?;
+    with_command(
+        alloc,
+        with_values,
+        CHECK,
+        "Checks the universal regions of FILE",
+    )
+}
+
+// The program with one more command.
+fn with_command<'a>(
+    alloc: Global,
+    program: Command<'a>,
+    name: &'a str,
+    about: &'a str,
+) -> Result<Command<'a>, AllocError>
+    ensures { IfOk result (λ c. app_of c
+        ≡ with_subcommand (app_of program.entry) (with_rule (new_app name.now) file_rule).top) }
+{
+    match command(alloc, name, about) {
+        Ok(command) => program.subcommand(command),
+        Err(refused) => {
+            drop(program);
+            Err(refused)
+        }
+    }
 }
 
 // The program, before its commands.

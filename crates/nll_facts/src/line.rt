@@ -1,6 +1,6 @@
 //! The lines of a facts text.
 
-ghost use Rattle.std.specs.Prelude.{◌∷◌};
+ghost use Rattle.std.specs.Prelude.{◌≢◌, ◌∷◌, codes};
 ghost use Rattle.nll_text.specs.Tokens as lex;
 ghost use Rattle.nll_text.specs.Tokens.{views};
 ghost use Rattle.nll_facts.specs.FactsForms.{parts};
@@ -51,11 +51,22 @@ fn line_from<'a>(word: &[u8], arguments: &[Token<'a>]) -> Option<Line<'a>>
         let (sup, sub, at) = two_regions_number(arguments)?;
         return Some(Line::Constraint(sup, sub, at));
     }
-    if word == b"region".as_slice() {
-        return Some(Line::Region(region(arguments)?));
-    }
     if word == b"return".as_slice() {
         return Some(Line::Return(number(arguments)?));
+    }
+    rare_line_from(word, arguments)
+}
+
+// The same, where the first word is none of those that most lines begin with.
+fn rare_line_from<'a>(word: &[u8], arguments: &[Token<'a>]) -> Option<Line<'a>>
+    requires base { word.now ≢ codes "base" }
+    requires next { word.now ≢ codes "next" }
+    requires constraint { word.now ≢ codes "constraint" }
+    requires returning { word.now ≢ codes "return" }
+    ensures { Reads parts view (lex.word word.now ∷ views arguments.now) result }
+{
+    if word == b"region".as_slice() {
+        return Some(Line::Region(region(arguments)?));
     }
     if word == b"outlives".as_slice() {
         let (longer, shorter) = two_regions(arguments)?;

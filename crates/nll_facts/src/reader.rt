@@ -268,17 +268,19 @@ impl Reader {
         }
         self.start(line)?;
         match *line {
-            Line::Points(count) => self.set_points(count)?,
-            Line::Universal(name) => self.add_universal(name)?,
-            Line::Outlives(longer, shorter) => self.add_outlives(longer, shorter)?,
-            Line::Region(name) => self.add_region(name)?,
-            Line::Next(from, to) => self.add_next(from, to)?,
-            Line::Return(point) => self.add_return(point)?,
-            Line::Base(name, point) => self.add_base(name, point)?,
-            Line::Constraint(sup, sub, at) => self.add_constraint(sup, sub, at)?,
-            Line::End => self.reached = 6,
+            Line::Points(count) => self.set_points(count),
+            Line::Universal(name) => self.add_universal(name),
+            Line::Outlives(longer, shorter) => self.add_outlives(longer, shorter),
+            Line::Region(name) => self.add_region(name),
+            Line::Next(from, to) => self.add_next(from, to),
+            Line::Return(point) => self.add_return(point),
+            Line::Base(name, point) => self.add_base(name, point),
+            Line::Constraint(sup, sub, at) => self.add_constraint(sup, sub, at),
+            Line::End => {
+                self.reached = 6;
+                Ok(())
+            }
         }
-        Ok(())
     }
 
     /// Takes in a line behind the header. The list serves for its tokens.

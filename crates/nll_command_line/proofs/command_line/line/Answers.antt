@@ -16,20 +16,20 @@ returns-in-Ok c =
     (c.in-Ok.ensures.matches (ap is_simple app_is ∙ is_simple-program)).1 ∙ ap (λ a. subcommand_of a texts) app_is in
     let none = ap (λ a. fault_of a texts) (sym app_is) ∙ c.in-Ok.ensures.kinds (ap is_simple_and_free app_is ∙ is_simple_and_free-program) in
     record {
-      ok = IfOk-weaker c.line_of.result _ _ (λ l h. line_is texts _ _ none (sym (ap line_of_matches read) ∙ h)) c.line_of.ensures.ok;
+      ok = IfOk-weaker c.line_of-line.result _ _ (λ l h. line_is texts _ _ none (sym (ap line_of_matches read) ∙ h)) c.line_of-line.ensures.ok;
       plain = λ task file h.
-          plain_result c.line_of.result task file (sym (line_by_grammar-plain task file _ h) ∙ ap line_of_matches (sym read)) c.line_of.ensures.ok c.line_of.ensures.err;
-      err = matches_without_line texts c.line_of.result (ap line_of_matches (sym read)) c.line_of.ensures.err;
+          plain_result c.line_of-line.result task file (sym (line_by_grammar-plain task file _ h) ∙ ap line_of_matches (sym read)) c.line_of-line.ensures.ok c.line_of-line.ensures.err;
+      err = matches_without_line texts c.line_of-line.result (ap line_of_matches (sym read)) c.line_of-line.ensures.err;
     }
 
 pub returns-in-Err-clause-plain : goal.returns-in-Err-clause-plain
 returns-in-Err-clause-plain c task file h =
-    c.refusal.ensures.memory (c.in-Err.ensures.passes (ap (λ a. takes a (map string_bytes c.args.words.now)) c.in_ok-grammar.ensures ∙ takes-plain task file _ h))
+    c.refusal-refusal.ensures.memory (c.in-Err.ensures.passes (ap (λ a. takes a (map string_bytes c.args.words.now)) c.in_ok-grammar.ensures ∙ takes-plain task file _ h))
 
 pub returns-in-Err-clause-err : goal.returns-in-Err-clause-err
 returns-in-Err-clause-err c =
     let texts = map string_bytes c.args.words.now in
     let app_is = c.in_ok-grammar.ensures in
     let kinds = c.in-Err.ensures.kinds (ap is_simple_and_free app_is ∙ is_simple_and_free-program) in
-    words_without_matches texts c.refusal.result (kind_of c.in-Err.error) (subst (λ a. HasKind (fault_of a texts) c.in-Err.error) app_is kinds)
-    (λ h. c.in-Err.ensures.passes (ap (λ a. takes a texts) app_is ∙ h)) c.refusal.ensures.memory c.refusal.ensures.help
+    words_without_matches texts c.refusal-refusal.result (kind_of c.in-Err.error) (subst (λ a. HasKind (fault_of a texts) c.in-Err.error) app_is kinds)
+    (λ h. c.in-Err.ensures.passes (ap (λ a. takes a texts) app_is ∙ h)) c.refusal-refusal.ensures.memory c.refusal-refusal.ensures.help

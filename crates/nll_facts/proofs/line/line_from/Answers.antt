@@ -1,5 +1,4 @@
 use Rattle.std.proofs.Common.{rules, ℕ, List}
-use Rattle.nll_facts.proofs.FormLemmas.{line_spelled}
 use Rattle.nll_facts.proofs.line.line_from.Goals as goal
 
 pub returns-in_err-name : goal.returns-in_err-name
@@ -10,12 +9,3 @@ returns-in_err-from c = let none = λ (p q : ℕ). c.in_err-from.ensures (p, q) 
 
 pub returns-in_err-sup : goal.returns-in_err-sup
 returns-in_err-sup c = let none = λ (x y : List ℕ) (p : ℕ). c.in_err-sup.ensures (x, y, p) in rw c.from_residual-in_err-sup.ensures (search rules)
-
-pub returns-in_err-longer : goal.returns-in_err-longer
-returns-in_err-longer c = let none = λ (x y : List ℕ). c.in_err-longer.ensures (x, y) in rw c.from_residual-in_err-longer.ensures (search rules)
-
-pub returns-then-eq-6 : goal.returns-then-eq-6
-returns-then-eq-6 c = line_spelled _ _ _ _ (search rules) c.in_ok-longer.ensures
-
-pub returns-in_err-nothing : goal.returns-in_err-nothing
-returns-in_err-nothing c = let none = c.in_err-nothing.ensures tt in rw c.from_residual-in_err-nothing.ensures (search rules)
