@@ -1,7 +1,7 @@
 use Rattle.std.proofs.Common.{◌≡◌, ℕ, ◌<◌, Contains, slice_index}
 use Rattle.nll_core.specs.Values.{IsHeld}
 use Rattle.nll_core.specs.Growing.{Gains, Tells}
-use Rattle.nll_core.proofs.solver.insert_all.Given as goal
+use Rattle.nll_tests.proofs.rounds.insert_all.Given as goal
 
 abbrev pub invariant-loop-element : goal.invariant-loop-element
 invariant-loop-element l = record {

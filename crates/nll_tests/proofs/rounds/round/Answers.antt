@@ -1,7 +1,7 @@
 use Rattle.std.proofs.Common.{◌≡◌, ◌<◌, ◌≤◌, length, get_or, sym, subst}
 use Rattle.nll_core.proofs.SolverLemmas.{rounding_first, rounding_more, rounding_closed, rounding_stays, shaped_gains}
-use Rattle.nll_core.proofs.solver.round.Goals as goal
-use Rattle.nll_core.proofs.solver.round.Goals.{After-apply}
+use Rattle.nll_tests.proofs.rounds.round.Goals as goal
+use Rattle.nll_tests.proofs.rounds.round.Goals.{After-apply}
 
 pub loop-constraint-init : goal.loop-constraint-init
 loop-constraint-init c = rounding_first c.args.problem.now c.args.values.now c.requires

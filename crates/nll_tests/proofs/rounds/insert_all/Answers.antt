@@ -5,8 +5,8 @@ use Rattle.nll_core.specs.Values.{set_of, IsHeld}
 use Rattle.nll_core.specs.Growing.{Gains}
 use Rattle.nll_core.proofs.SearchLemmas.{covers_contained}
 use Rattle.nll_core.proofs.GrowingLemmas.{held_one, gains_none, gains_one, gains_append, tells_none, tells_one, tells_append}
-use Rattle.nll_core.proofs.solver.insert_all.Goals as goal
-use Rattle.nll_core.proofs.solver.insert_all.Goals.{After-element-item}
+use Rattle.nll_tests.proofs.rounds.insert_all.Goals as goal
+use Rattle.nll_tests.proofs.rounds.insert_all.Goals.{After-element-item}
 
 is_item : (c : After-element-item) → get_or c.args.found.now c.loop-element.element-index 0 ≡ c.element-item.result
 is_item c = sym (get_or_read c.args.found.now c.loop-element.element-index c.element-item.result c.loop-element-test.true c.element-item.is 0)

@@ -7,8 +7,8 @@ use Rattle.nll_problem.specs.Solution.{Asks}
 use Rattle.nll_problem.proofs.WalkLemmas.{reaches_inside}
 use Rattle.nll_core.proofs.SearchLemmas.{flag_within}
 use Rattle.nll_core.proofs.GrowingLemmas.{gains_weaker}
-use Rattle.nll_core.proofs.solver.apply.Goals as goal
-use Rattle.nll_core.proofs.solver.apply.Goals.{After-deref}
+use Rattle.nll_tests.proofs.rounds.apply.Goals as goal
+use Rattle.nll_tests.proofs.rounds.apply.Goals.{After-deref}
 
 pub reached_from-requires-clause-width : goal.reached_from-requires-clause-width
 reached_from-requires-clause-width c =

@@ -3,7 +3,7 @@ use Rattle.nll_problem.specs.Problem.{IsBase}
 use Rattle.nll_problem.specs.Solution.{Satisfies}
 use Rattle.nll_core.specs.Values.{IsShaped, IsHeld}
 use Rattle.nll_core.specs.Growing.{IsBelow, missing_pairs}
-use Rattle.nll_core.proofs.solver.solve.Given as goal
+use Rattle.nll_tests.proofs.rounds.solve_by_rounds.Given as goal
 
 abbrev pub invariant-loop-values : goal.invariant-loop-values
 invariant-loop-values l = record {
