@@ -2,3 +2,8 @@ pub mod SearchLemmas
 pub mod GrowingLemmas
 pub mod SolverLemmas
 pub mod FaultLemmas
+pub mod LineLemmas
+pub mod JumpLemmas
+pub mod WalkingLemmas
+pub mod RunValueLemmas
+pub mod WorklistLemmas

@@ -31,7 +31,7 @@ pub covers_contained : (holds : ℕ → Type 0) (xs : List ℕ) → ((k : ℕ) �
 covers_contained holds xs each x h = subst holds (contains_at xs x h) (each h.0 h.1)
 
 -- what stands at a place of a list is contained
-contains_from : (xs : List ℕ) (x k : ℕ) → k < length xs → get_or xs k 0 ≡ x → Contains xs x
+pub contains_from : (xs : List ℕ) (x k : ℕ) → k < length xs → get_or xs k 0 ≡ x → Contains xs x
 contains_from xs x k within is = (k, within, get_or_default xs k x 0 within ∙ is)
 
 -- an empty list has nothing

@@ -2,3 +2,6 @@ pub mod Values
 pub mod Search
 pub mod Growing
 pub mod Outliving
+pub mod Lines
+pub mod Walking
+pub mod Worklist

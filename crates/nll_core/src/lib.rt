@@ -1,24 +1,34 @@
 //! The least solution of a problem of location-aware regions, and its faults.
 //! The problem is that of `nll_problem`, the sets are those of `nll_sets`; both are found here too.
 //!
-//! Reading order: `values`, `search`, `reachability`, `solver`, `outliving`, `fault_check`.
+//! Reading order: `values`, `base_values`, `lines` (with `line_ends`, `jumps`), `stretches`, `walk`,
+//! `pairs`, `meeting`, `solver`; then `search`, `reachability`, `outliving`, `fault_check`.
 //! The definitions are in specs/.
 #![tactic(auto)]
 
+mod base_values;
 mod fault_check;
+mod jumps;
+mod line_ends;
+mod lines;
+mod meeting;
 mod outliving;
+mod pairs;
 mod reachability;
 mod region_elements;
 mod search;
 mod solver;
+mod stretches;
 mod values;
+mod walk;
 
 pub use fault_check::faults;
 pub use nll_problem::{
     BuildError, Constraint, Graph, Kind, MAX_CONSTRAINTS, MAX_EDGES, MAX_POINTS, MAX_REGIONS,
     MAX_UNIVERSALS, Problem, ProblemBuilder, RegionId,
 };
-pub use nll_sets::{BitSet, Element, ElementSet, Elements, Memory};
+pub use nll_sets::{BitSet, Element, ElementSet, Elements, Memory, Run, RunSet};
+pub use reachability::reached_from;
 pub use region_elements::RegionElements;
 pub use solver::solve;
 pub use values::Values;

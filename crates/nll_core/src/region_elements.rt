@@ -4,14 +4,14 @@ ghost use Rattle.std.specs.Prelude.{◌≡◌};
 ghost use Rattle.std.specs.Iterator.{YieldsFirst, item_count};
 ghost use Rattle.nll_sets.specs.ElementSet.{elements};
 
-use nll_sets::{BitSet, Element, Elements};
+use nll_sets::{Element, Elements, RunSet};
 use std::marker::Model;
 
 /// The elements of the value of a region that are still to come, ascending. Contracts see it as
 /// their list.
 #[derive(Drop)]
 pub struct RegionElements<'a> {
-    elements: Elements<'a, BitSet>,
+    elements: Elements<'a, RunSet>,
 }
 
 impl<'a> Model for RegionElements<'a> {
@@ -24,7 +24,7 @@ impl<'a> Model for RegionElements<'a> {
 
 impl<'a> RegionElements<'a> {
     // All elements of the set of a region.
-    pub(crate) fn of(set: &'a BitSet) -> RegionElements<'a>
+    pub(crate) fn of(set: &'a RunSet) -> RegionElements<'a>
         ensures { result ≡ elements set.now }
     {
         RegionElements {

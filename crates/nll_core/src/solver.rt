@@ -1,18 +1,27 @@
-//! The least solution of a problem, by rounds over all constraints until one changes nothing.
+//! The least solution of a problem: each region whose value grew is visited, until no value grows.
 //!
-//! This is the plain solver: it forgets after each constraint what it has reached.
+//! A visit meets all constraints that read the region. What they ask is found anew, by a walk for
+//! each region that they fill; no walk is kept.
 
-ghost use Rattle.std.specs.Prelude.{◌≡◌, ℕ, ◌≤◌, ◌<◌, ◌↔◌, false, Contains, length, IfOk, OnOk};
-ghost use Rattle.nll_problem.specs.Problem.{IsBase};
+ghost use Rattle.std.specs.Prelude.{◌≡◌, ℕ, ◌≤◌, ◌<◌, ◌↔◌, false, true, Contains, length};
+ghost use Rattle.std.specs.Prelude.{IfOk, OnOk};
+ghost use Rattle.nll_sets.specs.ElementSet.{flag};
+ghost use Rattle.nll_problem.specs.Graph.{element_count};
+ghost use Rattle.nll_problem.specs.Problem.{SameSet};
 ghost use Rattle.nll_problem.specs.Solution.{Least};
-ghost use Rattle.nll_core.specs.Values.{set_of, IsHeld, IsShaped};
-ghost use Rattle.nll_core.specs.Growing.{Gains, Tells, StaysBelow, IsAskedBy, Meets, IsClosed};
-ghost use Rattle.nll_core.specs.Growing.{HoldsPoints, HoldsEnds, HoldsFacts};
+ghost use Rattle.nll_problem.specs.declared.constraint.Constraint as spec;
+ghost use Rattle.nll_core.specs.Values.{IsHeld, IsShaped};
+ghost use Rattle.nll_core.specs.Growing.{StaysBelow, IsClosed, IsMet};
+ghost use Rattle.nll_core.specs.Worklist.{IsTracked, IsCleared, Turns, Visits, SupsAscend};
 
-use crate::reachability::reached_from;
+use crate::base_values::base_values;
+use crate::lines::Lines;
+use crate::meeting::meet;
+use crate::pairs::pair_end;
 use crate::values::Values;
-use nll_problem::{Constraint, Problem, RegionId};
-use nll_sets::{Element, Memory};
+use crate::walk::Walk;
+use nll_problem::{ConstraintIndex, Problem, RegionId};
+use nll_sets::Memory;
 use std::alloc::Global;
 
 /// Gives each region its least value: the base elements, and what the constraints ask for.
@@ -21,8 +30,9 @@ use std::alloc::Global;
 /// - `Memory`.
 ///
 /// # Cost
-/// A round goes through the graph once for each constraint whose point is in the value of its
-/// `sub`, and each round but the last adds an element (not proved).
+/// A region is visited again where its value grew. A visit makes a walk for each region that its
+/// constraints fill, in as many steps as the walk goes through runs of the value and jumps of the
+/// graph (not proved).
 ///
 /// # Source
 /// RFC 2094, "Solving constraints".
@@ -31,112 +41,159 @@ pub fn solve(alloc: Global, problem: &Problem) -> Result<Values, Memory>
     ensures least { IfOk result (λ values. (r e : ℕ) → IsHeld values r e ↔ Least problem.now r e) }
 {
     let mut values = base_values(alloc, problem)?;
-    while round(alloc, problem, &mut values)? {}
+    close(alloc, problem, &mut values)?;
     Ok(values)
 }
 
-// The values of just the base elements.
-fn base_values(alloc: Global, problem: &Problem) -> Result<Values, Memory>
-    ensures shaped { IfOk result (IsShaped problem.now) }
-    ensures exact { IfOk result (λ values. (r e : ℕ) → IsHeld values r e ↔ IsBase problem.now r e) }
+// Puts in what the constraints ask of the values, until they ask for nothing more.
+fn close(alloc: Global, problem: &Problem, values: &mut Values) -> Result<(), Memory>
+    requires { IsShaped problem.now values.old }
+    ensures shaped { OnOk result (IsShaped problem.now values.new) }
+    ensures kept { OnOk result ((r e : ℕ) → IsHeld values.old r e → IsHeld values.new r e) }
+    ensures below { OnOk result (StaysBelow problem.now values.old values.new) }
+    ensures closed { OnOk result (IsClosed problem.now values.new) }
 {
-    let mut values = Values::empty(alloc, problem)?;
-    insert_universals(problem, &mut values)?;
-    insert_bases(problem, &mut values)?;
-    Ok(values)
+    let lines = Lines::of(alloc, problem.graph())?;
+    let told = close_by(alloc, problem, &lines, values);
+    drop(lines);
+    told
 }
 
-// Puts in what the universal regions hold from the start.
-fn insert_universals(problem: &Problem, values: &mut Values) -> Result<(), Memory>
-    requires { IsShaped problem.now values.old }
-    ensures gains { Gains (IsBase problem.now) values.old values.new }
-    ensures points { OnOk result (HoldsPoints problem.now values.new) }
-    ensures ends { OnOk result (HoldsEnds problem.now values.new) }
+// The same, over the lines of the problem's graph.
+fn close_by(
+    alloc: Global,
+    problem: &Problem,
+    lines: &Lines,
+    values: &mut Values,
+) -> Result<(), Memory>
+    requires shaped { IsShaped problem.now values.old }
+    requires lines { lines.now ≡ problem.now.graph }
+    ensures shaped { OnOk result (IsShaped problem.now values.new) }
+    ensures kept { OnOk result ((r e : ℕ) → IsHeld values.old r e → IsHeld values.new r e) }
+    ensures below { OnOk result (StaysBelow problem.now values.old values.new) }
+    ensures closed { OnOk result (IsClosed problem.now values.new) }
 {
-    let points = problem.points();
-    for number in 0..problem.universals() {
-        let region = RegionId(number);
-        insert_points(values, region, points)?;
-        values.insert(region, Element(points + number))?;
-    }
+    let index = ConstraintIndex::of(alloc, problem)?;
+    let told = visit_all(alloc, problem, lines, &index, values);
+    drop(index);
+    told
+}
+
+// The same, over the constraints by the region that they read.
+fn visit_all(
+    alloc: Global,
+    problem: &Problem,
+    lines: &Lines,
+    index: &ConstraintIndex,
+    values: &mut Values,
+) -> Result<(), Memory>
+    requires shaped { IsShaped problem.now values.old }
+    requires lines { lines.now ≡ problem.now.graph }
+    requires index { SameSet index.now problem.now.constraints }
+    ensures shaped { OnOk result (IsShaped problem.now values.new) }
+    ensures kept { OnOk result ((r e : ℕ) → IsHeld values.old r e → IsHeld values.new r e) }
+    ensures below { OnOk result (StaysBelow problem.now values.old values.new) }
+    ensures closed { OnOk result (IsClosed problem.now values.new) }
+{
+    let mut marks = vec![in alloc; true; problem.regions() as usize]?;
+    let mut walk = Walk::new(alloc, problem.points() + problem.universals())?;
+    while sweep(problem, lines, index, values, &mut marks, &mut walk)? {}
     Ok(())
 }
 
-// Puts each point into the set of a region.
-fn insert_points(values: &mut Values, region: RegionId, points: u32) -> Result<(), Memory>
-    requires region { region < length values.old }
-    requires elements { points ≤ length (set_of values.old region) }
-    ensures gains { Gains (λ r e. (r ≡ region) × (e < points)) values.old values.new }
-    ensures covers { OnOk result ((e : ℕ) → e < points → IsHeld values.new region e) }
-{
-    for point in 0..points {
-        values.insert(region, Element(point))?;
-    }
-    Ok(())
-}
-
-// Puts in the base elements that were given.
-fn insert_bases(problem: &Problem, values: &mut Values) -> Result<(), Memory>
-    requires { IsShaped problem.now values.old }
-    ensures gains { Gains (IsBase problem.now) values.old values.new }
-    ensures covers { OnOk result (HoldsFacts problem.now values.new) }
-{
-    let facts = problem.bases();
-    for base in facts {
-        let (region, point) = *base;
-        values.insert(region, Element(point))?;
-    }
-    Ok(())
-}
-
-// Applies each constraint once. Answers whether something was new.
-fn round(alloc: Global, problem: &Problem, values: &mut Values) -> Result<bool, Memory>
-    requires { IsShaped problem.now values.old }
-    ensures shaped { IsShaped problem.now values.new }
-    ensures kept { (r e : ℕ) → IsHeld values.old r e → IsHeld values.new r e }
-    ensures below { StaysBelow problem.now values.old values.new }
-    ensures tells { IfOk result (λ changed. Tells changed values.old values.new) }
-    ensures closed { IfOk result (λ changed. changed ≡ false → IsClosed problem.now values.old) }
+// Visits each marked region. Answers whether something was new.
+fn sweep(
+    problem: &Problem,
+    lines: &Lines,
+    index: &ConstraintIndex,
+    values: &mut Values,
+    marks: &mut Vec<bool>,
+    walk: &mut Walk,
+) -> Result<bool, Memory>
+    requires shaped { IsShaped problem.now values.old }
+    requires lines { lines.now ≡ problem.now.graph }
+    requires index { SameSet index.now problem.now.constraints }
+    requires walk { length walk.old.reached ≡ element_count lines.now }
+    requires width { length marks.old.items ≡ problem.now.regions }
+    requires tracked { IsTracked problem.now values.old marks.old.items }
+    ensures turns { IfOk result
+        (Turns problem.now values.old values.new marks.new.items) }
+    ensures walk { OnOk result (length walk.new.reached ≡ element_count lines.now) }
+    ensures clean { IfOk result (λ changed. changed ≡ false
+        → (r : ℕ) → r < problem.now.regions → flag marks.new.items r ≡ false) }
 {
     let mut changed = false;
-    for constraint in problem.constraints() {
-        let new = apply(alloc, problem, values, *constraint)?;
+    for region in 0..problem.regions() {
+        let new = turn(problem, lines, index, values, marks, walk, RegionId(region))?;
         changed |= new;
     }
     Ok(changed)
 }
 
-// Puts in what one constraint asks of the values. Answers whether something was new.
-fn apply(
-    alloc: Global,
+// Visits a region, if it is marked.
+fn turn(
     problem: &Problem,
+    lines: &Lines,
+    index: &ConstraintIndex,
     values: &mut Values,
-    constraint: Constraint,
+    marks: &mut Vec<bool>,
+    walk: &mut Walk,
+    sub: RegionId,
 ) -> Result<bool, Memory>
     requires shaped { IsShaped problem.now values.old }
-    requires of_problem { Contains problem.now.constraints constraint }
-    ensures gains { Gains (IsAskedBy problem.now values.old constraint) values.old values.new }
-    ensures asks { OnOk result (Meets problem.now values.old constraint values.new) }
-    ensures tells { IfOk result (λ changed. Tells changed values.old values.new) }
+    requires lines { lines.now ≡ problem.now.graph }
+    requires index { SameSet index.now problem.now.constraints }
+    requires walk { length walk.old.reached ≡ element_count lines.now }
+    requires width { length marks.old.items ≡ problem.now.regions }
+    requires region { sub < problem.now.regions }
+    requires tracked { IsTracked problem.now values.old marks.old.items }
+    ensures turns { IfOk result
+        (Turns problem.now values.old values.new marks.new.items) }
+    ensures walk { OnOk result (length walk.new.reached ≡ element_count lines.now) }
+    ensures clean { IfOk result (λ changed. changed ≡ false
+        → IsCleared marks.old.items marks.new.items sub) }
 {
-    let graph = problem.graph();
-    let set = values.set(constraint.sub);
-    let found = reached_from(alloc, graph, set, Element(constraint.at))?;
-    insert_all(values, constraint.sup, &found)
+    let at = sub.0 as usize;
+    if !marks[at] {
+        return Ok(false);
+    }
+    marks[at] = false;
+    visit(problem, lines, index, values, marks, walk, sub)
 }
 
-// Puts elements into the set of a region. Answers whether one of them is new.
-fn insert_all(values: &mut Values, region: RegionId, found: &[Element]) -> Result<bool, Memory>
-    requires region { region < length values.old }
-    requires elements { (x : ℕ) → Contains found.now x → x < length (set_of values.old region) }
-    ensures gains { Gains (λ r e. (r ≡ region) × Contains found.now e) values.old values.new }
-    ensures covers { OnOk result ((x : ℕ) → Contains found.now x → IsHeld values.new region x) }
-    ensures tells { IfOk result (λ changed. Tells changed values.old values.new) }
+// Meets each constraint that reads a region, and marks the regions that get something.
+fn visit(
+    problem: &Problem,
+    lines: &Lines,
+    index: &ConstraintIndex,
+    values: &mut Values,
+    marks: &mut Vec<bool>,
+    walk: &mut Walk,
+    sub: RegionId,
+) -> Result<bool, Memory>
+    requires shaped { IsShaped problem.now values.old }
+    requires lines { lines.now ≡ problem.now.graph }
+    requires index { SameSet index.now problem.now.constraints }
+    requires walk { length walk.old.reached ≡ element_count lines.now }
+    requires width { length marks.old.items ≡ problem.now.regions }
+    requires region { sub < problem.now.regions }
+    ensures visits { IfOk result (Visits problem.now sub values.old values.new
+        marks.old.items marks.new.items) }
+    ensures walk { OnOk result (length walk.new.reached ≡ element_count lines.now) }
+    ensures met { OnOk result ((c : spec.Constraint)
+        → Contains problem.now.constraints c → c.sub ≡ sub → IsMet problem.now values.new c) }
 {
+    let _regions = problem.regions();
+    let constraints = index.reading(sub);
     let mut changed = false;
-    for element in found {
-        let new = values.insert(region, *element)?;
+    let mut place = 0;
+    while place < constraints.len() {
+        let end = pair_end(constraints, place);
+        let sup = constraints[place].sup;
+        let pair = &constraints[place..end];
+        let new = meet(problem, lines, values, marks, walk, sub, sup, pair)?;
         changed |= new;
+        place = end;
     }
     Ok(changed)
 }

@@ -1,19 +1,21 @@
 //! The values of regions: a set of elements for each.
 
-ghost use Rattle.std.specs.Prelude.{◌≡◌, ◌<◌, not, length, IfOk, OnOk, OnErr};
+ghost use Rattle.std.specs.Prelude.{◌≡◌, ℕ, ◌≤◌, ◌<◌, not, length, IfOk, OnOk, OnErr};
 ghost use Rattle.nll_sets.specs.ElementSet.{elements};
-ghost use Rattle.nll_core.specs.Values.{set_of, holds, with_element, empty_values};
+ghost use Rattle.nll_sets.specs.Runs.{IsWithin};
+ghost use Rattle.nll_core.specs.Growing.{Gains, Tells};
+ghost use Rattle.nll_core.specs.Values.{set_of, holds, with_element, empty_values, IsHeld};
 
 use crate::region_elements::RegionElements;
 use nll_problem::{Problem, RegionId};
-use nll_sets::{BitSet, Element, ElementSet, Memory};
+use nll_sets::{Element, ElementSet, Memory, Run, RunSet};
 use std::alloc::Global;
 use std::marker::Model;
 
 /// A set of elements for each region. Contracts see it as one flag for each region and element.
 #[derive(Drop)]
 pub struct Values {
-    sets: Vec<BitSet>,
+    sets: Vec<RunSet>,
 }
 
 impl Model for Values {
@@ -32,7 +34,7 @@ impl Values {
         let len = problem.points() + problem.universals();
         let mut sets = Vec::new(alloc);
         for _ in 0..problem.regions() {
-            sets.push(BitSet::empty(alloc, len)?)?;
+            sets.push(RunSet::empty(alloc, len)?)?;
         }
         Ok(Values { sets })
     }
@@ -60,6 +62,19 @@ impl Values {
         self.sets[region.0 as usize].insert(element)
     }
 
+    // Puts the elements of a run into the value of a region, and answers whether one of them is new.
+    pub(crate) fn insert_run(&mut self, region: RegionId, run: Run) -> Result<bool, Memory>
+        requires region { region < length self.old }
+        requires proper { run.first ≤ run.last }
+        requires below { run.last < length (set_of self.old region) }
+        ensures gains { OnOk result
+            (Gains (λ r e. (r ≡ region) × IsWithin run e) self.old self.new) }
+        ensures covers { OnOk result ((e : ℕ) → IsWithin run e → IsHeld self.new region e) }
+        ensures tells { IfOk result (λ new. Tells new self.old self.new) }
+    {
+        self.sets[region.0 as usize].insert_run(run)
+    }
+
     /// The elements of the value of a region, ascending: its points, and then its ends.
     pub fn iter(&self, region: RegionId) -> RegionElements<'_>
         requires { region < length self.now }
@@ -69,7 +84,7 @@ impl Values {
     }
 
     // The set of a region.
-    pub fn set(&self, region: RegionId) -> &BitSet
+    pub fn set(&self, region: RegionId) -> &RunSet
         requires { region < length self.now }
         ensures { result.now ≡ set_of self.now region }
     {

@@ -1,2 +1,5 @@
 pub mod BitSetLemmas
 pub mod ElementsLemmas
+pub mod RunListLemmas
+pub mod RunSetLemmas
+pub mod RunCountLemmas

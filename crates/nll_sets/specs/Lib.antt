@@ -1,3 +1,5 @@
 pub mod ElementSet
 pub mod BitSet
 pub mod Elements
+pub mod Runs
+pub mod RunLists

@@ -1,0 +1,371 @@
+-- A walk by stretches of lines: what it adds, step after step, and what it has reached at its end.
+use Rattle.std.proofs.Common.{◌≡◌, ◌≢◌, ◌⊎◌, ◌↔◌, ℕ, ◌+◌, ◌-◌, ◌<◌, ◌≤◌, Bool, true, false, not, cond, ◌||◌, List, [], ◌∷◌, ◌++◌, Contains, AllPairs, length, get_or, refl, sym, ap, ◌∙◌, subst, inl, inr, ⊎_elim, arith, zero, suc, length-append, rules}
+use Rattle.std.proofs.lemmas.Bool.{cases_lt, cases_eq, false≢true, true≢false}
+use Rattle.std.proofs.lemmas.List.{get_or_append_left, get_or_at, get_or_default, get_or_past}
+use Rattle.std.proofs.lemmas.List.Sums.{sum_by-cons}
+use Rattle.nll_sets.specs.ElementSet.{flag}
+use Rattle.nll_problem.specs.Graph.{Graph, element_count, IsNext, IsReturn, IsStep, IsSound, IsEnd}
+use Rattle.nll_problem.specs.Walks.{Reaches}
+use Rattle.nll_core.specs.Search.{missing, IsIn}
+use Rattle.nll_sets.specs.Runs.{no_run, first_of, last_of, IsInRuns, IsWithin, Fills}
+use Rattle.nll_core.specs.Lines.{IsJump, IsLineEnd}
+use Rattle.nll_core.specs.Walking.{IsLineClosed, IsStretch, Grows, IsJumpedTo, IsFollowed, AreOfPoints, IsLedTo, IsSpread, FillsFrom, constraint_at, no_constraint, PointsAscend, IsLedFrom, AreLedFrom}
+use Rattle.nll_sets.specs.declared.run.Run.{Run}
+use Rattle.nll_problem.specs.declared.constraint.Constraint.{Constraint}
+use Rattle.nll_problem.proofs.WalkLemmas.{reaches_first, reaches_more, reaches_starts, reaches_carries, reaches_inside}
+use Rattle.nll_core.proofs.SearchLemmas.{flag_within}
+
+-- ---- lists of constraints
+
+-- what stands at a place of a list is contained
+pub contained_at : (pair : List Constraint) (k : ℕ) → k < length pair → Contains pair (constraint_at pair k)
+contained_at pair k within = (k, within, get_or_default pair k (constraint_at pair k) no_constraint within)
+
+-- what holds of the constraints of a list, place by place, holds of each that it contains
+pub each_contained : (holds : Constraint → Type 0) (pair : List Constraint) → ((k : ℕ) → k < length pair → holds (constraint_at pair k)) → (c : Constraint) → Contains pair c → holds c
+each_contained holds pair each c (k, within, is) = subst holds (get_or_default pair k no_constraint c within ∙ is) (each k within)
+
+-- ---- how many are missing
+
+one_more : (xs : List Bool) → missing (false ∷ xs) ≡ missing xs + 1
+one_more xs = let e : missing (false ∷ xs) ≡ 1 + missing xs = sum_by-cons (λ x. cond (not x) 1 0) false xs in omega (arith, e)
+
+none_more : (xs : List Bool) → missing (true ∷ xs) ≡ missing xs
+none_more xs = let e : missing (true ∷ xs) ≡ 0 + missing xs = sum_by-cons (λ x. cond (not x) 1 0) true xs in omega (arith, e)
+
+missing_most : (old new : List Bool) → length new ≡ length old → ((x : ℕ) → flag old x ≡ true → flag new x ≡ true) → missing new ≤ missing old
+missing_most [] [] e kept = omega arith
+missing_most [] (b ∷ new) e kept = absurd (omega (arith, e))
+missing_most (a ∷ old) [] e kept = absurd (omega (arith, e))
+missing_most (true ∷ old) (true ∷ new) e kept = omega (arith, none_more old, none_more new, missing_most old new (omega (arith, e)) (λ x h. kept (suc x) h))
+missing_most (true ∷ old) (false ∷ new) e kept = absurd (false≢true (kept 0 refl))
+missing_most (false ∷ old) (true ∷ new) e kept = omega (arith, one_more old, none_more new, missing_most old new (omega (arith, e)) (λ x h. kept (suc x) h))
+missing_most (false ∷ old) (false ∷ new) e kept = omega (arith, one_more old, one_more new, missing_most old new (omega (arith, e)) (λ x h. kept (suc x) h))
+
+pub missing_less : (old new : List Bool) (x : ℕ) → length new ≡ length old → ((x : ℕ) → flag old x ≡ true → flag new x ≡ true) → flag old x ≡ false → flag new x ≡ true → missing new < missing old
+missing_less [] [] x e kept a b = absurd (false≢true b)
+missing_less [] (c ∷ new) x e kept a b = absurd (omega (arith, e))
+missing_less (c ∷ old) [] x e kept a b = absurd (omega (arith, e))
+missing_less (false ∷ old) (true ∷ new) zero e kept a b = omega (arith, one_more old, none_more new, missing_most old new (omega (arith, e)) (λ x h. kept (suc x) h))
+missing_less (true ∷ old) (c ∷ new) zero e kept a b = absurd (true≢false a)
+missing_less (false ∷ old) (false ∷ new) zero e kept a b = absurd (false≢true b)
+missing_less (true ∷ old) (true ∷ new) (suc x) e kept a b = omega (arith, none_more old, none_more new, missing_less old new x (omega (arith, e)) (λ x h. kept (suc x) h) a b)
+missing_less (true ∷ old) (false ∷ new) (suc x) e kept a b = absurd (false≢true (kept 0 refl))
+missing_less (false ∷ old) (true ∷ new) (suc x) e kept a b = omega (arith, one_more old, none_more new, missing_less old new x (omega (arith, e)) (λ x h. kept (suc x) h) a b)
+missing_less (false ∷ old) (false ∷ new) (suc x) e kept a b = omega (arith, one_more old, one_more new, missing_less old new x (omega (arith, e)) (λ x h. kept (suc x) h) a b)
+
+-- ---- one run more in a list
+
+pub in_pushed : (runs : List Run) (run : Run) (x : ℕ) → IsInRuns (runs ++ run ∷ []) x → IsInRuns runs x ⊎ IsWithin run x
+in_pushed runs run x (k, l, a, b) =
+    let len = length-append runs (run ∷ []) in
+    ⊎_elim
+    (λ front. inl (k, front, omega (arith, a, ap (λ (r : Run). r.first) (get_or_append_left runs (run ∷ []) no_run k front)), omega (arith, b, ap (λ (r : Run). r.last) (get_or_append_left runs (run ∷ []) no_run k front))))
+    (λ other. inr (omega (arith, a, ap (λ (r : Run). r.first) (get_or_at runs run [] no_run k (omega (arith, l, other, len)))), omega (arith, b, ap (λ (r : Run). r.last) (get_or_at runs run [] no_run k (omega (arith, l, other, len))))))
+    (cases_lt k (length runs))
+
+pub pushed_kept : (runs : List Run) (run : Run) (x : ℕ) → IsInRuns runs x → IsInRuns (runs ++ run ∷ []) x
+pushed_kept runs run x (k, l, a, b) =
+    let len = length-append runs (run ∷ []) in
+    (k, omega (arith, l, len), omega (arith, a, ap (λ (r : Run). r.first) (get_or_append_left runs (run ∷ []) no_run k l)), omega (arith, b, ap (λ (r : Run). r.last) (get_or_append_left runs (run ∷ []) no_run k l)))
+
+pub pushed_last : (runs : List Run) (run : Run) (x : ℕ) → IsWithin run x → IsInRuns (runs ++ run ∷ []) x
+pushed_last runs run x (a, b) =
+    let len = length-append runs (run ∷ []) in
+    let at = get_or_at runs run [] no_run (length runs) (omega arith) in
+    (length runs, omega (arith, len), omega (arith, a, ap (λ (r : Run). r.first) at), omega (arith, b, ap (λ (r : Run). r.last) at))
+
+-- ---- the elements of a set from a number on, run by run
+
+module _ (sub : List Bool) where
+  -- The elements of `sub` from `from` on and before `to` have been put in.
+  pub record Filling (from : ℕ) (old now : List Bool) (to : ℕ) : Type 0 where
+    pub width : length now ≡ length old
+    pub kept : (x : ℕ) → IsIn old x → IsIn now x
+    pub cause : (x : ℕ) → IsIn now x → IsIn old x ⊎ ((from ≤ x) × IsIn sub x)
+    pub filled : (x : ℕ) → from ≤ x → x < to → IsIn sub x → IsIn now x
+    pub above : from ≤ to
+
+  pub filling_none : (from : ℕ) (old : List Bool) → Filling from old old from
+  filling_none from old = record { width = refl; kept = λ x h. h; cause = λ x h. inl h; filled = λ x a b. absurd (omega (arith, a, b)); above = omega arith }
+
+  pub filling_more : (from : ℕ) (old now new : List Bool) (to first last : ℕ) (run : Run) → Filling from old now to → run.first ≡ first → run.last ≡ last → to ≤ first → first ≤ last
+      → ((x : ℕ) → first ≤ x → x ≤ last → IsIn sub x) → ((x : ℕ) → to ≤ x → x < first → flag sub x ≡ false) → Fills now new run → Filling from old new (last + 1)
+  filling_more from old now new to first last run f a b past proper all none p = record {
+    width = p.width ∙ f.width;
+    kept = λ x h. p.kept x (f.kept x h);
+    cause = λ x h. ⊎_elim (f.cause x) (λ own. inr (omega (arith, own.0, a, past, f.above), all x (omega (arith, own.0, a)) (omega (arith, own.1, b)))) (p.cause x h);
+    filled = λ x h k s. ⊎_elim
+        (λ before. p.kept x (f.filled x h before s))
+        (λ other. ⊎_elim
+        (λ gap. absurd (false≢true (sym (none x (omega (arith, other)) gap) ∙ s)))
+        (λ in_run. p.filled x (omega (arith, in_run, a)) (omega (arith, k, b)))
+        (cases_lt x first))
+        (cases_lt x to);
+    above = omega (arith, f.above, past, proper);
+  }
+
+  pub filling_end : (from : ℕ) (old now : List Bool) (to : ℕ) → Filling from old now to → ((x : ℕ) → to ≤ x → flag sub x ≡ false) → FillsFrom from sub old now
+  filling_end from old now to f none = record {
+    width = f.width; kept = f.kept; cause = f.cause;
+    filled = λ x a s. ⊎_elim (λ before. f.filled x a before s) (λ past. absurd (false≢true (sym (none x past) ∙ s))) (cases_lt x to);
+  }
+
+-- ---- what is added
+
+module _ (g : Graph) (sub : List Bool) where
+  -- along a line a walk leads from its first point to each other
+  line_reaches : (p k : ℕ) → ((x : ℕ) → p ≤ x → x ≤ p + k → IsIn sub x) → ((x : ℕ) → p ≤ x → x < p + k → IsNext g x (x + 1)) → Reaches g (IsIn sub) p (p + k)
+  line_reaches p zero inside line = subst (Reaches g (IsIn sub) p) (omega arith) (reaches_first g (IsIn sub) p (inside p (omega arith) (omega arith)))
+  line_reaches p (suc k) inside line =
+      let before = line_reaches p k (λ x a b. inside x a (omega (arith, b))) (λ x a b. line x a (omega (arith, b))) in
+      let same : p + k + 1 ≡ p + suc k = omega arith in
+      subst (Reaches g (IsIn sub) p) same (reaches_more g (IsIn sub) p (p + k) (p + k + 1) before (inl (line (p + k) (omega arith) (omega arith))) (inside (p + k + 1) (omega arith) (omega arith)))
+
+  pub grows_stretch : (old new : List Bool) (before : List Run) (point : ℕ) (run : Run) → IsStretch g sub old point run → Fills old new run → Grows g sub (Reaches g (IsIn sub) point) old new before (before ++ run ∷ [])
+  grows_stretch old new before point run s f =
+      let len = length-append before (run ∷ []) in
+      record {
+        width = f.width;
+        kept = f.kept;
+        cause = λ x h. ⊎_elim inl (λ own.
+            let way = line_reaches point (x - point) (λ y a b. s.inside y a (omega (arith, b, own.0, own.1, s.first))) (λ y a b. s.line y a (omega (arith, b, own.0, own.1, s.first))) in
+            inr (subst (Reaches g (IsIn sub) point) (omega (arith, own.0, s.first)) way)) (f.cause x h);
+        closed = λ all x h next in_sub. ⊎_elim
+            (λ o. f.kept (x + 1) (all x o next in_sub))
+            (λ own. ⊎_elim
+            (λ here. f.kept (x + 1) (subst (λ y. IsNext g y (y + 1) → IsIn sub (y + 1) → IsIn old (y + 1)) (sym here) s.closing next in_sub))
+            (λ other. f.filled (x + 1) (omega (arith, own.0)) (omega (arith, own.1, other)))
+            (cases_eq x run.last))
+            (f.cause x h);
+        listed = λ x i. ⊎_elim inl (λ own. inr (f.filled x own.0 own.1)) (in_pushed before run x i);
+        stays = λ x i. pushed_kept before run x i;
+        pending = λ x h. ⊎_elim inl (λ own. inr (pushed_last before run x own)) (f.cause x h);
+        fit = λ all k l. ⊎_elim
+            (λ front. let o = all k front in let at = get_or_append_left before (run ∷ []) no_run k front in (omega (arith, o.0, ap (λ (r : Run). r.first) at, ap (λ (r : Run). r.last) at), omega (arith, o.1, ap (λ (r : Run). r.last) at)))
+            (λ other. let at = get_or_at before run [] no_run k (omega (arith, l, other, len)) in (omega (arith, s.first, s.proper, ap (λ (r : Run). r.first) at, ap (λ (r : Run). r.last) at), omega (arith, s.points, ap (λ (r : Run). r.last) at)))
+            (cases_lt k (length before));
+        count = omega (arith, len, missing_less old new point f.width f.kept s.new (f.filled point (omega (arith, s.first)) s.proper));
+      }
+
+  module _ (kind : ℕ → Type 0) where
+    pub grows_none : (flags : List Bool) (runs : List Run) → Grows g sub kind flags flags runs runs
+    grows_none flags runs = record { width = refl; kept = λ x h. h; cause = λ x h. inl h; closed = λ h. h; listed = λ x h. inl h; stays = λ x h. h; pending = λ x h. inl h; fit = λ h. h; count = omega arith }
+
+    pub grows_append : (old middle new : List Bool) (xs ys zs : List Run) → Grows g sub kind old middle xs ys → Grows g sub kind middle new ys zs → Grows g sub kind old new xs zs
+    grows_append old middle new xs ys zs p q = record {
+      width = q.width ∙ p.width;
+      kept = λ x h. q.kept x (p.kept x h);
+      cause = λ x h. ⊎_elim (p.cause x) inr (q.cause x h);
+      closed = λ h. q.closed (p.closed h);
+      listed = λ x h. ⊎_elim (λ i. ⊎_elim inl (λ o. inr (q.kept x o)) (p.listed x i)) inr (q.listed x h);
+      stays = λ x h. q.stays x (p.stays x h);
+      pending = λ x h. ⊎_elim (λ m. ⊎_elim inl (λ i. inr (q.stays x i)) (p.pending x m)) inr (q.pending x h);
+      fit = λ h. q.fit (p.fit h);
+      count = omega (arith, p.count, q.count);
+    }
+
+  pub grows_weaker : (kind larger : ℕ → Type 0) → ((x : ℕ) → kind x → larger x) → (old new : List Bool) (xs ys : List Run) → Grows g sub kind old new xs ys → Grows g sub larger old new xs ys
+  grows_weaker kind larger has old new xs ys p = record { width = p.width; kept = p.kept; cause = λ x h. ⊎_elim inl (λ k. inr (has x k)) (p.cause x h); closed = p.closed; listed = p.listed; stays = p.stays; pending = p.pending; fit = p.fit; count = p.count }
+
+  -- ---- the targets of a run's jumps, one after another
+
+  -- The first `count` targets of the list have been gone through.
+  pub record Following (run : Run) (targets : List ℕ) (old new : List Bool) (before after : List Run) (ends : Bool) (count : ℕ) : Type 0 where
+    pub grows : Grows g sub (IsJumpedTo g sub run) old new before after
+    pub covers : (k : ℕ) → k < count → get_or targets k 0 < g.points → IsIn sub (get_or targets k 0) → IsIn new (get_or targets k 0)
+    pub ends_found : ends ≡ true → (k : ℕ) × (k < count) × (k < length targets) × (g.points ≤ get_or targets k 0)
+    pub ends_seen : (k : ℕ) → k < count → g.points ≤ get_or targets k 0 → ends ≡ true
+
+  pub following_first : (run : Run) (targets : List ℕ) (old : List Bool) (before : List Run) → Following run targets old old before before false 0
+  following_first run targets old before = record { grows = grows_none (IsJumpedTo g sub run) old before; covers = λ k h. absurd (omega (arith, h)); ends_found = λ h. absurd (false≢true h); ends_seen = λ k h. absurd (omega (arith, h)) }
+
+  pub following_more : (run : Run) (targets : List ℕ) (old now new : List Bool) (before then after : List Run) (ends : Bool) (count t : ℕ) → t ≡ get_or targets count 0 → count < length targets → t < g.points
+      → ((x : ℕ) → Contains targets x → (y : ℕ) × IsWithin run y × IsJump g y x)
+      → Contains targets t
+      → Following run targets old now before then ends count → Grows g sub (Reaches g (IsIn sub) t) now new then after → (IsIn sub t → IsIn new t) → Following run targets old new before after ends (count + 1)
+  following_more run targets old now new before then after ends count t is within point each listed f p covers =
+      let from = each t listed in
+      record {
+        grows = grows_append (IsJumpedTo g sub run) _ _ _ _ _ _ f.grows (grows_weaker _ (IsJumpedTo g sub run) (λ x way. (from.0, t, from.1, from.2, point, way)) _ _ _ _ p);
+        covers = λ k h q s. ⊎_elim
+            (λ here. let same : get_or targets k 0 ≡ t = ap (λ i. get_or targets i 0) here ∙ sym is in subst (IsIn new) (sym same) (covers (subst (IsIn sub) same s)))
+            (λ other. p.kept _ (f.covers k (omega (arith, h, other)) q s))
+            (cases_eq k count);
+        ends_found = λ h. let w = f.ends_found h in (w.0, omega (arith, w.1), w.2, w.3);
+        ends_seen = λ k h q. ⊎_elim
+            (λ here. absurd (omega (arith, ap (λ i. get_or targets i 0) here, is, point, q)))
+            (λ other. f.ends_seen k (omega (arith, h, other)) q)
+            (cases_eq k count);
+      }
+
+  pub following_end : (run : Run) (targets : List ℕ) (old now : List Bool) (before then : List Run) (ends : Bool) (count t : ℕ) → t ≡ get_or targets count 0 → count < length targets → g.points ≤ t
+      → Following run targets old now before then ends count → Following run targets old now before then true (count + 1)
+  following_end run targets old now before then ends count t is within past f = record {
+        grows = f.grows;
+        covers = λ k h q s. ⊎_elim
+            (λ here. absurd (omega (arith, ap (λ i. get_or targets i 0) here, is, past, q)))
+            (λ other. f.covers k (omega (arith, h, other)) q s)
+            (cases_eq k count);
+        ends_found = λ h. (count, omega arith, within, omega (arith, is, past));
+        ends_seen = λ k h q. refl;
+      }
+
+  -- a target that is no point stands for the ends
+  pub jump_to_ends : IsSound g → (x t : ℕ) → g.points ≤ t → IsJump g x t → IsJump g x g.points
+  jump_to_ends sound x t past (inl next) = absurd (omega (arith, past, (sound.edges_in_range x t next.0).1))
+  jump_to_ends sound x t past (inr back) = inr (back.0, refl)
+
+  -- ---- the list, run by run
+
+  pub record Spreading (start now : List Bool) (todo : List Run) (ends : Bool) : Type 0 where
+    pub width : length now ≡ length start
+    pub fit : AreOfPoints g todo
+    pub listed : (x : ℕ) → IsInRuns todo x → IsIn now x
+    pub kept : (x : ℕ) → IsIn start x → IsIn now x
+    pub sound : (x : ℕ) → IsIn now x → IsLedTo g sub start x
+    pub closed : IsLineClosed g sub now
+    pub pending : (x : ℕ) → IsIn now x → IsInRuns todo x ⊎ (IsFollowed g sub now x × (IsJump g x g.points → ends ≡ true))
+    pub ends_from : ends ≡ true → (x : ℕ) × IsIn now x × IsJump g x g.points
+
+  or_left : (a b : Bool) → a ≡ true → (a || b) ≡ true
+  or_left true b h = refl
+  or_left false b h = absurd (false≢true h)
+
+  or_right : (a b : Bool) → b ≡ true → (a || b) ≡ true
+  or_right true b h = refl
+  or_right false b h = h
+
+  either : (a b : Bool) → (a || b) ≡ true → (a ≡ true) ⊎ (b ≡ true)
+  either true b h = inl refl
+  either false b h = inr h
+
+  pub spreading_more : (start now new : List Bool) (rest after : List Run) (run : Run) (ends found : Bool) → Spreading start now (rest ++ run ∷ []) ends → Grows g sub (IsJumpedTo g sub run) now new rest after
+      → ((x : ℕ) → IsWithin run x → IsFollowed g sub new x) → ((found ≡ true → (x : ℕ) × IsWithin run x × IsJump g x g.points) × (((x : ℕ) × IsWithin run x × IsJump g x g.points) → found ≡ true)) → Spreading start new after (ends || found)
+  spreading_more start now new rest after run ends found s p covers tells =
+      let of_run : (x : ℕ) → IsWithin run x → IsIn now x = λ x w. s.listed x (pushed_last rest run x w) in
+      record {
+        width = p.width ∙ s.width;
+        fit = p.fit (λ k l. let at = get_or_append_left rest (run ∷ []) no_run k l in let o = s.fit k (omega (arith, l, length-append rest (run ∷ []))) in (omega (arith, o.0, ap (λ (r : Run). r.first) at, ap (λ (r : Run). r.last) at), omega (arith, o.1, ap (λ (r : Run). r.last) at)));
+        listed = λ x i. ⊎_elim (λ o. p.kept x (s.listed x (pushed_kept rest run x o))) (λ h. h) (p.listed x i);
+        kept = λ x h. p.kept x (s.kept x h);
+        sound = λ x h. ⊎_elim (s.sound x) (λ (y, t, w, jump, point, way). led x y t (s.sound y (of_run y w)) jump point way) (p.cause x h);
+        closed = p.closed s.closed;
+        pending = λ x h. ⊎_elim
+            (λ o. ⊎_elim
+            (λ i. ⊎_elim (λ r. inl (p.stays x r)) (λ w. inr (covers x w, λ jump. or_right ends found (tells.1 (x, w, jump)))) (in_pushed rest run x i))
+            (λ d. inr (λ t jump point in_sub. p.kept t (d.0 t jump point in_sub), λ jump. or_left ends found (d.1 jump)))
+            (s.pending x o))
+            inl
+            (p.pending x h);
+        ends_from = λ h. ⊎_elim (λ e. let w = s.ends_from e in (w.0, p.kept w.0 w.1, w.2)) (λ e. let w = tells.0 e in (w.0, p.kept w.0 (of_run w.0 w.1), w.2)) (either ends found h);
+      }
+    where
+    led : (x y t : ℕ) → IsLedTo g sub start y → IsJump g y t → t < g.points → Reaches g (IsIn sub) t x → IsLedTo g sub start x
+    led x y t from (inl next) point way = (from.0, from.1, append from.0 t x (reaches_more g (IsIn sub) from.0 y t from.2 (inl next.0) (reaches_starts g (IsIn sub) t x way)) way)
+      where
+      append : (a b c : ℕ) → Reaches g (IsIn sub) a b → Reaches g (IsIn sub) b c → Reaches g (IsIn sub) a c
+      append a b c p q = reaches_carries g (IsIn sub) b (Reaches g (IsIn sub) a) (λ u v h step within. reaches_more g (IsIn sub) a u v h step within) c p q
+    led x y t from (inr back) point way = absurd (omega (arith, back.1, point))
+
+  pub spread_end : (start now : List Bool) (todo : List Run) (ends : Bool) → ((x : ℕ) → IsInRuns todo x → ⊥) → Spreading start now todo ends → IsSpread g sub start now ends
+  spread_end start now todo ends none s = record {
+    width = s.width; kept = s.kept; sound = s.sound; closed = s.closed; ends_from = s.ends_from;
+    followed = λ x h. ⊎_elim (λ i. absurd (none x i)) (λ d. d.0) (s.pending x h);
+    ends_to = λ x h jump. ⊎_elim (λ i. absurd (none x i)) (λ d. d.1 jump) (s.pending x h);
+  }
+
+  reaches_append : (a b c : ℕ) → Reaches g (IsIn sub) a b → Reaches g (IsIn sub) b c → Reaches g (IsIn sub) a c
+  reaches_append a b c p q = reaches_carries g (IsIn sub) b (Reaches g (IsIn sub) a) (λ u v h step within. reaches_more g (IsIn sub) a u v h step within) c p q
+
+  -- along a line inside `sub` all from a reached point on is reached
+  along : (reached : List Bool) → IsLineClosed g sub reached → (p k : ℕ) → IsIn reached p → ((x : ℕ) → p ≤ x → x < p + k → IsNext g x (x + 1)) → ((x : ℕ) → p ≤ x → x ≤ p + k → IsIn sub x) → IsIn reached (p + k)
+  along reached closed p zero here line inside = subst (IsIn reached) (omega arith) here
+  along reached closed p (suc k) here line inside =
+      let before = along reached closed p k here (λ x a b. line x a (omega (arith, b))) (λ x a b. inside x a (omega (arith, b))) in
+      let same : p + k + 1 ≡ p + suc k = omega arith in
+      subst (IsIn reached) same (closed (p + k) before (line (p + k) (omega arith) (omega arith)) (inside (p + k + 1) (omega arith) (omega arith)))
+
+  -- what an entry settles
+  pub settled_entry : (reached : List Bool) (point last : ℕ) → IsLineClosed g sub reached → IsIn reached point → ((x : ℕ) → point ≤ x → x < last → IsNext g x (x + 1)) → ((x : ℕ) → point ≤ x → x ≤ last → IsIn sub x) → (x : ℕ) → point ≤ x → x ≤ last → IsIn reached x
+  settled_entry reached point last closed here line inside x a b =
+      let same : point + (x - point) ≡ x = omega (arith, a) in
+      subst (IsIn reached) same (along reached closed point (x - point) here (λ y c d. line y c (omega (arith, b, d, same))) (λ y c d. inside y c (omega (arith, b, d, same))))
+
+  -- The points of the constraints before `place` are settled.
+  pub record Entering (pair : List Constraint) (old now : List Bool) (before after : List Run) (place : ℕ) : Type 0 where
+    pub grows : Grows g sub (IsLedFrom g sub pair) old now before after
+    pub closed : IsLineClosed g sub now
+    pub covers : (k : ℕ) → k < place → IsIn sub (constraint_at pair k).at → IsIn now (constraint_at pair k).at
+    pub within : place ≤ length pair
+
+  pub entering_first : (pair : List Constraint) (old : List Bool) (before : List Run) → IsLineClosed g sub old → Entering pair old old before before 0
+  entering_first pair old before closed = record { grows = grows_none (IsLedFrom g sub pair) old before; closed = closed; covers = λ k h. absurd (omega (arith, h)); within = omega arith }
+
+  pub entering_more : (pair : List Constraint) (old now new : List Bool) (before then next : List Run) (place point least place' : ℕ) → PointsAscend pair → point ≡ (constraint_at pair place).at → place < length pair
+      → Entering pair old now before then place → Grows g sub (Reaches g (IsIn sub) point) now new then next
+      → ((x : ℕ) → point ≤ x → x < least → IsIn sub x → IsIn new x) → (IsIn sub point → IsIn new point)
+      → place' ≤ length pair → ((k : ℕ) → place + 1 ≤ k → k < place' → (constraint_at pair k).at < least) → Entering pair old new before next place'
+  entering_more pair old now new before then next place point least place' ascending is within e p settled own bound passed = record {
+    grows = grows_append (IsLedFrom g sub pair) _ _ _ _ _ _ e.grows (grows_weaker _ (IsLedFrom g sub pair) (λ x way. (constraint_at pair place, contained_at pair place within, subst (λ y. Reaches g (IsIn sub) y x) is way)) _ _ _ _ p);
+    closed = p.closed e.closed;
+    covers = λ k h s. ⊎_elim
+        (λ front. p.kept _ (e.covers k front s))
+        (λ other. ⊎_elim
+        (λ here. let same : (constraint_at pair k).at ≡ point = ap (λ i. (constraint_at pair i).at) here ∙ sym is in subst (IsIn new) (sym same) (own (subst (IsIn sub) same s)))
+        (λ past. settled (constraint_at pair k).at (omega (arith, is, ascending place k (omega (arith, other)) (omega (arith, h, bound)))) (passed k (omega (arith, other, past)) h) s)
+        (cases_eq k place))
+        (cases_lt k place);
+    within = bound;
+  }
+
+  -- ---- the whole
+
+  module _ (sound : IsSound g) (pair : List Constraint) (old middle new : List Bool) (list : List Run) (ends : Bool) (nothing : (x : ℕ) → flag old x ≡ false)
+      (p : Grows g sub (IsLedFrom g sub pair) old middle [] list) (covers : (c : Constraint) → Contains pair c → IsIn sub c.at → IsIn middle c.at) (s : IsSpread g sub middle new ends) where
+    led : (x : ℕ) → IsIn new x → IsLedFrom g sub pair x
+    led x h = let w = s.sound x h in ⊎_elim
+        (λ o. absurd (false≢true (sym (nothing w.0) ∙ o)))
+        (λ from. (from.0, from.1, reaches_append from.0.at w.0 x from.2 w.2))
+        (p.cause w.0 w.1)
+
+    from_return : (y x : ℕ) → IsIn new y → IsJump g y g.points → IsEnd g x → IsIn sub x → IsLedFrom g sub pair x
+    from_return y x h (inl next) is_end in_sub = absurd (omega (arith, (sound.edges_in_range y g.points next.0).1))
+    from_return y x h (inr back) is_end in_sub = let from = led y h in (from.0, from.1, reaches_more g (IsIn sub) from.0.at y x from.2 (inr (back.0, is_end)) in_sub)
+
+    along_edge : (y z : ℕ) → IsIn new y → IsNext g y z → IsIn sub z → IsIn new z
+    along_edge y z h next in_sub = ⊎_elim
+        (λ same. subst (IsIn new) (sym same) (s.closed y h (subst (IsNext g y) same next) (subst (IsIn sub) same in_sub)))
+        (λ other. s.followed y h z (inl (next, other)) (sound.edges_in_range y z next).1 in_sub)
+        (cases_eq z (y + 1))
+
+    go_on : (y z : ℕ) → IsIn new y ⊎ (IsEnd g y × (ends ≡ true)) → IsStep g y z → IsIn sub z → IsIn new z ⊎ (IsEnd g z × (ends ≡ true))
+    go_on y z (inl h) (inl next) in_sub = inl (along_edge y z h next in_sub)
+    go_on y z (inl h) (inr back) in_sub = inr (back.1, s.ends_to y h (inr (back.0, refl)))
+    go_on y z (inr h) (inl next) in_sub = absurd (omega (arith, h.0.0, (sound.edges_in_range y z next).0))
+    go_on y z (inr h) (inr back) in_sub = absurd (omega (arith, h.0.0, sound.returns_in_range y back.0))
+
+    complete : (x : ℕ) → IsLedFrom g sub pair x → IsIn new x ⊎ (IsEnd g x × (ends ≡ true))
+    complete x (c, listed, way) = reaches_carries g (IsIn sub) c.at (λ y. IsIn new y ⊎ (IsEnd g y × (ends ≡ true))) go_on x (inl (s.kept c.at (covers c listed (reaches_starts g (IsIn sub) c.at x way)))) way
+
+    -- where no return point is reached, that is all
+    pub reached_points : ends ≡ false → AreLedFrom g sub pair new
+    reached_points none x = (led x, λ h. ⊎_elim (λ i. i) (λ e. absurd (false≢true (sym none ∙ e.1))) (complete x h))
+
+    -- else the ends in `sub` come to it
+    pub reached_ends : (all : List Bool) → ends ≡ true → length sub ≡ element_count g → FillsFrom g.points sub new all → AreLedFrom g sub pair all
+    reached_ends all some wide f x = (
+        λ h. ⊎_elim
+            (led x)
+            (λ (past, in_sub). let w = s.ends_from some in from_return w.0 x w.1 w.2 (past, omega (arith, flag_within sub x in_sub, wide)) in_sub)
+            (f.cause x h),
+        λ h. ⊎_elim (f.kept x) (λ e. f.filled x e.0.0 (reaches_inside g (IsIn sub) h.0.at x h.2)) (complete x h))
+
+  module _ (pair : List Constraint) (old middle : List Bool) (list : List Run) (nothing : (x : ℕ) → flag old x ≡ false) (p : Grows g sub (IsLedFrom g sub pair) old middle [] list) where
+    pub start_listed : (x : ℕ) → IsInRuns list x ↔ IsIn middle x
+    start_listed x = (
+      λ i. ⊎_elim (λ (k, l, a, b). absurd (omega (arith, l))) (λ h. h) (p.listed x i),
+      λ h. ⊎_elim (λ o. absurd (false≢true (sym (nothing x) ∙ o))) (λ i. i) (p.pending x h))
+
+    pub start_inside : (x : ℕ) → IsIn middle x → IsIn sub x
+    start_inside x h = ⊎_elim (λ o. absurd (false≢true (sym (nothing x) ∙ o))) (λ from. reaches_inside g (IsIn sub) from.0.at x from.2) (p.cause x h)

@@ -1,0 +1,34 @@
+use Rattle.std.proofs.Common.{◌≡◌, ◌≢◌, ◌∙◌, ◌||◌, ℕ, ◌<◌, Bool, List, false, get_or, length, set, sym, subst, ap, arith}
+use Rattle.std.proofs.lemmas.List.{get_or_read}
+use Rattle.nll_core.specs.Worklist.{Visits}
+use Rattle.nll_core.proofs.WorklistLemmas.{visits_pair, met_pair, met_self, eqb_is, eqb_false}
+use Rattle.nll_core.proofs.meeting.meet.Goals as goal
+use Rattle.nll_core.proofs.meeting.meet.Goals.{After-fill}
+
+pub returns-then-eq-clause-met : goal.returns-then-eq-clause-met
+returns-then-eq-clause-met c = λ k h.
+    let own = c.requires.pair k h in
+    met_self c.args.problem.now c.args.sub k c.args.values.now (own.2 ∙ (eqb_is _ _ c.if-eq.ensures ∙ sym own.1))
+
+apart : (c : After-fill) → c.args.sup ≢ c.args.sub
+apart c = eqb_false _ _ c.if-eq.ensures
+
+within : (c : After-fill) → c.args.sup < length c.args.marks.now.items
+within c = omega (arith, c.requires.sup, c.requires.width)
+
+pub returns-clause-visits : goal.returns-clause-visits
+returns-clause-visits c =
+    let d = (goal.at.returns-clause-visits c).After-fill in
+    let marks = c.args.marks.now.items in
+    let sup = c.args.sup in
+    let at = c.sup.inside.0 in
+    let is : at ≡ sup = c.sup.view_is in
+    let read : c.index_mut.result.now ≡ get_or marks sup false = get_or_read marks at c.index_mut.result.now (omega (arith, is, within d)) c.index_mut.ensures.value false ∙ ap (λ (i : ℕ). get_or marks i false) is in
+    let goes : (i : ℕ) → (b : Bool) → Type 0 = λ i b. Visits c.args.problem.now c.args.sub c.args.values.now c.fill.new.values marks (set marks i (b || c.in_ok-new.new)) c.in_ok-new.new in
+    subst (λ i. goes i c.index_mut.result.now) (sym is) (subst (λ b. goes sup b) (sym read)
+    (visits_pair c.args.problem.now c.args.sub sup c.args.pair.now c.args.values.now c.fill.new.values marks c.in_ok-new.new c.requires.pair (apart d) (within d) c.requires.shaped c.in_ok-new.ensures.gains c.in_ok-new.ensures.asks c.in_ok-new.ensures.tells))
+
+pub returns-clause-met : goal.returns-clause-met
+returns-clause-met c =
+    let d = (goal.at.returns-clause-met c).After-fill in
+    met_pair c.args.problem.now c.args.sub c.args.sup c.args.pair.now c.args.values.now c.fill.new.values c.args.marks.now.items c.in_ok-new.new c.requires.pair (apart d) (within d) c.requires.shaped c.in_ok-new.ensures.gains c.in_ok-new.ensures.asks c.in_ok-new.ensures.tells

@@ -1,5 +1,0 @@
-use Rattle.nll_core.proofs.SolverLemmas.{Rounding}
-use Rattle.nll_core.proofs.solver.round.Given as goal
-
-abbrev pub invariant-loop-constraint : goal.invariant-loop-constraint
-invariant-loop-constraint l = Rounding l.problem l.fn.values l.values l.changed l.constraint-index

@@ -1,0 +1,14 @@
+use Rattle.std.proofs.Common.{◌≡◌, ◌<◌, ℕ, Bool, List, [], length, get_or, set, IfOk, ap, subst, arith}
+use Rattle.std.proofs.lemmas.List.{get_or_read}
+use Rattle.nll_core.specs.Growing.{Tells}
+use Rattle.nll_core.proofs.RunValueLemmas.{tells_filled}
+use Rattle.nll_core.proofs.values.Values.insert_run.Goals as goal
+
+pub returns-clause-tells : goal.returns-clause-tells
+returns-clause-tells c =
+    let sets = c.self.inside.sets.items in
+    let at = c.region.inside.0 in
+    let within : at < length sets = omega (arith, c.requires.region, c.region.view_is, ap (λ (v : List (List Bool)). length v) c.self.view_is) in
+    let is = get_or_read sets at c.index_mut.result.now within c.index_mut.ensures.value [] in
+    subst (λ (old : List (List Bool)). IfOk c.insert_run.result (λ new. Tells new old (set sets at c.insert_run.new.self))) c.self.view_is
+    (tells_filled sets at c.index_mut.result.now c.insert_run.new.self c.args.run c.insert_run.result within is c.insert_run.ensures.ok c.insert_run.ensures.same c.insert_run.ensures.fresh)

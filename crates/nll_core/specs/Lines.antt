@@ -1,0 +1,41 @@
+-- The lines of a graph: the points that follow each other by number, and the steps that leave them.
+-- Source: project's choice. Private contracts alone cite this file.
+use Rattle.std.specs.Prelude.{◌≡◌, ◌≢◌, ◌⊎◌, ◌↔◌, ℕ, ◌+◌, ◌≤◌, ◌<◌, List, length, Contains}
+use Rattle.std.specs.Prelude.{slice_index}
+use Rattle.nll_problem.specs.Graph.{Graph, IsNext, IsReturn}
+
+-- e is the last point of the line of x
+pub record IsLineEnd (g : Graph) (x e : ℕ) : Type 0 where
+  pub above : x ≤ e
+  pub point : e < g.points
+  pub line : (y : ℕ) → x ≤ y → y < e → IsNext g y (y + 1)
+  pub last : IsNext g e (e + 1) → ⊥
+
+-- from x a step may jump to t: to a successor that isn't the next point of its line or, from a
+-- return point, to the ends, for which the number of points stands
+abbrev pub IsJump : Graph → ℕ → ℕ → Type 0
+IsJump g x t = (IsNext g x t × (t ≢ x + 1)) ⊎ (IsReturn g x × (t ≡ g.points))
+
+-- the list has the last point of the line of each point
+pub record AreLineEnds (g : Graph) (ends : List ℕ) : Type 0 where
+  pub sized : length ends ≡ g.points
+  pub each : (x : ℕ) → x < g.points → IsLineEnd g x (slice_index ends x)
+
+-- t stands in the list at a place from `from` on and before `to`
+abbrev pub StandsIn : List ℕ → ℕ → ℕ → ℕ → Type 0
+StandsIn list from to t = (k : ℕ) × (from ≤ k) × (k < to) × (slice_index list k ≡ t)
+
+-- The jumps of the points before `count` stand in the list, those of a point from where its number
+-- says up to where that of the next point says.
+pub record AreJumps (g : Graph) (count : ℕ) (starts targets : List ℕ) : Type 0 where
+  pub sized : length starts ≡ count + 1
+  pub ordered : (i j : ℕ) → i ≤ j → j ≤ count → slice_index starts i ≤ slice_index starts j
+  pub last : slice_index starts count ≡ length targets
+  pub each : (x t : ℕ) → x < count
+      → IsJump g x t ↔ StandsIn targets (slice_index starts x) (slice_index starts (x + 1)) t
+
+-- A list got the targets of this kind at its end.
+pub record Pushes (kind : ℕ → Type 0) (old new : List ℕ) : Type 0 where
+  pub longer : length old ≤ length new
+  pub front : (k : ℕ) → k < length old → slice_index new k ≡ slice_index old k
+  pub each : (t : ℕ) → kind t ↔ StandsIn new (length old) (length new) t

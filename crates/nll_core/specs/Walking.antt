@@ -1,0 +1,110 @@
+-- What a walk through the lines of a graph, inside the value of a region, has reached, and what it
+-- adds.
+-- Source: project's choice. Private contracts alone cite this file.
+use Rattle.std.specs.Prelude.{◌≡◌, ◌⊎◌, ◌↔◌, ℕ, ◌+◌, ◌≤◌, ◌<◌, Bool, true, false}
+use Rattle.std.specs.Prelude.{List, length, Contains, slice_index_or}
+use Rattle.nll_sets.specs.ElementSet.{flag}
+use Rattle.nll_sets.specs.Runs.{first_of, last_of, IsInRuns, IsWithin}
+use Rattle.nll_sets.specs.declared.run.Run.{Run}
+use Rattle.nll_problem.specs.Graph.{Graph, IsNext}
+use Rattle.nll_problem.specs.Walks.{Reaches}
+use Rattle.nll_problem.specs.declared.constraint.Constraint.{Constraint}
+use Rattle.nll_core.specs.Lines.{IsJump}
+use Rattle.nll_core.specs.Search.{missing, IsIn}
+
+-- ---- stretches
+
+-- each step inside `sub` along a line leads from the set into it
+abbrev pub IsLineClosed : Graph → List Bool → List Bool → Type 0
+IsLineClosed g sub reached =
+    (x : ℕ) → IsIn reached x → IsNext g x (x + 1) → IsIn sub (x + 1) → IsIn reached (x + 1)
+
+-- The run goes from the point along its line inside `sub`, up to where the line or `sub` ends, or
+-- what is reached goes on.
+pub record IsStretch (g : Graph) (sub reached : List Bool) (point : ℕ) (run : Run) : Type 0 where
+  pub first : run.first ≡ point
+  pub proper : point ≤ run.last
+  pub points : run.last < g.points
+  pub inside : (x : ℕ) → point ≤ x → x ≤ run.last → IsIn sub x
+  pub line : (x : ℕ) → point ≤ x → x < run.last → IsNext g x (x + 1)
+  pub new : flag reached point ≡ false
+  pub closing :
+      IsNext g run.last (run.last + 1) → IsIn sub (run.last + 1) → IsIn reached (run.last + 1)
+
+-- the runs of the list are of points
+abbrev pub AreOfPoints : Graph → List Run → Type 0
+AreOfPoints g runs =
+    (k : ℕ) → k < length runs → (first_of runs k ≤ last_of runs k) × (last_of runs k < g.points)
+
+-- The set got elements of this kind, and the list has each of them.
+pub record Grows (g : Graph) (sub : List Bool) (kind : ℕ → Type 0)
+    (old new : List Bool) (before after : List Run) : Type 0 where
+  pub width : length new ≡ length old
+  pub kept : (x : ℕ) → IsIn old x → IsIn new x
+  pub cause : (x : ℕ) → IsIn new x → IsIn old x ⊎ kind x
+  pub closed : IsLineClosed g sub old → IsLineClosed g sub new
+  pub listed : (x : ℕ) → IsInRuns after x → IsInRuns before x ⊎ IsIn new x
+  pub stays : (x : ℕ) → IsInRuns before x → IsInRuns after x
+  pub pending : (x : ℕ) → IsIn new x → IsIn old x ⊎ IsInRuns after x
+  pub fit : AreOfPoints g before → AreOfPoints g after
+  pub count : missing new + length after ≤ missing old + length before
+
+-- ---- jumps
+
+-- a jump from a point of the run leads to a point from which a walk inside `sub` leads to x
+abbrev pub IsJumpedTo : Graph → List Bool → Run → ℕ → Type 0
+IsJumpedTo g sub run x =
+    (y : ℕ) × (t : ℕ) × IsWithin run y × IsJump g y t × (t < g.points) × Reaches g (IsIn sub) t x
+
+-- the set has the target of each jump from x that is a point of `sub`
+abbrev pub IsFollowed : Graph → List Bool → List Bool → ℕ → Type 0
+IsFollowed g sub reached x = (t : ℕ) → IsJump g x t → t < g.points → IsIn sub t → IsIn reached t
+
+-- a walk inside `sub` leads to x from an element of the set
+abbrev pub IsLedTo : Graph → List Bool → List Bool → ℕ → Type 0
+IsLedTo g sub start x = (y : ℕ) × IsIn start y × Reaches g (IsIn sub) y x
+
+-- The set has its start and what walks inside `sub` reach from it, points alone; `ends` says
+-- whether a return point is among them.
+pub record IsSpread (g : Graph) (sub start new : List Bool) (ends : Bool) : Type 0 where
+  pub width : length new ≡ length start
+  pub kept : (x : ℕ) → IsIn start x → IsIn new x
+  pub sound : (x : ℕ) → IsIn new x → IsLedTo g sub start x
+  pub closed : IsLineClosed g sub new
+  pub followed : (x : ℕ) → IsIn new x → IsFollowed g sub new x
+  pub ends_from : ends ≡ true → (x : ℕ) × IsIn new x × IsJump g x g.points
+  pub ends_to : (x : ℕ) → IsIn new x → IsJump g x g.points → ends ≡ true
+
+-- the set got the elements of `sub` from a number on
+pub record FillsFrom (from : ℕ) (sub old new : List Bool) : Type 0 where
+  pub width : length new ≡ length old
+  pub kept : (x : ℕ) → IsIn old x → IsIn new x
+  pub cause : (x : ℕ) → IsIn new x → IsIn old x ⊎ ((from ≤ x) × IsIn sub x)
+  pub filled : (x : ℕ) → from ≤ x → IsIn sub x → IsIn new x
+
+-- ---- the constraints of a pair of regions
+
+-- what is read past the end of a list of constraints
+abbrev pub no_constraint : Constraint
+no_constraint = record { sub = 0; sup = 0; at = 0 }
+
+-- the constraint at a place of the list
+abbrev pub constraint_at : List Constraint → ℕ → Constraint
+constraint_at pair k = slice_index_or pair k no_constraint
+
+-- the points of the constraints never descend
+abbrev pub PointsAscend : List Constraint → Type 0
+PointsAscend pair =
+    (j k : ℕ) → j ≤ k → k < length pair → (constraint_at pair j).at ≤ (constraint_at pair k).at
+
+-- the constraints are at points
+abbrev pub AreAtPoints : Graph → List Constraint → Type 0
+AreAtPoints g pair = (c : Constraint) → Contains pair c → c.at < g.points
+
+-- a walk inside `sub` leads to x from the point of a constraint of the list
+abbrev pub IsLedFrom : Graph → List Bool → List Constraint → ℕ → Type 0
+IsLedFrom g sub pair x = (c : Constraint) × Contains pair c × Reaches g (IsIn sub) c.at x
+
+-- the set has what walks inside `sub` reach from the points of the constraints
+abbrev pub AreLedFrom : Graph → List Bool → List Constraint → List Bool → Type 0
+AreLedFrom g sub pair reached = (x : ℕ) → IsIn reached x ↔ IsLedFrom g sub pair x

@@ -1,0 +1,68 @@
+//! The values of just the base elements.
+
+ghost use Rattle.std.specs.Prelude.{◌≡◌, ℕ, ◌≤◌, ◌<◌, ◌↔◌, length, IfOk, OnOk};
+ghost use Rattle.nll_problem.specs.Problem.{IsBase};
+ghost use Rattle.nll_core.specs.Values.{set_of, IsHeld, IsShaped};
+ghost use Rattle.nll_core.specs.Growing.{Gains, HoldsPoints, HoldsEnds, HoldsFacts};
+
+use crate::values::Values;
+use nll_problem::{Problem, RegionId};
+use nll_sets::{Element, Memory, Run};
+use std::alloc::Global;
+
+/// The values of just the base elements.
+pub fn base_values(alloc: Global, problem: &Problem) -> Result<Values, Memory>
+    ensures shaped { IfOk result (IsShaped problem.now) }
+    ensures exact { IfOk result (λ values. (r e : ℕ) → IsHeld values r e ↔ IsBase problem.now r e) }
+{
+    let mut values = Values::empty(alloc, problem)?;
+    insert_universals(problem, &mut values)?;
+    insert_bases(problem, &mut values)?;
+    Ok(values)
+}
+
+// Puts in what the universal regions hold from the start.
+fn insert_universals(problem: &Problem, values: &mut Values) -> Result<(), Memory>
+    requires { IsShaped problem.now values.old }
+    ensures gains { OnOk result (Gains (IsBase problem.now) values.old values.new) }
+    ensures points { OnOk result (HoldsPoints problem.now values.new) }
+    ensures ends { OnOk result (HoldsEnds problem.now values.new) }
+{
+    let points = problem.points();
+    for number in 0..problem.universals() {
+        let region = RegionId(number);
+        insert_points(values, region, points)?;
+        values.insert(region, Element(points + number))?;
+    }
+    Ok(())
+}
+
+// Puts each point into the value of a region, as one run.
+fn insert_points(values: &mut Values, region: RegionId, points: u32) -> Result<(), Memory>
+    requires some { 0 < points }
+    requires region { region < length values.old }
+    requires elements { points ≤ length (set_of values.old region) }
+    ensures gains { OnOk result
+        (Gains (λ r e. (r ≡ region) × (e < points)) values.old values.new) }
+    ensures covers { OnOk result ((e : ℕ) → e < points → IsHeld values.new region e) }
+{
+    values.insert_run(region, Run {
+        first: 0,
+        last: points - 1,
+    })?;
+    Ok(())
+}
+
+// Puts in the base elements that were given.
+fn insert_bases(problem: &Problem, values: &mut Values) -> Result<(), Memory>
+    requires { IsShaped problem.now values.old }
+    ensures gains { Gains (IsBase problem.now) values.old values.new }
+    ensures covers { OnOk result (HoldsFacts problem.now values.new) }
+{
+    let facts = problem.bases();
+    for base in facts {
+        let (region, point) = *base;
+        values.insert(region, Element(point))?;
+    }
+    Ok(())
+}

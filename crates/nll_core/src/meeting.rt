@@ -1,0 +1,100 @@
+//! How the constraints of a pair of regions are met.
+
+ghost use Rattle.std.specs.Prelude.{◌≡◌, ◌≢◌, ℕ, ◌≤◌, ◌<◌, true, Contains, length, IfOk, OnOk};
+ghost use Rattle.nll_sets.specs.ElementSet.{flag};
+ghost use Rattle.nll_problem.specs.Graph.{element_count};
+ghost use Rattle.nll_problem.specs.declared.constraint.Constraint as spec;
+ghost use Rattle.nll_core.specs.Values.{set_of, IsHeld, IsShaped};
+ghost use Rattle.nll_core.specs.Growing.{Gains, Tells, IsMet};
+ghost use Rattle.nll_core.specs.Walking.{PointsAscend, IsLedFrom};
+ghost use Rattle.nll_core.specs.Worklist.{AreOfPair, Visits};
+
+use crate::lines::Lines;
+use crate::values::Values;
+use crate::walk::Walk;
+use nll_problem::{Constraint, Problem, RegionId};
+use nll_sets::{Memory, RunSet};
+
+/// Meets the constraints of a pair of regions, and marks the one that they fill if it gets
+/// something. Answers whether it does.
+pub fn meet(
+    problem: &Problem,
+    lines: &Lines,
+    values: &mut Values,
+    marks: &mut Vec<bool>,
+    walk: &mut Walk,
+    sub: RegionId,
+    sup: RegionId,
+    pair: &[Constraint],
+) -> Result<bool, Memory>
+    requires shaped { IsShaped problem.now values.old }
+    requires lines { lines.now ≡ problem.now.graph }
+    requires walk { length walk.old.reached ≡ element_count lines.now }
+    requires width { length marks.old.items ≡ problem.now.regions }
+    requires sub { sub < problem.now.regions }
+    requires sup { sup < problem.now.regions }
+    requires pair { AreOfPair problem.now sub sup pair.now }
+    requires ascending { PointsAscend pair.now }
+    ensures visits { IfOk result (Visits problem.now sub values.old values.new
+        marks.old.items marks.new.items) }
+    ensures walk { OnOk result (length walk.new.reached ≡ element_count lines.now) }
+    ensures met { OnOk result
+        ((c : spec.Constraint) → Contains pair.now c → IsMet problem.now values.new c) }
+{
+    // What a walk inside a region reaches is in the region.
+    if sup == sub {
+        return Ok(false);
+    }
+    let new = fill(problem, lines, values, walk, sub, sup, pair)?;
+    marks[sup.0 as usize] |= new;
+    Ok(new)
+}
+
+// Puts in what the constraints of a pair of regions ask. Answers whether something was new.
+fn fill(
+    problem: &Problem,
+    lines: &Lines,
+    values: &mut Values,
+    walk: &mut Walk,
+    sub: RegionId,
+    sup: RegionId,
+    pair: &[Constraint],
+) -> Result<bool, Memory>
+    requires shaped { IsShaped problem.now values.old }
+    requires lines { lines.now ≡ problem.now.graph }
+    requires walk { length walk.old.reached ≡ element_count lines.now }
+    requires sub { sub < problem.now.regions }
+    requires sup { sup < problem.now.regions }
+    requires pair { AreOfPair problem.now sub sup pair.now }
+    requires ascending { PointsAscend pair.now }
+    ensures gains { OnOk result (Gains
+        (λ r e. (r ≡ sup) × IsLedFrom problem.now.graph (set_of values.old sub) pair.now e)
+        values.old values.new) }
+    ensures asks { OnOk result ((e : ℕ)
+        → IsLedFrom problem.now.graph (set_of values.old sub) pair.now e
+        → IsHeld values.new sup e) }
+    ensures tells { IfOk result (λ new. Tells new values.old values.new) }
+    ensures walk { OnOk result (length walk.new.reached ≡ element_count lines.now) }
+{
+    let _regions = problem.regions();
+    walk.reach(lines, values.set(sub), pair)?;
+    fill_all(values, sup, &walk.reached)
+}
+
+// Puts the elements of a set into the value of a region. Answers whether one of them is new.
+fn fill_all(values: &mut Values, region: RegionId, found: &RunSet) -> Result<bool, Memory>
+    requires region { region < length values.old }
+    requires elements { length found.now ≤ length (set_of values.old region) }
+    ensures gains { OnOk result
+        (Gains (λ r e. (r ≡ region) × (flag found.now e ≡ true)) values.old values.new) }
+    ensures covers { OnOk result
+        ((e : ℕ) → flag found.now e ≡ true → IsHeld values.new region e) }
+    ensures tells { IfOk result (λ changed. Tells changed values.old values.new) }
+{
+    let mut changed = false;
+    for run in found.as_runs() {
+        let new = values.insert_run(region, *run)?;
+        changed |= new;
+    }
+    Ok(changed)
+}

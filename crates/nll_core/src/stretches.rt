@@ -1,0 +1,108 @@
+//! Walks through a graph inside the value of a region, a whole stretch of a line at a time.
+//!
+//! A walk keeps the points that it has reached as a set, and the stretches that it has entered and
+//! not yet followed as a list.
+
+ghost use Rattle.std.specs.Prelude.{◌≡◌, ◌⊎◌, ◌↔◌, ℕ, ◌≤◌, ◌<◌, true, Contains, length, []};
+ghost use Rattle.std.specs.Prelude.{IfOk, OnOk, IfSome, IfNone};
+ghost use Rattle.nll_problem.specs.Walks.{Reaches};
+ghost use Rattle.nll_sets.specs.Runs.{IsInRuns, IsWithin};
+ghost use Rattle.nll_core.specs.Lines.{IsJump};
+ghost use Rattle.nll_core.specs.Search.{IsIn};
+ghost use Rattle.nll_core.specs.Walking.{IsStretch, Grows, IsJumpedTo, IsFollowed, AreOfPoints};
+ghost use Rattle.nll_core.specs.Walking.{IsLineClosed, IsSpread};
+
+use crate::lines::Lines;
+use nll_sets::{Element, ElementSet, Memory, Run, RunSet};
+
+// The stretch from a point on that is new to the set; None where there is none.
+fn stretch(lines: &Lines, sub: &RunSet, reached: &RunSet, point: u32) -> Option<Run>
+    requires point { point < lines.now.points }
+    requires widths { lines.now.points ≤ length reached.now }
+    ensures some { IfSome result (IsStretch lines.now sub.now reached.now point) }
+    ensures none { IfNone result (IsIn sub.now point → IsIn reached.now point) }
+{
+    let inside = sub.run_from(point)?;
+    if inside.first > point || reached.has(Element(point)) {
+        return None;
+    }
+    let most = lines.line_end(point).min(inside.last);
+    let last = match reached.run_from(point) {
+        Some(next) => most.min(next.first - 1),
+        None => most,
+    };
+    Some(Run { first: point, last })
+}
+
+/// Puts the stretch from a point into the set and into the list.
+pub fn enter(
+    lines: &Lines,
+    sub: &RunSet,
+    reached: &mut RunSet,
+    todo: &mut Vec<Run>,
+    point: u32,
+) -> Result<(), Memory>
+    requires point { point < lines.now.points }
+    requires widths { lines.now.points ≤ length reached.old }
+    ensures grows { OnOk result (Grows lines.now sub.now (Reaches lines.now (IsIn sub.now) point)
+        reached.old reached.new todo.old.items todo.new.items) }
+    ensures covers { OnOk result (IsIn sub.now point → IsIn reached.new point) }
+{
+    if let Some(run) = stretch(lines, sub, reached, point) {
+        reached.insert_run(run)?;
+        todo.push(run)?;
+    }
+    Ok(())
+}
+
+// Enters the targets of the jumps from the points of a run. Answers whether one of these is a return
+// point.
+fn follow(
+    lines: &Lines,
+    sub: &RunSet,
+    reached: &mut RunSet,
+    todo: &mut Vec<Run>,
+    run: Run,
+) -> Result<bool, Memory>
+    requires proper { run.first ≤ run.last }
+    requires points { run.last < lines.now.points }
+    requires widths { lines.now.points ≤ length reached.old }
+    ensures grows { OnOk result (Grows lines.now sub.now (IsJumpedTo lines.now sub.now run)
+        reached.old reached.new todo.old.items todo.new.items) }
+    ensures covers { OnOk result
+        ((x : ℕ) → IsWithin run x → IsFollowed lines.now sub.now reached.new x) }
+    ensures ends { IfOk result (λ ends. (ends ≡ true)
+        ↔ ((x : ℕ) × IsWithin run x × IsJump lines.now x lines.now.points)) }
+{
+    let points = lines.points();
+    let mut ends = false;
+    for target in lines.jumps(run) {
+        if *target < points {
+            enter(lines, sub, reached, todo, *target)?;
+        } else {
+            ends = true;
+        }
+    }
+    Ok(ends)
+}
+
+/// Follows the stretches of the list until it is empty. Answers whether a return point is reached.
+pub fn spread(
+    lines: &Lines,
+    sub: &RunSet,
+    reached: &mut RunSet,
+    todo: &mut Vec<Run>,
+) -> Result<bool, Memory>
+    requires widths { lines.now.points ≤ length reached.old }
+    requires fit { AreOfPoints lines.now todo.old.items }
+    requires inside { (x : ℕ) → IsIn reached.old x → IsIn sub.now x }
+    requires closed { IsLineClosed lines.now sub.now reached.old }
+    requires listed { (x : ℕ) → IsInRuns todo.old.items x ↔ IsIn reached.old x }
+    ensures { IfOk result (IsSpread lines.now sub.now reached.old reached.new) }
+{
+    let mut ends = false;
+    while let Some(run) = todo.pop() {
+        ends |= follow(lines, sub, reached, todo, run)?;
+    }
+    Ok(ends)
+}

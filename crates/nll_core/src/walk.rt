@@ -1,0 +1,179 @@
+//! Walks from the points of the constraints of a pair of regions.
+
+ghost use Rattle.std.specs.Prelude.{◌≡◌, ℕ, ◌≤◌, ◌<◌, false, Contains, length, [], OnOk, IfOk};
+ghost use Rattle.nll_sets.specs.ElementSet.{flag};
+ghost use Rattle.nll_problem.specs.Graph.{element_count};
+ghost use Rattle.nll_problem.specs.Walks.{Reaches};
+ghost use Rattle.nll_problem.specs.declared.constraint.Constraint as spec;
+ghost use Rattle.nll_core.specs.Search.{IsIn};
+ghost use Rattle.nll_core.specs.Walking.{Grows, IsLineClosed, FillsFrom, PointsAscend, AreAtPoints};
+ghost use Rattle.nll_core.specs.Walking.{IsLedFrom, AreLedFrom, constraint_at};
+
+use crate::lines::Lines;
+use crate::stretches::{enter, spread};
+use nll_problem::Constraint;
+use nll_sets::{ElementSet, Memory, Run, RunSet};
+use std::alloc::Global;
+
+/// What a walk has reached, and the stretches that it has still to follow. One serves all walks of a
+/// solver, so that its memory is taken once.
+#[derive(Drop)]
+pub struct Walk {
+    pub reached: RunSet,
+    pub todo: Vec<Run>,
+}
+
+impl Walk {
+    /// A walk among the elements below a number.
+    pub fn new(alloc: Global, count: u32) -> Result<Walk, Memory>
+        ensures { IfOk result (λ walk. length walk.reached ≡ count) }
+    {
+        let reached = RunSet::empty(alloc, count)?;
+        Ok(Walk {
+            reached,
+            todo: Vec::new(alloc),
+        })
+    }
+
+    /// Reaches what walks inside a set reach from the points of constraints, and nothing else.
+    pub fn reach(
+        &mut self,
+        lines: &Lines,
+        sub: &RunSet,
+        pair: &[Constraint],
+    ) -> Result<(), Memory>
+        requires sub_width { length sub.now ≡ element_count lines.now }
+        requires width { length self.old.reached ≡ element_count lines.now }
+        requires points { AreAtPoints lines.now pair.now }
+        requires ascending { PointsAscend pair.now }
+        ensures width { OnOk result (length self.new.reached ≡ element_count lines.now) }
+        ensures reached { OnOk result (AreLedFrom lines.now sub.now pair.now self.new.reached) }
+    {
+        self.reached.clear();
+        self.todo.clear();
+        reach_all(lines, sub, &mut self.reached, &mut self.todo, pair)
+    }
+}
+
+// Fills an empty set with what walks inside `sub` reach from the points of constraints.
+fn reach_all(
+    lines: &Lines,
+    sub: &RunSet,
+    reached: &mut RunSet,
+    todo: &mut Vec<Run>,
+    pair: &[Constraint],
+) -> Result<(), Memory>
+    requires sub_width { length sub.now ≡ element_count lines.now }
+    requires width { length reached.old ≡ element_count lines.now }
+    requires points { AreAtPoints lines.now pair.now }
+    requires ascending { PointsAscend pair.now }
+    requires nothing { (x : ℕ) → flag reached.old x ≡ false }
+    requires no_list { todo.old.items ≡ [] }
+    ensures width { OnOk result (length reached.new ≡ length reached.old) }
+    ensures reached { OnOk result (AreLedFrom lines.now sub.now pair.now reached.new) }
+{
+    let points = lines.points();
+    enter_all(lines, sub, reached, todo, pair)?;
+    let ends = spread(lines, sub, reached, todo)?;
+    if !ends {
+        return Ok(());
+    }
+    fill_from(sub, reached, points)
+}
+
+// Enters the points of the constraints that are in `sub`; those that an entry settles are passed
+// over.
+fn enter_all(
+    lines: &Lines,
+    sub: &RunSet,
+    reached: &mut RunSet,
+    todo: &mut Vec<Run>,
+    pair: &[Constraint],
+) -> Result<(), Memory>
+    requires points { AreAtPoints lines.now pair.now }
+    requires ascending { PointsAscend pair.now }
+    requires widths { lines.now.points ≤ length reached.old }
+    requires closed { IsLineClosed lines.now sub.now reached.old }
+    ensures grows { OnOk result (Grows lines.now sub.now (IsLedFrom lines.now sub.now pair.now)
+        reached.old reached.new todo.old.items todo.new.items) }
+    ensures covers { OnOk result ((c : spec.Constraint)
+        → Contains pair.now c → IsIn sub.now c.at → IsIn reached.new c.at) }
+{
+    let mut place = 0;
+    while place < pair.len() {
+        let next = enter_next(lines, sub, reached, todo, pair[place].at)?;
+        place = place_from(pair, place + 1, next);
+    }
+    Ok(())
+}
+
+// Enters a point. Answers a number up to which each number from the point on is settled.
+fn enter_next(
+    lines: &Lines,
+    sub: &RunSet,
+    reached: &mut RunSet,
+    todo: &mut Vec<Run>,
+    point: u32,
+) -> Result<u32, Memory>
+    requires point { point < lines.now.points }
+    requires widths { lines.now.points ≤ length reached.old }
+    requires closed { IsLineClosed lines.now sub.now reached.old }
+    ensures grows { OnOk result (Grows lines.now sub.now (Reaches lines.now (IsIn sub.now) point)
+        reached.old reached.new todo.old.items todo.new.items) }
+    ensures settled { IfOk result
+        (λ next. (x : ℕ) → point ≤ x → x < next → IsIn sub.now x → IsIn reached.new x) }
+    ensures own { OnOk result (IsIn sub.now point → IsIn reached.new point) }
+{
+    let points = lines.points();
+    let Some(run) = sub.run_from(point) else {
+        return Ok(points);
+    };
+    if run.first > point {
+        return Ok(run.first);
+    }
+    enter(lines, sub, reached, todo, point)?;
+    Ok(lines.line_end(point).min(run.last) + 1)
+}
+
+// The first place, from one on, of a constraint whose point isn't below `least`.
+fn place_from(pair: &[Constraint], from: usize, least: u32) -> usize
+    requires ascending { PointsAscend pair.now }
+    requires from { from ≤ length pair.now }
+    ensures low { from ≤ result }
+    ensures bound { result ≤ length pair.now }
+    ensures before { (k : ℕ) → from ≤ k → k < result → (constraint_at pair.now k).at < least }
+{
+    // Most pairs have one constraint, or the next point isn't settled.
+    if from == pair.len() || pair[from].at >= least {
+        return from;
+    }
+    let mut low = from;
+    let mut high = pair.len();
+    while low < high {
+        let middle = low + (high - low) / 2;
+        if pair[middle].at < least {
+            low = middle + 1;
+        } else {
+            high = middle;
+        }
+    }
+    low
+}
+
+// Puts the elements of `sub` from a number on into a set.
+fn fill_from(sub: &RunSet, reached: &mut RunSet, from: u32) -> Result<(), Memory>
+    requires width { length reached.old ≡ length sub.now }
+    requires short { length sub.now < 4294967296 }
+    ensures { OnOk result (FillsFrom from sub.now reached.old reached.new) }
+{
+    let mut next = from;
+    while let Some(run) = sub.run_from(next) {
+        let first = run.first.max(next);
+        reached.insert_run(Run {
+            first,
+            last: run.last,
+        })?;
+        next = run.last + 1;
+    }
+    Ok(())
+}

@@ -1,0 +1,144 @@
+//! Lists of runs that ascend and of which no two touch.
+
+ghost use Rattle.std.specs.Prelude.{◌≡◌, ℕ, ◌+◌, ◌≤◌, ◌<◌, true, false, length};
+ghost use Rattle.std.specs.Prelude.{IfOk, OnOk, OnErr, IsOk, IfSome, IfNone};
+ghost use Rattle.nll_sets.specs.Runs.{first_of, last_of, IsInRuns, IsWithin};
+ghost use Rattle.nll_sets.specs.RunLists.{AreRuns, Removes, Replaces, Joins, IsTouching, IsHull};
+ghost use Rattle.nll_sets.specs.RunLists.{TouchesRuns};
+
+use crate::error::Memory;
+use crate::run::Run;
+use smallvec::SmallVec;
+
+/// The place of the first run that ends at `least` or later.
+pub fn ends_from(runs: &[Run], least: u32) -> usize
+    requires { AreRuns runs.now }
+    ensures bound { result ≤ length runs.now }
+    ensures before { (k : ℕ) → k < result → last_of runs.now k < least }
+    ensures after { (k : ℕ) → result ≤ k → k < length runs.now → least ≤ last_of runs.now k }
+{
+    let len = runs.len();
+    // Most calls ask for the end of the list.
+    if len == 0 || runs[len - 1].last < least {
+        return len;
+    }
+    if len == 1 || runs[len - 2].last < least {
+        return len - 1;
+    }
+    let mut low = 0;
+    let mut high = len - 1;
+    while low < high {
+        let middle = low + (high - low) / 2;
+        if runs[middle].last < least {
+            low = middle + 1;
+        } else {
+            high = middle;
+        }
+    }
+    low
+}
+
+// The place of the first run, from one on, that begins past `most`.
+fn begins_past(runs: &[Run], from: usize, most: u32) -> usize
+    requires runs { AreRuns runs.now }
+    requires from { from ≤ length runs.now }
+    ensures low { from ≤ result }
+    ensures bound { result ≤ length runs.now }
+    ensures before { (k : ℕ) → from ≤ k → k < result → first_of runs.now k ≤ most }
+    ensures after { (k : ℕ) → result ≤ k → k < length runs.now → most < first_of runs.now k }
+{
+    let len = runs.len();
+    if from == len || runs[from].first > most {
+        return from;
+    }
+    if from + 1 == len || runs[from + 1].first > most {
+        return from + 1;
+    }
+    let mut low = from;
+    let mut high = len;
+    while low < high {
+        let middle = low + (high - low) / 2;
+        if runs[middle].first <= most {
+            low = middle + 1;
+        } else {
+            high = middle;
+        }
+    }
+    low
+}
+
+// Takes the runs from one place up to another away.
+fn remove_between(runs: &mut SmallVec<Run, 2>, from: usize, to: usize)
+    requires from { from ≤ to }
+    requires to { to ≤ length runs.old.items }
+    ensures { Removes runs.old.items runs.new.items from to }
+{
+    let mut end = to;
+    while end > from {
+        end -= 1;
+        runs.remove(end);
+    }
+}
+
+// Puts one run in the place of those from one place up to another, of which there is one at least.
+fn replace(runs: &mut SmallVec<Run, 2>, from: usize, to: usize, run: Run)
+    requires from { from < to }
+    requires to { to ≤ length runs.old.items }
+    ensures { Replaces runs.old.items runs.new.items from to run }
+{
+    runs.as_mut_slice()[from] = run;
+    remove_between(runs, from + 1, to);
+}
+
+// The places from which and up to which a run touches the runs; None where one of them has all of
+// it.
+fn touching(runs: &[Run], run: Run) -> Option<(usize, usize)>
+    requires runs { AreRuns runs.now }
+    requires proper { run.first ≤ run.last }
+    requires room { run.last + 1 < 4294967296 }
+    ensures some { IfSome result (λ found. IsTouching runs.now run found.0 found.1) }
+    ensures none { IfNone result ((x : ℕ) → run.first ≤ x → x ≤ run.last → IsInRuns runs.now x) }
+{
+    let from = ends_from(runs, run.first.saturating_sub(1));
+    if from < runs.len() && runs[from].first <= run.first && run.last <= runs[from].last {
+        return None;
+    }
+    let to = begins_past(runs, from, run.last + 1);
+    Some((from, to))
+}
+
+// The run that has a run and those from one place up to another, which it touches.
+fn hull(runs: &[Run], run: Run, from: usize, to: usize) -> Run
+    requires from { from < to }
+    requires to { to ≤ length runs.now }
+    ensures { IsHull runs.now from to run result }
+{
+    Run {
+        first: runs[from].first.min(run.first),
+        last: runs[to - 1].last.max(run.last),
+    }
+}
+
+/// Puts the numbers of a run into the list, and answers whether one of them is new.
+pub fn join(runs: &mut SmallVec<Run, 2>, run: Run) -> Result<bool, Memory>
+    requires runs { AreRuns runs.old.items }
+    requires proper { run.first ≤ run.last }
+    requires room { run.last + 1 < 4294967296 }
+    ensures ok { OnOk result (Joins runs.old.items runs.new.items run) }
+    ensures same { IfOk result (λ new. new ≡ false → runs.new.items ≡ runs.old.items) }
+    ensures new { IfOk result (λ new. new ≡ true
+        → (x : ℕ) × IsWithin run x × (IsInRuns runs.old.items x → ⊥)) }
+    ensures touching { TouchesRuns runs.old.items run → IsOk result }
+    ensures err { OnErr result (runs.new.items ≡ runs.old.items) }
+{
+    let Some((from, to)) = touching(runs.as_slice(), run) else {
+        return Ok(false);
+    };
+    if from == to {
+        runs.insert(from, run)?;
+    } else {
+        let joined = hull(runs.as_slice(), run, from, to);
+        replace(runs, from, to, joined);
+    }
+    Ok(true)
+}

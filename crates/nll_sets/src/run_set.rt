@@ -1,0 +1,150 @@
+//! Sets of elements as lists of runs.
+
+ghost use Rattle.std.specs.Prelude.{◌≡◌, ℕ, ◌≤◌, ◌<◌, true, false, not, length, slice_set};
+ghost use Rattle.std.specs.Prelude.{replicate, IfOk, IsOk, IsOkAnd, OnOk, OnErr, IfSome, IfNone};
+ghost use Rattle.nll_sets.specs.ElementSet.{flag, elements};
+ghost use Rattle.nll_sets.specs.Runs.{first_of, last_of, run_of, IsRunFrom, IsRunCount, MakeUp};
+ghost use Rattle.nll_sets.specs.Runs.{Fills, IsWithin, Touches};
+
+use crate::element::Element;
+use crate::element_set::ElementSet;
+use crate::elements::Elements;
+use crate::error::Memory;
+use crate::run::Run;
+use crate::run_list::{ends_from, join};
+use smallvec::SmallVec;
+use std::alloc::Global;
+use std::marker::Model;
+
+/// A set of elements as the list of its runs.
+///
+/// # Shape
+/// The runs ascend, and no two of them touch; up to two of them stand in the value itself.
+///
+/// # Cost
+/// `has`, `next_from`, `run_from` and the search of `insert` are logarithmic in the number of runs;
+/// `insert` and `insert_run` move the runs behind the place where the list changes (not proved).
+#[derive(Drop)]
+pub struct RunSet {
+    runs: SmallVec<Run, 2>,
+    len: u32,
+}
+
+impl Model for RunSet {
+    ghost use Rattle.std.specs.Prelude.{List, Bool};
+    ghost use Rattle.nll_sets.specs.RunLists.{run_flags, HoldsRuns};
+
+    ghost Value = { List Bool };
+
+    ghost view = { λ set. run_flags set.runs.items set.len };
+
+    ghost invariant = { λ set. HoldsRuns set.runs.items set.len };
+}
+
+impl ElementSet for RunSet {
+    ghost flags = { λ set. set };
+
+    // It takes no memory.
+    fn empty(alloc: Global, len: u32) -> Result<RunSet, Memory>
+        ensures { IsOkAnd result (λ set. set ≡ replicate len false) }
+    {
+        Ok(RunSet {
+            runs: SmallVec::new(alloc),
+            len,
+        })
+    }
+
+    fn has(&self, element: Element) -> bool {
+        match self.run_from(element.0) {
+            Some(run) => run.first <= element.0,
+            None => false,
+        }
+    }
+
+    // An element that is in the set or touches a run of it takes no memory.
+    fn insert(&mut self, element: Element) -> Result<bool, Memory>
+        requires { element < length self.old }
+        ensures ok { OnOk result (self.new ≡ slice_set self.old element true) }
+        ensures new { IfOk result (λ new. new ≡ not (flag self.old element)) }
+        ensures touching { Touches self.old (run_of element) → IsOk result }
+        ensures err { OnErr result (self.new ≡ self.old) }
+    {
+        self.insert_run(Run {
+            first: element.0,
+            last: element.0,
+        })
+    }
+
+    fn next_from(&self, element: Element) -> Option<Element> {
+        let run = self.run_from(element.0)?;
+        Some(Element(run.first.max(element.0)))
+    }
+}
+
+impl RunSet {
+    /// The elements of the set, ascending.
+    pub fn iter(&self) -> Elements<'_, RunSet>
+        ensures { result ≡ elements self.now }
+    {
+        // The iterator asks for a length of 32 bits.
+        prove!(self.len <= u32::MAX);
+        Elements::of(self)
+    }
+
+    /// The least number of runs that make up the set.
+    pub fn runs(&self) -> usize
+        ensures { IsRunCount self.now result }
+    {
+        self.as_runs().len()
+    }
+
+    /// The runs of the set, ascending; no two of them touch.
+    pub fn as_runs(&self) -> &[Run]
+        ensures make_up { MakeUp result.now self.now }
+        ensures fit { (k : ℕ) → k < length result.now
+            → (first_of result.now k ≤ last_of result.now k)
+            × (last_of result.now k < length self.now) }
+        ensures count { IsRunCount self.now (length result.now) }
+    {
+        self.runs.as_slice()
+    }
+
+    /// The first run that ends at an element or later.
+    pub fn run_from(&self, element: u32) -> Option<Run>
+        ensures some { IfSome result (IsRunFrom self.now element) }
+        ensures none { IfNone result ((x : ℕ) → element ≤ x → flag self.now x ≡ false) }
+    {
+        let runs = self.runs.as_slice();
+        let at = ends_from(runs, element);
+        if at < runs.len() {
+            Some(runs[at])
+        } else {
+            None
+        }
+    }
+
+    /// Puts the elements of a run into the set, and answers whether one of them is new. A run that
+    /// touches one of the set takes no memory.
+    ///
+    /// # Errors
+    /// - `Memory`: the set is as before.
+    pub fn insert_run(&mut self, run: Run) -> Result<bool, Memory>
+        requires proper { run.first ≤ run.last }
+        requires below { run.last < length self.old }
+        ensures ok { OnOk result (Fills self.old self.new run) }
+        ensures same { IfOk result (λ new. new ≡ false → self.new ≡ self.old) }
+        ensures fresh { IfOk result (λ new. new ≡ true
+            → (x : ℕ) × IsWithin run x × (flag self.old x ≡ false)) }
+        ensures touching { Touches self.old run → IsOk result }
+        ensures err { OnErr result (self.new ≡ self.old) }
+    {
+        join(&mut self.runs, run)
+    }
+
+    /// Takes all elements out of the set. The memory that it has stays with it.
+    pub fn clear(&mut self)
+        ensures { self.new ≡ replicate (length self.old) false }
+    {
+        self.runs.clear();
+    }
+}

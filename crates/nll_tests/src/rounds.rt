@@ -1,0 +1,81 @@
+//! The least solution of a problem, by rounds over all constraints until one changes nothing.
+//!
+//! This is the plain solver, beside which the tests set `nll_core`'s: it has the same contract, and
+//! forgets after each constraint what it has reached.
+
+ghost use Rattle.std.specs.Prelude.{◌≡◌, ℕ, ◌<◌, ◌↔◌, false, Contains, length, IfOk, OnOk};
+ghost use Rattle.nll_problem.specs.Solution.{Least};
+ghost use Rattle.nll_core.specs.Growing.{Gains, Tells, StaysBelow, IsAskedBy, Meets, IsClosed};
+ghost use Rattle.nll_core.specs.Values.{set_of, IsHeld, IsShaped};
+
+use nll_core::{Constraint, Element, Memory, Problem, RegionId, Values, base_values, reached_from};
+use std::alloc::Global;
+
+/// Gives each region its least value: the base elements, and what the constraints ask for.
+///
+/// # Cost
+/// A round goes through the graph once for each constraint whose point is in the value of its
+/// `sub`, and each round but the last adds an element (not proved).
+///
+/// # Source
+/// RFC 2094, "Solving constraints".
+pub fn solve_by_rounds(alloc: Global, problem: &Problem) -> Result<Values, Memory>
+    ensures shaped { IfOk result (IsShaped problem.now) }
+    ensures least { IfOk result (λ values. (r e : ℕ) → IsHeld values r e ↔ Least problem.now r e) }
+{
+    let mut values = base_values(alloc, problem)?;
+    while round(alloc, problem, &mut values)? {}
+    Ok(values)
+}
+
+// Applies each constraint once. Answers whether something was new.
+fn round(alloc: Global, problem: &Problem, values: &mut Values) -> Result<bool, Memory>
+    requires { IsShaped problem.now values.old }
+    ensures shaped { IsShaped problem.now values.new }
+    ensures kept { (r e : ℕ) → IsHeld values.old r e → IsHeld values.new r e }
+    ensures below { StaysBelow problem.now values.old values.new }
+    ensures tells { IfOk result (λ changed. Tells changed values.old values.new) }
+    ensures closed { IfOk result (λ changed. changed ≡ false → IsClosed problem.now values.old) }
+{
+    let mut changed = false;
+    for constraint in problem.constraints() {
+        let new = apply(alloc, problem, values, *constraint)?;
+        changed |= new;
+    }
+    Ok(changed)
+}
+
+// Puts in what one constraint asks of the values. Answers whether something was new.
+fn apply(
+    alloc: Global,
+    problem: &Problem,
+    values: &mut Values,
+    constraint: Constraint,
+) -> Result<bool, Memory>
+    requires shaped { IsShaped problem.now values.old }
+    requires of_problem { Contains problem.now.constraints constraint }
+    ensures gains { Gains (IsAskedBy problem.now values.old constraint) values.old values.new }
+    ensures asks { OnOk result (Meets problem.now values.old constraint values.new) }
+    ensures tells { IfOk result (λ changed. Tells changed values.old values.new) }
+{
+    let graph = problem.graph();
+    let set = values.set(constraint.sub);
+    let found = reached_from(alloc, graph, set, Element(constraint.at))?;
+    insert_all(values, constraint.sup, &found)
+}
+
+// Puts elements into the set of a region. Answers whether one of them is new.
+fn insert_all(values: &mut Values, region: RegionId, found: &[Element]) -> Result<bool, Memory>
+    requires region { region < length values.old }
+    requires elements { (x : ℕ) → Contains found.now x → x < length (set_of values.old region) }
+    ensures gains { Gains (λ r e. (r ≡ region) × Contains found.now e) values.old values.new }
+    ensures covers { OnOk result ((x : ℕ) → Contains found.now x → IsHeld values.new region x) }
+    ensures tells { IfOk result (λ changed. Tells changed values.old values.new) }
+{
+    let mut changed = false;
+    for element in found {
+        let new = values.insert(region, *element)?;
+        changed |= new;
+    }
+    Ok(changed)
+}
