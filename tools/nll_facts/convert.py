@@ -1,5 +1,6 @@
 """Makes the problem of one function out of what rustc left of it."""
 
+import os
 from collections import defaultdict
 from dataclasses import dataclass
 from typing import Iterator
@@ -53,8 +54,8 @@ class Problem:
                               f"cut the function into smaller ones")
 
 
-def convert(dump: Dump) -> Problem:
-    """The problem of a function."""
+def convert(dump: Dump, root: str = "") -> Problem:
+    """The problem of a function; rustc's paths are relative to the root."""
     tables = read_tables(dump.facts)
     body = read_body(dump.mir)
     points = number_points(tables, body)
@@ -74,7 +75,7 @@ def convert(dump: Dump) -> Problem:
 
     problem = Problem(
         function=dump.name,
-        source=wording.source,
+        source=os.path.join(root, wording.source),
         points=[wording.statement(location) for location in points.locations],
         universals=[with_remark(region) for region in universals if region != STATIC],
         outlives=[(names[sup], names[sub]) for sup, sub in sorted(tables.known_placeholder_subset)

@@ -8,7 +8,7 @@
 
 import os
 import tempfile
-from typing import Iterator
+from typing import Container, Iterator
 
 from .convert import Problem
 from .refusal import Refusal
@@ -53,6 +53,24 @@ def words(remark: Remark) -> str:
     """The remark on one line."""
     text = " ".join(remark.text.split())
     return text if remark.line is None else f"line {remark.line}: {text}"
+
+
+def make_folder(folder: str) -> None:
+    try:
+        os.makedirs(folder, exist_ok=True)
+    except OSError as error:
+        raise Refusal(f"{folder} can't be made: {error.strerror}; give another: -o FOLDER",
+                      3) from None
+
+
+def free_path(folder: str, name: str, taken: Container[str]) -> str:
+    """The path of a text, with a number where another function has the name already."""
+    path = os.path.join(folder, f"{name}.facts")
+    number = 2
+    while path in taken:
+        path = os.path.join(folder, f"{name}-{number}.facts")
+        number += 1
+    return path
 
 
 def write_whole(path: str, text: str) -> None:
