@@ -45,9 +45,13 @@ def graph_of(facts):
 
 
 def reaches_return(facts, found, edges):
-    """For each box whether a return point can be reached; where none can from anywhere, all count as if it could."""
+    """For each box whether a return can be reached; where none can from anywhere, all count as if it could.
+
+    A point from which the function unwinds is a return point for `nllc`, and none here.
+    """
     before = layout.successors_of(len(found), [(b, a) for a, b in edges])
-    todo = [box for box, line in enumerate(found) if any(point in facts.returns for point in line)]
+    todo = [box for box, line in enumerate(found)
+            if any(point in facts.returns and not unwinds(facts, point) for point in line)]
     answer = [not todo] * len(found)
     for box in todo:
         answer[box] = True
@@ -57,6 +61,10 @@ def reaches_return(facts, found, edges):
                 answer[box] = True
                 todo.append(box)
     return answer
+
+
+def unwinds(facts, point):
+    return facts.remarks.point(point).statement().rstrip(";") in ("resume", "UnwindResume")
 
 
 def columns(count):

@@ -8,6 +8,7 @@ import re
 from collections import Counter
 from dataclasses import dataclass, field
 from functools import cached_property
+from typing import NamedTuple
 
 from .refusal import Refusal
 from .remarks import Remarks, is_remark
@@ -20,8 +21,7 @@ FORMS = {"points": "n", "universal": "r", "outlives": "rr", "region": "r", "next
          "return": "n", "base": "rn", "constraint": "rrn", "end": ""}
 
 
-@dataclass(frozen=True, order=True)
-class Constraint:
+class Constraint(NamedTuple):
     """`(sup: sub) @ at`: sup holds all that is reached from the point inside sub. Regions by number."""
 
     sup: int
@@ -128,7 +128,8 @@ class Reader:
         if words[0] in ("universal", "region"):
             self.declare(number, words[0], arguments[0])
         elif (words[0], *arguments) not in self.seen:
-            self.seen.add((words[0], *arguments))
+            if words[0] != "points":
+                self.seen.add((words[0], *arguments))  # what is said again says nothing new
             getattr(self, "add_" + words[0])(number, *self.resolved(number, form, arguments))
 
     def stop(self, number):
