@@ -12,6 +12,7 @@ HEAD = 18           # the height of a box's title
 PAD = 6
 ROW = 20            # the height of a statement's row
 LETTER = 6.65       # the width of a letter of a statement
+TITLE_LETTER = 6.6  # of a letter of a title
 MOST_LETTERS = 44
 STUB = 14           # the length of a stub's arrow
 MANY = 3            # so many edges to code that doesn't return are drawn as stubs
@@ -72,10 +73,15 @@ def columns(count):
     return min(count, max(4, min(16, int((2.2 * count) ** 0.5))))
 
 
-def folded_size(line):
+def title_width(facts, line):
+    block, numbers = lines.title(facts, line)
+    return 2 * PAD + TITLE_LETTER * (len(block) + len(numbers) + 1)
+
+
+def folded_size(facts, line):
     wide = columns(len(line))
     high = -(-len(line) // wide)
-    return max(wide * PITCH - 2 + 2 * PAD, 58), HEAD + high * PITCH - 2 + PAD
+    return max(wide * PITCH - 2 + 2 * PAD, title_width(facts, line)), HEAD + high * PITCH - 2 + PAD
 
 
 def row_words(row):
@@ -83,23 +89,23 @@ def row_words(row):
     return text if len(text) <= MOST_LETTERS else text[:MOST_LETTERS - 1] + "…"
 
 
-def unfolded_size(rows):
+def unfolded_size(facts, line, rows):
     cells = max(len(row.points) for row in rows)
     letters = max(len(row_words(row)) for row in rows)
     number = len(str(max(p for row in rows for p in row.points)))
-    return max(PAD * 2 + cells * PITCH + (number + 1 + letters) * LETTER + 4, 74), HEAD + len(rows) * ROW + 2
+    return max(PAD * 2 + cells * PITCH + (number + 1 + letters) * LETTER + 4, title_width(facts, line)), HEAD + len(rows) * ROW + 2
 
 
 def folded(facts, graph, shape):
     """The drawing in which a straight line is a block of cells."""
-    sizes = [folded_size(line) for line in graph.lines]
+    sizes = [folded_size(facts, line) for line in graph.lines]
     return svg("folded", facts, graph, shape, sizes, lambda box: folded_cells(facts, graph.lines[box]))
 
 
 def unfolded(facts, graph, shape):
     """The drawing in which each statement has a row."""
     rows = [lines.rows(facts, line) for line in graph.lines]
-    sizes = [unfolded_size(found) for found in rows]
+    sizes = [unfolded_size(facts, line, found) for line, found in zip(graph.lines, rows)]
     return svg("statements", facts, graph, shape, sizes, lambda box: row_cells(facts, rows[box], sizes[box][0]))
 
 

@@ -8,7 +8,7 @@ in an order with few crossings, and then get coordinates.
 from dataclasses import dataclass, field
 
 GAP_X = 22
-GAP_Y = 34
+GAP_Y = 28
 MARGIN = 16
 ORDER_SWEEPS = 10
 PLACE_SWEEPS = 17  # the last one goes down, so that what has one box above it stands below that
@@ -191,7 +191,7 @@ def place(shape, sizes):
     width = [sizes[n][0] if n < shape.boxes else 6 for n in range(count)]
     free = [sizes[n][2] if n < shape.boxes else 0 for n in range(count)]
     middle = middles(shape, width, free)
-    tops, heights = rows_of(shape, sizes)
+    tops, heights = rows_of(shape, sizes, middle)
     drawing = Drawing(width=max((middle[n] + width[n] / 2 + free[n] for n in range(count)), default=0) + MARGIN,
                       height=(tops[-1] + heights[-1] if tops else 0) + MARGIN)
     level = {number: at for at, layer in enumerate(shape.layers) for number in layer}
@@ -203,15 +203,17 @@ def place(shape, sizes):
     return drawing
 
 
-def rows_of(shape, sizes):
-    """The upper edge and the height of each layer; the gap below grows with the edges that cross it."""
+def rows_of(shape, sizes, middle):
+    """The upper edge and the height of each layer; the gap below grows with the edges that slant there."""
+    _, below = neighbours(shape.paths, len(middle))
     tops, heights = [], []
     top = MARGIN
     for layer in shape.layers:
         height = max((sizes[n][1] for n in layer if n < shape.boxes), default=0)
+        slanting = sum(abs(middle[n] - middle[b]) > 40 for n in layer for b in below[n])
         tops.append(top)
         heights.append(height)
-        top += height + GAP_Y + min(2 * len(layer), 30)
+        top += height + GAP_Y + min(4 * slanting, 48)
     return tops, heights
 
 

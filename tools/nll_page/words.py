@@ -57,8 +57,11 @@ def span_text(runs):
     return ", ".join(str(a) if a == b else f"{a}–{b}" for a, b in runs)
 
 
+MOST_ORIGINS = 3    # of more statements none is named
+
+
 def origins(facts, at):
-    """The points whose statements ask for what a constraint at this point says: those before it."""
+    """The points whose statements may ask for what a constraint at this point says: those before it."""
     spot = facts.remarks.point(at).spot()
     if spot and spot[2] == "mid":
         return [at]
@@ -78,8 +81,8 @@ def statement(facts, point):
 
 def arising(facts, steps):
     """The lines of the source at which the constraints of a chain arise, ascending, each once."""
-    points = [p for step in steps if not is_everywhere(facts, step.constraint)
-              for p in origins(facts, step.constraint.at)]
+    found = [origins(facts, step.constraint.at) for step in steps if not is_everywhere(facts, step.constraint)]
+    points = [p for several in found if len(several) <= MOST_ORIGINS for p in several]
     lines = {facts.remarks.point(p).line for p in points}
     return sorted(line for line in lines if line is not None)
 
@@ -111,7 +114,7 @@ def reason(facts, constraint):
     points = origins(facts, constraint.at)
     if not any(any(facts.remarks.point(p)) for p in points):
         return []
-    if len(points) > 3:
+    if len(points) > MOST_ORIGINS:
         return [f"By one of the {len(points)} statements before point {constraint.at}, "]
     return ["After ", *joined([statement(facts, p) for p in points], " or "), ", "]
 
@@ -132,20 +135,12 @@ def walk_words(facts, step, universal):
             "and on to ", *holds]
 
 
-def walk_text(points):
-    """The points with arrows; runs of numbers are shortened."""
-    runs = spans_of_walk(points)
-    return " → ".join(str(a) if a == b else f"{a} → {b}" if b - a == 1 else f"{a} → … → {b}" for a, b in runs)
-
-
-def spans_of_walk(points):
-    runs = []
-    for point in points:
-        if runs and runs[-1][1] + 1 == point:
-            runs[-1][1] = point
-        else:
-            runs.append([point, point])
-    return runs
+def walk_text(points, most=7):
+    """The points with arrows; of long walks the runs of numbers are shortened."""
+    if len(points) <= most:
+        return " → ".join(map(str, points))
+    return " → ".join(f"{a} → … → {b}" if b - a > 2 else " → ".join(map(str, range(a, b + 1)))
+                      for a, b in spans(points))
 
 
 def conclusion(facts, sup, sub):

@@ -160,7 +160,7 @@ function describe(why) {
   if (chosen.region !== null) parts.push(regionWords(chosen.region));
   if (chosen.element !== null) parts.push(elementWords(chosen.element));
   if (chosen.region !== null && chosen.element !== null) {
-    parts.splice(1, 0, bothWords(chosen.region, chosen.element, why));
+    parts.push(bothWords(chosen.region, chosen.element, why));
   }
   if (!parts.length) {
     parts.push(make("p", "hint", "Choose a region to light its points, or a point to see which regions hold it."));
@@ -193,16 +193,19 @@ function asked(part, label, own, other, region) {
     if (!byOther.has(constraint[other])) byOther.set(constraint[other], []);
     byOther.get(constraint[other]).push(constraint[2]);
   }
-  const pieces = [];
-  for (const [its, points] of byOther) {
-    if (pieces.length >= 24) {
-      pieces.push(`and ${byOther.size - 12} more`);
-      break;
-    }
+  const pieces = [...byOther].map(([its, points]) => {
     const where = points.length === data.points ? "everywhere " : `from ${spanWords(runs(points))} on `;
-    pieces.push(regionChip(its), make("span", "label", where));
-  }
-  if (pieces.length) part.append(line(label, ...pieces));
+    return make("span", "", regionChip(its), make("span", "label", where));
+  });
+  if (pieces.length) part.append(line(label, ...some(pieces, 12)));
+}
+
+// The first of the nodes, and a button that puts the others in its place.
+function some(nodes, most) {
+  if (nodes.length <= most + 1) return nodes;
+  const rest = nodes.slice(most);
+  const more = chip(`${rest.length} more`, false, () => more.replaceWith(...rest));
+  return [...nodes.slice(0, most), more];
 }
 
 function runs(points) {
@@ -223,7 +226,7 @@ function elementWords(element) {
     part.append(make("h2", "", `Point ${element}`, make("span", "what", where)));
     if (data.texts[element]) part.append(make("p", "", code(data.texts[element])));
     const ways = make("p", "");
-    if (before[element].length) ways.append(make("span", "label", "from "), ...before[element].slice(0, 12).map(elementChip));
+    if (before[element].length) ways.append(make("span", "label", "from "), ...some(before[element].map(elementChip), 12));
     if (data.next[element].length) ways.append(make("span", "label", " on to "), ...data.next[element].map(elementChip));
     if (returns.has(element)) ways.append(make("span", "label", " returns"));
     part.append(ways);
@@ -231,15 +234,14 @@ function elementWords(element) {
     part.append(make("h2", "", code(elementName(element)), make("span", "what", "after the return")));
   }
   const own = holding.filter((region) => region >= data.universals || !isPoint(element));
-  part.append(line(`held by ${own.length === 1 ? "1 region" : `${own.length} regions`}`, ...own.map(regionChip)));
+  part.append(line(`held by ${own.length === 1 ? "1 region" : `${own.length} regions`}`, ...some(own.map(regionChip), 80)));
   if (isPoint(element)) {
     part.append(make("p", "label", data.universals === 1 ? "and by 'static, which holds every point"
       : `and by the ${data.universals} regions of the signature, which hold every point`));
     const here = data.constraints.filter(([, , at]) => at === element);
-    if (here.length) {
-      part.append(line("from here on", ...here.slice(0, 12).flatMap(([sup, sub]) =>
-        [regionChip(sup), make("span", "label", "outlives "), regionChip(sub)])));
-    }
+    const asks = here.map(([sup, sub]) =>
+      make("span", "", regionChip(sup), make("span", "label", "must outlive "), regionChip(sub)));
+    if (here.length) part.append(line("from here on", ...some(asks, 12)));
   }
   return part;
 }
@@ -247,14 +249,15 @@ function elementWords(element) {
 function bothWords(region, element, why) {
   const name = code(regionName(region));
   const it = isPoint(element) ? `point ${element}` : code(elementName(element));
-  const part = make("section", "");
+  const part = make("section", "both");
   if (!holds(region, element)) part.append(make("p", "", name, " doesn’t hold ", it, "."));
   else if (setOf("base", region).has(element)) part.append(make("p", "", name, " is live at ", it, "."));
   else if (region < data.universals && (isPoint(element) || element === data.points + region)) {
     part.append(make("p", "", name, " holds ", it, ", since the signature names it."));
   } else if (why) {
+    const way = why.walk.length === 1 ? [" holds that point."] : [" a walk leads there: ", walkWords(why.walk), "."];
     part.append(make("p", "", name, " holds ", it, `: from point ${why.at} on it must hold what is reached inside `,
-      regionChip(why.sub), ", and there a walk leads to it: ", walkWords(why.walk), "."));
+      code(regionName(why.sub)), why.walk.length === 1 ? ", and " : ", and inside ", regionChip(why.sub), ...way));
   }
   return part;
 }
@@ -355,7 +358,8 @@ function neighbour(place, key) {
 
 function nextCell(place, key) {
   const point = Number(place.dataset.p);
-  const cellOf = (other) => (places.get(other) || []).find((one) => place.closest("svg").contains(one));
+  const cellOf = (other) => (places.get(other) || [])
+    .find((one) => one.matches(".cell") && place.closest("svg").contains(one));
   if (key === "ArrowDown") return cellOf(data.next[point][0]);
   if (key === "ArrowUp") return cellOf(before[point][0]);
   if (key === "Home") return cellOf(0);
@@ -394,6 +398,15 @@ function stepRegion(by) {
   if (to) chooseRegion(Number(to.dataset.r));
 }
 
+// The first point of the next run of points that the chosen region holds, or of the run before.
+function stepRun(by) {
+  if (chosen.region === null) return;
+  const firsts = data.regions[chosen.region].holds.map(([first]) => first);
+  const now = chosen.element ?? -1;
+  const to = by > 0 ? firsts.find((first) => first > now) : firsts.reverse().find((first) => first < now);
+  if (to !== undefined) chooseElement(to);
+}
+
 function clear() {
   Object.assign(chosen, { region: null, element: null, step: null });
   show();
@@ -403,6 +416,8 @@ const keys = {
   "/": () => byId("filter").focus(),
   "[": () => stepRegion(-1),
   "]": () => stepRegion(1),
+  n: () => stepRun(1),
+  p: () => stepRun(-1),
   "+": () => zoomBy(1.25),
   "=": () => zoomBy(1.25),
   "-": () => zoomBy(0.8),
@@ -549,6 +564,14 @@ for (const members of [regionButtons, all("#points .point"), all(".end"), all(".
   rove(members, members[0]);
 }
 for (const rows of all("#source .rows")) rove([], rows.querySelector(".point"));
+for (const { svg, width } of svgs) {
+  const cell = svg.querySelector(".cell");
+  const pane = byId("graph");
+  if (cell.getClientRects().length && width > pane.clientWidth) {
+    const box = cell.getBoundingClientRect();
+    pane.scrollLeft = box.x - pane.getBoundingClientRect().x - pane.clientWidth / 2 + 40;
+  }
+}
 const address = location.hash; // before `show` writes it anew
 show();
 recall(address);
