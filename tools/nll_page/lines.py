@@ -1,0 +1,74 @@
+"""Straight lines of points, and the rows in which a page shows them."""
+
+from typing import NamedTuple
+
+
+class Row(NamedTuple):
+    """Points of one statement, one after the other, and its words."""
+
+    points: list
+    text: str
+
+
+def straight_lines(facts):
+    """All points in lines: inside a line each point has one successor, and that one no other predecessor.
+
+    The lines stand in the order of their first points; the first one begins at point 0.
+    """
+    left = [True] * facts.points
+    lines = []
+    for point in range(facts.points):
+        if begins(facts, point):
+            lines.append(line_from(facts, point, left))
+    for point in range(facts.points):
+        if left[point]:  # on a circle without a way in
+            lines.append(line_from(facts, point, left))
+    return sorted(lines)
+
+
+def begins(facts, point):
+    before = facts.predecessors[point]
+    return point == 0 or len(before) != 1 or len(facts.successors[before[0]]) != 1 or before == [point]
+
+
+def line_from(facts, point, left):
+    line = []
+    while left[point]:
+        left[point] = False
+        line.append(point)
+        after = facts.successors[point]
+        if len(after) != 1 or begins(facts, after[0]):
+            break
+        point = after[0]
+    return line
+
+
+def rows(facts, line):
+    """The line's points by statement. rustc has two points for each, which share a row."""
+    found = []
+    last = None
+    for point in line:
+        spot = facts.remarks.point(point).spot()
+        place = spot[:2] if spot else None
+        if place is not None and place == last:
+            found[-1].points.append(point)
+        else:
+            found.append(Row([point], words_of(facts, point)))
+        last = place
+    return found
+
+
+def words_of(facts, point):
+    """The point's statement; where no remark says it, what the facts say there."""
+    return facts.remarks.point(point).statement() or ("return" if point in facts.returns else "")
+
+
+def title(facts, line):
+    """The block of a line, where remarks say it, and its points."""
+    numbers = str(line[0]) if len(line) == 1 else f"{line[0]}–{line[-1]}" if is_run(line) else f"{line[0]} … {line[-1]}"
+    spot = facts.remarks.point(line[0]).spot()
+    return (spot[0] if spot else ""), numbers
+
+
+def is_run(line):
+    return all(b == a + 1 for a, b in zip(line, line[1:]))
