@@ -4,37 +4,49 @@ import argparse
 import os
 import sys
 import tempfile
-from typing import Sequence
+from typing import Callable, Sequence
 
 from .cargo import whole_crate
 from .convert import Problem, convert
 from .dumps import Dump, choose, find_dumps
 from .refusal import Refusal
-from .rustc import CRATE, Error, Run, run_rustc
+from .rustc import CRATE, Error, run_rustc
 from .text import facts_text, free_path, make_folder, write_whole
 
 
 def main(words: Sequence[str]) -> int:
     """Does what the words say; the status is 0, 2 for what is refused, 3 for what failed."""
+    return guarded("nll-facts", lambda: run(read_words(words)))
+
+
+def guarded(program: str, work: Callable[[], int]) -> int:
+    """The status of the work; a refusal is one line on standard error."""
     try:
-        asked = read_words(words)
-        if asked.crate:
-            return whole_crate(asked)
-        return one_file(asked)
+        return work()
     except Refusal as refusal:
-        print(f"nll-facts: {refusal}", file=sys.stderr)
+        print(f"{program}: {refusal}", file=sys.stderr)
         return refusal.status
     except KeyboardInterrupt:
-        print("nll-facts: stopped; nothing half-written is left", file=sys.stderr)
+        print(f"{program}: stopped; nothing half-written is left", file=sys.stderr)
         return 130
     except BrokenPipeError:
         os.dup2(os.open(os.devnull, os.O_WRONLY), 1)
         return 3
 
 
-def read_words(words: Sequence[str]) -> argparse.Namespace:
+def run(asked: argparse.Namespace) -> int:
+    return whole_crate(asked) if asked.crate else one_file(asked)
+
+
+def split_words(words: Sequence[str]) -> tuple[list[str], list[str]]:
+    """The words before `--`, and those behind it."""
     words = list(words)
     at = words.index("--") if "--" in words else len(words)
+    return words[:at], words[at + 1:]
+
+
+def read_words(words: Sequence[str]) -> argparse.Namespace:
+    own, options = split_words(words)
     parser = argparse.ArgumentParser(
         prog="nll-facts", usage="nll-facts FILE.rs [FUNCTION] [-o FOLDER] [-- OPTIONS OF RUSTC]\n"
         "       nll-facts --crate FOLDER [-o FOLDER] [--texts-only] [-- OPTIONS OF CARGO CHECK]",
@@ -52,17 +64,16 @@ def read_words(words: Sequence[str]) -> argparse.Namespace:
     parser.add_argument("--texts-only", action="store_true", help="with --crate: no answers")
     parser.add_argument("--seconds", type=float, default=60.0,
                         help="with --crate: how long nllc may take for one function; 60")
-    asked = parser.parse_args(words[:at])
-    asked.options = words[at + 1:]
+    asked = parser.parse_args(own)
+    asked.options = options
     if bool(asked.file) == bool(asked.crate):
         parser.error("give FILE.rs or --crate FOLDER")
     return asked
 
 
 def one_file(asked: argparse.Namespace) -> int:
-    problems = problems_of_file(asked.file, asked.function, asked.edition, asked.options)
-    stem = os.path.splitext(os.path.basename(asked.file))[0]
-    paths = write_all(asked.out or f"{stem}-facts", problems)
+    problems, _ = problems_of_file(asked.file, asked.function, asked.edition, asked.options)
+    paths = write_all(asked.out, asked.file, problems)
     for path, (_, problem) in zip(paths, problems):
         print(f"{path}  {problem.function}: {len(problem.points)} points, "
               f"{len(problem.regions)} regions, {len(problem.constraints)} constraints")
@@ -70,8 +81,8 @@ def one_file(asked: argparse.Namespace) -> int:
 
 
 def problems_of_file(file: str, function: str | None, edition: str,
-                     options: list[str]) -> list[tuple[Dump, Problem]]:
-    """The problems of a file's functions, or of the one; rustc's errors are shown."""
+                     options: list[str]) -> tuple[list[tuple[Dump, Problem]], bool]:
+    """The problems of a file's functions, or of the one, and whether rustc told errors, shown."""
     with tempfile.TemporaryDirectory(prefix="nll-facts.") as room:
         run = run_rustc(file, room, [f"--edition={edition}", *options], sys.stderr.isatty())
         dumps = find_dumps(run.facts, run.mir, CRATE)
@@ -83,7 +94,7 @@ def problems_of_file(file: str, function: str | None, edition: str,
         chosen = [choose(dumps, function)] if function else dumps
         if not function:
             refuse_unchecked(file, run.errors, dumps)
-        return [(dump, convert(dump)) for dump in chosen]
+        return [(dump, convert(dump)) for dump in chosen], bool(run.errors)
 
 
 def refuse_unchecked(file: str, errors: list[Error], dumps: list[Dump]) -> None:
@@ -100,8 +111,9 @@ def refuse_unchecked(file: str, errors: list[Error], dumps: list[Dump]) -> None:
                           f"above of line {error.lines[0]}, or name a function that has no error")
 
 
-def write_all(folder: str, problems: list[tuple[Dump, Problem]]) -> list[str]:
+def write_all(out: str | None, file: str, problems: list[tuple[Dump, Problem]]) -> list[str]:
     """Writes a text for each problem, all made before the first is written; gives the paths."""
+    folder = out or f"{os.path.splitext(os.path.basename(file))[0]}-facts"
     texts = [(dump.file_name, facts_text(problem)) for dump, problem in problems]
     make_folder(folder)
     paths: list[str] = []

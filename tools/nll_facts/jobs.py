@@ -1,13 +1,13 @@
 """Many functions side by side: each makes its text and, where it is wanted, has it answered."""
 
 import os
-import sys
 import time
 from concurrent.futures import ProcessPoolExecutor, as_completed
 from dataclasses import dataclass, field
 from functools import partial
 
 from .answers import check
+from .bar import Bar
 from .convert import convert
 from .dumps import Dump
 from .refusal import Refusal
@@ -46,7 +46,7 @@ def run_jobs(jobs: list[Job], answer: bool, seconds: float) -> list[Row]:
         futures = [pool.submit(partial(do, answer=answer, seconds=seconds), job) for job in jobs]
         try:
             for future in as_completed(futures):
-                bar.step(future.result())
+                bar.step(len(future.result().faults))
         except BaseException:
             pool.shutdown(wait=False, cancel_futures=True)
             raise
@@ -70,28 +70,3 @@ def do(job: Job, answer: bool, seconds: float) -> Row:
         row.failure = str(refusal)
     row.seconds = time.monotonic() - began
     return row
-
-
-class Bar:
-    """A line on standard error that grows, where that is a terminal."""
-
-    WIDTH = 30
-
-    def __init__(self, total: int):
-        self.total = total
-        self.done = 0
-        self.faults = 0
-        self.shown = sys.stderr.isatty()
-
-    def step(self, row: Row) -> None:
-        self.done += 1
-        self.faults += len(row.faults)
-        if self.shown:
-            full = self.WIDTH * self.done // self.total
-            sys.stderr.write(f"\r[{'#' * full}{'.' * (self.WIDTH - full)}] {self.done} of "
-                             f"{self.total} functions, {self.faults} faults\033[K")
-            sys.stderr.flush()
-
-    def end(self) -> None:
-        if self.shown:
-            sys.stderr.write("\r\033[K")
