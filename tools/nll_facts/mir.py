@@ -16,7 +16,7 @@ TITLE = re.compile(r"// MIR for `(.*)` 0 nll")
 SPAN = re.compile(r"(?P<file>.+):(?P<line>\d+):\d+: (?P<last>\d+):\d+(?: \(#\d+\))?")
 CODE = re.compile(r"(?P<indent> +)(?P<code>\S.*?)\s+// (?:\S+ )*?in scope \d+ at (?P<span>.*)"
                   r"|        (?P<statement>\S.*);\s+// (?:bb\S+ )?scope \d+ at (?P<where>.*)")
-LET = re.compile(r"let (?:mut )?_(\d+): (.*);")
+LET = re.compile(r"let (?:mut )?_(\d+): (.*?)(?: as UserTypeProjection .*)?;")
 DEBUG = re.compile(r"debug (\S+) => _(\d+);")
 BLOCK = re.compile(r"    bb(\d+)(?: \(cleanup\))?: \{")
 PARAMETER = re.compile(r"(?:^|, )_(\d+): ")

@@ -13,6 +13,8 @@ VARIABLE = re.compile(r"(?<!\w)_(\d+)(?!\w)")
 BORROW = re.compile(r"((?:_(\d+)|.*?) = &)(?!raw )")
 HOLE = re.compile(r"&(?!')|'_(?!\w)")
 LONGEST = 120
+# Of several lines that these span, they run at the last.
+CLOSING = ("StorageDead", "drop", "return", "resume")
 
 
 class Remark(NamedTuple):
@@ -68,8 +70,17 @@ class Wording:
 
     def statement(self, location: Location) -> Remark:
         """The statement with names for variables and for the region of a borrow, and its place."""
-        statement = self.body.statements[location]
-        return Remark(self.line(statement.span), f"{self.code(location)} ({location})")
+        return Remark(self.line_of(location), f"{self.code(location)} ({location})")
+
+    def line_of(self, location: Location) -> Optional[int]:
+        """The line of a statement; a `goto` that spans several, a whole loop or `if`, has none."""
+        text, span = self.body.statements[location]
+        if span is None or span.first == span.last:
+            return self.line(span)
+        if text.startswith("goto"):
+            return None
+        closes = text.startswith(CLOSING) or text.endswith(" = const ()")
+        return self.line(span._replace(first=span.last) if closes else span)
 
     def code(self, location: Location) -> str:
         text = self.body.statements[location].text
