@@ -62,11 +62,11 @@ pub struct List<T> {
 pub fn problem_case_4<T>(mut list: &mut List<T>) -> Vec<&mut T> {
     let mut result = vec![];
     loop { // holds: result
-        result.push(&mut list.value); // holds: result, &mut ((*list).0: T)
-        if let Some(n) = list.next.as_mut() { // holds: result, &mut ((*list).0: T)
+        result.push(&mut list.value); // holds: result, n, &mut ((*list).0: T)
+        if let Some(n) = list.next.as_mut() { // holds: result, n, &mut ((*list).0: T)
             list = n; // holds: result, n, &mut ((*list).0: T)
         } else {
-            return result; // holds: result, &mut ((*list).0: T)
+            return result; // holds: result, n, &mut ((*list).0: T)
         }
     }
 }
