@@ -4,7 +4,7 @@ import argparse
 import os
 import sys
 import tempfile
-from typing import Callable, Sequence
+from typing import Callable, Optional, Sequence
 
 from .cargo import whole_crate
 from .convert import Problem, convert
@@ -80,7 +80,7 @@ def one_file(asked: argparse.Namespace) -> int:
     return 0
 
 
-def problems_of_file(file: str, function: str | None, edition: str,
+def problems_of_file(file: str, function: Optional[str], edition: str,
                      options: list[str]) -> tuple[list[tuple[Dump, Problem]], bool]:
     """The problems of a file's functions, or of the one, and whether rustc told errors, shown."""
     with tempfile.TemporaryDirectory(prefix="nll-facts.") as room:
@@ -111,7 +111,7 @@ def refuse_unchecked(file: str, errors: list[Error], dumps: list[Dump]) -> None:
                           f"above of line {error.lines[0]}, or name a function that has no error")
 
 
-def write_all(out: str | None, file: str, problems: list[tuple[Dump, Problem]]) -> list[str]:
+def write_all(out: Optional[str], file: str, problems: list[tuple[Dump, Problem]]) -> list[str]:
     """Writes a text for each problem, all made before the first is written; gives the paths."""
     folder = out or f"{os.path.splitext(os.path.basename(file))[0]}-facts"
     texts = [(dump.file_name, facts_text(problem)) for dump, problem in problems]

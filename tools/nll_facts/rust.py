@@ -12,7 +12,7 @@ from typing import Sequence
 from .bar import Bar
 from .command import guarded, problems_of_file, split_words, write_all
 from .convert import Problem
-from .refusal import Refusal
+from .dumps import closure_note
 
 PAGE = os.path.join(os.path.dirname(os.path.dirname(os.path.abspath(__file__))), "nll-page")
 
@@ -92,6 +92,6 @@ def tell(problem: Problem, answer: Answer) -> None:
     print(f"{problem.function}: {counts}: {'faults' if answer.faults else 'no fault'}")
     for line in answer.faults:
         print(f"  {line}")
-    if answer.faults and "{closure#" in problem.function:
-        print("  (a closure: what it needs of lifetimes from outside, the function around it keeps)")
+    if answer.faults and closure_note(problem.function):
+        print(f"  ({closure_note(problem.function)})")
     print(f"  page: {answer.page}")
