@@ -10,34 +10,44 @@ class Row(NamedTuple):
     text: str
 
 
-def straight_lines(facts):
+def straight_lines(successors):
     """All points in lines: inside a line each point has one successor, and that one no other predecessor.
 
     The lines stand in the order of their first points; the first one begins at point 0.
     """
-    left = [True] * facts.points
+    predecessors = turned(successors)
+    left = [True] * len(successors)
     lines = []
-    for point in range(facts.points):
-        if begins(facts, point):
-            lines.append(line_from(facts, point, left))
-    for point in range(facts.points):
+    for point in range(len(successors)):
+        if begins(successors, predecessors, point):
+            lines.append(line_from(successors, predecessors, point, left))
+    for point in range(len(successors)):
         if left[point]:  # on a circle without a way in
-            lines.append(line_from(facts, point, left))
+            lines.append(line_from(successors, predecessors, point, left))
     return sorted(lines)
 
 
-def begins(facts, point):
-    before = facts.predecessors[point]
-    return point == 0 or len(before) != 1 or len(facts.successors[before[0]]) != 1 or before == [point]
+def turned(successors):
+    """For each point those before it."""
+    predecessors = [[] for _ in successors]
+    for point, following in enumerate(successors):
+        for other in following:
+            predecessors[other].append(point)
+    return predecessors
 
 
-def line_from(facts, point, left):
+def begins(successors, predecessors, point):
+    before = predecessors[point]
+    return point == 0 or len(before) != 1 or len(successors[before[0]]) != 1 or before == [point]
+
+
+def line_from(successors, predecessors, point, left):
     line = []
     while left[point]:
         left[point] = False
         line.append(point)
-        after = facts.successors[point]
-        if len(after) != 1 or begins(facts, after[0]):
+        after = successors[point]
+        if len(after) != 1 or begins(successors, predecessors, after[0]):
             break
         point = after[0]
     return line

@@ -77,8 +77,10 @@ for (const place of all("[data-p]")) {
 }
 const edges = new Map();
 for (const edge of all("[data-edge]")) {
-  if (!edges.has(edge.dataset.edge)) edges.set(edge.dataset.edge, []);
-  edges.get(edge.dataset.edge).push(edge);
+  for (const way of edge.dataset.edge.split(" ")) {
+    if (!edges.has(way)) edges.set(way, []);
+    edges.get(way).push(edge);
+  }
 }
 const regionButtons = all(".region");
 
@@ -439,6 +441,7 @@ function zoomTo(next) {
     svg.setAttribute("width", width * scale);
     svg.setAttribute("height", height * scale);
   }
+  pane.classList.toggle("small", scale < 0.45);
   pane.scrollLeft = middle[0] * scale - pane.clientWidth / 2;
   pane.scrollTop = middle[1] * scale - pane.clientHeight / 2;
 }
