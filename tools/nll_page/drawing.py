@@ -1,11 +1,13 @@
 """The graph as SVG: a box for each straight line of points, folded to cells or with a row for each statement."""
 
+import re
 from collections import Counter
 from typing import NamedTuple
 
 from . import layout, lines
 from .escaping import text as escape
 from .escaping import visible
+from .words import unwinds
 
 CELL = 11           # the side of a point's cell
 PITCH = 13          # from one cell to the next
@@ -15,6 +17,7 @@ ROW = 20            # the height of a statement's row
 LETTER = 6.65       # the width of a letter of a statement
 TITLE_LETTER = 6.6  # of a letter of a title
 MOST_LETTERS = 44
+TARGETS = re.compile(r" -> (?:\[.*\]|bb\d+)$")
 STUB = 14           # the length of a stub's arrow
 STUB_PITCH = 13     # from one stub to the next
 MANY = 3            # so many edges to code that doesn't return are drawn as stubs
@@ -68,10 +71,6 @@ def reaches_return(facts):
     return answer
 
 
-def unwinds(facts, point):
-    return facts.remarks.point(point).statement().rstrip(";") in ("resume", "UnwindResume")
-
-
 def columns(count):
     """How many cells stand side by side in a folded box."""
     return min(count, max(4, min(16, int((2.2 * count) ** 0.5))))
@@ -89,7 +88,8 @@ def folded_size(facts, line):
 
 
 def row_words(row):
-    text = visible(row.text)
+    """The statement, shortened: where it goes on to is what the edges show."""
+    text = TARGETS.sub("", visible(row.text))
     return text if len(text) <= MOST_LETTERS else text[:MOST_LETTERS - 1] + "…"
 
 

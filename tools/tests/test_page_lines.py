@@ -60,6 +60,14 @@ class Folding(unittest.TestCase):
         self.assertEqual(title(facts, [3, 2]), ("", "3 … 2"))
 
 
+    def test_marks_share_a_row(self):
+        facts = facts_of(5, "# point 0: line 1: StorageLive(_1) (bb0[0])", "# point 1: line 1: StorageDead(_2) (bb0[1])",
+                         "# point 2: line 1: _1 = _2 (bb0[2])", "# point 3: line 1: StorageLive(_3) (bb0[3])",
+                         "# point 4: line 2: StorageLive(_4) (bb0[4])")
+        self.assertEqual([row.points for row in rows(facts, range(5))], [[0, 1], [2], [3], [4]])
+        self.assertEqual(rows(facts, range(5))[0].text, "StorageLive(_1), StorageDead(_2)")
+
+
 class Layers(unittest.TestCase):
     def drawn(self, boxes, edges, size=(40, 20, 0)):
         shape = layout.shape_of(boxes, edges)
@@ -102,6 +110,11 @@ class Layers(unittest.TestCase):
             numbers = [draw.randrange(8) for _ in range(draw.randint(0, 12))]
             pairs = sum(a > b for at, b in enumerate(numbers) for a in numbers[:at])
             self.assertEqual(layout.inversions(numbers, 8), pairs)
+
+    def test_what_hangs_together_stands_together(self):
+        shape, _ = self.drawn(5, [(0, 2), (1, 3), (3, 1)])
+        self.assertEqual(shape.layers[:2], [[0], [2]])
+        self.assertEqual(sorted(shape.layers[2]), [1, 4])
 
     def test_no_crossing_where_none_is_needed(self):
         edges = [(0, 1), (0, 2), (0, 3), (1, 6), (2, 5), (3, 4), (4, 7), (5, 7), (6, 7)]
