@@ -147,18 +147,16 @@ def umask():
 
 
 def tell_faults(content):
-    """Each fault for a terminal: its head, its lines, and the steps of its chain."""
+    """Each fault for a terminal: its head with the first line, and a line for each step of its chain."""
     facts = content.facts
     for fault in content.faults:
         lines = words.arising(facts, fault.steps)
         path = content.source.path if content.source else facts.remarks.source
         where = "".join(f"{path}:{line}: " if path else f"line {line}: " for line in lines[:1])
         tell(f"{where}{words.plain(words.fault_head(facts, fault.sup, fault.sub))}")
-        tell(f"    {words.plain(words.beginning(facts, fault.sub))}")
+        tell(f"    {words.plain([words.end(facts, fault.sub), ' comes'])}")
         for step in fault.steps:
-            what = words.region_words(facts, step.constraint.sup)
-            tell(f"    {words.plain(words.step_head(facts, step, fault.sub))}{what and ', ' + what}:")
-            tell(f"        {words.plain(words.step_sentence(facts, step, fault.sub))}")
+            tell(f"    {words.plain(words.step_brief(facts, step))}")
     if not content.faults:
         tell("no fault")
 

@@ -217,11 +217,12 @@ def source_list(content):
     for row in point_rows(content.facts):
         line = content.facts.remarks.point(row.points[0]).line
         by_line.setdefault(line, []).append(row)
-    return "".join(source_line(content.facts, number, line, by_line.get(number, []))
+    asking = {number for fault in content.faults for number in words.arising(content.facts, fault.steps)}
+    return "".join(source_line(content.facts, number, line, by_line.get(number, []), number in asking)
                    for number, line in enumerate(content.source.lines, content.source.first))
 
 
-def source_line(facts, number, line, rows):
+def source_line(facts, number, line, rows, asks):
     code = "".join(f'<span class="{kind}">{text(piece)}</span>' if kind else text(piece)
                    for kind, piece in pieces(visible(line)))
     head = f'<span class="no">{number}</span>'
@@ -230,7 +231,8 @@ def source_line(facts, number, line, rows):
                 f"<code>{code}</code></div>")
     points = [point for row in rows for point in row.points]
     strip = "".join(f'<i data-p="{point}"></i>' for point in points)
-    return (f'<details class="line" id="line-{number}"><summary>{head}'
+    told = ' title="a constraint of a fault’s chain arises here"' if asks else ""
+    return (f'<details class="line{" asks" if asks else ""}" id="line-{number}"><summary{told}>{head}'
             f'<span class="strip" title="{text(words.plural(len(points), "point"))}">{strip}</span>'
             f"<code>{code}</code></summary>"
             f'<div class="rows">{"".join(point_row(facts, row) for row in rows)}</div></details>')

@@ -115,6 +115,15 @@ def step_sentence(facts, step, universal):
             tick(facts, sup), " holds it too."]
 
 
+def step_brief(facts, step):
+    """The step in one line of a terminal: where the end comes, what asks for it, and along which points."""
+    sup, sub = step.constraint.sup, step.constraint.sub
+    what = region_words(facts, sup)
+    asked = reason(facts, step.constraint)[:-1] or [f"From point {step.constraint.at} on"]
+    return ["to ", tick(facts, sup), f", {what}: " if what else ": ", asked[0][0].lower() + asked[0][1:],
+            *asked[1:], ", inside ", tick(facts, sub), f" by {walk_text(step.walk)}"]
+
+
 def reason(facts, constraint):
     """The statements that ask for it, where something is known of them."""
     if is_everywhere(facts, constraint):
@@ -123,7 +132,7 @@ def reason(facts, constraint):
     if not any(any(facts.remarks.point(p)) for p in points):
         return []
     if len(points) > MOST_ORIGINS:
-        return [f"By one of the {len(points)} statements before point {constraint.at}, "]
+        return [f"By one of the {len(points)} statements before point {constraint.at}", ", "]
     return ["After ", *joined([statement(facts, p) for p in points], " or "), ", "]
 
 

@@ -104,9 +104,10 @@ class Commands(unittest.TestCase):
         lines = out.splitlines()
         self.assertEqual(status, 0)
         self.assertEqual(lines[1], f"{self.folder}/pick.rs:7: `'b` must outlive `'a`, which the signature doesn’t say")
-        self.assertEqual(lines[5], "    `end('a)` comes to `'b`, 'b of the signature:")
-        self.assertTrue(lines[6].startswith("        After `best = copy second` (line 7), `'b` must hold all that is "))
-        self.assertEqual(len(lines), 7)
+        self.assertEqual(lines[2:], [
+            "    `end('a)` comes",
+            "    to `'best`, the type of best: after `_0 = copy best` (line 9), inside `'a` by 8",
+            "    to `'b`, 'b of the signature: after `best = copy second` (line 7), inside `'best` by 6 → 7 → 8"])
 
     def test_a_text_without_remarks(self):
         bare = self.write("bare.facts", b"".join(

@@ -162,7 +162,7 @@ function describe(why) {
   if (chosen.region !== null) parts.push(regionWords(chosen.region));
   if (chosen.element !== null) parts.push(elementWords(chosen.element));
   if (chosen.region !== null && chosen.element !== null) {
-    parts.push(bothWords(chosen.region, chosen.element, why));
+    parts.unshift(bothWords(chosen.region, chosen.element, why));
   }
   if (!parts.length) {
     parts.push(make("p", "hint", "Choose a region to light its points, or a point to see which regions hold it."));
@@ -301,6 +301,7 @@ function chooseStep(step) {
   Object.assign(chosen, { step: same ? null : step, region: same ? null : Number(step.dataset.r), element: null });
   show();
   if (same) return;
+  reveal(step);
   const [first] = stepWalk(step);
   openLine(first);
   for (const place of places.get(first) || []) reveal(place);
@@ -311,8 +312,11 @@ function openLine(element) {
   if (place) place.closest("details").open = true;
 }
 
-function reveal(place) {
-  if (place && place.getClientRects().length) place.scrollIntoView({ block: "nearest", inline: "nearest" });
+function reveal(place, block = "nearest") {
+  if (!place || !place.getClientRects().length) return;
+  const frame = place.closest(".box")?.querySelector(".frame");
+  if (frame) frame.scrollIntoView({ block: "nearest", inline: "nearest" });
+  place.scrollIntoView({ block, inline: "nearest" });
 }
 
 // Scrolls each pane to the first of the points, where none of them is in sight.
@@ -325,7 +329,7 @@ function revealAny(points) {
       const its = place.getBoundingClientRect();
       return its.top >= box.top && its.bottom <= box.bottom && its.left >= box.left && its.right <= box.right;
     });
-    if (here.length && !inSight) here[0].scrollIntoView({ block: "center", inline: "center" });
+    if (here.length && !inSight) reveal(here[0], "center");
   }
 }
 
@@ -459,8 +463,7 @@ function setView(view) {
   for (const name of ["statements", "folded"]) {
     byId(`view-${name}`).setAttribute("aria-pressed", String(name === view));
   }
-  const picked = document.querySelector(`.graph.${view} .picked`) || document.querySelector(`.graph.${view} .cell`);
-  reveal(picked);
+  reveal(document.querySelector(`.graph.${view} .cell.picked`) || document.querySelector(`.graph.${view} .cell`));
 }
 
 // Tabs, filter, scheme, the address
@@ -568,11 +571,11 @@ for (const members of [regionButtons, all("#points .point"), all(".end"), all(".
 }
 for (const rows of all("#source .rows")) rove([], rows.querySelector(".point"));
 for (const { svg, width } of svgs) {
-  const cell = svg.querySelector(".cell");
+  const frame = svg.querySelector(".frame");
   const pane = byId("graph");
-  if (cell.getClientRects().length && width > pane.clientWidth) {
-    const box = cell.getBoundingClientRect();
-    pane.scrollLeft = box.x - pane.getBoundingClientRect().x - pane.clientWidth / 2 + 40;
+  if (frame.getClientRects().length && width > pane.clientWidth) {
+    const box = frame.getBoundingClientRect();
+    pane.scrollLeft = box.x + box.width / 2 - pane.getBoundingClientRect().x - pane.clientWidth / 2;
   }
 }
 const address = location.hash; // before `show` writes it anew
