@@ -144,8 +144,11 @@ function chip(words, on, act) {
   return button;
 }
 
-const regionChip = (region) =>
-  chip(regionName(region), region === chosen.region, () => chooseRegion(region));
+function regionChip(region) {
+  const button = chip(regionName(region), region === chosen.region, () => chooseRegion(region));
+  button.title = data.regions[region].what;
+  return button;
+}
 const elementChip = (element) =>
   chip(elementName(element), element === chosen.element, () => chooseElement(element));
 
