@@ -2,6 +2,7 @@
 
 import argparse
 import os
+import signal
 import sys
 import tempfile
 
@@ -26,6 +27,8 @@ couldn't be written; each with one line on standard error, and no page is left h
 
 def main(arguments):
     """Runs the program on these words; its status."""
+    for number in (signal.SIGTERM, signal.SIGHUP):
+        signal.signal(number, signal.default_int_handler)  # so that what is half-written is taken away
     try:
         return run(words_of(arguments))
     except Refusal as refusal:
@@ -50,7 +53,7 @@ def words_of(arguments):
 
 
 def run(asked):
-    out = asked.out or asked.facts.removesuffix(".facts") + ".html"
+    out = asked.out or beside(asked.facts)
     for path in (asked.facts, asked.source, asked.values):
         if path and same_file(path, out):
             raise Refusal(f"the page would be written over {path}; name another by -o OUT.html")
@@ -63,6 +66,13 @@ def run(asked):
     return 0
 
 
+def beside(facts_path):
+    """The page's path where none is given: beside the text."""
+    if os.path.exists(facts_path) and not os.path.isfile(facts_path) and not os.path.isdir(facts_path):
+        raise Refusal(f"{facts_path} has no place beside it; name the page by -o OUT.html")
+    return facts_path.removesuffix(".facts") + ".html"
+
+
 def content_of(asked):
     text = read_bytes(asked.facts)
     if not is_facts_text(text):
@@ -71,7 +81,7 @@ def content_of(asked):
     if asked.values:
         report, origin = read_bytes(asked.values).decode("utf-8", "replace"), asked.values
     else:
-        report, told, origin, standing = nllc.run(asked.facts)
+        report, told, origin, standing = nllc.run(text)
     facts = read_facts(text, asked.facts)
     if facts.points > MOST_POINTS:
         raise Refusal(f"{asked.facts} has {facts.points:,} points, and a page of more than {MOST_POINTS:,} is no use "
@@ -137,16 +147,16 @@ def umask():
 
 
 def tell_faults(content):
-    """Each fault for a terminal: its head, its lines, and the steps of its chain."""
+    """Each fault for a terminal: its head with the first line, and a line for each step of its chain."""
     facts = content.facts
     for fault in content.faults:
         lines = words.arising(facts, fault.steps)
         path = content.source.path if content.source else facts.remarks.source
         where = "".join(f"{path}:{line}: " if path else f"line {line}: " for line in lines[:1])
         tell(f"{where}{words.plain(words.fault_head(facts, fault.sup, fault.sub))}")
-        tell(f"    {words.plain(words.beginning(facts, fault.sub))}")
+        tell(f"    {words.plain([words.end(facts, fault.sub), ' comes'])}")
         for step in fault.steps:
-            tell(f"    {words.plain(words.step_sentence(facts, step, fault.sub))}")
+            tell(f"    {words.plain(words.step_brief(facts, step))}")
     if not content.faults:
         tell("no fault")
 

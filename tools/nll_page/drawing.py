@@ -1,10 +1,13 @@
 """The graph as SVG: a box for each straight line of points, folded to cells or with a row for each statement."""
 
+import re
+from collections import Counter
 from typing import NamedTuple
 
 from . import layout, lines
 from .escaping import text as escape
 from .escaping import visible
+from .words import unwinds
 
 CELL = 11           # the side of a point's cell
 PITCH = 13          # from one cell to the next
@@ -14,58 +17,58 @@ ROW = 20            # the height of a statement's row
 LETTER = 6.65       # the width of a letter of a statement
 TITLE_LETTER = 6.6  # of a letter of a title
 MOST_LETTERS = 44
+TARGETS = re.compile(r" -> (?:\[.*\]|bb\d+)$")
 STUB = 14           # the length of a stub's arrow
+STUB_PITCH = 13     # from one stub to the next
 MANY = 3            # so many edges to code that doesn't return are drawn as stubs
 
 
 class Graph(NamedTuple):
-    """The boxes' lines of points, the edges between boxes, and those that are drawn as stubs."""
+    """What is drawn: straight lines of points as boxes, the edges between boxes, and edges that are only begun."""
 
     lines: list
     edges: list
-    stubs: dict         # a box to the points where its stubs lead
-    returning: list     # whether a return point can be reached from the box
+    stubs: dict         # a point to the points to which it has an edge that is only begun
+    returning: list     # whether the function can still return from the box
 
 
 def graph_of(facts):
-    found = lines.straight_lines(facts)
+    returning = reaches_return(facts)
+    stubs = stubs_of(facts, returning)
+    successors = [[q for q in following if q not in stubs.get(p, ())] for p, following in enumerate(facts.successors)]
+    found = lines.straight_lines(successors)
     box_of = {point: box for box, line in enumerate(found) for point in line}
-    edges = sorted({(box, box_of[q]) for box, line in enumerate(found) for q in facts.successors[line[-1]]})
-    returning = reaches_return(facts, found, edges)
+    edges = sorted({(box, box_of[q]) for box, line in enumerate(found) for q in successors[line[-1]]})
+    return Graph(found, edges, stubs, [returning[line[0]] for line in found])
+
+
+def stubs_of(facts, returning):
+    """The edges to code that doesn't return, where several lead to the same point, as from calls that may unwind."""
+    leaving = [(p, q) for p, following in enumerate(facts.successors) for q in following
+               if returning[p] and not returning[q]]
+    into = Counter(q for _, q in leaving)
     stubs = {}
-    kept = []
-    into = {}
-    for a, b in edges:
-        into[b] = into.get(b, 0) + (returning[a] and not returning[b])
-    for a, b in edges:
-        if returning[a] and not returning[b] and into[b] >= MANY:
-            stubs.setdefault(a, []).append(found[b][0])
-        else:
-            kept.append((a, b))
-    return Graph(found, kept, stubs, returning)
+    for p, q in leaving:
+        if into[q] >= MANY:
+            stubs.setdefault(p, []).append(q)
+    return stubs
 
 
-def reaches_return(facts, found, edges):
-    """For each box whether a return can be reached; where none can from anywhere, all count as if it could.
+def reaches_return(facts):
+    """For each point whether a return can be reached; where none can from anywhere, all count as if it could.
 
     A point from which the function unwinds is a return point for `nllc`, and none here.
     """
-    before = layout.successors_of(len(found), [(b, a) for a, b in edges])
-    todo = [box for box, line in enumerate(found)
-            if any(point in facts.returns and not unwinds(facts, point) for point in line)]
-    answer = [not todo] * len(found)
-    for box in todo:
-        answer[box] = True
+    todo = [point for point in facts.returns if not unwinds(facts, point)]
+    answer = [not todo] * facts.points
+    for point in todo:
+        answer[point] = True
     while todo:
-        for box in before[todo.pop()]:
-            if not answer[box]:
-                answer[box] = True
-                todo.append(box)
+        for point in facts.predecessors[todo.pop()]:
+            if not answer[point]:
+                answer[point] = True
+                todo.append(point)
     return answer
-
-
-def unwinds(facts, point):
-    return facts.remarks.point(point).statement().rstrip(";") in ("resume", "UnwindResume")
 
 
 def columns(count):
@@ -85,7 +88,8 @@ def folded_size(facts, line):
 
 
 def row_words(row):
-    text = visible(row.text)
+    """The statement, shortened: where it goes on to is what the edges show."""
+    text = TARGETS.sub("", visible(row.text))
     return text if len(text) <= MOST_LETTERS else text[:MOST_LETTERS - 1] + "…"
 
 
@@ -99,14 +103,33 @@ def unfolded_size(facts, line, rows):
 def folded(facts, graph, shape):
     """The drawing in which a straight line is a block of cells."""
     sizes = [folded_size(facts, line) for line in graph.lines]
-    return svg("folded", facts, graph, shape, sizes, lambda box: folded_cells(facts, graph.lines[box]))
+    return svg("folded", facts, graph, shape, sizes, lambda box: (
+        folded_cells(facts, graph.lines[box]) + folded_stubs(graph, graph.lines[box], sizes[box])))
 
 
 def unfolded(facts, graph, shape):
     """The drawing in which each statement has a row."""
     rows = [lines.rows(facts, line) for line in graph.lines]
     sizes = [unfolded_size(facts, line, found) for line, found in zip(graph.lines, rows)]
-    return svg("statements", facts, graph, shape, sizes, lambda box: row_cells(facts, rows[box], sizes[box][0]))
+    return svg("statements", facts, graph, shape, sizes, lambda box: (
+        row_cells(facts, rows[box], sizes[box][0]) + row_stubs(graph, rows[box], sizes[box][0])))
+
+
+def folded_stubs(graph, line, size):
+    """A stub for each point to which several of the line's points lead; the last stands lowest."""
+    sources = {}
+    for point in line:
+        for target in graph.stubs.get(point, ()):
+            sources.setdefault(target, []).append(point)
+    most = max(1, int((size[1] - 4) // STUB_PITCH))
+    shown = list(sources.items())[:most]
+    return "".join(stub(points, target, size[0], size[1] - 9 - STUB_PITCH * at)
+                   for at, (target, points) in enumerate(reversed(shown)))
+
+
+def row_stubs(graph, rows, width):
+    return "".join(stub([point], target, width, HEAD + at * ROW + ROW / 2)
+                   for at, row in enumerate(rows) for point in row.points for target in graph.stubs.get(point, ())[:1])
 
 
 def folded_cells(facts, line):
@@ -140,7 +163,8 @@ def cell(facts, point, x, y):
 
 
 def svg(name, facts, graph, shape, sizes, inside):
-    room = [STUB + LETTER * len(str(facts.points)) if box in graph.stubs else 0 for box in range(len(graph.lines))]
+    wide = STUB + LETTER * len(str(facts.points))
+    room = [wide if any(point in graph.stubs for point in line) else 0 for line in graph.lines]
     drawing = layout.place(shape, [(*size, free) for size, free in zip(sizes, room)])
     parts = [f'<svg class="graph {name}" viewBox="0 0 {drawing.width:.0f} {drawing.height:.0f}" width="{drawing.width:.0f}" '
              f'height="{drawing.height:.0f}" role="group" aria-label="control-flow graph">', '<g class="edges">']
@@ -158,18 +182,18 @@ def box_group(facts, graph, box, x, y, size, inside):
     block, numbers = lines.title(facts, graph.lines[box])
     label = f'<tspan class="block">{escape(block)}</tspan> ' if block else ""
     dim = "" if graph.returning[box] else " aside"
-    stubs = "".join(stub(point, at, size) for at, point in enumerate(graph.stubs.get(box, ())))
     return (f'<g class="box{dim}" transform="translate({x:.1f} {y:.1f})">'
             f'<rect class="frame" width="{size[0]:.1f}" height="{size[1]:.1f}" rx="5"/>'
-            f'<text class="title" x="{PAD}" y="13">{label}{escape(numbers)}</text>{inside}{stubs}</g>')
+            f'<text class="title" x="{PAD}" y="13">{label}{escape(numbers)}</text>{inside}</g>')
 
 
-def stub(point, at, size):
-    """A short arrow to the right with the number of the point where it leads."""
-    x, y = size[0], size[1] - 9 - 14 * at
-    return (f'<g class="stub" data-go="{point}"><title>to point {point}, from which the function doesn’t return</title>'
+def stub(points, target, x, y):
+    """A short arrow to the right with the number of the point to which these points lead."""
+    ways = " ".join(f"{point}-{target}" for point in points)
+    return (f'<g class="stub" data-go="{target}" data-edge="{ways}"><title>from {", ".join(map(str, points))} to point '
+            f"{target}, from which the function doesn’t return</title>"
             f'<path d="M{x:.1f} {y:.1f}h10m-3.5 -3.5l3.5 3.5l-3.5 3.5"/>'
-            f'<text x="{x + 14:.1f}" y="{y + 3.5:.1f}">{point}</text></g>')
+            f'<text x="{x + 14:.1f}" y="{y + 3.5:.1f}">{target}</text></g>')
 
 
 def edge_ends(graph, edge):

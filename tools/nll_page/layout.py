@@ -104,7 +104,21 @@ def layers_of(boxes, down):
     for box in roots:
         if box and after[box]:
             layer[box] = min(layer[b] for b in after[box]) - 1
-    return layer
+    return apart(boxes, down, layer)
+
+
+def apart(boxes, down, layer):
+    """The layers with all that hangs together with box 0 first, and the rest below it."""
+    beside = successors_of(boxes, [*down, *((b, a) for a, b in down)])
+    first = {0}
+    todo = [0]
+    while todo:
+        for box in beside[todo.pop()]:
+            if box not in first:
+                first.add(box)
+                todo.append(box)
+    depth = max((layer[box] for box in first if box < boxes), default=0) + 1
+    return [at if box in first else at + depth for box, at in enumerate(layer)]
 
 
 def neighbours(paths, count):

@@ -42,12 +42,15 @@ def find():
     return found
 
 
-def run(facts_path):
+def run(text):
     """Runs `values` and `check` on the text, side by side."""
     program = find()
     with tempfile.TemporaryDirectory(prefix="nll-page.") as folder:
-        values = Run(program, "values", facts_path, folder)
-        check = Run(program, "check", facts_path, folder)
+        copy = os.path.join(folder, "text.facts")
+        with open(copy, "wb") as file:
+            file.write(text)
+        values = Run(program, "values", copy, folder)
+        check = Run(program, "check", copy, folder)
         try:
             wait([values, check])
         finally:
@@ -66,8 +69,8 @@ class Run:
         self.files = {stream: os.path.join(folder, f"{command}.{stream}") for stream in ("out", "err")}
         try:
             with open(self.files["out"], "wb") as out, open(self.files["err"], "wb") as err:
-                words = [program, command, os.path.join(".", path)]  # a path of its own may begin with a hyphen
-                self.process = subprocess.Popen(words, stdin=subprocess.DEVNULL, stdout=out, stderr=err)
+                self.process = subprocess.Popen([program, command, path], stdin=subprocess.DEVNULL,
+                                                stdout=out, stderr=err)
         except OSError as error:
             raise Refusal(f"{program} can't be run: {error.strerror}") from None
 

@@ -10,6 +10,7 @@ from .nllc import PROVED, UNKNOWN, UNPROVED
 from .source import Source, pieces
 
 TEMPLATES = os.path.join(os.path.dirname(os.path.abspath(__file__)), "templates")
+FEW_ROWS = 60       # up to so many statements, the graph is first shown with them
 MOST_ROWS = 4000    # more statements than this are shown folded only
 
 STANDINGS = {
@@ -60,7 +61,7 @@ def page(content):
         "points": point_list(facts),
         "folded": drawing.folded(facts, graph, shape),
         "statements": drawing.unfolded(facts, graph, shape) if rows else "",
-        "view": "statements" if facts.points <= 60 else "folded",
+        "view": "statements" if len(point_rows(facts)) <= FEW_ROWS else "folded",
         "ends": end_list(facts),
         "data": script_data(data(content)),
     })
@@ -140,7 +141,11 @@ def step_item(facts, step, universal):
     walk = ",".join(map(str, step.walk))
     return (f'<li class="step" data-r="{step.constraint.sub}" data-walk="{walk}" data-end="{universal}">'
             f'<h3><button type="button" class="show">{sentence(words.step_head(facts, step, universal))}'
-            f"</button></h3><p>{sentence(words.step_sentence(facts, step, universal))}</p></li>")
+            f"</button>{what_span(words.region_words(facts, step.constraint.sup))}</h3><p>{sentence(words.step_sentence(facts, step, universal))}</p></li>")
+
+
+def what_span(what):
+    return f' <span class="what">{text(what)}</span>' if what else ""
 
 
 # Regions
@@ -161,18 +166,18 @@ def region_item(content, region):
     points = [element for element in elements if element < facts.points]
     ends = [element - facts.points for element in elements if element >= facts.points]
     empty = "" if elements else " empty"
-    return (f'<li><button type="button" class="region{empty}" data-r="{region}" aria-pressed="false" tabindex="-1">'
-            f'<code class="name">&#x27;{text(facts.names[region])}</code>'
-            f'<span class="what">{text(region_words(facts, region))}</span>'
-            f"{barcode(facts, points)}"
-            f'<span class="ends">{end_marks(facts, region, ends)}</span></button></li>')
+    what = region_words(facts, region)
+    return (f'<li><button type="button" class="region{empty}" data-r="{region}" aria-pressed="false" tabindex="-1" '
+            f'title="{text(what)}"><code class="name">&#x27;{text(facts.names[region])}</code>'
+            f'<span class="what">{text(facts.remarks.region(facts.names[region]).text or what)}</span>'
+            f"{barcode(facts, points)}{end_marks(facts, region, ends)}</button></li>")
 
 
 def region_words(facts, region):
-    """What the region is, by its remark."""
+    """What the region is, and the line where it comes from."""
     remark = facts.remarks.region(facts.names[region])
     if not remark.text and remark.line is None:
-        return "lasts for ever" if facts.names[region] == "static" else ""
+        return words.region_words(facts, region)
     line = f"line {remark.line}" if remark.line is not None else ""
     return ", ".join(part for part in (remark.text, line) if part)
 
@@ -186,7 +191,11 @@ def barcode(facts, points):
 
 
 def end_marks(facts, region, ends):
-    return " ".join(f"<code>end(&#x27;{text(facts.names[end])})</code>" for end in ends if end != region)
+    """The ends of others that the region holds, by their regions' names."""
+    others = [facts.names[end] for end in ends if end != region]
+    label = "holds " + ", ".join(f"end('{name})" for name in others)
+    shown = " ".join(f"'{name}" for name in others) if len(others) < 3 else f"{len(others)} ends"
+    return f'<span class="ends" title="{text(label)}">{text(shown)}</span>' if others else '<span class="ends"></span>'
 
 
 # Source and points
@@ -208,11 +217,12 @@ def source_list(content):
     for row in point_rows(content.facts):
         line = content.facts.remarks.point(row.points[0]).line
         by_line.setdefault(line, []).append(row)
-    return "".join(source_line(content.facts, number, line, by_line.get(number, []))
+    asking = {number for fault in content.faults for number in words.arising(content.facts, fault.steps)}
+    return "".join(source_line(content.facts, number, line, by_line.get(number, []), number in asking)
                    for number, line in enumerate(content.source.lines, content.source.first))
 
 
-def source_line(facts, number, line, rows):
+def source_line(facts, number, line, rows, asks):
     code = "".join(f'<span class="{kind}">{text(piece)}</span>' if kind else text(piece)
                    for kind, piece in pieces(visible(line)))
     head = f'<span class="no">{number}</span>'
@@ -221,7 +231,8 @@ def source_line(facts, number, line, rows):
                 f"<code>{code}</code></div>")
     points = [point for row in rows for point in row.points]
     strip = "".join(f'<i data-p="{point}"></i>' for point in points)
-    return (f'<details class="line" id="line-{number}"><summary>{head}'
+    told = ' title="a constraint of a fault’s chain arises here"' if asks else ""
+    return (f'<details class="line{" asks" if asks else ""}" id="line-{number}"><summary{told}>{head}'
             f'<span class="strip" title="{text(words.plural(len(points), "point"))}">{strip}</span>'
             f"<code>{code}</code></summary>"
             f'<div class="rows">{"".join(point_row(facts, row) for row in rows)}</div></details>')
@@ -250,7 +261,7 @@ def point_row(facts, row, with_line=False):
                       for point in row.points)
     line = f'<span class="at">line {remark.line}</span>' if with_line and remark.line is not None else ""
     marks = '<span class="returns" title="the function may return here">returns</span>' \
-        if any(point in facts.returns for point in row.points) and remark.statement() != "return" else ""
+        if any(point in facts.returns for point in row.points) and remark.statement() not in ("return", "resume") else ""
     said = f"<code>{text(row.text)}</code>" if remark.text else \
         f'<code class="said">{text(said_at(facts, row.points[0]))}</code>'
     return f'<div class="row"><span class="numbers">{buttons}</span>{said}{marks}{line}</div>'

@@ -99,12 +99,29 @@ def step_head(facts, step, universal):
     return [end(facts, universal), " comes to ", tick(facts, step.constraint.sup)]
 
 
+def region_words(facts, region, most=60):
+    """What the region is, by its remark; of several things the first."""
+    words = facts.remarks.region(facts.names[region]).text.split("; ")[0]
+    if not words and facts.names[region] == "static":
+        return "lasts for ever"
+    return words if len(words) <= most else words[:most - 1] + "…"
+
+
 def step_sentence(facts, step, universal):
     """Why this constraint, and the walk, bring the end to the larger region."""
     sup, sub, at = step.constraint.sup, step.constraint.sub, step.constraint.at
     return [*reason(facts, step.constraint), tick(facts, sup), " must hold all that is reached inside ",
             tick(facts, sub), f" from point {at} on. ", *walk_words(facts, step, universal), "; so ",
             tick(facts, sup), " holds it too."]
+
+
+def step_brief(facts, step):
+    """The step in one line of a terminal: where the end comes, what asks for it, and along which points."""
+    sup, sub = step.constraint.sup, step.constraint.sub
+    what = region_words(facts, sup)
+    asked = reason(facts, step.constraint)[:-1] or [f"From point {step.constraint.at} on"]
+    return ["to ", tick(facts, sup), f", {what}: " if what else ": ", asked[0][0].lower() + asked[0][1:],
+            *asked[1:], ", inside ", tick(facts, sub), f" by {walk_text(step.walk)}"]
 
 
 def reason(facts, constraint):
@@ -115,7 +132,7 @@ def reason(facts, constraint):
     if not any(any(facts.remarks.point(p)) for p in points):
         return []
     if len(points) > MOST_ORIGINS:
-        return [f"By one of the {len(points)} statements before point {constraint.at}, "]
+        return [f"By one of the {len(points)} statements before point {constraint.at}", ", "]
     return ["After ", *joined([statement(facts, p) for p in points], " or "), ", "]
 
 
@@ -129,10 +146,16 @@ def walk_words(facts, step, universal):
     points = step.walk
     sub = tick(facts, step.constraint.sub)
     holds = [end(facts, universal), ", which ", sub, " holds"]
+    leaves = "unwinds" if unwinds(facts, points[-1]) else "returns"
     if len(points) == 1:
-        return ["The function returns right there, and the walk goes on to ", *holds]
-    return ["Inside ", sub, f" a walk from there ({walk_text(points)}) leads to the return at point {points[-1]}, "
-            "and on to ", *holds]
+        return [f"The function {leaves} right there, and the walk goes on to ", *holds]
+    return ["Inside ", sub, f" a walk from there ({walk_text(points)}) leads to point {points[-1]}, where the function "
+            f"{leaves}, and on to ", *holds]
+
+
+def unwinds(facts, point):
+    """Whether a panic goes out of the function there; that is a return, too, as far as regions go."""
+    return facts.remarks.point(point).statement().rstrip(";") in ("resume", "UnwindResume")
 
 
 def walk_text(points, most=7):

@@ -3,8 +3,10 @@
 import io
 import os
 import stat
+import subprocess
 import sys
 import tempfile
+import time
 import unittest
 from contextlib import redirect_stderr, redirect_stdout
 from unittest import mock
@@ -102,8 +104,10 @@ class Commands(unittest.TestCase):
         lines = out.splitlines()
         self.assertEqual(status, 0)
         self.assertEqual(lines[1], f"{self.folder}/pick.rs:7: `'b` must outlive `'a`, which the signature doesn’t say")
-        self.assertIn("After `goto -> bb4`" if "goto" in lines[4] else "After `best = copy second` (line 7)", lines[4])
-        self.assertEqual(len(lines), 5)
+        self.assertEqual(lines[2:], [
+            "    `end('a)` comes",
+            "    to `'best`, the type of best: after `_0 = copy best` (line 9), inside `'a` by 8",
+            "    to `'b`, 'b of the signature: after `best = copy second` (line 7), inside `'best` by 6 → 7 → 8"])
 
     def test_a_text_without_remarks(self):
         bare = self.write("bare.facts", b"".join(
@@ -126,7 +130,7 @@ class Commands(unittest.TestCase):
                                        ("nllc.sh", "", nllc.PROVED), ("nllc", "", nllc.UNKNOWN)):
             self.program(script, f'{line}\nexec "{sys.executable}" "{REFERENCE}" "$@"')
             with mock.patch.dict(os.environ, {"NLLC": self.path(script)}):
-                self.assertEqual(nllc.run(self.path("pick.facts")).standing, standing)
+                self.assertEqual(nllc.run(file_bytes(SAMPLES, "pick.facts")).standing, standing)
 
     # What is refused
 
@@ -183,6 +187,21 @@ class Commands(unittest.TestCase):
         self.refused("can't be written: Is a directory", self.path("pick.facts"), "-o", self.path("folder.html"),
                      status=3)
         self.refused("would be written over .*pick.facts", self.path("pick.facts"), "-o", self.path("pick.facts"))
+
+    def test_a_pipe_without_a_name_for_the_page(self):
+        os.mkfifo(self.path("pipe"))
+        self.refused("pipe has no place beside it; name the page by -o", self.path("pipe"))
+
+    def test_a_run_that_is_stopped(self):
+        self.program("slow", "sleep 20")
+        with mock.patch.dict(os.environ, {"NLLC": self.path("slow")}):
+            run = subprocess.Popen([os.path.join(ROOT, "tools", "nll-page"), self.path("pick.facts")],
+                                   stdout=subprocess.PIPE, stderr=subprocess.PIPE, text=True)
+        time.sleep(0.5)
+        run.terminate()
+        out, err = run.communicate(timeout=10)
+        self.assertEqual((run.returncode, out, err), (130, "", "nll-page: stopped\n"))
+        self.assertNotIn("pick.html", os.listdir(self.folder))
 
     def test_words(self):
         for words in ([], ["a", "b", "c"], ["--color", self.path("pick.facts")]):

@@ -11,7 +11,7 @@ from nll_page.lines import rows, straight_lines, title
 
 
 def lines_of(points, *edges):
-    return straight_lines(facts_of(points, *(f"next {a} {b}" for a, b in edges)))
+    return straight_lines(facts_of(points, *(f"next {a} {b}" for a, b in edges)).successors)
 
 
 class Folding(unittest.TestCase):
@@ -40,7 +40,7 @@ class Folding(unittest.TestCase):
         """Each point is in one line; neighbours in a line are each other's only ones, and others aren't."""
         for seed in range(300):
             facts = read_facts(random_text(seed), "TEXT")
-            lines = straight_lines(facts)
+            lines = straight_lines(facts.successors)
             self.assertEqual(sorted(p for line in lines for p in line), list(range(facts.points)))
             inside = {(a, b) for line in lines for a, b in zip(line, line[1:])}
             for p in range(facts.points):
@@ -58,6 +58,14 @@ class Folding(unittest.TestCase):
         self.assertEqual(title(facts, [0, 1, 2, 3]), ("bb0", "0–3"))
         self.assertEqual(title(facts, [3]), ("", "3"))
         self.assertEqual(title(facts, [3, 2]), ("", "3 … 2"))
+
+
+    def test_marks_share_a_row(self):
+        facts = facts_of(5, "# point 0: line 1: StorageLive(_1) (bb0[0])", "# point 1: line 1: StorageDead(_2) (bb0[1])",
+                         "# point 2: line 1: _1 = _2 (bb0[2])", "# point 3: line 1: StorageLive(_3) (bb0[3])",
+                         "# point 4: line 2: StorageLive(_4) (bb0[4])")
+        self.assertEqual([row.points for row in rows(facts, range(5))], [[0, 1], [2], [3], [4]])
+        self.assertEqual(rows(facts, range(5))[0].text, "StorageLive(_1), StorageDead(_2)")
 
 
 class Layers(unittest.TestCase):
@@ -103,6 +111,11 @@ class Layers(unittest.TestCase):
             pairs = sum(a > b for at, b in enumerate(numbers) for a in numbers[:at])
             self.assertEqual(layout.inversions(numbers, 8), pairs)
 
+    def test_what_hangs_together_stands_together(self):
+        shape, _ = self.drawn(5, [(0, 2), (1, 3), (3, 1)])
+        self.assertEqual(shape.layers[:2], [[0], [2]])
+        self.assertEqual(sorted(shape.layers[2]), [1, 4])
+
     def test_no_crossing_where_none_is_needed(self):
         edges = [(0, 1), (0, 2), (0, 3), (1, 6), (2, 5), (3, 4), (4, 7), (5, 7), (6, 7)]
         shape, _ = self.drawn(8, edges)
@@ -125,7 +138,12 @@ class Drawings(unittest.TestCase):
         edges = [f"next {p} {p + 1}" for p in range(5)] + [f"next {p} 6" for p in range(4)]
         graph = drawing.graph_of(facts_of(7, "# point 6: resume (bb9[0])", *edges, "return 5", "return 6"))
         self.assertEqual(graph.stubs, {0: [6], 1: [6], 2: [6], 3: [6]})
-        self.assertEqual(graph.returning, [True] * 5 + [False])
+        self.assertEqual((graph.lines, graph.edges), ([[0, 1, 2, 3, 4, 5], [6]], []))
+        self.assertEqual(graph.returning, [True, False])
+
+    def test_a_single_edge_to_such_code_is_drawn(self):
+        graph = drawing.graph_of(facts_of(3, "next 0 1", "next 0 2", "return 1"))
+        self.assertEqual((graph.stubs, graph.edges, graph.returning), ({}, [(0, 1), (0, 2)], [True, True, False]))
 
     def test_a_function_that_never_returns(self):
         graph = drawing.graph_of(facts_of(2, "next 0 1", "next 1 0"))

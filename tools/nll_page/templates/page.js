@@ -77,8 +77,10 @@ for (const place of all("[data-p]")) {
 }
 const edges = new Map();
 for (const edge of all("[data-edge]")) {
-  if (!edges.has(edge.dataset.edge)) edges.set(edge.dataset.edge, []);
-  edges.get(edge.dataset.edge).push(edge);
+  for (const way of edge.dataset.edge.split(" ")) {
+    if (!edges.has(way)) edges.set(way, []);
+    edges.get(way).push(edge);
+  }
 }
 const regionButtons = all(".region");
 
@@ -142,8 +144,11 @@ function chip(words, on, act) {
   return button;
 }
 
-const regionChip = (region) =>
-  chip(regionName(region), region === chosen.region, () => chooseRegion(region));
+function regionChip(region) {
+  const button = chip(regionName(region), region === chosen.region, () => chooseRegion(region));
+  button.title = data.regions[region].what;
+  return button;
+}
 const elementChip = (element) =>
   chip(elementName(element), element === chosen.element, () => chooseElement(element));
 
@@ -160,7 +165,7 @@ function describe(why) {
   if (chosen.region !== null) parts.push(regionWords(chosen.region));
   if (chosen.element !== null) parts.push(elementWords(chosen.element));
   if (chosen.region !== null && chosen.element !== null) {
-    parts.push(bothWords(chosen.region, chosen.element, why));
+    parts.unshift(bothWords(chosen.region, chosen.element, why));
   }
   if (!parts.length) {
     parts.push(make("p", "hint", "Choose a region to light its points, or a point to see which regions hold it."));
@@ -299,6 +304,7 @@ function chooseStep(step) {
   Object.assign(chosen, { step: same ? null : step, region: same ? null : Number(step.dataset.r), element: null });
   show();
   if (same) return;
+  reveal(step);
   const [first] = stepWalk(step);
   openLine(first);
   for (const place of places.get(first) || []) reveal(place);
@@ -309,8 +315,11 @@ function openLine(element) {
   if (place) place.closest("details").open = true;
 }
 
-function reveal(place) {
-  if (place && place.getClientRects().length) place.scrollIntoView({ block: "nearest", inline: "nearest" });
+function reveal(place, block = "nearest") {
+  if (!place || !place.getClientRects().length) return;
+  const frame = place.closest(".box")?.querySelector(".frame");
+  if (frame) frame.scrollIntoView({ block: "nearest", inline: "nearest" });
+  place.scrollIntoView({ block, inline: "nearest" });
 }
 
 // Scrolls each pane to the first of the points, where none of them is in sight.
@@ -323,7 +332,7 @@ function revealAny(points) {
       const its = place.getBoundingClientRect();
       return its.top >= box.top && its.bottom <= box.bottom && its.left >= box.left && its.right <= box.right;
     });
-    if (here.length && !inSight) here[0].scrollIntoView({ block: "center", inline: "center" });
+    if (here.length && !inSight) reveal(here[0], "center");
   }
 }
 
@@ -439,6 +448,7 @@ function zoomTo(next) {
     svg.setAttribute("width", width * scale);
     svg.setAttribute("height", height * scale);
   }
+  pane.classList.toggle("small", scale < 0.45);
   pane.scrollLeft = middle[0] * scale - pane.clientWidth / 2;
   pane.scrollTop = middle[1] * scale - pane.clientHeight / 2;
 }
@@ -456,8 +466,7 @@ function setView(view) {
   for (const name of ["statements", "folded"]) {
     byId(`view-${name}`).setAttribute("aria-pressed", String(name === view));
   }
-  const picked = document.querySelector(`.graph.${view} .picked`) || document.querySelector(`.graph.${view} .cell`);
-  reveal(picked);
+  reveal(document.querySelector(`.graph.${view} .cell.picked`) || document.querySelector(`.graph.${view} .cell`));
 }
 
 // Tabs, filter, scheme, the address
@@ -565,11 +574,11 @@ for (const members of [regionButtons, all("#points .point"), all(".end"), all(".
 }
 for (const rows of all("#source .rows")) rove([], rows.querySelector(".point"));
 for (const { svg, width } of svgs) {
-  const cell = svg.querySelector(".cell");
+  const frame = svg.querySelector(".frame");
   const pane = byId("graph");
-  if (cell.getClientRects().length && width > pane.clientWidth) {
-    const box = cell.getBoundingClientRect();
-    pane.scrollLeft = box.x - pane.getBoundingClientRect().x - pane.clientWidth / 2 + 40;
+  if (frame.getClientRects().length && width > pane.clientWidth) {
+    const box = frame.getBoundingClientRect();
+    pane.scrollLeft = box.x + box.width / 2 - pane.getBoundingClientRect().x - pane.clientWidth / 2;
   }
 }
 const address = location.hash; // before `show` writes it anew

@@ -284,7 +284,9 @@ def texts(folder):
 
 
 def drive(browser, path, folder, shots):
-    report = nllc.run(path)
+    with open(path, "rb") as file:
+        text = file.read()
+    report = nllc.run(text)
     values_path = os.path.join(folder, "report")
     with open(values_path, "w", encoding="utf-8") as file:
         file.write(report.values)
@@ -292,8 +294,7 @@ def drive(browser, path, folder, shots):
     with contextlib.redirect_stdout(io.StringIO()):
         if make_page([path, "--values", values_path, "-o", out]):
             return [f"{path}: no page"]
-    with open(path, "rb") as file:
-        facts = read_facts(file.read(), path)
+    facts = read_facts(text, path)
     values = read_values(report.values, facts, path)
     wrong = [line for scheme in ("light", "dark") for line in Drive(browser, out, facts, values, scheme, shots).all()]
     print(f"{os.path.basename(path)}: {facts.points} points, {len(facts.names)} regions: "
