@@ -84,7 +84,7 @@ def units(room: str) -> list[tuple[str, str, str]]:
 def jobs_of_unit(dumps: list[Dump], folder: str, root: str) -> list[Job]:
     jobs: list[Job] = []
     taken: set[str] = set()
-    for dump in dumps:
+    for dump in (dump for dump in dumps if dump.is_function):
         path = free_path(folder, dump.file_name, taken)
         taken.add(path)
         jobs.append(Job(dump, path, root))

@@ -88,27 +88,28 @@ def problems_of_file(file: str, function: Optional[str], edition: str,
         dumps = find_dumps(run.facts, run.mir, CRATE)
         for error in run.errors:
             sys.stderr.write(error.rendered)
-        if not dumps:
-            raise Refusal(f"rustc refuses {file} before it checks borrows: mend what it says above"
-                          if run.errors else f"{file} has no function with a body")
-        chosen = [choose(dumps, function)] if function else dumps
-        if not function:
-            refuse_unchecked(file, run.errors, dumps)
+        if run.errors and not dumps:
+            raise Refusal(f"rustc refuses {file} before it checks borrows: mend what it says above")
+        chosen = [choose(dumps, function)] if function else functions(file, run.errors, dumps)
         return [(dump, convert(dump)) for dump in chosen], bool(run.errors)
 
 
-def refuse_unchecked(file: str, errors: list[Error], dumps: list[Dump]) -> None:
-    """Refuses a file with an error outside the functions whose borrows rustc has checked.
+def functions(file: str, errors: list[Error], dumps: list[Dump]) -> list[Dump]:
+    """All functions; refuses a file with an error outside those whose borrows rustc has checked.
 
     A function that has facts was checked. So an error inside it is one of the borrow checker, and
     its facts are what is wanted.
     """
+    found = [dump for dump in dumps if dump.is_function]
+    if not found:
+        raise Refusal(f"{file} has no function with a body: nothing in it has regions to solve")
     for error in errors:
         inside = [line for line in error.lines if any(
             dump.span and dump.span.first <= line <= dump.span.last for dump in dumps)]
         if error.lines and not inside:
             raise Refusal(f"rustc refuses {file} before it checks all borrows: mend what it says "
                           f"above of line {error.lines[0]}, or name a function that has no error")
+    return found
 
 
 def write_all(out: Optional[str], file: str, problems: list[tuple[Dump, Problem]]) -> list[str]:

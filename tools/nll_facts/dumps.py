@@ -14,13 +14,17 @@ HEADER = re.compile(r"(?:unsafe\s+)?impl\b")
 
 @dataclass(frozen=True)
 class Dump:
-    """The files of one function: its name for a person, its tables' folder, its MIR, its lines."""
+    """The files of one function: its name for a person, its tables' folder, its MIR, its lines.
+
+    The value of a constant is a body of its own too, which is answered where it is asked for alone.
+    """
 
     name: str
     file_name: str
     facts: str
     mir: str
     span: Optional[Span]
+    is_function: bool = True
 
 
 def closure_note(function: str) -> str:
@@ -56,7 +60,7 @@ def dump_of(facts: str, mir_path: str, root: str) -> Dump:
     lines = [span for span in body.spans() if head and span.file == head.file]
     span = Span(head.file, min(s.first for s in lines), max(s.last for s in lines)) if lines else None
     name = IMPL_AT.sub(lambda found: impl_name(found, root), body.path)
-    return Dump(name, file_name(os.path.basename(facts)), facts, mir_path, span)
+    return Dump(name, file_name(os.path.basename(facts)), facts, mir_path, span, body.is_function)
 
 
 def file_name(folder: str) -> str:
@@ -109,7 +113,8 @@ def choose(dumps: list[Dump], wanted: str) -> Dump:
     fitting = fitting or [dump for dump in dumps if dump.name.endswith(f"::{wanted}")]
     if not fitting:
         known = ", ".join(dump.name for dump in dumps[:12]) + (", .." if len(dumps) > 12 else "")
-        raise Refusal(f"no function `{wanted}` has facts; these do: {known}")
+        raise Refusal(f"no function `{wanted}` has facts (one without a body has none, nor one whose "
+                      f"types rustc refuses); these do: {known}")
     if len(fitting) > 1:
         places = ", ".join(f"{dump.name} (line {line_of(dump)})" for dump in fitting)
         raise Refusal(f"`{wanted}` fits several functions: {places}; "

@@ -44,7 +44,8 @@ def unpack(source, folder):
 def texts_of(folder):
     """The texts of all functions that rustc left in a folder, by file name."""
     dumps = find_dumps(os.path.join(folder, "facts"), os.path.join(folder, "mir"), CRATE, HERE)
-    return {f"{dump.file_name}.facts": facts_text(convert(dump)) for dump in dumps}
+    return {f"{dump.file_name}.facts": facts_text(convert(dump)) for dump in dumps
+            if dump.is_function}
 
 
 def golden_texts(source):

@@ -117,7 +117,8 @@ class Refused(Room):
 
     def test_unknown_name(self):
         done = self.convert("fn f() {}\ntrait T { fn g(&self); }\n", "g")
-        self.refused(done, "no function `g` has facts; these do: f")
+        self.refused(done, "no function `g` has facts (one without a body has none, "
+                     "nor one whose types rustc refuses); these do: f")
 
     def test_name_of_several(self):
         done = self.convert("mod a { pub fn f() {} }\nmod b { pub fn f() {} }\n", "f")
