@@ -82,16 +82,29 @@ def one_file(asked: argparse.Namespace) -> int:
 
 def problems_of_file(file: str, function: Optional[str], edition: str,
                      options: list[str]) -> tuple[list[tuple[Dump, Problem]], bool]:
-    """The problems of a file's functions, or of the one, and whether rustc told errors, shown."""
+    """The problems of a file's functions, or of the one, and whether rustc refuses any of them.
+
+    What rustc says against them is shown.
+    """
     with tempfile.TemporaryDirectory(prefix="nll-facts.") as room:
         run = run_rustc(file, room, [f"--edition={edition}", *options], sys.stderr.isatty())
         dumps = find_dumps(run.facts, run.mir, CRATE)
-        for error in run.errors:
-            sys.stderr.write(error.rendered)
         if run.errors and not dumps:
+            show(run.errors)
             raise Refusal(f"rustc refuses {file} before it checks borrows: mend what it says above")
-        chosen = [choose(dumps, function)] if function else functions(file, run.errors, dumps)
-        return [(dump, convert(dump)) for dump in chosen], bool(run.errors)
+        if not function:
+            show(run.errors)
+            chosen = functions(file, run.errors, dumps)
+            return [(dump, convert(dump)) for dump in chosen], bool(run.errors)
+        dump = choose(dumps, function)
+        errors = [error for error in run.errors if any(map(dump.has_line, error.lines))]
+        show(errors)
+        return [(dump, convert(dump))], bool(errors)
+
+
+def show(errors: list[Error]) -> None:
+    for error in errors:
+        sys.stderr.write(error.rendered)
 
 
 def functions(file: str, errors: list[Error], dumps: list[Dump]) -> list[Dump]:
@@ -104,8 +117,7 @@ def functions(file: str, errors: list[Error], dumps: list[Dump]) -> list[Dump]:
     if not found:
         raise Refusal(f"{file} has no function with a body: nothing in it has regions to solve")
     for error in errors:
-        inside = [line for line in error.lines if any(
-            dump.span and dump.span.first <= line <= dump.span.last for dump in dumps)]
+        inside = any(dump.has_line(line) for dump in dumps for line in error.lines)
         if error.lines and not inside:
             raise Refusal(f"rustc refuses {file} before it checks all borrows: mend what it says "
                           f"above of line {error.lines[0]}, or name a function that has no error")

@@ -26,6 +26,9 @@ class Dump:
     span: Optional[Span]
     is_function: bool = True
 
+    def has_line(self, line: int) -> bool:
+        return self.span is not None and self.span.first <= line <= self.span.last
+
 
 def closure_note(function: str) -> str:
     """What to know of a closure's faults; empty for other functions."""
@@ -124,7 +127,7 @@ def choose(dumps: list[Dump], wanted: str) -> Dump:
 
 def choose_at(dumps: list[Dump], line: int) -> Dump:
     """The smallest function round a line."""
-    fitting = [dump for dump in dumps if dump.span and dump.span.first <= line <= dump.span.last]
+    fitting = [dump for dump in dumps if dump.has_line(line)]
     if not fitting:
         raise Refusal(f"no function with facts has line {line}")
     return min(fitting, key=lambda dump: dump.span.last - dump.span.first)

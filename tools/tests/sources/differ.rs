@@ -1,5 +1,7 @@
 //! Functions of which `nllc` and today's rustc say different things, or the same fault.
 
+use std::collections::HashMap;
+
 static ZERO: u8 = 0;
 
 fn read(_: &u8) {}
@@ -42,4 +44,16 @@ pub fn at_last<'a>(x: &'a u8, n: u8) -> &'static u8 {
     }
     r = &ZERO;
     r // holds: r
+}
+
+/// Problem case 3 of RFC 2094 as it is written there. rustc: `map` is still borrowed at `insert`.
+/// nllc: it isn't, since the first borrow goes out on the other way alone.
+pub fn get_default<'r>(map: &'r mut HashMap<u32, u32>, key: u32) -> &'r mut u32 {
+    match map.get_mut(&key) {
+        Some(value) => value, // holds: &mut (*map)
+        None => {
+            map.insert(key, 0);
+            map.get_mut(&key).unwrap()
+        }
+    }
 }
