@@ -27,6 +27,20 @@ class WrongValues(Exception):
 
 def chain(facts, values, region, universal):
     """The steps that bring the end of the universal region to the region."""
+    return chains(facts, values, [region], universal)[region]
+
+
+def chains(facts, values, regions, universal):
+    """For each of the regions the steps that bring the end of the universal region to it."""
+    came_by = search(facts, values, set(regions), universal)
+    missing = [region for region in regions if region not in came_by]
+    if missing:
+        raise WrongValues(f"no constraints bring end('{facts.names[universal]}) to '{facts.names[missing[0]]}")
+    return {region: backwards(came_by, region, universal) for region in regions}
+
+
+def search(facts, values, wanted, universal):
+    """For each region to which the end comes the last step of a shortest chain, until all that are wanted have one."""
     end = facts.end_of(universal)
     by_sub = {}
     for constraint in facts.constraints:
@@ -34,10 +48,10 @@ def chain(facts, values, region, universal):
     best = {universal: (0, 0)}
     came_by = {}
     heap = [(0, 0, universal)]
-    while heap:
+    left = set(wanted)
+    while heap and left:
         steps, points, sub = heapq.heappop(heap)
-        if sub == region:
-            return backwards(came_by, region, universal)
+        left.discard(sub)
         if (steps, points) > best[sub]:
             continue
         onward = ways_to_return(facts, values.set_of(sub))
@@ -48,7 +62,7 @@ def chain(facts, values, region, universal):
                 best[constraint.sup] = cost
                 came_by[constraint.sup] = Step(constraint, walk(onward, constraint.at))
                 heapq.heappush(heap, (*cost, constraint.sup))
-    raise WrongValues(f"no constraints bring end('{facts.names[universal]}) to '{facts.names[region]}")
+    return came_by
 
 
 def backwards(came_by, region, universal):

@@ -98,12 +98,13 @@ def content_of(asked):
 def explained(facts, values, found, origin):
     """The faults with their chains, each checked against the values."""
     try:
-        answer = []
-        for sup, sub in found:
-            steps = chains.chain(facts, values, sup, sub)
-            chains.check(facts, values, sup, sub, steps)
-            answer.append(Fault(sup, sub, steps))
-        return answer
+        steps = {}
+        for universal in {sub for _, sub in found}:
+            regions = [sup for sup, sub in found if sub == universal]
+            for region, its in chains.chains(facts, values, regions, universal).items():
+                chains.check(facts, values, region, universal, its)
+                steps[region, universal] = its
+        return [Fault(sup, sub, steps[sup, sub]) for sup, sub in found]
     except chains.WrongValues as wrong:
         raise Refusal(f"the values of {origin} don't follow from the text: {wrong}") from None
 

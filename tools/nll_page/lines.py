@@ -5,7 +5,7 @@ from typing import NamedTuple
 
 # Statements of MIR that do nothing to a reference.
 MARK = re.compile(r"(?:StorageLive|StorageDead|FakeRead|PlaceMention|nop|Coverage)\b")
-MOST_IN_ROW = 8
+MOST_IN_ROW = 4
 
 
 class Row(NamedTuple):

@@ -153,10 +153,13 @@ def what_span(what):
 
 def region_list(content):
     facts = content.facts
+    foreign = any(element >= facts.points and element != facts.end_of(region)
+                  for region in range(len(facts.names)) for element in content.values.elements(region))
     groups = [("Of the signature", range(facts.universals)),
               ("Of the body", range(facts.universals, len(facts.names)))]
+    kind = "regions with-ends" if foreign else "regions"
     return "".join(f'<h3 class="group">{text(title)}</h3>'
-                   f'<ul class="regions">{"".join(region_item(content, region) for region in group)}</ul>'
+                   f'<ul class="{kind}">{"".join(region_item(content, region) for region in group)}</ul>'
                    for title, group in groups if group)
 
 
@@ -169,7 +172,7 @@ def region_item(content, region):
     what = region_words(facts, region)
     return (f'<li><button type="button" class="region{empty}" data-r="{region}" aria-pressed="false" tabindex="-1" '
             f'title="{text(what)}"><code class="name">&#x27;{text(facts.names[region])}</code>'
-            f'<span class="what">{text(facts.remarks.region(facts.names[region]).text or what)}</span>'
+            f'<span class="what">{text(short_words(facts, region) or what)}</span>'
             f"{barcode(facts, points)}{end_marks(facts, region, ends)}</button></li>")
 
 
@@ -180,6 +183,10 @@ def region_words(facts, region):
         return words.region_words(facts, region)
     line = f"line {remark.line}" if remark.line is not None else ""
     return ", ".join(part for part in (remark.text, line) if part)
+
+
+def short_words(facts, region):
+    return facts.remarks.region(facts.names[region]).text.removeprefix("the ")
 
 
 def barcode(facts, points):

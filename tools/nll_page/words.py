@@ -53,10 +53,6 @@ def spans(elements):
     return runs
 
 
-def span_text(runs):
-    return ", ".join(str(a) if a == b else f"{a}–{b}" for a, b in runs)
-
-
 MOST_ORIGINS = 3    # of more statements none is named
 
 

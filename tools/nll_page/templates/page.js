@@ -239,7 +239,8 @@ function elementWords(element) {
     part.append(make("h2", "", code(elementName(element)), make("span", "what", "after the return")));
   }
   const own = holding.filter((region) => region >= data.universals || !isPoint(element));
-  part.append(line(`held by ${own.length === 1 ? "1 region" : `${own.length} regions`}`, ...some(own.map(regionChip), 80)));
+  const count = own.length === 0 ? "no region of the body" : own.length === 1 ? "1 region" : `${own.length} regions`;
+  part.append(line(`held by ${count}`, ...some(own.map(regionChip), 80)));
   if (isPoint(element)) {
     part.append(make("p", "label", data.universals === 1 ? "and by 'static, which holds every point"
       : `and by the ${data.universals} regions of the signature, which hold every point`));

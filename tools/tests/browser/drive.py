@@ -105,6 +105,7 @@ class Drive:
         self.shot("first")
         self.regions()
         self.points()
+        self.source()
         self.steps()
         self.keyboard()
         self.views()
@@ -161,6 +162,26 @@ class Drive:
         }})()""")
         self.expect("a point chosen in the list isn't in sight in the graph", in_sight)
         self.shot("point")
+
+    def source(self):
+        """Where there is a source, a line's strip is lit as its points are, and a point in an opened line can be chosen."""
+        if self.page.value("document.getElementById('tab-source') === null"):
+            return
+        self.page.value("clear()")
+        self.page.click("#tab-source")
+        region = len(self.facts.names) - 1
+        self.page.click(f".region[data-r='{region}']")
+        lit = self.page.value("""[...document.querySelectorAll("#source .strip i.held")]
+            .map((one) => Number(one.dataset.p)).sort((a, b) => a - b)""")
+        wanted = [p for p in self.values.elements(region) if p < self.facts.points and self.facts.remarks.point(p).line]
+        self.expect("the strips are lit otherwise", lit == wanted)
+        self.shot("source")
+        point = self.facts.points - 1
+        line = self.facts.remarks.point(point).line
+        self.page.value("document.querySelectorAll('#source details').forEach((one) => one.open = false)")
+        self.page.click(f"#line-{line} summary")
+        self.page.click(f"#line-{line} .point[data-p='{point}']")
+        self.expect("a point of an opened line isn't chosen", self.numbers("#graph .cell.picked") == [point])
 
     def check_holders(self, point):
         own = range(self.facts.universals, len(self.facts.names))
