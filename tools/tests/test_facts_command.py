@@ -183,7 +183,9 @@ class OneCommand(Room):
     def test_fault_in_words(self):
         done = self.rust(support.source_path("differ"), "longer")
         self.assertEqual(done.returncode, 1, done.stderr)
-        self.assertIn("sources/differ.rs:24: `'b` must outlive `'a`", done.stdout)
+        with open(os.path.join(support.HERE, support.source_path("differ")), encoding="utf-8") as file:
+            line = file.read().split("\n").index("        r = y;") + 1
+        self.assertIn(f"sources/differ.rs:{line}: `'b` must outlive `'a`", done.stdout)
         self.assertIn(f"page: {self.path('o', 'longer.html')}", done.stdout)
         self.assertTrue(os.path.isfile(self.path("o", "longer.html")))
 
