@@ -66,10 +66,7 @@ def convert(dump: Dump, root: str = "") -> Problem:
     regions = Regions(tables)
     asked = list(constraints(dump.name, points, tables, regions))
     universals = kept_universals(body.names, regions, tables, asked)
-    mentioned = [region for _, region in tables.use_of_var_derefs_origin]
-    mentioned += [region for region, _ in tables.loan_issued_at]
-    mentioned += [region for sup, sub, _ in asked for region in (sup, sub)]
-    others = regions.classes(mentioned)
+    others = regions.classes(mentioned(tables, asked))
     names = name_regions(body, [*universals, *others])
     wording = Wording(body, tables, regions, names)
     said = origins(tables, regions, wording)
@@ -111,12 +108,21 @@ def constraints(function: str, points: Points, tables: Tables,
             yield sup, sub, at
 
 
+def mentioned(tables: Tables, asked: list[tuple[int, int, int]]) -> Iterator[int]:
+    """The regions of variables' types and drops, of borrows and of constraints."""
+    yield from (region for _, region in tables.use_of_var_derefs_origin)
+    yield from (region for _, region in tables.drop_of_var_derefs_origin)
+    yield from (region for region, _ in tables.loan_issued_at)
+    for sup, sub, _ in asked:
+        yield sup
+        yield sub
+
+
 def kept_universals(own_names: dict[int, str], regions: Regions, tables: Tables,
                     asked: list[tuple[int, int, int]]) -> list[int]:
     """The universal regions without rustc's own one of the body, where nothing speaks of it."""
     *others, last = regions.universals
-    spoken = {regions.find(region) for _, region in tables.use_of_var_derefs_origin}
-    spoken.update(region for sup, sub, _ in asked for region in (sup, sub))
+    spoken = {regions.find(region) for region in mentioned(tables, asked)}
     is_body = last not in own_names and last not in spoken
     return others if is_body and others else regions.universals
 

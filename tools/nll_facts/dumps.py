@@ -68,7 +68,7 @@ def dump_of(facts: str, mir_path: str, root: str) -> Dump:
 
 def file_name(folder: str) -> str:
     """The name of rustc's folder without what shells and people stumble over."""
-    return re.sub(r"[^A-Za-z0-9_.-]+", "", folder).lstrip("-.") or "function"
+    return re.sub(r"[^\w.-]+", "", folder).lstrip("-.") or "function"
 
 
 def impl_name(found: re.Match, root: str) -> str:
@@ -87,11 +87,12 @@ def impl_name(found: re.Match, root: str) -> str:
 
 
 def type_name(header: str) -> Optional[str]:
-    """`S` of `impl<'a, T> Iterator for module::S<'a, T> where ..`; None where it is no such head."""
-    begin = HEADER.match(header.strip())
+    """`S` of `impl<'a, T> Iterator for module::S<'a, T> where ..`; of a derived one `derive(Debug)`."""
+    header = header.strip()
+    begin = HEADER.match(header)
     if not begin:
-        return None
-    flat = without_arguments(header.strip()[begin.end():].replace("->", ""))
+        return f"derive({header})" if re.fullmatch(r"\w+", header) else None
+    flat = without_arguments(header[begin.end():].replace("->", ""))
     subject = flat.split(" where ")[0].split(" for ")[-1]
     words = re.findall(r"\w+", subject)
     return words[-1] if words else None

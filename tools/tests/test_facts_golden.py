@@ -8,6 +8,9 @@ import unittest
 import facts_support as support
 from nll_facts.mir import read_body
 from nll_facts.tables import read_tables
+from nll_page import chains
+from nll_page import facts as page_facts
+from nll_page import values as page_values
 
 HOLDS = re.compile(r"// (holds|of): (.*)")
 NO_STATEMENT = re.compile(r"[\s{}();]*(else)?[\s{}();]*|\s*pub fn .*")
@@ -120,6 +123,36 @@ class Faults(unittest.TestCase):
             for name, text in support.golden_texts(source).items():
                 with self.subTest(text=f"{source}/{name}"):
                     self.assertEqual(support.faults(text), [])
+
+
+class Chains(unittest.TestCase):
+    """The chain that a page tells for each fault, judged by the slow reference alone."""
+
+    def test_each_step(self):
+        for function, faults in Faults.FAULTS.items():
+            text = support.golden_text("differ", function)
+            for fault in faults:
+                with self.subTest(function=function, fault=fault):
+                    self.judge(text, *fault)
+
+    def judge(self, text, long, short):
+        facts = page_facts.read_facts(text.encode(), "golden")
+        report = support.reference.answer("values", text.encode())[0].decode()
+        values = page_values.read_values(report, facts, "reference")
+        steps = chains.chain(facts, values, facts.names.index(long), facts.names.index(short))
+        problem = support.said(text)
+        solved = support.reference.solve(problem)
+        end = problem.points + problem.universals.index(short.encode())
+        holder = short.encode()
+        for step in steps:
+            sup, sub = (facts.names[r].encode() for r in (step.constraint.sup, step.constraint.sub))
+            self.assertEqual(sub, holder)
+            self.assertIn((sup, sub, step.constraint.at), problem.constraints)
+            reached = support.reference.reach(problem, step.constraint.at, solved[sub])
+            self.assertIn(end, reached)
+            self.assertTrue(set(step.walk) <= reached <= solved[sup])
+            holder = sup
+        self.assertEqual(holder, long.encode())
 
 
 class Ends(unittest.TestCase):

@@ -92,7 +92,8 @@ class Names(unittest.TestCase):
             "impl<'a, T: Fn() -> u8> module::S<'a, T>": "S",
             "unsafe impl<T> Send for Box<S<T>> where T: Send": "Box",
             "impl Iterator for &S": "S",
-            "Debug": None,
+            "Debug": "derive(Debug)",
+            "&mut *self": None,
         }.items():
             self.assertEqual(type_name(header), name, header)
 
