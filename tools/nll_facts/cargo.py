@@ -1,4 +1,4 @@
-"""All functions of a crate: `cargo check` with a wrapper round rustc, then the functions as jobs."""
+"""All functions of a crate: `cargo check` with a wrapper round rustc, then a job for each."""
 
 import argparse
 import json

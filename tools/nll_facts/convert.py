@@ -93,7 +93,7 @@ def convert(dump: Dump, root: str = "") -> Problem:
 
 def constraints(function: str, points: Points, tables: Tables,
                 regions: Regions) -> Iterator[tuple[int, int, int]]:
-    """Each constraint once: what a statement asks at each point after it, the rest at each point."""
+    """Each constraint once: what a statement asks, at the points after it; the rest everywhere."""
     subsets = tables.subset_base
     located = {(regions.find(sup), regions.find(sub), following)
                for sup, sub, spot in subsets.located

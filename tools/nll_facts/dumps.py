@@ -61,7 +61,9 @@ def dump_of(facts: str, mir_path: str, root: str) -> Dump:
     result = body.locals.get(0)
     head = result.span if result else None
     lines = [span for span in body.spans() if head and span.file == head.file]
-    span = Span(head.file, min(s.first for s in lines), max(s.last for s in lines)) if lines else None
+    span = None
+    if lines:
+        span = Span(head.file, min(s.first for s in lines), max(s.last for s in lines))
     name = IMPL_AT.sub(lambda found: impl_name(found, root), body.path)
     return Dump(name, file_name(os.path.basename(facts)), facts, mir_path, span, body.is_function)
 
@@ -87,7 +89,7 @@ def impl_name(found: re.Match, root: str) -> str:
 
 
 def type_name(header: str) -> Optional[str]:
-    """`S` of `impl<'a, T> Iterator for module::S<'a, T> where ..`; of a derived one `derive(Debug)`."""
+    """`S` of `impl<'a, T> Iterator for module::S<'a, T> where ..`; `derive(Debug)` of `Debug`."""
     header = header.strip()
     begin = HEADER.match(header)
     if not begin:
@@ -117,8 +119,8 @@ def choose(dumps: list[Dump], wanted: str) -> Dump:
     fitting = fitting or [dump for dump in dumps if dump.name.endswith(f"::{wanted}")]
     if not fitting:
         known = ", ".join(dump.name for dump in dumps[:12]) + (", .." if len(dumps) > 12 else "")
-        raise Refusal(f"no function `{wanted}` has facts (one without a body has none, nor one whose "
-                      f"types rustc refuses); these do: {known}")
+        raise Refusal(f"no function `{wanted}` has facts (one without a body has none, nor one "
+                      f"whose types rustc refuses); these do: {known}")
     if len(fitting) > 1:
         places = ", ".join(f"{dump.name} (line {line_of(dump)})" for dump in fitting)
         raise Refusal(f"`{wanted}` fits several functions: {places}; "

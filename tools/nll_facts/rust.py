@@ -1,4 +1,4 @@
-"""The one command from a Rust file to its pages: texts, what `nllc` says of them, a page of each."""
+"""The one command from a Rust file to its pages: a text, `nllc`'s answer and a page of each."""
 
 import argparse
 import os

@@ -1,4 +1,4 @@
-"""Puts statements, types and regions into words, with the names of the source where there are any."""
+"""Puts statements, types and regions into words, with the source's names where there are any."""
 
 import re
 from collections import Counter
@@ -42,7 +42,7 @@ class Wording:
                        and not VARIABLE.fullmatch(local.name)}
 
     def regions_of_borrows(self, tables: Tables) -> dict[Location, int]:
-        """The region of each borrow: of those that are loans, and of `_3 = &..` behind a shared one.
+        """The region of each borrow: of loans, and of `_3 = &..` behind a shared reference.
 
         rustc counts no loan of what a shared reference leads to. But the borrow's region is the one
         that must outlive the outer region in the type of `_3`.
@@ -85,7 +85,8 @@ class Wording:
     def code(self, location: Location) -> str:
         text = self.body.statements[location].text
         if location in self.borrows:
-            text = BORROW.sub(lambda found: f"{found[1]}{self.name(self.borrows[location])} ", text, 1)
+            name = self.name(self.borrows[location])
+            text = BORROW.sub(lambda found: f"{found[1]}{name} ", text, 1)
         return self.with_variables(text)
 
     def with_variables(self, text: str) -> str:

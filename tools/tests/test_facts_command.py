@@ -155,8 +155,8 @@ class Crate(Room):
         program = self.write("nllc", "#!/bin/sh\nexec python3 "
                              f"{support.ROOT}/bench/reference.py \"$@\"\n")
         os.chmod(program, 0o755)
-        done = support.run(FACTS, "--crate", self.path("ws"), "-o", self.path("o"), "--", "--workspace",
-                           "--offline", env=os.environ | {"NLLC": program})
+        done = support.run(FACTS, "--crate", self.path("ws"), "-o", self.path("o"), "--",
+                           "--workspace", "--offline", env=os.environ | {"NLLC": program})
         self.assertEqual(done.returncode, 0, done.stderr)
         self.assertRegex(done.stdout, r"one/src/lib\.rs +1 +2 +\d+\.\d +0\n")
         self.assertRegex(done.stdout, r"two/src/main\.rs +2 +\d+ +\d+\.\d +1\n")
@@ -183,7 +183,8 @@ class OneCommand(Room):
     def test_fault_in_words(self):
         done = self.rust(support.source_path("differ"), "longer")
         self.assertEqual(done.returncode, 1, done.stderr)
-        with open(os.path.join(support.HERE, support.source_path("differ")), encoding="utf-8") as file:
+        source = os.path.join(support.HERE, support.source_path("differ"))
+        with open(source, encoding="utf-8") as file:
             line = file.read().split("\n").index("        r = y;") + 1
         self.assertIn(f"sources/differ.rs:{line}: `'b` must outlive `'a`", done.stdout)
         self.assertIn(f"page: {self.path('o', 'longer.html')}", done.stdout)

@@ -23,7 +23,8 @@ from nll_page.command import main as page
 
 def tables(**given):
     """Tables that are empty but for some."""
-    rows = {name: [] for name in Tables.__dataclass_fields__} | {"subset_base": Subsets(set(), set())}
+    rows = {name: [] for name in Tables.__dataclass_fields__}
+    rows["subset_base"] = Subsets(set(), set())
     return Tables(**(rows | given))
 
 
@@ -61,7 +62,8 @@ class Liveness(unittest.TestCase):
                                     path_moved_at_base=[(7, mid(3))]), [])
 
     def test_drop_of_what_was_moved_in_part(self):
-        self.assertEqual(self.drops(path_assigned_at_base=[(7, mid(1))], child_path=[(8, 7), (9, 7)],
+        self.assertEqual(self.drops(child_path=[(8, 7), (9, 7)],
+                                    path_assigned_at_base=[(7, mid(1))],
                                     path_moved_at_base=[(8, mid(3))]), [2, 3, 4])
 
     def test_drop_of_what_was_never_there(self):
