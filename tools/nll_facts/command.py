@@ -9,6 +9,7 @@ from typing import Callable, Optional, Sequence
 from .cargo import whole_crate
 from .convert import Problem, convert
 from .dumps import Dump, choose, find_dumps
+from .progress import Progress
 from .refusal import Refusal
 from .rustc import CRATE, Error, run_rustc
 from .text import facts_text, free_path, make_folder, write_whole
@@ -87,7 +88,8 @@ def problems_of_file(file: str, function: Optional[str], edition: str,
     What rustc says against them is shown.
     """
     with tempfile.TemporaryDirectory(prefix="nll-facts.") as room:
-        run = run_rustc(file, room, [f"--edition={edition}", *options], sys.stderr.isatty())
+        with Progress(lambda: f"rustc checks {file}"):
+            run = run_rustc(file, room, [f"--edition={edition}", *options], sys.stderr.isatty())
         dumps = find_dumps(run.facts, run.mir, CRATE)
         if run.errors and not dumps:
             show(run.errors)

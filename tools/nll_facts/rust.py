@@ -9,10 +9,11 @@ from concurrent.futures import ThreadPoolExecutor
 from dataclasses import dataclass
 from typing import Sequence
 
-from .bar import Bar
+from .answers import make_ready
 from .command import guarded, problems_of_file, split_words, write_all
 from .convert import Problem
 from .dumps import closure_note
+from .progress import Bar, Progress
 
 PAGE = os.path.join(os.path.dirname(os.path.dirname(os.path.abspath(__file__))), "nll-page")
 
@@ -54,13 +55,13 @@ def read_words(words: Sequence[str]) -> argparse.Namespace:
 def answer_file(asked: argparse.Namespace) -> int:
     problems, refused = problems_of_file(asked.file, asked.function, asked.edition, asked.options)
     paths = write_all(asked.out, asked.file, problems)
+    make_ready()
     bar = Bar(len(paths))
     answers = []
-    with ThreadPoolExecutor(os.cpu_count()) as pool:
+    with ThreadPoolExecutor(os.cpu_count()) as pool, Progress(bar.words):
         for answer in pool.map(answer_text, paths):
             answers.append(answer)
             bar.step(len(answer.faults))
-    bar.end()
     for (_, problem), answer in zip(problems, answers):
         tell(problem, answer)
     if refused:
