@@ -58,7 +58,8 @@ def search(facts, values, wanted, universal):
         for constraint in by_sub.get(sub, ()):
             walk_points = length(onward, constraint.at)
             cost = (steps + 1, points + walk_points)
-            if walk_points and values.has(constraint.sup, end) and cost < best.get(constraint.sup, (cost[0] + 1,)):
+            if walk_points and values.has(constraint.sup, end) and cost < best.get(constraint.sup,
+                                                                                   (cost[0] + 1,)):
                 best[constraint.sup] = cost
                 came_by[constraint.sup] = Step(constraint, walk(onward, constraint.at))
                 heapq.heappush(heap, (*cost, constraint.sup))

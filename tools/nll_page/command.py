@@ -28,7 +28,8 @@ couldn't be written; each with one line on standard error, and no page is left h
 def main(arguments):
     """Runs the program on these words; its status."""
     for number in (signal.SIGTERM, signal.SIGHUP):
-        signal.signal(number, signal.default_int_handler)  # so that what is half-written is taken away
+        signal.signal(number,
+                      signal.default_int_handler)  # so that what is half-written is taken away
     try:
         return run(words_of(arguments))
     except Refusal as refusal:
@@ -40,12 +41,15 @@ def main(arguments):
 
 
 def words_of(arguments):
-    parser = argparse.ArgumentParser(prog="nll-page", description=ABOUT, epilog=STATUSES, allow_abbrev=False,
+    parser = argparse.ArgumentParser(prog="nll-page", description=ABOUT, epilog=STATUSES,
+                                     allow_abbrev=False,
                                      formatter_class=argparse.RawDescriptionHelpFormatter)
-    parser.add_argument("facts", metavar="FACTS", help="a facts text; tools/nll-facts makes it of a Rust file")
+    parser.add_argument("facts", metavar="FACTS",
+                        help="a facts text; tools/nll-facts makes it of a Rust file")
     parser.add_argument("source", metavar="SOURCE.rs", nargs="?",
                         help="the Rust file; else the one that the text's `# source:` line names, if it is there")
-    parser.add_argument("--values", metavar="FILE", help="what `nllc values FACTS` printed, in place of running nllc")
+    parser.add_argument("--values", metavar="FILE",
+                        help="what `nllc values FACTS` printed, in place of running nllc")
     parser.add_argument("--faults", action="store_true", help="print each fault in words, too")
     parser.add_argument("-o", metavar="OUT.html", dest="out",
                         help="the page (otherwise FACTS with .html in place of .facts)")

@@ -35,10 +35,12 @@ class Graph(NamedTuple):
 def graph_of(facts):
     returning = reaches_return(facts)
     stubs = stubs_of(facts, returning)
-    successors = [[q for q in following if q not in stubs.get(p, ())] for p, following in enumerate(facts.successors)]
+    successors = [[q for q in following if q not in stubs.get(p, ())]
+                  for p, following in enumerate(facts.successors)]
     found = lines.straight_lines(successors)
     box_of = {point: box for box, line in enumerate(found) for point in line}
-    edges = sorted({(box, box_of[q]) for box, line in enumerate(found) for q in successors[line[-1]]})
+    edges = sorted({(box, box_of[q]) for box, line in enumerate(found)
+                    for q in successors[line[-1]]})
     return Graph(found, edges, stubs, [returning[line[0]] for line in found])
 
 
@@ -97,7 +99,8 @@ def unfolded_size(facts, line, rows):
     cells = max(len(row.points) for row in rows)
     letters = max(len(row_words(row)) for row in rows)
     number = len(str(max(p for row in rows for p in row.points)))
-    return max(PAD * 2 + cells * PITCH + (number + 1 + letters) * LETTER + 4, title_width(facts, line)), HEAD + len(rows) * ROW + 2
+    return max(PAD * 2 + cells * PITCH + (number + 1 + letters) * LETTER + 4,
+               title_width(facts, line)), HEAD + len(rows) * ROW + 2
 
 
 def folded(facts, graph, shape):
@@ -129,7 +132,8 @@ def folded_stubs(graph, line, size):
 
 def row_stubs(graph, rows, width):
     return "".join(stub([point], target, width, HEAD + at * ROW + ROW / 2)
-                   for at, row in enumerate(rows) for point in row.points for target in graph.stubs.get(point, ())[:1])
+                   for at, row in enumerate(rows) for point in row.points
+                   for target in graph.stubs.get(point, ())[:1])
 
 
 def folded_cells(facts, line):
@@ -167,9 +171,12 @@ def svg(name, facts, graph, shape, sizes, inside):
     room = [wide if any(point in graph.stubs for point in line) else 0 for line in graph.lines]
     drawing = layout.place(shape, [(*size, free) for size, free in zip(sizes, room)])
     parts = [f'<svg class="graph {name}" viewBox="0 0 {drawing.width:.0f} {drawing.height:.0f}" width="{drawing.width:.0f}" '
-             f'height="{drawing.height:.0f}" role="group" aria-label="control-flow graph">', '<g class="edges">']
-    parts += [edge_path(graph, edge, route, edge in shape.turned) for edge, route in drawing.routes.items()]
-    parts += [loop_path(graph, box, drawing.corners[box], sizes[box]) for box, other in graph.edges if box == other]
+             f'height="{drawing.height:.0f}" role="group" aria-label="control-flow graph">',
+             '<g class="edges">']
+    parts += [edge_path(graph, edge, route, edge in shape.turned)
+              for edge, route in drawing.routes.items()]
+    parts += [loop_path(graph, box, drawing.corners[box], sizes[box]) for box, other in graph.edges
+              if box == other]
     parts.append("</g>")
     for box, line in enumerate(graph.lines):
         x, y = drawing.corners[box]

@@ -22,7 +22,8 @@ def text(value):
 
 def sentence(parts):
     """A sentence as HTML, its code in `code`."""
-    return "".join(f"<code>{text(part)}</code>" if isinstance(part, Code) else text(part) for part in parts)
+    return "".join(f"<code>{text(part)}</code>" if isinstance(part, Code) else text(part)
+                   for part in parts)
 
 
 def script_data(value):

@@ -47,7 +47,8 @@ class Facts:
     @cached_property
     def live(self):
         """For each point with base lines their regions."""
-        return grouped((point, region) for region, points in enumerate(self.bases) for point in points)
+        return grouped((point, region) for region, points in enumerate(self.bases)
+                       for point in points)
 
     @cached_property
     def asked(self):

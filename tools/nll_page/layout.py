@@ -163,7 +163,8 @@ def sweep_once(layers, towards, upwards):
     """Sorts each layer by the average place of its members' neighbours in the layer just passed."""
     place = {number: at for layer in layers for at, number in enumerate(layer)}
     for layer in reversed(layers) if upwards else layers:
-        wish = {number: average([place[n] for n in towards[number]], place[number]) for number in layer}
+        wish = {number: average([place[n] for n in towards[number]], place[number])
+                for number in layer}
         layer.sort(key=wish.get)
         place.update((number, at) for at, number in enumerate(layer))
 
@@ -206,7 +207,8 @@ def place(shape, sizes):
     free = [sizes[n][2] if n < shape.boxes else 0 for n in range(count)]
     middle = middles(shape, width, free)
     tops, heights = rows_of(shape, sizes, middle)
-    drawing = Drawing(width=max((middle[n] + width[n] / 2 + free[n] for n in range(count)), default=0) + MARGIN,
+    drawing = Drawing(width=max((middle[n] + width[n] / 2 + free[n] for n in range(count)),
+                                default=0) + MARGIN,
                       height=(tops[-1] + heights[-1] if tops else 0) + MARGIN)
     level = {number: at for at, layer in enumerate(shape.layers) for number in layer}
     for box in range(shape.boxes):
@@ -237,7 +239,8 @@ def middles(shape, width, free):
     above, below = neighbours(shape.paths, count)
     middle = [0.0] * count
     for layer in shape.layers:
-        spread(layer, middle, width, free, [float(at) for at in range(len(layer))], [1.0] * len(layer))
+        spread(layer, middle, width, free, [float(at) for at in range(len(layer))],
+               [1.0] * len(layer))
     for sweep in range(PLACE_SWEEPS):
         downwards = sweep % 2 == 0
         for layer in shape.layers if downwards else reversed(shape.layers):

@@ -58,7 +58,8 @@ def run(text):
             check.stop()
         values.judge((0,))
         check.judge((0, 1))
-        return Report(values.text("out"), fault_lines(check.text("out")), shown(program), standing(program, values))
+        return Report(values.text("out"), fault_lines(check.text("out")), shown(program),
+                      standing(program, values))
 
 
 class Run:
@@ -66,7 +67,8 @@ class Run:
 
     def __init__(self, program, command, path, folder):
         self.program = program
-        self.files = {stream: os.path.join(folder, f"{command}.{stream}") for stream in ("out", "err")}
+        self.files = {stream: os.path.join(folder, f"{command}.{stream}")
+                      for stream in ("out", "err")}
         try:
             with open(self.files["out"], "wb") as out, open(self.files["err"], "wb") as err:
                 self.process = subprocess.Popen([program, command, path], stdin=subprocess.DEVNULL,
@@ -88,7 +90,8 @@ class Run:
         status = self.process.returncode
         if status in statuses:
             return
-        said = [line for line in self.text("err").splitlines() if line and not line.startswith("nllc.sh:")]
+        said = [line for line in self.text("err").splitlines() if line
+                and not line.startswith("nllc.sh:")]
         if status == 2:
             raise Refusal(f"nllc refuses the text: {said[-1] if said else 'it says not why'}")
         hint = " (is `rt` of the Rattle kit on the PATH?)" if status == 127 else ""

@@ -107,7 +107,8 @@ def provenance(content):
 def fault_list(content):
     if not content.faults:
         return ""
-    items = "".join(fault_item(content, number, fault) for number, fault in enumerate(content.faults))
+    items = "".join(fault_item(content, number, fault)
+                    for number, fault in enumerate(content.faults))
     return f'<section class="faults" aria-label="Faults"><h2>Faults</h2>{items}</section>'
 
 
@@ -133,7 +134,8 @@ def unknown_lines(facts):
 
 
 def line_links(numbers):
-    links = [f'<a href="#line-{number}" data-line="{number}">line {number}</a>' for number in numbers]
+    links = [f'<a href="#line-{number}" data-line="{number}">line {number}</a>'
+             for number in numbers]
     return links[0] if len(links) == 1 else ", ".join(links[:-1]) + " and " + links[-1]
 
 
@@ -154,7 +156,8 @@ def what_span(what):
 def region_list(content):
     facts = content.facts
     foreign = any(element >= facts.points and element != facts.end_of(region)
-                  for region in range(len(facts.names)) for element in content.values.elements(region))
+                  for region in range(len(facts.names))
+                  for element in content.values.elements(region))
     groups = [("Of the signature", range(facts.universals)),
               ("Of the body", range(facts.universals, len(facts.names)))]
     kind = "regions with-ends" if foreign else "regions"
@@ -224,8 +227,10 @@ def source_list(content):
     for row in point_rows(content.facts):
         line = content.facts.remarks.point(row.points[0]).line
         by_line.setdefault(line, []).append(row)
-    asking = {number for fault in content.faults for number in words.arising(content.facts, fault.steps)}
-    return "".join(source_line(content.facts, number, line, by_line.get(number, []), number in asking)
+    asking = {number for fault in content.faults
+              for number in words.arising(content.facts, fault.steps)}
+    return "".join(source_line(content.facts, number, line, by_line.get(number, []),
+                               number in asking)
                    for number, line in enumerate(content.source.lines, content.source.first))
 
 
@@ -268,7 +273,8 @@ def point_row(facts, row, with_line=False):
                       for point in row.points)
     line = f'<span class="at">line {remark.line}</span>' if with_line and remark.line is not None else ""
     marks = '<span class="returns" title="the function may return here">returns</span>' \
-        if any(point in facts.returns for point in row.points) and remark.statement() not in ("return", "resume") else ""
+        if any(point in facts.returns
+               for point in row.points) and remark.statement() not in ("return", "resume") else ""
     said = f"<code>{text(row.text)}</code>" if remark.text else \
         f'<code class="said">{text(said_at(facts, row.points[0]))}</code>'
     return f'<div class="row"><span class="numbers">{buttons}</span>{said}{marks}{line}</div>'
@@ -276,7 +282,8 @@ def point_row(facts, row, with_line=False):
 
 def said_at(facts, point):
     """What the text says of a point whose statement it doesn't give: what is asked from there on, what is live."""
-    asked = [f"({words.tick(facts, sup)}: {words.tick(facts, sub)})" for sup, sub in facts.asked.get(point, ())]
+    asked = [f"({words.tick(facts, sup)}: {words.tick(facts, sub)})"
+             for sup, sub in facts.asked.get(point, ())]
     live = [words.tick(facts, region) for region in facts.live.get(point, ())]
     parts = [some(asked)] if asked else []
     parts += [f"live: {some(live)}"] if live else []
@@ -291,7 +298,8 @@ def some(names, most=4):
 
 def end_list(facts):
     return "".join(f'<button type="button" class="end" data-p="{facts.end_of(region)}" tabindex="-1">'
-                   f"end(&#x27;{text(facts.names[region])})</button>" for region in range(facts.universals))
+                   f"end(&#x27;{text(facts.names[region])})</button>"
+                   for region in range(facts.universals))
 
 
 # What the script reads

@@ -50,7 +50,8 @@ def read(path, facts):
     if len(text) > MOST_BYTES:
         raise Refusal(f"{path} is longer than 4 MiB; leave it out, and the page lists the points instead")
     lines = text.replace("\r\n", "\n").removesuffix("\n").split("\n")
-    named = [r.line for r in [*facts.remarks.points.values(), *facts.remarks.regions.values()] if r.line]
+    named = [r.line for r in [*facts.remarks.points.values(), *facts.remarks.regions.values()]
+             if r.line]
     if named and max(named) > len(lines):
         raise Refusal(f"{path} has {len(lines)} lines, and the facts text speaks of line {max(named)}: "
                       f"was the file changed? tools/nll-facts makes a new text")

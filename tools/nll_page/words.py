@@ -39,7 +39,8 @@ def plural(count, noun):
 
 
 def fault_head(facts, sup, sub):
-    return [tick(facts, sup), " must outlive ", tick(facts, sub), ", which the signature doesn’t say"]
+    return [tick(facts, sup), " must outlive ", tick(facts, sub),
+            ", which the signature doesn’t say"]
 
 
 def spans(elements):
@@ -77,7 +78,8 @@ def statement(facts, point):
 
 def arising(facts, steps):
     """The lines of the source at which the constraints of a chain arise, ascending, each once."""
-    found = [origins(facts, step.constraint.at) for step in steps if not is_everywhere(facts, step.constraint)]
+    found = [origins(facts, step.constraint.at) for step in steps
+             if not is_everywhere(facts, step.constraint)]
     points = [p for several in found if len(several) <= MOST_ORIGINS for p in several]
     lines = {facts.remarks.point(p).line for p in points}
     return sorted(line for line in lines if line is not None)
@@ -106,8 +108,10 @@ def region_words(facts, region, most=60):
 def step_sentence(facts, step, universal):
     """Why this constraint, and the walk, bring the end to the larger region."""
     sup, sub, at = step.constraint.sup, step.constraint.sub, step.constraint.at
-    return [*reason(facts, step.constraint), tick(facts, sup), " must hold all that is reached inside ",
-            tick(facts, sub), f" from point {at} on. ", *walk_words(facts, step, universal), "; so ",
+    return [*reason(facts, step.constraint), tick(facts, sup),
+            " must hold all that is reached inside ",
+            tick(facts, sub), f" from point {at} on. ", *walk_words(facts, step, universal),
+            "; so ",
             tick(facts, sup), " holds it too."]
 
 
@@ -116,14 +120,16 @@ def step_brief(facts, step):
     sup, sub = step.constraint.sup, step.constraint.sub
     what = region_words(facts, sup)
     asked = reason(facts, step.constraint)[:-1] or [f"From point {step.constraint.at} on"]
-    return ["to ", tick(facts, sup), f", {what}: " if what else ": ", asked[0][0].lower() + asked[0][1:],
+    return ["to ", tick(facts, sup), f", {what}: " if what else ": ",
+            asked[0][0].lower() + asked[0][1:],
             *asked[1:], ", inside ", tick(facts, sub), f" by {walk_text(step.walk)}"]
 
 
 def reason(facts, constraint):
     """The statements that ask for it, where something is known of them."""
     if is_everywhere(facts, constraint):
-        return ["At every point ", tick(facts, constraint.sup), " must outlive ", tick(facts, constraint.sub), ": "]
+        return ["At every point ", tick(facts, constraint.sup), " must outlive ",
+                tick(facts, constraint.sub), ": "]
     points = origins(facts, constraint.at)
     if not any(any(facts.remarks.point(p)) for p in points):
         return []
@@ -145,7 +151,8 @@ def walk_words(facts, step, universal):
     leaves = "unwinds" if unwinds(facts, points[-1]) else "returns"
     if len(points) == 1:
         return [f"The function {leaves} right there, and the walk goes on to ", *holds]
-    return ["Inside ", sub, f" a walk from there ({walk_text(points)}) leads to point {points[-1]}, where the function "
+    return ["Inside ", sub,
+            f" a walk from there ({walk_text(points)}) leads to point {points[-1]}, where the function "
             f"{leaves}, and on to ", *holds]
 
 
@@ -165,5 +172,6 @@ def walk_text(points, most=7):
 def conclusion(facts, sup, sub):
     """What the end in the value means, and what would make it known."""
     wish = Code(f"where '{facts.names[sup]}: '{facts.names[sub]}")
-    return ["So ", tick(facts, sup), " would have to last as long as ", tick(facts, sub), ", whatever the caller "
+    return ["So ", tick(facts, sup), " would have to last as long as ", tick(facts, sub),
+            ", whatever the caller "
             "chooses. The signature may ask that of its callers by ", wish, "; it doesn’t."]

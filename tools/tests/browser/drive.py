@@ -32,11 +32,16 @@ SLOW = 250      # milliseconds for one choice are too many
 LEAST = 4.5     # the contrast that text must have
 
 # Text that has to be read, in the states in which it stands.
-TEXTS = ["h1", ".about", ".verdict", "footer p", ".group", ".region .name", ".region .what", ".region .ends",
-         ".region[aria-pressed=true] .name", ".region[aria-pressed=true] .what", ".point", ".point.held", ".point.base",
-         ".line .no", ".line code", ".comment", ".keyword", ".lifetime", ".string", ".row code", ".row .at", ".row .said",
-         ".chosen .label", ".chosen .hint", ".chip", ".chip.on", ".end", ".end.held", ".fault summary", ".step p",
-         ".step.on p", ".step .show", ".step.on .show", ".where", ".so", "[role=tab]", ".views button"]
+TEXTS = ["h1", ".about", ".verdict", "footer p", ".group", ".region .name", ".region .what",
+         ".region .ends",
+         ".region[aria-pressed=true] .name", ".region[aria-pressed=true] .what", ".point",
+         ".point.held", ".point.base",
+         ".line .no", ".line code", ".comment", ".keyword", ".lifetime", ".string", ".row code",
+         ".row .at", ".row .said",
+         ".chosen .label", ".chosen .hint", ".chip", ".chip.on", ".end", ".end.held",
+         ".fault summary", ".step p",
+         ".step.on p", ".step .show", ".step.on .show", ".where", ".so", "[role=tab]",
+         ".views button"]
 
 CONTRAST = """(() => {
   const canvas = document.createElement("canvas").getContext("2d", { willReadFrequently: true });
@@ -118,18 +123,22 @@ class Drive:
 
     def some_regions(self):
         """Some regions of each kind: of the signature, large, small and empty ones."""
-        by_size = sorted(range(len(self.facts.names)), key=lambda region: len(self.values.elements(region)))
-        return sorted({0, self.facts.universals - 1, by_size[0], by_size[len(by_size) // 2], by_size[-1],
+        by_size = sorted(range(len(self.facts.names)),
+                         key=lambda region: len(self.values.elements(region)))
+        return sorted({0, self.facts.universals - 1, by_size[0], by_size[len(by_size) // 2],
+                       by_size[-1],
                        len(by_size) - 1, len(by_size) * 2 // 3})
 
     def check_lit(self, region):
         points = [e for e in self.values.elements(region) if e < self.facts.points]
         ends = [e for e in self.values.elements(region) if e >= self.facts.points]
         name = self.facts.names[region]
-        self.expect(f"'{name} lights other points of the graph", self.numbers("#graph .cell.held") == points)
+        self.expect(f"'{name} lights other points of the graph",
+                    self.numbers("#graph .cell.held") == points)
         self.expect(f"'{name} lights other ends", self.numbers(".end.held") == ends)
         self.page.value("setTab('points')")
-        self.expect(f"'{name} lights other points of the list", self.numbers("#points .point.held") == points)
+        self.expect(f"'{name} lights other points of the list",
+                    self.numbers("#points .point.held") == points)
         base = sorted(self.facts.bases[region])
         self.expect(f"'{name} is live at other points", self.numbers("#points .point.base") == base)
 
@@ -143,7 +152,8 @@ class Drive:
             self.expect(f"choosing takes {took:.0f} ms", took < SLOW)
         self.shot("region")
         self.page.click(f".region[data-r='{region}']")
-        self.expect("a second click doesn't let go of the region", self.numbers("#graph .cell.held") == [])
+        self.expect("a second click doesn't let go of the region",
+                    self.numbers("#graph .cell.held") == [])
 
     def points(self):
         count = self.facts.points
@@ -173,7 +183,8 @@ class Drive:
         self.page.click(f".region[data-r='{region}']")
         lit = self.page.value("""[...document.querySelectorAll("#source .strip i.held")]
             .map((one) => Number(one.dataset.p)).sort((a, b) => a - b)""")
-        wanted = [p for p in self.values.elements(region) if p < self.facts.points and self.facts.remarks.point(p).line]
+        wanted = [p for p in self.values.elements(region) if p < self.facts.points
+                  and self.facts.remarks.point(p).line]
         self.expect("the strips are lit otherwise", lit == wanted)
         self.shot("source")
         point = self.facts.points - 1
@@ -181,16 +192,19 @@ class Drive:
         self.page.value("document.querySelectorAll('#source details').forEach((one) => one.open = false)")
         self.page.click(f"#line-{line} summary")
         self.page.click(f"#line-{line} .point[data-p='{point}']")
-        self.expect("a point of an opened line isn't chosen", self.numbers("#graph .cell.picked") == [point])
+        self.expect("a point of an opened line isn't chosen",
+                    self.numbers("#graph .cell.picked") == [point])
 
     def check_holders(self, point):
         own = range(self.facts.universals, len(self.facts.names))
-        wanted = [f"'{self.facts.names[region]}" for region in own if self.values.has(region, point)]
+        wanted = [f"'{self.facts.names[region]}" for region in own
+                  if self.values.has(region, point)]
         self.page.value("document.querySelectorAll('.chosen .chip').forEach((c) => / more$/.test(c.textContent) && c.click())")
         shown = self.page.value("""[...document.querySelectorAll(".chosen p")]
             .filter((one) => one.textContent.startsWith("held by")).flatMap((one) =>
                 [...one.querySelectorAll(".chip")].map((chip) => chip.textContent))""")
-        self.expect(f"point {point} is held by {wanted[:4]}.., shown is {shown[:4]}..", shown == wanted)
+        self.expect(f"point {point} is held by {wanted[:4]}.., shown is {shown[:4]}..",
+                    shown == wanted)
 
     def steps(self):
         self.page.value("document.querySelectorAll('details.fault').forEach((one) => one.open = true)")
@@ -199,7 +213,8 @@ class Drive:
             self.page.click("#driven-step")
             walk = self.page.value("document.querySelector('#driven-step').closest('.step').dataset.walk")
             self.expect(f"step {at} lights another walk",
-                        [p for p in self.numbers("#graph .cell.walked")] == sorted({int(p) for p in walk.split(",")}))
+                        [p for p in self.numbers("#graph .cell.walked")] == sorted({int(p)
+                                                                                    for p in walk.split(",")}))
             self.shot(f"step-{at}")
             self.page.value("document.querySelector('#driven-step').removeAttribute('id')")
 
@@ -225,7 +240,8 @@ class Drive:
         self.page.key("]")
         self.page.key("[")
         self.page.key("Escape")
-        self.expect("Escape leaves a region chosen", self.page.value("document.querySelector('[aria-pressed=true].region')") is None)
+        self.expect("Escape leaves a region chosen",
+                    self.page.value("document.querySelector('[aria-pressed=true].region')") is None)
         self.page.value("[...document.querySelectorAll('#graph .cell')].find((c) => c.getClientRects().length).focus()")
         self.page.key("ArrowDown")
         self.page.key("Enter")
@@ -240,10 +256,12 @@ class Drive:
             "regionButtons.every((b) => b.parentElement.hidden || b.textContent.toLowerCase().includes('z'))"))
         self.page.value("document.getElementById('filter').value = ''; filterRegions(); document.activeElement.blur(); clear()")
         self.page.key("?", shift=True)
-        self.expect("? doesn't open the legend", self.page.value("document.getElementById('help').open"))
+        self.expect("? doesn't open the legend",
+                    self.page.value("document.getElementById('help').open"))
         self.shot("legend")
         self.page.key("Escape")
-        self.expect("Escape doesn't close the legend", not self.page.value("document.getElementById('help').open"))
+        self.expect("Escape doesn't close the legend",
+                    not self.page.value("document.getElementById('help').open"))
 
     def views(self):
         for view in ("folded", "statements"):
@@ -265,11 +283,13 @@ class Drive:
 
     def widths(self):
         for width in (1920, 1440, 1000, 600):
-            self.page.call("Emulation.setDeviceMetricsOverride", width=width, height=900, deviceScaleFactor=1, mobile=False)
+            self.page.call("Emulation.setDeviceMetricsOverride", width=width, height=900,
+                           deviceScaleFactor=1, mobile=False)
             over = self.page.value("document.documentElement.scrollWidth - document.documentElement.clientWidth")
             self.expect(f"{width} wide, the page is {over} too wide", over <= 0)
             self.shot(f"width-{width}")
-        self.page.call("Emulation.setDeviceMetricsOverride", width=1440, height=900, deviceScaleFactor=1, mobile=False)
+        self.page.call("Emulation.setDeviceMetricsOverride", width=1440, height=900,
+                       deviceScaleFactor=1, mobile=False)
 
     def address(self):
         region = len(self.facts.names) - 1
@@ -283,8 +303,10 @@ class Drive:
     def contrast(self):
         self.page.value("clear(); document.querySelectorAll('details').forEach((one) => one.open = true)")
         found = {}
-        states = ["clear()", f"chooseRegion({self.facts.universals - 1})", f"chooseRegion({len(self.facts.names) - 1})",
-                  "clear(); chooseElement(0)", "setTab('points')", "document.querySelector('.show')?.click()"]
+        states = ["clear()", f"chooseRegion({self.facts.universals - 1})",
+                  f"chooseRegion({len(self.facts.names) - 1})",
+                  "clear(); chooseElement(0)", "setTab('points')",
+                  "document.querySelector('.show')?.click()"]
         for state in states:
             self.page.value(state)
             for selector, ratio in self.page.value(CONTRAST % json.dumps(TEXTS)):
@@ -317,21 +339,24 @@ def drive(browser, path, folder, shots):
             return [f"{path}: no page"]
     facts = read_facts(text, path)
     values = read_values(report.values, facts, path)
-    wrong = [line for scheme in ("light", "dark") for line in Drive(browser, out, facts, values, scheme, shots).all()]
+    wrong = [line for scheme in ("light", "dark")
+             for line in Drive(browser, out, facts, values, scheme, shots).all()]
     print(f"{os.path.basename(path)}: {facts.points} points, {len(facts.names)} regions: "
           f"{len(wrong) or 'nothing'} wrong", flush=True)
     return wrong
 
 
 def main():
-    parser = argparse.ArgumentParser(description=__doc__, formatter_class=argparse.RawDescriptionHelpFormatter)
+    parser = argparse.ArgumentParser(description=__doc__,
+                                     formatter_class=argparse.RawDescriptionHelpFormatter)
     parser.add_argument("--shots", metavar="FOLDER", help="keep pictures there")
     parser.add_argument("facts", nargs="*", metavar="FACTS")
     asked = parser.parse_args()
     if asked.shots:
         os.makedirs(asked.shots, exist_ok=True)
     with tempfile.TemporaryDirectory() as folder, Browser() as browser:
-        wrong = [line for path in asked.facts or texts(folder) for line in drive(browser, path, folder, asked.shots)]
+        wrong = [line for path in asked.facts or texts(folder)
+                 for line in drive(browser, path, folder, asked.shots)]
     for line in wrong:
         print(line)
     return 1 if wrong else 0
