@@ -7,7 +7,8 @@ import re
 from .words import Code
 
 # Characters that show nothing or change how their neighbours are shown.
-HIDDEN = re.compile("[\x00-\x08\x0b-\x1f\x7f-\x9f\u061c\u200b-\u200f\u2028-\u202e\u2060-\u2069\ufeff\ufff9-\ufffb]")
+HIDDEN = re.compile("[\x00-\x08\x0b-\x1f\x7f-\x9f\u061c\u200b-\u200f"
+                    "\u2028-\u202e\u2060-\u2069\ufeff\ufff9-\ufffb]")
 
 
 def visible(text):

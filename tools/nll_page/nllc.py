@@ -37,7 +37,8 @@ def find():
     script = os.path.join(ROOT, "nllc.sh")
     found = script if os.access(script, os.X_OK) else shutil.which("nllc")
     if not found:
-        raise Refusal("no nllc is found: neither nllc.sh beside the folder tools/ nor nllc on the PATH; name one "
+        raise Refusal("no nllc is found: neither nllc.sh beside the folder tools/ nor nllc on the "
+                      "PATH; name one "
                       "by the variable NLLC, or hand in what it printed: --values FILE")
     return found
 

@@ -1,7 +1,7 @@
 """Faults, chains and places in sentences.
 
-A sentence is a list of strings; those that are `Code` are shown as code. So text that comes from outside is
-never read as markup.
+A sentence is a list of strings; those that are `Code` are shown as code. So text that comes from
+outside is never read as markup.
 """
 
 
@@ -58,7 +58,9 @@ MOST_ORIGINS = 3    # of more statements none is named
 
 
 def origins(facts, at):
-    """The points whose statements may ask for what a constraint at this point says: those before it."""
+    """The points whose statements may ask for what a constraint at this point says: those before
+    it.
+    """
     spot = facts.remarks.point(at).spot()
     if spot and spot[2] == "mid":
         return [at]
@@ -88,7 +90,8 @@ def arising(facts, steps):
 def beginning(facts, universal):
     """The sentence before the first step."""
     name = facts.names[universal]
-    lasts = "lasts for ever" if name == "static" else "lasts after the return for as long as the caller likes"
+    lasts = "lasts for ever" if name == "static" else \
+        "lasts after the return for as long as the caller likes"
     return [tick(facts, universal), f" {lasts}: that is the element ", end(facts, universal),
             ", which ", tick(facts, universal), " holds from the start."]
 
@@ -116,7 +119,9 @@ def step_sentence(facts, step, universal):
 
 
 def step_brief(facts, step):
-    """The step in one line of a terminal: where the end comes, what asks for it, and along which points."""
+    """The step in one line of a terminal: where the end comes, what asks for it, and along which
+    points.
+    """
     sup, sub = step.constraint.sup, step.constraint.sub
     what = region_words(facts, sup)
     asked = reason(facts, step.constraint)[:-1] or [f"From point {step.constraint.at} on"]
@@ -152,12 +157,14 @@ def walk_words(facts, step, universal):
     if len(points) == 1:
         return [f"The function {leaves} right there, and the walk goes on to ", *holds]
     return ["Inside ", sub,
-            f" a walk from there ({walk_text(points)}) leads to point {points[-1]}, where the function "
+            f" a walk from there ({walk_text(points)}) leads to point {points[-1]}, where the "
+            "function "
             f"{leaves}, and on to ", *holds]
 
 
 def unwinds(facts, point):
-    """Whether a panic goes out of the function there; that is a return, too, as far as regions go."""
+    """Whether a panic goes out of the function there; that is a return, too, as far as regions go.
+    """
     return facts.remarks.point(point).statement().rstrip(";") in ("resume", "UnwindResume")
 
 

@@ -1,4 +1,5 @@
-"""What the tests of `nll_page` share: small texts, values of the slow reference, random problems."""
+"""What the tests of `nll_page` share: small texts, values of the slow reference, random problems.
+"""
 
 import os
 import random

@@ -1,4 +1,6 @@
-"""The chain of each fault: re-checked against the reference's values, and as short as the shortest there is."""
+"""The chain of each fault: re-checked against the reference's values, and as short as the shortest
+there is.
+"""
 
 import glob
 import os

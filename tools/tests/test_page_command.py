@@ -70,7 +70,8 @@ class Commands(unittest.TestCase):
         status, out, err = self.run_main(self.path("pick.facts"))
         self.assertEqual((status, out, err), (0, self.path("pick.html") + "\n", ""))
         page = self.page()
-        self.assertIn("<code>&#x27;b</code> must outlive <code>&#x27;a</code>, which the signature doesn’t say", page)
+        self.assertIn("<code>&#x27;b</code> must outlive <code>&#x27;a</code>, which the signature "
+                      "doesn’t say", page)
         self.assertIn('data-walk="6,7,8"', page)
         self.assertIn('id="line-7"', page)       # the source, by the text's own remark
         self.assertNotIn("next_one", page)       # and of it this function alone
@@ -106,11 +107,13 @@ class Commands(unittest.TestCase):
         lines = out.splitlines()
         self.assertEqual(status, 0)
         self.assertEqual(lines[1],
-                         f"{self.folder}/pick.rs:7: `'b` must outlive `'a`, which the signature doesn’t say")
+                         f"{self.folder}/pick.rs:7: `'b` must outlive `'a`, which the signature "
+                         "doesn’t say")
         self.assertEqual(lines[2:], [
             "    `end('a)` comes",
             "    to `'best`, the type of best: after `_0 = copy best` (line 9), inside `'a` by 8",
-            "    to `'b`, 'b of the signature: after `best = copy second` (line 7), inside `'best` by 6 → 7 → 8"])
+            "    to `'b`, 'b of the signature: after `best = copy second` (line 7), inside `'best` "
+            "by 6 → 7 → 8"])
 
     def test_a_text_without_remarks(self):
         bare = self.write("bare.facts", b"".join(
@@ -125,7 +128,8 @@ class Commands(unittest.TestCase):
         os.unlink(self.path("pick.rs"))
         status, _, err = self.run_main(self.path("pick.facts"))
         self.assertEqual(status, 0)
-        self.assertRegex(err, "note: pick.rs, the source that the text names, isn't there; give it behind FACTS")
+        self.assertRegex(err, "note: pick.rs, the source that the text names, isn't there; give it "
+                              "behind FACTS")
 
     # Which nllc it was
 
@@ -209,12 +213,13 @@ class Commands(unittest.TestCase):
         self.refused("pipe has no place beside it; name the page by -o", self.path("pipe"))
 
     def test_a_run_that_is_stopped(self):
-        self.program("slow", "sleep 20")
+        self.program("slow", f"touch {self.path('began')}; exec sleep 20")
         with mock.patch.dict(os.environ, {"NLLC": self.path("slow")}):
             run = subprocess.Popen([os.path.join(ROOT, "tools", "nll-page"),
                                     self.path("pick.facts")],
                                    stdout=subprocess.PIPE, stderr=subprocess.PIPE, text=True)
-        time.sleep(0.5)
+        while not os.path.exists(self.path("began")):
+            time.sleep(0.02)
         run.terminate()
         out, err = run.communicate(timeout=10)
         self.assertEqual((run.returncode, out, err), (130, "", "nll-page: stopped\n"))

@@ -1,7 +1,6 @@
 """No text from outside becomes markup, script or a hidden character."""
 
 import json
-import os
 import unittest
 from html.parser import HTMLParser
 
@@ -11,7 +10,7 @@ from nll_page import nllc
 from nll_page.escaping import script_data, sentence, visible
 from nll_page.faults import faults
 from nll_page.chains import chain
-from nll_page.page import Content, Fault, fill, page
+from nll_page.page import SCRIPTS, Content, Fault, fill, page, template
 from nll_page.source import Source, pieces
 from nll_page.words import Code, plain
 
@@ -119,12 +118,10 @@ class Pieces(unittest.TestCase):
 
 class Scripts(unittest.TestCase):
     def test_the_script_makes_no_markup(self):
-        with open(os.path.join(os.path.dirname(nllc.__file__), "templates", "page.js"),
-                  encoding="utf-8") as file:
-            script = file.read()
-        for forbidden in ("innerHTML", "outerHTML", "insertAdjacentHTML", "document.write", "eval(",
-                          "</script"):
-            self.assertNotIn(forbidden, script)
+        for script in map(template, SCRIPTS):
+            for forbidden in ("innerHTML", "outerHTML", "insertAdjacentHTML", "document.write",
+                              "eval(", "</script"):
+                self.assertNotIn(forbidden, script)
 
 
 if __name__ == "__main__":

@@ -51,7 +51,8 @@ class Facts(unittest.TestCase):
     def test_no_facts_text(self):
         for data in [b"", b"fn main() {}\n", b"nll-facts 2\npoints 1\nend\n", b"\xff\xfe\n"]:
             with self.subTest(data=data), self.assertRaisesRegex(Refusal,
-                                                                 "isn't a facts text.*tools/nll-facts"):
+                                                                 "isn't a facts "
+                                                                 "text.*tools/nll-facts"):
                 read_facts(data, "TEXT")
 
     def test_texts_that_stop_or_go_on(self):
@@ -111,7 +112,8 @@ class Reports(unittest.TestCase):
                       self.report.replace("'a: 0 1", "'a: 1"), self.report + "'z:\n",
                       self.report.replace("'x: 0", "'x: 0 0")]:
             with self.subTest(wrong=wrong), self.assertRaisesRegex(Refusal,
-                                                                   "REPORT isn't the report of this"):
+                                                                   "REPORT isn't the "
+                                                                   "report of this"):
                 read_values(wrong, self.facts, "REPORT")
 
     def test_no_report(self):

@@ -20,10 +20,14 @@ class Sentences(unittest.TestCase):
 
     def test_each_step(self):
         self.assertEqual([plain(words.step_sentence(self.facts, step, 1)) for step in self.steps], [
-            "After `_0 = copy best` (line 9), `'best` must hold all that is reached inside `'a` from point 8 on. The "
-            "function returns right there, and the walk goes on to `end('a)`, which `'a` holds; so `'best` holds it too.",
-            "After `best = copy second` (line 7), `'b` must hold all that is reached inside `'best` from point 6 on. "
-            "Inside `'best` a walk from there (6 → 7 → 8) leads to point 8, where the function returns, and on to "
+            "After `_0 = copy best` (line 9), `'best` must hold all that is reached inside `'a` "
+            "from point 8 on. The "
+            "function returns right there, and the walk goes on to `end('a)`, which `'a` holds; so "
+            "`'best` holds it too.",
+            "After `best = copy second` (line 7), `'b` must hold all that is reached inside "
+            "`'best` from point 6 on. "
+            "Inside `'best` a walk from there (6 → 7 → 8) leads to point 8, where the function "
+            "returns, and on to "
             "`end('a)`, which `'best` holds; so `'b` holds it too."])
 
     def test_the_lines(self):
@@ -34,7 +38,8 @@ class Sentences(unittest.TestCase):
                          "constraint 'x 'a 1")
         step = chains.Step(Constraint(2, 1, 1), [1])
         self.assertTrue(plain(words.step_sentence(facts, step,
-                                                  1)).startswith("`'x` must hold all that is reached inside"))
+                                                  1)).startswith("`'x` must hold all that is "
+                                                                 "reached inside"))
         self.assertEqual(plain(words.step_brief(facts, step)),
                          "to `'x`: from point 1 on, inside `'a` by 1")
         self.assertEqual(words.arising(facts, [step]), [])
@@ -45,7 +50,8 @@ class Sentences(unittest.TestCase):
                          "constraint 'x 'a 0", "constraint 'x 'a 1")
         step = chains.Step(Constraint(2, 1, 1), [1])
         self.assertTrue(plain(words.step_sentence(facts, step,
-                                                  1)).startswith("At every point `'x` must outlive `'a`: "))
+                                                  1)).startswith("At every point `'x` must "
+                                                                 "outlive `'a`: "))
         self.assertEqual(words.arising(facts, [step]), [])
 
     def test_several_statements(self):

@@ -3,9 +3,9 @@
 
     big_text.py POINTS [SEED]
 
-The text is for looking at pages: it has remark lines, and is no account of any function. Each call may unwind
-to one block at the end. Regions are live on a stretch of points and feed the next one, as references do that
-are handed on; the last one is handed out, so that there is a fault.
+The text is for looking at pages: it has remark lines, and is no account of any function. Each call
+may unwind to one block at the end. Regions are live on a stretch of points and feed the next one,
+as references do that are handed on; the last one is handed out, so that there is a fault.
 """
 
 import random
@@ -15,7 +15,9 @@ CALLS = ["len", "push", "get", "split_at", "next", "insert", "as_str"]
 
 
 class Function:
-    """Points as they are made, in order; edges to points that aren't there yet are patched in later."""
+    """Points as they are made, in order; edges to points that aren't there yet are patched in
+    later.
+    """
 
     def __init__(self, draw):
         self.draw = draw

@@ -13,6 +13,7 @@ import shutil
 import subprocess
 import tempfile
 
+PROBES = os.path.join(os.path.dirname(os.path.abspath(__file__)), "probes.js")
 NAMES = ("chromium", "chromium-browser", "google-chrome")
 
 KEYS = {"Enter": (13, "\r"), "Escape": (27, ""), "Tab": (9, ""), " ": (32, " "),
@@ -22,7 +23,9 @@ KEYS = {"Enter": (13, "\r"), "Escape": (27, ""), "Tab": (9, ""), " ": (32, " "),
 
 
 class Browser:
-    """One process. It reads commands from its descriptor 3 and answers on 4, each ended by a zero byte."""
+    """One process. It reads commands from its descriptor 3 and answers on 4, each ended by a zero
+    byte.
+    """
 
     def __init__(self):
         program = next(filter(None, map(shutil.which, NAMES)), None)
@@ -121,6 +124,8 @@ class Page:
         browser.events.clear()
         self.call("Page.navigate", url=address)
         browser.wait_for("Page.loadEventFired")
+        with open(PROBES, encoding="utf-8") as file:
+            self.value(file.read())
 
     def call(self, method, **parameters):
         return self.browser.call(method, self.session, **parameters)
@@ -140,20 +145,22 @@ class Page:
                 if event.get("method") in ("Runtime.exceptionThrown", "Runtime.consoleAPICalled",
                                            "Log.entryAdded")]
 
+    def probe(self, name, *arguments):
+        """The answer of one of the functions in `probes.js`."""
+        return self.value(f"probe.{name}({', '.join(map(json.dumps, arguments))})")
+
+    def resize(self, width, height):
+        self.call("Emulation.setDeviceMetricsOverride", width=width, height=height,
+                  deviceScaleFactor=1, mobile=False)
+
     def click(self, selector):
-        """A press and release of the mouse in the middle of the first element that is in sight."""
-        found = self.value(f"""(() => {{
-            const node = [...document.querySelectorAll({json.dumps(selector)})].find((n) => n.getClientRects().length);
-            if (!node) return null;
-            node.scrollIntoView({{ block: "center", inline: "nearest" }});
-            const box = node.getBoundingClientRect();
-            return [box.x + box.width / 2, box.y + box.height / 2];
-        }})()""")
-        if found is None:
+        """A press and release of the mouse in the middle of the first node that is in sight."""
+        middle = self.probe("middle", selector)
+        if middle is None:
             raise RuntimeError(f"nothing in sight is {selector}")
         for kind in ("mousePressed", "mouseReleased"):
-            self.call("Input.dispatchMouseEvent", type=kind, x=found[0], y=found[1], button="left",
-                      clickCount=1)
+            self.call("Input.dispatchMouseEvent", type=kind, x=middle[0], y=middle[1],
+                      button="left", clickCount=1)
 
     def key(self, name, shift=False):
         code, text = KEYS.get(name, (ord(name.upper()[0]), name))
