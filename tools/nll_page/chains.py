@@ -1,8 +1,9 @@
 """How an end came into the value of a region: a shortest chain of constraints and walks.
 
-A region x that isn't b holds the end of b because of a constraint (x: y) @ P such that a walk inside y leads
-from P to a return point, and y holds the end too; and so on, until y is b, which holds its end from the
-start. The chain goes from b to x. Of all chains it has the fewest constraints, and of those the fewest points.
+A region x that isn't b holds the end of b because of a constraint (x: y) @ P such that a walk
+inside y leads from P to a return point, and y holds the end too; and so on, until y is b, which
+holds its end from the start. The chain goes from b to x. Of all chains it has the fewest
+constraints, and of those the fewest points.
 
 Whether a region holds an element is asked of the values alone.
 """
@@ -15,7 +16,8 @@ from .facts import Constraint
 
 
 class Step(NamedTuple):
-    """A constraint, and a shortest walk inside its smaller region from its point to a return point."""
+    """A constraint, and a shortest walk inside its smaller region from its point to a return point.
+    """
 
     constraint: Constraint
     walk: list
@@ -35,12 +37,15 @@ def chains(facts, values, regions, universal):
     came_by = search(facts, values, set(regions), universal)
     missing = [region for region in regions if region not in came_by]
     if missing:
-        raise WrongValues(f"no constraints bring end('{facts.names[universal]}) to '{facts.names[missing[0]]}")
+        raise WrongValues(f"no constraints bring end('{facts.names[universal]}) to "
+                          f"'{facts.names[missing[0]]}")
     return {region: backwards(came_by, region, universal) for region in regions}
 
 
 def search(facts, values, wanted, universal):
-    """For each region to which the end comes the last step of a shortest chain, until all that are wanted have one."""
+    """For each region to which the end comes the last step of a shortest chain, until all that are
+    wanted have one.
+    """
     end = facts.end_of(universal)
     by_sub = {}
     for constraint in facts.constraints:
@@ -58,7 +63,8 @@ def search(facts, values, wanted, universal):
         for constraint in by_sub.get(sub, ()):
             walk_points = length(onward, constraint.at)
             cost = (steps + 1, points + walk_points)
-            if walk_points and values.has(constraint.sup, end) and cost < best.get(constraint.sup, (cost[0] + 1,)):
+            so_far = best.get(constraint.sup, (cost[0] + 1,))
+            if walk_points and values.has(constraint.sup, end) and cost < so_far:
                 best[constraint.sup] = cost
                 came_by[constraint.sup] = Step(constraint, walk(onward, constraint.at))
                 heapq.heappush(heap, (*cost, constraint.sup))
@@ -74,7 +80,9 @@ def backwards(came_by, region, universal):
 
 
 def ways_to_return(facts, inside):
-    """For each point from which a walk inside the set leads to a return point: how far, and the next point."""
+    """For each point from which a walk inside the set leads to a return point: how far, and the
+    next point.
+    """
     onward = {point: (1, None) for point in sorted(facts.returns) if point in inside}
     todo = deque(onward)
     while todo:

@@ -15,20 +15,20 @@ from .values import read_values
 
 MOST_POINTS = 50_000
 
-ABOUT = """\
-Writes one HTML page of a facts text (docs/FORMATS.md): its source or its list of points beside its control-flow
-graph, its regions, and each fault in words. Prints the page's path. The values are those of the nllc that is
-found: the program in the variable NLLC, nllc.sh beside the folder tools/, or the nllc on the PATH; or of FILE."""
+ABOUT = """\ Writes one HTML page of a facts text (docs/FORMATS.md): its source or its list of
+points beside its control-flow graph, its regions, and each fault in words. Prints the page's path.
+The values are those of the nllc that is found: the program in the variable NLLC, nllc.sh beside the
+folder tools/, or the nllc on the PATH; or of FILE."""
 
-STATUSES = """\
-status 0: the page was written; 2: words, a file or the text was refused; 3: nllc gave no answer, or the page
-couldn't be written; each with one line on standard error, and no page is left half-written"""
+STATUSES = """\ status 0: the page was written; 2: words, a file or the text was refused; 3: nllc
+gave no answer, or the page couldn't be written; each with one line on standard error, and no page
+is left half-written"""
 
 
 def main(arguments):
     """Runs the program on these words; its status."""
     for number in (signal.SIGTERM, signal.SIGHUP):
-        signal.signal(number, signal.default_int_handler)  # so that what is half-written is taken away
+        signal.signal(number, signal.default_int_handler)  # what is half-written is taken away
     try:
         return run(words_of(arguments))
     except Refusal as refusal:
@@ -40,12 +40,16 @@ def main(arguments):
 
 
 def words_of(arguments):
-    parser = argparse.ArgumentParser(prog="nll-page", description=ABOUT, epilog=STATUSES, allow_abbrev=False,
+    parser = argparse.ArgumentParser(prog="nll-page", description=ABOUT, epilog=STATUSES,
+                                     allow_abbrev=False,
                                      formatter_class=argparse.RawDescriptionHelpFormatter)
-    parser.add_argument("facts", metavar="FACTS", help="a facts text; tools/nll-facts makes it of a Rust file")
+    parser.add_argument("facts", metavar="FACTS",
+                        help="a facts text; tools/nll-facts makes it of a Rust file")
     parser.add_argument("source", metavar="SOURCE.rs", nargs="?",
-                        help="the Rust file; else the one that the text's `# source:` line names, if it is there")
-    parser.add_argument("--values", metavar="FILE", help="what `nllc values FACTS` printed, in place of running nllc")
+                        help="the Rust file; else the one that the text's `# source:` line names, "
+                             "if it is there")
+    parser.add_argument("--values", metavar="FILE",
+                        help="what `nllc values FACTS` printed, in place of running nllc")
     parser.add_argument("--faults", action="store_true", help="print each fault in words, too")
     parser.add_argument("-o", metavar="OUT.html", dest="out",
                         help="the page (otherwise FACTS with .html in place of .facts)")
@@ -68,7 +72,8 @@ def run(asked):
 
 def beside(facts_path):
     """The page's path where none is given: beside the text."""
-    if os.path.exists(facts_path) and not os.path.isfile(facts_path) and not os.path.isdir(facts_path):
+    is_file_or_folder = os.path.isfile(facts_path) or os.path.isdir(facts_path)
+    if os.path.exists(facts_path) and not is_file_or_folder:
         raise Refusal(f"{facts_path} has no place beside it; name the page by -o OUT.html")
     return facts_path.removesuffix(".facts") + ".html"
 
@@ -84,7 +89,8 @@ def content_of(asked):
         report, told, origin, standing = nllc.run(text)
     facts = read_facts(text, asked.facts)
     if facts.points > MOST_POINTS:
-        raise Refusal(f"{asked.facts} has {facts.points:,} points, and a page of more than {MOST_POINTS:,} is no use "
+        raise Refusal(f"{asked.facts} has {facts.points:,} points, and a page of more than "
+                      f"{MOST_POINTS:,} is no use "
                       f"to anybody; `nllc values` and `nllc check` answer it")
     values = read_values(report, facts, asked.values or origin)
     found = faults.faults(facts, values)
@@ -138,7 +144,8 @@ def write(path, text):
             os.unlink(temporary)
             raise
     except OSError as error:
-        raise Refusal(f"{path} can't be written: {error.strerror}; name another page by -o OUT.html", 3) from None
+        raise Refusal(f"{path} can't be written: {error.strerror}; name another page by -o "
+                      "OUT.html", 3) from None
 
 
 def umask():
@@ -148,7 +155,9 @@ def umask():
 
 
 def tell_faults(content):
-    """Each fault for a terminal: its head with the first line, and a line for each step of its chain."""
+    """Each fault for a terminal: its head with the first line, and a line for each step of its
+    chain.
+    """
     facts = content.facts
     for fault in content.faults:
         lines = words.arising(facts, fault.steps)
@@ -170,7 +179,8 @@ def note_missing(asked, content):
     """Says what the page lacks, and how to get it."""
     remarks = content.facts.remarks
     if content.faults and not remarks.points:
-        say(f"note: {asked.facts} has no remark lines of points, so faults are told by numbers of points; "
+        say(f"note: {asked.facts} has no remark lines of points, so faults are told by numbers of "
+            "points; "
             f"tools/nll-facts FILE.rs writes texts that have them")
     if remarks.source and not content.source:
         say(f"note: {remarks.source}, the source that the text names, isn't there; "

@@ -1,4 +1,6 @@
-"""The graph as SVG: a box for each straight line of points, folded to cells or with a row for each statement."""
+"""The graph as SVG: a box for each straight line of points, folded to cells or with a row for each
+statement.
+"""
 
 import re
 from collections import Counter
@@ -24,7 +26,9 @@ MANY = 3            # so many edges to code that doesn't return are drawn as stu
 
 
 class Graph(NamedTuple):
-    """What is drawn: straight lines of points as boxes, the edges between boxes, and edges that are only begun."""
+    """What is drawn: straight lines of points as boxes, the edges between boxes, and edges that are
+    only begun.
+    """
 
     lines: list
     edges: list
@@ -35,15 +39,19 @@ class Graph(NamedTuple):
 def graph_of(facts):
     returning = reaches_return(facts)
     stubs = stubs_of(facts, returning)
-    successors = [[q for q in following if q not in stubs.get(p, ())] for p, following in enumerate(facts.successors)]
+    successors = [[q for q in following if q not in stubs.get(p, ())]
+                  for p, following in enumerate(facts.successors)]
     found = lines.straight_lines(successors)
     box_of = {point: box for box, line in enumerate(found) for point in line}
-    edges = sorted({(box, box_of[q]) for box, line in enumerate(found) for q in successors[line[-1]]})
+    edges = sorted({(box, box_of[q]) for box, line in enumerate(found)
+                    for q in successors[line[-1]]})
     return Graph(found, edges, stubs, [returning[line[0]] for line in found])
 
 
 def stubs_of(facts, returning):
-    """The edges to code that doesn't return, where several lead to the same point, as from calls that may unwind."""
+    """The edges to code that doesn't return, where several lead to the same point, as from calls
+    that may unwind.
+    """
     leaving = [(p, q) for p, following in enumerate(facts.successors) for q in following
                if returning[p] and not returning[q]]
     into = Counter(q for _, q in leaving)
@@ -55,7 +63,8 @@ def stubs_of(facts, returning):
 
 
 def reaches_return(facts):
-    """For each point whether a return can be reached; where none can from anywhere, all count as if it could.
+    """For each point whether a return can be reached; where none can from anywhere, all count as if
+    it could.
 
     A point from which the function unwinds is a return point for `nllc`, and none here.
     """
@@ -97,7 +106,8 @@ def unfolded_size(facts, line, rows):
     cells = max(len(row.points) for row in rows)
     letters = max(len(row_words(row)) for row in rows)
     number = len(str(max(p for row in rows for p in row.points)))
-    return max(PAD * 2 + cells * PITCH + (number + 1 + letters) * LETTER + 4, title_width(facts, line)), HEAD + len(rows) * ROW + 2
+    return max(PAD * 2 + cells * PITCH + (number + 1 + letters) * LETTER + 4,
+               title_width(facts, line)), HEAD + len(rows) * ROW + 2
 
 
 def folded(facts, graph, shape):
@@ -129,7 +139,8 @@ def folded_stubs(graph, line, size):
 
 def row_stubs(graph, rows, width):
     return "".join(stub([point], target, width, HEAD + at * ROW + ROW / 2)
-                   for at, row in enumerate(rows) for point in row.points for target in graph.stubs.get(point, ())[:1])
+                   for at, row in enumerate(rows) for point in row.points
+                   for target in graph.stubs.get(point, ())[:1])
 
 
 def folded_cells(facts, line):
@@ -143,21 +154,26 @@ def row_cells(facts, rows, width):
     cells = max(len(row.points) for row in rows)
     for at, row in enumerate(rows):
         top = HEAD + at * ROW
-        parts.append(f'<rect class="band" data-p="{row.points[0]}" x="1" y="{top:g}" width="{width - 2:g}" '
+        parts.append(f'<rect class="band" data-p="{row.points[0]}" x="1" y="{top:g}" '
+                     f'width="{width - 2:g}" '
                      f'height="{ROW}"/>')
         for place, point in enumerate(row.points):
             parts.append(cell(facts, point, PAD + place * PITCH, top + (ROW - CELL) / 2))
         left = PAD + cells * PITCH + 3
-        parts.append(f'<text class="words" data-row="{row.points[0]}" x="{left:g}" y="{top + 14:g}">'
-                     f'<tspan class="number">{row.points[0]}</tspan> {escape(row_words(row))}</text>')
+        parts.append(f'<text class="words" data-row="{row.points[0]}" x="{left:g}" '
+                     f'y="{top + 14:g}">'
+                     f'<tspan class="number">{row.points[0]}</tspan> '
+                     f'{escape(row_words(row))}</text>')
     return "".join(parts)
 
 
 def cell(facts, point, x, y):
-    returns = f'<path class="mark" d="M{x + 3:g} {y + 3.5:g}h5l-2.5 4.5z"/>' if point in facts.returns else ""
+    mark = f'<path class="mark" d="M{x + 3:g} {y + 3.5:g}h5l-2.5 4.5z"/>'
+    returns = mark if point in facts.returns else ""
     words = lines.words_of(facts, point)
     label = f"point {point}" + (f": {words}" if words else "")
-    return (f'<g class="cell" data-p="{point}" role="button" tabindex="-1" aria-label="{escape(label)}">'
+    return (f'<g class="cell" data-p="{point}" role="button" tabindex="-1" '
+            f'aria-label="{escape(label)}">'
             f"<title>{escape(label)}</title>"
             f'<rect x="{x:g}" y="{y:g}" width="{CELL}" height="{CELL}" rx="2.5"/>{returns}</g>')
 
@@ -166,10 +182,14 @@ def svg(name, facts, graph, shape, sizes, inside):
     wide = STUB + LETTER * len(str(facts.points))
     room = [wide if any(point in graph.stubs for point in line) else 0 for line in graph.lines]
     drawing = layout.place(shape, [(*size, free) for size, free in zip(sizes, room)])
-    parts = [f'<svg class="graph {name}" viewBox="0 0 {drawing.width:.0f} {drawing.height:.0f}" width="{drawing.width:.0f}" '
-             f'height="{drawing.height:.0f}" role="group" aria-label="control-flow graph">', '<g class="edges">']
-    parts += [edge_path(graph, edge, route, edge in shape.turned) for edge, route in drawing.routes.items()]
-    parts += [loop_path(graph, box, drawing.corners[box], sizes[box]) for box, other in graph.edges if box == other]
+    parts = [f'<svg class="graph {name}" viewBox="0 0 {drawing.width:.0f} {drawing.height:.0f}" '
+             f'width="{drawing.width:.0f}" '
+             f'height="{drawing.height:.0f}" role="group" aria-label="control-flow graph">',
+             '<g class="edges">']
+    parts += [edge_path(graph, edge, route, edge in shape.turned)
+              for edge, route in drawing.routes.items()]
+    parts += [loop_path(graph, box, drawing.corners[box], sizes[box]) for box, other in graph.edges
+              if box == other]
     parts.append("</g>")
     for box, line in enumerate(graph.lines):
         x, y = drawing.corners[box]
@@ -190,7 +210,8 @@ def box_group(facts, graph, box, x, y, size, inside):
 def stub(points, target, x, y):
     """A short arrow to the right with the number of the point to which these points lead."""
     ways = " ".join(f"{point}-{target}" for point in points)
-    return (f'<g class="stub" data-go="{target}" data-edge="{ways}"><title>from {", ".join(map(str, points))} to point '
+    return (f'<g class="stub" data-go="{target}" data-edge="{ways}"><title>from '
+            f'{", ".join(map(str, points))} to point '
             f"{target}, from which the function doesn’t return</title>"
             f'<path d="M{x:.1f} {y:.1f}h10m-3.5 -3.5l3.5 3.5l-3.5 3.5"/>'
             f'<text x="{x + 14:.1f}" y="{y + 3.5:.1f}">{target}</text></g>')

@@ -7,7 +7,8 @@ import re
 from .words import Code
 
 # Characters that show nothing or change how their neighbours are shown.
-HIDDEN = re.compile("[\x00-\x08\x0b-\x1f\x7f-\x9f\u061c\u200b-\u200f\u2028-\u202e\u2060-\u2069\ufeff\ufff9-\ufffb]")
+HIDDEN = re.compile("[\x00-\x08\x0b-\x1f\x7f-\x9f\u061c\u200b-\u200f"
+                    "\u2028-\u202e\u2060-\u2069\ufeff\ufff9-\ufffb]")
 
 
 def visible(text):
@@ -22,7 +23,8 @@ def text(value):
 
 def sentence(parts):
     """A sentence as HTML, its code in `code`."""
-    return "".join(f"<code>{text(part)}</code>" if isinstance(part, Code) else text(part) for part in parts)
+    return "".join(f"<code>{text(part)}</code>" if isinstance(part, Code) else text(part)
+                   for part in parts)
 
 
 def script_data(value):

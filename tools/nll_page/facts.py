@@ -1,7 +1,7 @@
 """Reads a facts text, version 1 (docs/FORMATS.md).
 
-`nllc` is the judge of texts. This reader follows those that `nllc` accepts; it stops at a line that it
-can't follow, but doesn't look for every fault that a line can have.
+`nllc` is the judge of texts. This reader follows those that `nllc` accepts; it stops at a line that
+it can't follow, but doesn't look for every fault that a line can have.
 """
 
 import re
@@ -22,7 +22,9 @@ FORMS = {"points": "n", "universal": "r", "outlives": "rr", "region": "r", "next
 
 
 class Constraint(NamedTuple):
-    """`(sup: sub) @ at`: sup holds all that is reached from the point inside sub. Regions by number."""
+    """`(sup: sub) @ at`: sup holds all that is reached from the point inside sub. Regions by
+    number.
+    """
 
     sup: int
     sub: int
@@ -31,7 +33,9 @@ class Constraint(NamedTuple):
 
 @dataclass
 class Facts:
-    """A problem as its text says it. Regions are numbers in the order of their lines, `'static` is 0."""
+    """A problem as its text says it. Regions are numbers in the order of their lines, `'static` is
+    0.
+    """
 
     points: int = 0
     names: list = field(default_factory=lambda: ["static"])
@@ -47,7 +51,8 @@ class Facts:
     @cached_property
     def live(self):
         """For each point with base lines their regions."""
-        return grouped((point, region) for region, points in enumerate(self.bases) for point in points)
+        return grouped((point, region) for region, points in enumerate(self.bases)
+                       for point in points)
 
     @cached_property
     def asked(self):

@@ -2,7 +2,9 @@
 
 
 def known(facts):
-    """For each universal region those that it is known to outlive: itself, and by chains of `outlives`."""
+    """For each universal region those that it is known to outlive: itself, and by chains of
+    `outlives`.
+    """
     direct = [[] for _ in range(facts.universals)]
     for long, short in facts.outlives:
         direct[long].append(short)
@@ -22,7 +24,8 @@ def reached(direct, start):
 
 
 def faults(facts, values):
-    """The pairs (a, b) where a holds the end of b and isn't known to outlive it, in region order."""
+    """The pairs (a, b) where a holds the end of b and isn't known to outlive it, in region order.
+    """
     outlived = known(facts)
     return [(a, element - facts.points)
             for a in range(facts.universals)

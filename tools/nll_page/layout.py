@@ -1,8 +1,8 @@
 """Where the boxes of a graph stand: in layers from top to bottom, with few crossings.
 
-The steps are those of Sugiyama's method: edges that go back are turned round, each box gets a layer below
-those that lead to it, an edge over several layers gets a place in each of them, the places of a layer are put
-in an order with few crossings, and then get coordinates.
+The steps are those of Sugiyama's method: edges that go back are turned round, each box gets a layer
+below those that lead to it, an edge over several layers gets a place in each of them, the places of
+a layer are put in an order with few crossings, and then get coordinates.
 """
 
 from dataclasses import dataclass, field
@@ -16,7 +16,9 @@ PLACE_SWEEPS = 17  # the last one goes down, so that what has one box above it s
 
 @dataclass
 class Shape:
-    """The order of a graph's boxes, without sizes. Boxes have numbers; a number past them is an edge's place."""
+    """The order of a graph's boxes, without sizes. Boxes have numbers; a number past them is an
+    edge's place.
+    """
 
     boxes: int
     layers: list
@@ -26,7 +28,8 @@ class Shape:
 
 @dataclass
 class Drawing:
-    """Coordinates: the left upper corner of each box, and the points through which each edge goes."""
+    """Coordinates: the left upper corner of each box, and the points through which each edge goes.
+    """
 
     width: float = 0
     height: float = 0
@@ -35,7 +38,9 @@ class Drawing:
 
 
 def shape_of(boxes, edges):
-    """The order of the boxes 0 to `boxes` - 1 with these distinct edges; those from a box to itself are left out."""
+    """The order of the boxes 0 to `boxes` - 1 with these distinct edges; those from a box to itself
+    are left out.
+    """
     edges = [edge for edge in edges if edge[0] != edge[1]]
     turned = edges_back(boxes, edges)
     down = [(b, a) if (a, b) in turned else (a, b) for a, b in edges]
@@ -86,7 +91,9 @@ def edges_back(boxes, edges):
 
 
 def layers_of(boxes, down):
-    """Each box one layer below the lowest that leads to it; one to which nothing leads just above what it leads to."""
+    """Each box one layer below the lowest that leads to it; one to which nothing leads just above
+    what it leads to.
+    """
     after = successors_of(boxes, down)
     waiting = [0] * boxes
     for _, b in down:
@@ -132,7 +139,9 @@ def neighbours(paths, count):
 
 
 def ordered(layers, paths, count):
-    """The layers, each in an order with few crossings: the best that some sweeps of averages come by."""
+    """The layers, each in an order with few crossings: the best that some sweeps of averages come
+    by.
+    """
     above, below = neighbours(paths, count)
     layers = by_first_visit(layers, below, count)
     best, fewest = [list(layer) for layer in layers], crossings(layers, below, count)
@@ -163,7 +172,8 @@ def sweep_once(layers, towards, upwards):
     """Sorts each layer by the average place of its members' neighbours in the layer just passed."""
     place = {number: at for layer in layers for at, number in enumerate(layer)}
     for layer in reversed(layers) if upwards else layers:
-        wish = {number: average([place[n] for n in towards[number]], place[number]) for number in layer}
+        wish = {number: average([place[n] for n in towards[number]], place[number])
+                for number in layer}
         layer.sort(key=wish.get)
         place.update((number, at) for at, number in enumerate(layer))
 
@@ -206,7 +216,8 @@ def place(shape, sizes):
     free = [sizes[n][2] if n < shape.boxes else 0 for n in range(count)]
     middle = middles(shape, width, free)
     tops, heights = rows_of(shape, sizes, middle)
-    drawing = Drawing(width=max((middle[n] + width[n] / 2 + free[n] for n in range(count)), default=0) + MARGIN,
+    drawing = Drawing(width=max((middle[n] + width[n] / 2 + free[n] for n in range(count)),
+                                default=0) + MARGIN,
                       height=(tops[-1] + heights[-1] if tops else 0) + MARGIN)
     level = {number: at for at, layer in enumerate(shape.layers) for number in layer}
     for box in range(shape.boxes):
@@ -218,7 +229,9 @@ def place(shape, sizes):
 
 
 def rows_of(shape, sizes, middle):
-    """The upper edge and the height of each layer; the gap below grows with the edges that slant there."""
+    """The upper edge and the height of each layer; the gap below grows with the edges that slant
+    there.
+    """
     _, below = neighbours(shape.paths, len(middle))
     tops, heights = [], []
     top = MARGIN
@@ -237,7 +250,8 @@ def middles(shape, width, free):
     above, below = neighbours(shape.paths, count)
     middle = [0.0] * count
     for layer in shape.layers:
-        spread(layer, middle, width, free, [float(at) for at in range(len(layer))], [1.0] * len(layer))
+        spread(layer, middle, width, free, [float(at) for at in range(len(layer))],
+               [1.0] * len(layer))
     for sweep in range(PLACE_SWEEPS):
         downwards = sweep % 2 == 0
         for layer in shape.layers if downwards else reversed(shape.layers):
@@ -252,7 +266,9 @@ def middles(shape, width, free):
 
 
 def spread(layer, middle, width, free, wishes, weights):
-    """Sets the middles of a layer as near to the wishes as its order and the gaps allow (least squares)."""
+    """Sets the middles of a layer as near to the wishes as its order and the gaps allow (least
+    squares).
+    """
     offsets, at = [], 0.0
     for before, number in zip([None, *layer], layer):
         if before is not None:
@@ -273,7 +289,9 @@ def spread(layer, middle, width, free, wishes, weights):
 
 
 def ports_of(shape, middle, width):
-    """Where each edge leaves the upper box and comes to the lower one: side by side, in the order of the other ends."""
+    """Where each edge leaves the upper box and comes to the lower one: side by side, in the order
+    of the other ends.
+    """
     leaving, coming = {}, {}
     for edge, path in shape.paths.items():
         leaving.setdefault(path[0], []).append((middle[path[1]], edge))

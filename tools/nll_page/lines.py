@@ -16,7 +16,8 @@ class Row(NamedTuple):
 
 
 def straight_lines(successors):
-    """All points in lines: inside a line each point has one successor, and that one no other predecessor.
+    """All points in lines: inside a line each point has one successor, and that one no other
+    predecessor.
 
     The lines stand in the order of their first points; the first one begins at point 0.
     """
@@ -61,8 +62,8 @@ def line_from(successors, predecessors, point, left):
 def rows(facts, line):
     """The line's points by statement.
 
-    The two points that rustc has for each statement share a row; so do the statements that only mark storage
-    and the like, where several of one line of the source follow each other.
+    The two points that rustc has for each statement share a row; so do the statements that only
+    mark storage and the like, where several of one line of the source follow each other.
     """
     found = []
     last = None
@@ -98,8 +99,9 @@ def words_of(facts, point):
 
 def title(facts, line):
     """The block of a line, where remarks say it, and its points."""
-    numbers = str(line[0]) if len(line) == 1 else f"{line[0]}–{line[-1]}" if is_run(line) else f"{line[0]} … {line[-1]}"
     spot = facts.remarks.point(line[0]).spot()
+    between = "–" if is_run(line) else " … "
+    numbers = str(line[0]) if len(line) == 1 else f"{line[0]}{between}{line[-1]}"
     return (spot[0] if spot else ""), numbers
 
 

@@ -37,7 +37,8 @@ def find():
     script = os.path.join(ROOT, "nllc.sh")
     found = script if os.access(script, os.X_OK) else shutil.which("nllc")
     if not found:
-        raise Refusal("no nllc is found: neither nllc.sh beside the folder tools/ nor nllc on the PATH; name one "
+        raise Refusal("no nllc is found: neither nllc.sh beside the folder tools/ nor nllc on the "
+                      "PATH; name one "
                       "by the variable NLLC, or hand in what it printed: --values FILE")
     return found
 
@@ -58,7 +59,8 @@ def run(text):
             check.stop()
         values.judge((0,))
         check.judge((0, 1))
-        return Report(values.text("out"), fault_lines(check.text("out")), shown(program), standing(program, values))
+        return Report(values.text("out"), fault_lines(check.text("out")), shown(program),
+                      standing(program, values))
 
 
 class Run:
@@ -66,7 +68,8 @@ class Run:
 
     def __init__(self, program, command, path, folder):
         self.program = program
-        self.files = {stream: os.path.join(folder, f"{command}.{stream}") for stream in ("out", "err")}
+        self.files = {stream: os.path.join(folder, f"{command}.{stream}")
+                      for stream in ("out", "err")}
         try:
             with open(self.files["out"], "wb") as out, open(self.files["err"], "wb") as err:
                 self.process = subprocess.Popen([program, command, path], stdin=subprocess.DEVNULL,
@@ -88,7 +91,8 @@ class Run:
         status = self.process.returncode
         if status in statuses:
             return
-        said = [line for line in self.text("err").splitlines() if line and not line.startswith("nllc.sh:")]
+        said = [line for line in self.text("err").splitlines() if line
+                and not line.startswith("nllc.sh:")]
         if status == 2:
             raise Refusal(f"nllc refuses the text: {said[-1] if said else 'it says not why'}")
         hint = " (is `rt` of the Rattle kit on the PATH?)" if status == 127 else ""

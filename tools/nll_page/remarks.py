@@ -5,8 +5,8 @@
     # point N: line L: TEXT
     # region 'NAME: line L: TEXT
 
-`line L: ` is left out where the line isn't known. `nllc` skips all of them, and any may be missing; a
-remark of another form is for the reader of the text alone.
+`line L: ` is left out where the line isn't known. `nllc` skips all of them, and any may be missing;
+a remark of another form is for the reader of the text alone.
 """
 
 import re
@@ -18,12 +18,15 @@ SOURCE = re.compile(r"#\s*source:\s*(\S.*)", re.ASCII)
 POINT = re.compile(r"#\s*point (\d{1,9}):\s*(?:line (\d{1,9}):\s*)?(.*)", re.ASCII)
 REGION = re.compile(r"#\s*region '(\w+):\s*(?:line (\d{1,9}):\s*)?(.*)", re.ASCII)
 
-# Where rustc's MIR has a statement: `(bb1[2])`, or its two points `(bb1[2], start)` and `(bb1[2], mid)`.
+# Where rustc's MIR has a statement: `(bb1[2])`, or of its two points `(bb1[2], start)` and
+# `(bb1[2], mid)`.
 SPOT = re.compile(r"\s*\((bb\d+)\[(\d+)\](?:,\s*(start|mid))?\)$")
 
 
 class Remark(NamedTuple):
-    """What a text says of one point or region: the line of the source, where it is known, and words."""
+    """What a text says of one point or region: the line of the source, where it is known, and
+    words.
+    """
 
     line: Optional[int]
     text: str

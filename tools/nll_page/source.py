@@ -14,8 +14,9 @@ WORD = re.compile(r"""
   | (?P<char>b?'(?:[^'\\]|\\.[^']*)')
   | (?P<lifetime>'[A-Za-z_]\w*)
   | (?P<number>\b[0-9][0-9a-fA-Fx_]*\w*)
-  | (?P<keyword>\b(?:as|async|await|break|const|continue|crate|dyn|else|enum|extern|false|fn|for|if|impl|in|let|
-      loop|match|mod|move|mut|pub|ref|return|self|Self|static|struct|super|trait|true|type|unsafe|use|where|while)\b)
+  | (?P<keyword>\b(?:as|async|await|break|const|continue|crate|dyn|else|enum|extern|false|fn|for|
+      if|impl|in|let|loop|match|mod|move|mut|pub|ref|return|self|Self|static|struct|super|trait|
+      true|type|unsafe|use|where|while)\b)
 """, re.VERBOSE)
 
 
@@ -28,7 +29,9 @@ class Source(NamedTuple):
 
 
 def find(facts, facts_path, given):
-    """The path of the source: the one that was given, or the one of the text's remark if it is there."""
+    """The path of the source: the one that was given, or the one of the text's remark if it is
+    there.
+    """
     if given is not None:
         return given
     named = facts.remarks.source
@@ -48,18 +51,23 @@ def read(path, facts):
     except UnicodeDecodeError:
         raise Refusal(f"{path} isn't UTF-8, so it is no Rust file") from None
     if len(text) > MOST_BYTES:
-        raise Refusal(f"{path} is longer than 4 MiB; leave it out, and the page lists the points instead")
+        raise Refusal(f"{path} is longer than 4 MiB; leave it out, and the page lists the "
+                      "points instead")
     lines = text.replace("\r\n", "\n").removesuffix("\n").split("\n")
-    named = [r.line for r in [*facts.remarks.points.values(), *facts.remarks.regions.values()] if r.line]
+    named = [r.line for r in [*facts.remarks.points.values(), *facts.remarks.regions.values()]
+             if r.line]
     if named and max(named) > len(lines):
-        raise Refusal(f"{path} has {len(lines)} lines, and the facts text speaks of line {max(named)}: "
+        raise Refusal(f"{path} has {len(lines)} lines, and the facts text speaks of line "
+                      f"{max(named)}: "
                       f"was the file changed? tools/nll-facts makes a new text")
     first, last = window(lines, named) if named else (1, len(lines))
     return Source(path, first, lines[first - 1:last])
 
 
 def window(lines, named):
-    """From the `fn` above the first line, with its attributes and comments, to the end of the last line's block."""
+    """From the `fn` above the first line, with its attributes and comments, to the end of the last
+    line's block.
+    """
     first, last = min(named), max(named)
     for above in range(first, max(first - 40, 0), -1):
         if re.search(r"\bfn\b", lines[above - 1]):

@@ -47,11 +47,14 @@ def read_values(report, facts, source):
 
 
 def foreign(source):
-    return Refusal(f"{source} isn't the report of this facts text; `nllc values FACTS > FILE` writes it anew")
+    return Refusal(f"{source} isn't the report of this facts text; `nllc values FACTS > FILE` "
+                   "writes it anew")
 
 
 def fits(facts, region, row):
-    """Whether a row may be the value of the region: elements ascend, and what it holds from the start is there."""
+    """Whether a row may be the value of the region: elements ascend, and what it holds from the
+    start is there.
+    """
     last = facts.points + facts.universals - 1
     if any(a >= b for a, b in zip(row, row[1:])) or row and not 0 <= row[0] <= row[-1] <= last:
         return False

@@ -1,7 +1,7 @@
 """Faults, chains and places in sentences.
 
-A sentence is a list of strings; those that are `Code` are shown as code. So text that comes from outside is
-never read as markup.
+A sentence is a list of strings; those that are `Code` are shown as code. So text that comes from
+outside is never read as markup.
 """
 
 
@@ -39,7 +39,8 @@ def plural(count, noun):
 
 
 def fault_head(facts, sup, sub):
-    return [tick(facts, sup), " must outlive ", tick(facts, sub), ", which the signature doesn’t say"]
+    return [tick(facts, sup), " must outlive ", tick(facts, sub),
+            ", which the signature doesn’t say"]
 
 
 def spans(elements):
@@ -57,7 +58,9 @@ MOST_ORIGINS = 3    # of more statements none is named
 
 
 def origins(facts, at):
-    """The points whose statements may ask for what a constraint at this point says: those before it."""
+    """The points whose statements may ask for what a constraint at this point says: those before
+    it.
+    """
     spot = facts.remarks.point(at).spot()
     if spot and spot[2] == "mid":
         return [at]
@@ -77,7 +80,8 @@ def statement(facts, point):
 
 def arising(facts, steps):
     """The lines of the source at which the constraints of a chain arise, ascending, each once."""
-    found = [origins(facts, step.constraint.at) for step in steps if not is_everywhere(facts, step.constraint)]
+    found = [origins(facts, step.constraint.at) for step in steps
+             if not is_everywhere(facts, step.constraint)]
     points = [p for several in found if len(several) <= MOST_ORIGINS for p in several]
     lines = {facts.remarks.point(p).line for p in points}
     return sorted(line for line in lines if line is not None)
@@ -86,7 +90,8 @@ def arising(facts, steps):
 def beginning(facts, universal):
     """The sentence before the first step."""
     name = facts.names[universal]
-    lasts = "lasts for ever" if name == "static" else "lasts after the return for as long as the caller likes"
+    lasts = "lasts for ever" if name == "static" else \
+        "lasts after the return for as long as the caller likes"
     return [tick(facts, universal), f" {lasts}: that is the element ", end(facts, universal),
             ", which ", tick(facts, universal), " holds from the start."]
 
@@ -106,24 +111,30 @@ def region_words(facts, region, most=60):
 def step_sentence(facts, step, universal):
     """Why this constraint, and the walk, bring the end to the larger region."""
     sup, sub, at = step.constraint.sup, step.constraint.sub, step.constraint.at
-    return [*reason(facts, step.constraint), tick(facts, sup), " must hold all that is reached inside ",
-            tick(facts, sub), f" from point {at} on. ", *walk_words(facts, step, universal), "; so ",
+    return [*reason(facts, step.constraint), tick(facts, sup),
+            " must hold all that is reached inside ",
+            tick(facts, sub), f" from point {at} on. ", *walk_words(facts, step, universal),
+            "; so ",
             tick(facts, sup), " holds it too."]
 
 
 def step_brief(facts, step):
-    """The step in one line of a terminal: where the end comes, what asks for it, and along which points."""
+    """The step in one line of a terminal: where the end comes, what asks for it, and along which
+    points.
+    """
     sup, sub = step.constraint.sup, step.constraint.sub
     what = region_words(facts, sup)
     asked = reason(facts, step.constraint)[:-1] or [f"From point {step.constraint.at} on"]
-    return ["to ", tick(facts, sup), f", {what}: " if what else ": ", asked[0][0].lower() + asked[0][1:],
+    return ["to ", tick(facts, sup), f", {what}: " if what else ": ",
+            asked[0][0].lower() + asked[0][1:],
             *asked[1:], ", inside ", tick(facts, sub), f" by {walk_text(step.walk)}"]
 
 
 def reason(facts, constraint):
     """The statements that ask for it, where something is known of them."""
     if is_everywhere(facts, constraint):
-        return ["At every point ", tick(facts, constraint.sup), " must outlive ", tick(facts, constraint.sub), ": "]
+        return ["At every point ", tick(facts, constraint.sup), " must outlive ",
+                tick(facts, constraint.sub), ": "]
     points = origins(facts, constraint.at)
     if not any(any(facts.remarks.point(p)) for p in points):
         return []
@@ -145,12 +156,15 @@ def walk_words(facts, step, universal):
     leaves = "unwinds" if unwinds(facts, points[-1]) else "returns"
     if len(points) == 1:
         return [f"The function {leaves} right there, and the walk goes on to ", *holds]
-    return ["Inside ", sub, f" a walk from there ({walk_text(points)}) leads to point {points[-1]}, where the function "
+    return ["Inside ", sub,
+            f" a walk from there ({walk_text(points)}) leads to point {points[-1]}, where the "
+            "function "
             f"{leaves}, and on to ", *holds]
 
 
 def unwinds(facts, point):
-    """Whether a panic goes out of the function there; that is a return, too, as far as regions go."""
+    """Whether a panic goes out of the function there; that is a return, too, as far as regions go.
+    """
     return facts.remarks.point(point).statement().rstrip(";") in ("resume", "UnwindResume")
 
 
@@ -165,5 +179,6 @@ def walk_text(points, most=7):
 def conclusion(facts, sup, sub):
     """What the end in the value means, and what would make it known."""
     wish = Code(f"where '{facts.names[sup]}: '{facts.names[sub]}")
-    return ["So ", tick(facts, sup), " would have to last as long as ", tick(facts, sub), ", whatever the caller "
+    return ["So ", tick(facts, sup), " would have to last as long as ", tick(facts, sub),
+            ", whatever the caller "
             "chooses. The signature may ask that of its callers by ", wish, "; it doesn’t."]

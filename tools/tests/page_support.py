@@ -1,4 +1,5 @@
-"""What the tests of `nll_page` share: small texts, values of the slow reference, random problems."""
+"""What the tests of `nll_page` share: small texts, values of the slow reference, random problems.
+"""
 
 import os
 import random
@@ -46,10 +47,12 @@ def random_text(seed):
     regions = [f"r{n}" for n in range(draw.randint(0, 4))]
     names = ["static"] + universals + regions
     lines = [f"universal '{name}" for name in universals]
-    lines += [f"outlives '{draw.choice(universals)} '{draw.choice(universals)}" for _ in range(draw.randint(0, 1))]
+    lines += [f"outlives '{draw.choice(universals)} '{draw.choice(universals)}"
+              for _ in range(draw.randint(0, 1))]
     lines += [f"region '{name}" for name in regions]
     lines += [f"next {p} {p + 1}" for p in range(points - 1) if draw.random() < 0.85]
-    lines += [f"next {draw.randrange(points)} {draw.randrange(points)}" for _ in range(draw.randint(0, 4))]
+    lines += [f"next {draw.randrange(points)} {draw.randrange(points)}"
+              for _ in range(draw.randint(0, 4))]
     lines += [f"return {draw.randrange(points)}" for _ in range(draw.randint(1, 2))]
     lines += [f"base '{name} {p}" for name in regions for p in range(points) if draw.random() < 0.6]
     lines += [f"constraint '{draw.choice(names)} '{draw.choice(names)} {draw.randrange(points)}"

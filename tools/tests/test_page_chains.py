@@ -1,4 +1,6 @@
-"""The chain of each fault: re-checked against the reference's values, and as short as the shortest there is."""
+"""The chain of each fault: re-checked against the reference's values, and as short as the shortest
+there is.
+"""
 
 import glob
 import os
@@ -37,7 +39,8 @@ def shortest(facts, values, region, universal):
         for constraint in facts.constraints:
             if constraint.sub == sub and constraint.sup not in seen and values.has(sub, end):
                 for walk in walks(facts, values.set_of(sub), constraint.at):
-                    todo.append((constraint.sup, (steps + 1, points + len(walk)), seen | {constraint.sup}))
+                    todo.append((constraint.sup, (steps + 1, points + len(walk)),
+                                 seen | {constraint.sup}))
     return best
 
 
@@ -85,11 +88,13 @@ class Chains(unittest.TestCase):
         for seed in range(600):
             data = random_text(seed)
             facts, values = solved(data)
-            lines = [f"fault '{facts.names[a]} must outlive '{facts.names[b]}\n" for a, b in faults(facts, values)]
+            lines = [f"fault '{facts.names[a]} must outlive '{facts.names[b]}\n"
+                     for a, b in faults(facts, values)]
             self.assertEqual("".join(lines) or "ok\n", reference.answer("check", data)[0].decode())
 
     def test_examples(self):
-        paths = glob.glob(os.path.join(EXAMPLES, "*.facts")) + glob.glob(os.path.join(SAMPLES, "*.facts"))
+        paths = glob.glob(os.path.join(EXAMPLES, "*.facts")) + glob.glob(os.path.join(SAMPLES,
+                                                                                      "*.facts"))
         for path in paths:
             data = file_bytes(path)
             if len(data) > 8000:

@@ -70,12 +70,14 @@ class Commands(unittest.TestCase):
         status, out, err = self.run_main(self.path("pick.facts"))
         self.assertEqual((status, out, err), (0, self.path("pick.html") + "\n", ""))
         page = self.page()
-        self.assertIn("<code>&#x27;b</code> must outlive <code>&#x27;a</code>, which the signature doesn’t say", page)
+        self.assertIn("<code>&#x27;b</code> must outlive <code>&#x27;a</code>, which the signature "
+                      "doesn’t say", page)
         self.assertIn('data-walk="6,7,8"', page)
         self.assertIn('id="line-7"', page)       # the source, by the text's own remark
         self.assertNotIn("next_one", page)       # and of it this function alone
         self.assertIn("The longer one", page)
-        self.assertEqual(stat.S_IMODE(os.stat(self.path("pick.html")).st_mode), 0o666 & ~self.umask())
+        self.assertEqual(stat.S_IMODE(os.stat(self.path("pick.html")).st_mode),
+                         0o666 & ~self.umask())
 
     def umask(self):
         mask = os.umask(0)
@@ -94,7 +96,8 @@ class Commands(unittest.TestCase):
         self.assertTrue(self.page().startswith("<!doctype html>"))
 
     def test_values_of_a_file_and_no_program(self):
-        report = self.write("report", reference.answer("values", file_bytes(SAMPLES, "pick.facts"))[0])
+        report = self.write("report",
+                            reference.answer("values", file_bytes(SAMPLES, "pick.facts"))[0])
         status, _, err = self.run_main(self.path("pick.facts"), "--values", report, nllc="missing")
         self.assertEqual((status, err), (0, ""))
         self.assertIn("report</code>", self.page())
@@ -103,15 +106,19 @@ class Commands(unittest.TestCase):
         status, out, _ = self.run_main(self.path("pick.facts"), "--faults")
         lines = out.splitlines()
         self.assertEqual(status, 0)
-        self.assertEqual(lines[1], f"{self.folder}/pick.rs:7: `'b` must outlive `'a`, which the signature doesn’t say")
+        self.assertEqual(lines[1],
+                         f"{self.folder}/pick.rs:7: `'b` must outlive `'a`, which the signature "
+                         "doesn’t say")
         self.assertEqual(lines[2:], [
             "    `end('a)` comes",
             "    to `'best`, the type of best: after `_0 = copy best` (line 9), inside `'a` by 8",
-            "    to `'b`, 'b of the signature: after `best = copy second` (line 7), inside `'best` by 6 → 7 → 8"])
+            "    to `'b`, 'b of the signature: after `best = copy second` (line 7), inside `'best` "
+            "by 6 → 7 → 8"])
 
     def test_a_text_without_remarks(self):
         bare = self.write("bare.facts", b"".join(
-            line for line in file_bytes(SAMPLES, "pick.facts").splitlines(True) if not line.startswith(b"#")))
+            line for line in file_bytes(SAMPLES, "pick.facts").splitlines(True)
+            if not line.startswith(b"#")))
         status, _, err = self.run_main(bare)
         self.assertEqual(status, 0)
         self.assertRegex(err, "note: .*no remark lines of points.*tools/nll-facts FILE.rs")
@@ -121,12 +128,14 @@ class Commands(unittest.TestCase):
         os.unlink(self.path("pick.rs"))
         status, _, err = self.run_main(self.path("pick.facts"))
         self.assertEqual(status, 0)
-        self.assertRegex(err, "note: pick.rs, the source that the text names, isn't there; give it behind FACTS")
+        self.assertRegex(err, "note: pick.rs, the source that the text names, isn't there; give it "
+                              "behind FACTS")
 
     # Which nllc it was
 
     def test_the_standing_of_each_program(self):
-        for script, line, standing in (("nllc.sh", "echo nllc.sh: this build isn\\'t proved >&2", nllc.UNPROVED),
+        for script, line, standing in (("nllc.sh", "echo nllc.sh: this build isn\\'t proved >&2",
+                                        nllc.UNPROVED),
                                        ("nllc.sh", "", nllc.PROVED), ("nllc", "", nllc.UNKNOWN)):
             self.program(script, f'{line}\nexec "{sys.executable}" "{REFERENCE}" "$@"')
             with mock.patch.dict(os.environ, {"NLLC": self.path(script)}):
@@ -146,33 +155,41 @@ class Commands(unittest.TestCase):
         self.refused("nllc refuses the text: nllc: line 4: duplicate", wrong)
 
     def test_no_nllc(self):
-        self.refused("there is no program .*missing, which the variable NLLC names", self.path("pick.facts"),
+        self.refused("there is no program .*missing, which the variable NLLC names",
+                     self.path("pick.facts"),
                      nllc="missing")
-        with mock.patch.object(nllc, "ROOT", self.path("nowhere")), mock.patch.dict(os.environ, {"PATH": ""}):
+        with mock.patch.object(nllc, "ROOT", self.path("nowhere")), mock.patch.dict(os.environ,
+                                                                                    {"PATH": ""}):
             self.refused("no nllc is found: .*--values FILE", self.path("pick.facts"), nllc=None)
 
     def test_an_nllc_that_fails(self):
         self.program("failing", "echo nllc: memory >&2; exit 3")
-        self.refused("ended with status 3: nllc: memory; .*--values FILE", self.path("pick.facts"), nllc="failing",
+        self.refused("ended with status 3: nllc: memory; .*--values FILE", self.path("pick.facts"),
+                     nllc="failing",
                      status=3)
         self.program("rtless", "echo nllc.sh: rt is missing >&2; exit 127")
-        self.refused("status 127: .*is `rt` of the Rattle kit on the PATH", self.path("pick.facts"), nllc="rtless",
+        self.refused("status 127: .*is `rt` of the Rattle kit on the PATH", self.path("pick.facts"),
+                     nllc="rtless",
                      status=3)
 
     def test_values_and_faults_that_disagree(self):
         self.program("lying", f'[ "$1" = check ] && {{ echo ok; exit 0; }}\n'
                               f'exec "{sys.executable}" "{REFERENCE}" "$@"')
-        self.refused("the faults of .* aren't those of", self.path("pick.facts"), nllc="lying", status=3)
+        self.refused("the faults of .* aren't those of", self.path("pick.facts"), nllc="lying",
+                     status=3)
 
     def test_values_that_do_not_follow(self):
         right = reference.answer("values", file_bytes(SAMPLES, "pick.facts"))[0]
-        report = self.write("report", right.replace(b"'best: 1 2 3 4 6 7 8 end('a)", b"'best: 1 2 3 4 6 7"))
-        self.refused("the values of .*report don't follow from the text: no constraints bring", self.path("pick.facts"),
+        report = self.write("report",
+                            right.replace(b"'best: 1 2 3 4 6 7 8 end('a)", b"'best: 1 2 3 4 6 7"))
+        self.refused("the values of .*report don't follow from the text: no constraints bring",
+                     self.path("pick.facts"),
                      "--values", report)
 
     def test_a_report_of_another_text(self):
         report = self.write("report", b"'static: 0 end('static)\n")
-        self.refused("report isn't the report of this facts text", self.path("pick.facts"), "--values", report)
+        self.refused("report isn't the report of this facts text", self.path("pick.facts"),
+                     "--values", report)
 
     def test_sources_that_are_none(self):
         self.refused("none.rs can't be read", self.path("pick.facts"), self.path("none.rs"))
@@ -181,23 +198,28 @@ class Commands(unittest.TestCase):
                      self.path("pick.facts"), self.write("short.rs", b"fn f() {}\n"))
 
     def test_pages_that_cannot_be_written(self):
-        self.refused("can't be written: No such file or directory; name another", self.path("pick.facts"), "-o",
+        self.refused("can't be written: No such file or directory; name another",
+                     self.path("pick.facts"), "-o",
                      self.path("nowhere/out.html"), status=3)
         os.mkdir(self.path("folder.html"))
-        self.refused("can't be written: Is a directory", self.path("pick.facts"), "-o", self.path("folder.html"),
+        self.refused("can't be written: Is a directory", self.path("pick.facts"), "-o",
+                     self.path("folder.html"),
                      status=3)
-        self.refused("would be written over .*pick.facts", self.path("pick.facts"), "-o", self.path("pick.facts"))
+        self.refused("would be written over .*pick.facts", self.path("pick.facts"), "-o",
+                     self.path("pick.facts"))
 
     def test_a_pipe_without_a_name_for_the_page(self):
         os.mkfifo(self.path("pipe"))
         self.refused("pipe has no place beside it; name the page by -o", self.path("pipe"))
 
     def test_a_run_that_is_stopped(self):
-        self.program("slow", "sleep 20")
+        self.program("slow", f"touch {self.path('began')}; exec sleep 20")
         with mock.patch.dict(os.environ, {"NLLC": self.path("slow")}):
-            run = subprocess.Popen([os.path.join(ROOT, "tools", "nll-page"), self.path("pick.facts")],
+            run = subprocess.Popen([os.path.join(ROOT, "tools", "nll-page"),
+                                    self.path("pick.facts")],
                                    stdout=subprocess.PIPE, stderr=subprocess.PIPE, text=True)
-        time.sleep(0.5)
+        while not os.path.exists(self.path("began")):
+            time.sleep(0.02)
         run.terminate()
         out, err = run.communicate(timeout=10)
         self.assertEqual((run.returncode, out, err), (130, "", "nll-page: stopped\n"))

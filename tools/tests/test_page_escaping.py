@@ -1,7 +1,6 @@
 """No text from outside becomes markup, script or a hidden character."""
 
 import json
-import os
 import unittest
 from html.parser import HTMLParser
 
@@ -11,7 +10,7 @@ from nll_page import nllc
 from nll_page.escaping import script_data, sentence, visible
 from nll_page.faults import faults
 from nll_page.chains import chain
-from nll_page.page import Content, Fault, fill, page
+from nll_page.page import SCRIPTS, Content, Fault, fill, page, template
 from nll_page.source import Source, pieces
 from nll_page.words import Code, plain
 
@@ -42,8 +41,10 @@ class Elements(HTMLParser):
 
 
 def page_of(nasty):
-    data = text(2, f"# function: {nasty}", f"# source: {nasty}", f"# point 0: line 1: {nasty} (bb0[0])",
-                f"# region 'a: {nasty}", f"# region 'x: line 1: {nasty}", "universal 'a", "region 'x", "next 0 1",
+    data = text(2, f"# function: {nasty}", f"# source: {nasty}",
+                f"# point 0: line 1: {nasty} (bb0[0])",
+                f"# region 'a: {nasty}", f"# region 'x: line 1: {nasty}", "universal 'a",
+                "region 'x", "next 0 1",
                 "return 1", "base 'x 0", "constraint 'x 'a 1", "constraint 'a 'static 1")
     facts, values = solved(data)
     found = [Fault(a, b, chain(facts, values, a, b)) for a, b in faults(facts, values)]
@@ -67,10 +68,12 @@ class Pages(unittest.TestCase):
     def test_nothing_is_fetched(self):
         made = Elements()
         made.feed(page_of("harmless"))
-        self.assertFalse({"link", "img", "iframe", "object", "embed", "base", "audio", "video"} & set(made.tags))
+        self.assertFalse({"link", "img", "iframe", "object", "embed", "base", "audio",
+                          "video"} & set(made.tags))
         names = [name for name, _ in made.attributes]
         self.assertNotIn("src", names)
-        self.assertTrue(all(value.startswith("#") for name, value in made.attributes if name == "href"))
+        self.assertTrue(all(value.startswith("#") for name, value in made.attributes
+                            if name == "href"))
         self.assertIn("default-src 'none'", page_of("harmless"))
 
     def test_each_identity_is_there_once(self):
@@ -96,13 +99,16 @@ class Pieces(unittest.TestCase):
 
     def test_what_is_put_in_is_not_looked_at_again(self):
         with_marks = fill("page.html", {name: "{{css}}" for name in
-                                        ("title", "css", "js", "name", "about", "verdict", "provenance", "faults",
-                                         "regions", "tabs", "source", "points", "folded", "statements", "view",
+                                        ("title", "css", "js", "name", "about", "verdict",
+                                         "provenance", "faults",
+                                         "regions", "tabs", "source", "points", "folded",
+                                         "statements", "view",
                                          "ends", "data")})
         self.assertIn("<style>\n{{css}}</style>", with_marks)
 
     def test_pieces_of_a_line_are_the_line(self):
-        for line in [NASTY, "let x: &'a str = \"a\\\"b\"; // 'c'", "'\\'' 'x' b'y' 'label: loop", "/* a */ 0x1f 'a\"", ""]:
+        for line in [NASTY, "let x: &'a str = \"a\\\"b\"; // 'c'", "'\\'' 'x' b'y' 'label: loop",
+                     "/* a */ 0x1f 'a\"", ""]:
             self.assertEqual("".join(piece for _, piece in pieces(line)), line)
 
     def test_kinds_of_pieces(self):
@@ -112,10 +118,10 @@ class Pieces(unittest.TestCase):
 
 class Scripts(unittest.TestCase):
     def test_the_script_makes_no_markup(self):
-        with open(os.path.join(os.path.dirname(nllc.__file__), "templates", "page.js"), encoding="utf-8") as file:
-            script = file.read()
-        for forbidden in ("innerHTML", "outerHTML", "insertAdjacentHTML", "document.write", "eval(", "</script"):
-            self.assertNotIn(forbidden, script)
+        for script in map(template, SCRIPTS):
+            for forbidden in ("innerHTML", "outerHTML", "insertAdjacentHTML", "document.write",
+                              "eval(", "</script"):
+                self.assertNotIn(forbidden, script)
 
 
 if __name__ == "__main__":

@@ -12,8 +12,10 @@ from nll_page.values import read_values
 
 class Facts(unittest.TestCase):
     def test_what_a_text_says(self):
-        facts = facts_of(3, "universal 'a", "universal 'b", "outlives 'a 'b", "region 'x", "next 0 1", "next 0 1",
-                         "next 1 2", "return 2", "base 'x 1", "constraint 'a 'x 1", "constraint'a'x\t1\r")
+        facts = facts_of(3, "universal 'a", "universal 'b", "outlives 'a 'b", "region 'x",
+                         "next 0 1", "next 0 1",
+                         "next 1 2", "return 2", "base 'x 1", "constraint 'a 'x 1",
+                         "constraint'a'x\t1\r")
         self.assertEqual(facts.names, ["static", "a", "b", "x"])
         self.assertEqual(facts.universals, 3)
         self.assertEqual(facts.outlives, {(1, 2)})
@@ -30,20 +32,27 @@ class Facts(unittest.TestCase):
             facts = read_facts(random_text(seed), "TEXT")
             names = [name.encode() for name in facts.names]
             self.assertEqual(names, said.names())
-            self.assertEqual({(p, q) for p in range(facts.points) for q in facts.successors[p]}, said.edges)
-            self.assertEqual({(names[c.sup], names[c.sub], c.at) for c in facts.constraints}, said.constraints)
-            self.assertEqual({(names[r], p) for r, points in enumerate(facts.bases) for p in points}, said.bases)
+            self.assertEqual({(p, q) for p in range(facts.points) for q in facts.successors[p]},
+                             said.edges)
+            self.assertEqual({(names[c.sup], names[c.sub], c.at) for c in facts.constraints},
+                             said.constraints)
+            self.assertEqual({(names[r], p) for r, points in enumerate(facts.bases)
+                              for p in points}, said.bases)
             self.assertEqual(facts.returns, said.returns)
 
     def test_lines_that_are_none(self):
-        for line in ["nothing", "next 0", "next 0 3", "next 0 01", "base 'x 0", "constraint 'static 'static 9",
-                     "universal 'static", "points 3", "next 0 1 !", "outlives 'x 'static", "'a", "return 'a", "end 1"]:
+        for line in ["nothing", "next 0", "next 0 3", "next 0 01", "base 'x 0",
+                     "constraint 'static 'static 9",
+                     "universal 'static", "points 3", "next 0 1 !", "outlives 'x 'static", "'a",
+                     "return 'a", "end 1"]:
             with self.subTest(line=line), self.assertRaisesRegex(Refusal, "line 3.*nllc check"):
                 facts_of(3, line)
 
     def test_no_facts_text(self):
         for data in [b"", b"fn main() {}\n", b"nll-facts 2\npoints 1\nend\n", b"\xff\xfe\n"]:
-            with self.subTest(data=data), self.assertRaisesRegex(Refusal, "isn't a facts text.*tools/nll-facts"):
+            with self.subTest(data=data), self.assertRaisesRegex(Refusal,
+                                                                 "isn't a facts "
+                                                                 "text.*tools/nll-facts"):
                 read_facts(data, "TEXT")
 
     def test_texts_that_stop_or_go_on(self):
@@ -57,8 +66,10 @@ class Facts(unittest.TestCase):
 
 class Remarks(unittest.TestCase):
     def test_each_form(self):
-        remarks = facts_of(2, "# function: a::b", "  #source: src/x y.rs \r", "# point 0: line 7: _1 = &'r _2 (bb0[3])",
-                           "# point 1: return", "# region 'static: for ever", "# region 'r: line 3: the borrow &x").remarks
+        remarks = facts_of(2, "# function: a::b", "  #source: src/x y.rs \r",
+                           "# point 0: line 7: _1 = &'r _2 (bb0[3])",
+                           "# point 1: return", "# region 'static: for ever",
+                           "# region 'r: line 3: the borrow &x").remarks
         self.assertEqual((remarks.function, remarks.source), ("a::b", "src/x y.rs"))
         self.assertEqual(remarks.point(0), Remark(7, "_1 = &'r _2 (bb0[3])"))
         self.assertEqual(remarks.point(0).spot(), ("bb0", "3", None))
@@ -73,7 +84,8 @@ class Remarks(unittest.TestCase):
         self.assertEqual(Remark(1, "drop(_2) (bb10[0], mid)").spot(), ("bb10", "0", "mid"))
 
     def test_other_remarks_are_left_alone(self):
-        remarks = facts_of(1, "# point of no return: 0", "# region x: y", "#", "# functions: f", "# point 99: far").remarks
+        remarks = facts_of(1, "# point of no return: 0", "# region x: y", "#", "# functions: f",
+                           "# point 99: far").remarks
         self.assertEqual((remarks.function, remarks.source, remarks.regions), ("", "", {}))
         self.assertFalse(remarks.has_lines())
 
@@ -88,16 +100,20 @@ class Reports(unittest.TestCase):
 
     def test_values(self):
         values = read_values(self.report, self.facts, "REPORT")
-        self.assertEqual([values.elements(region) for region in range(3)], [[0, 1, 2], [0, 1, 3], [0]])
+        self.assertEqual([values.elements(region) for region in range(3)],
+                         [[0, 1, 2], [0, 1, 3], [0]])
         self.assertTrue(values.has(1, 3))
         self.assertFalse(values.has(2, 3))
 
     def test_reports_of_other_texts(self):
         for wrong in ["", self.report.replace("'x", "'y"), self.report.replace("'x: 0", "'x:"),
-                      self.report.replace("'x: 0", "'x: 0 9"), self.report.replace("'x: 0", "'x: 0 end('b)"),
+                      self.report.replace("'x: 0", "'x: 0 9"),
+                      self.report.replace("'x: 0", "'x: 0 end('b)"),
                       self.report.replace("'a: 0 1", "'a: 1"), self.report + "'z:\n",
                       self.report.replace("'x: 0", "'x: 0 0")]:
-            with self.subTest(wrong=wrong), self.assertRaisesRegex(Refusal, "REPORT isn't the report of this"):
+            with self.subTest(wrong=wrong), self.assertRaisesRegex(Refusal,
+                                                                   "REPORT isn't the "
+                                                                   "report of this"):
                 read_values(wrong, self.facts, "REPORT")
 
     def test_no_report(self):

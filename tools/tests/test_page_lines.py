@@ -22,7 +22,8 @@ class Folding(unittest.TestCase):
         self.assertEqual(lines_of(3), [[0], [1], [2]])
 
     def test_a_branch_and_a_join(self):
-        self.assertEqual(lines_of(6, (0, 1), (1, 2), (1, 3), (2, 4), (3, 4), (4, 5)), [[0, 1], [2], [3], [4, 5]])
+        self.assertEqual(lines_of(6, (0, 1), (1, 2), (1, 3), (2, 4), (3, 4), (4, 5)),
+                         [[0, 1], [2], [3], [4, 5]])
 
     def test_a_loop_begins_a_line(self):
         self.assertEqual(lines_of(4, (0, 1), (1, 2), (2, 1), (2, 3)), [[0], [1, 2], [3]])
@@ -37,7 +38,9 @@ class Folding(unittest.TestCase):
         self.assertEqual(lines_of(4, (0, 3), (3, 2), (2, 1)), [[0, 3, 2, 1]])
 
     def test_by_the_definition(self):
-        """Each point is in one line; neighbours in a line are each other's only ones, and others aren't."""
+        """Each point is in one line; neighbours in a line are each other's only ones, and others
+        aren't.
+        """
         for seed in range(300):
             facts = read_facts(random_text(seed), "TEXT")
             lines = straight_lines(facts.successors)
@@ -52,7 +55,8 @@ class Folding(unittest.TestCase):
                         self.assertTrue(any(line[-1] == p and line[0] == q for line in lines))
 
     def test_rows_and_titles(self):
-        facts = facts_of(4, "# point 0: line 1: a (bb0[0], start)", "# point 1: line 1: a (bb0[0], mid)",
+        facts = facts_of(4, "# point 0: line 1: a (bb0[0], start)",
+                         "# point 1: line 1: a (bb0[0], mid)",
                          "# point 2: b (bb0[1])", "next 0 1", "next 1 2", "next 2 3", "return 3")
         self.assertEqual(rows(facts, [0, 1, 2, 3]), [([0, 1], "a"), ([2], "b"), ([3], "return")])
         self.assertEqual(title(facts, [0, 1, 2, 3]), ("bb0", "0–3"))
@@ -61,8 +65,10 @@ class Folding(unittest.TestCase):
 
 
     def test_marks_share_a_row(self):
-        facts = facts_of(5, "# point 0: line 1: StorageLive(_1) (bb0[0])", "# point 1: line 1: StorageDead(_2) (bb0[1])",
-                         "# point 2: line 1: _1 = _2 (bb0[2])", "# point 3: line 1: StorageLive(_3) (bb0[3])",
+        facts = facts_of(5, "# point 0: line 1: StorageLive(_1) (bb0[0])",
+                         "# point 1: line 1: StorageDead(_2) (bb0[1])",
+                         "# point 2: line 1: _1 = _2 (bb0[2])",
+                         "# point 3: line 1: StorageLive(_3) (bb0[3])",
                          "# point 4: line 2: StorageLive(_4) (bb0[4])")
         self.assertEqual([row.points for row in rows(facts, range(5))], [[0, 1], [2], [3], [4]])
         self.assertEqual(rows(facts, range(5))[0].text, "StorageLive(_1), StorageDead(_2)")
@@ -76,7 +82,8 @@ class Layers(unittest.TestCase):
     def random_graph(self, seed):
         draw = random.Random(seed)
         boxes = draw.randint(1, 14)
-        return boxes, sorted({(draw.randrange(boxes), draw.randrange(boxes)) for _ in range(draw.randint(0, 24))})
+        return boxes, sorted({(draw.randrange(boxes), draw.randrange(boxes))
+                              for _ in range(draw.randint(0, 24))})
 
     def test_a_diamond(self):
         shape, drawing_ = self.drawn(4, [(0, 1), (0, 2), (1, 3), (2, 3)])
@@ -87,7 +94,8 @@ class Layers(unittest.TestCase):
     def test_edges_back_are_turned(self):
         shape, _ = self.drawn(3, [(0, 1), (1, 2), (2, 1)])
         self.assertEqual(shape.turned, {(2, 1)})
-        self.assertEqual([sorted(n for n in layer if n < 3) for layer in shape.layers], [[0], [1], [2]])
+        self.assertEqual([sorted(n for n in layer if n < 3) for layer in shape.layers],
+                         [[0], [1], [2]])
 
     def test_edges_go_down_and_boxes_are_apart(self):
         for seed in range(200):
@@ -95,12 +103,15 @@ class Layers(unittest.TestCase):
             shape, drawn = self.drawn(boxes, edges, (40, 20, 15))
             level = {number: at for at, layer in enumerate(shape.layers) for number in layer}
             for edge, path in shape.paths.items():
-                self.assertEqual([level[n] for n in path], list(range(level[path[0]], level[path[-1]] + 1)))
-                self.assertEqual((path[-1], path[0]) if edge in shape.turned else (path[0], path[-1]), edge)
+                self.assertEqual([level[n] for n in path],
+                                 list(range(level[path[0]], level[path[-1]] + 1)))
+                self.assertEqual((path[-1], path[0]) if edge in shape.turned
+                                 else (path[0], path[-1]), edge)
             corners = list(drawn.corners.values())
             self.assertEqual(len(corners), boxes)
             for at, (x, y) in enumerate(corners):
-                self.assertTrue(0 <= x and x + 55 <= drawn.width and 0 <= y and y + 20 <= drawn.height)
+                self.assertTrue(0 <= x and x + 55 <= drawn.width and 0 <= y
+                                and y + 20 <= drawn.height)
                 for other_x, other_y in corners[:at]:
                     self.assertTrue(abs(x - other_x) > 55 or abs(y - other_y) > 20)
 
@@ -136,14 +147,16 @@ class Drawings(unittest.TestCase):
 
     def test_edges_to_code_that_unwinds_are_stubs(self):
         edges = [f"next {p} {p + 1}" for p in range(5)] + [f"next {p} 6" for p in range(4)]
-        graph = drawing.graph_of(facts_of(7, "# point 6: resume (bb9[0])", *edges, "return 5", "return 6"))
+        graph = drawing.graph_of(facts_of(7, "# point 6: resume (bb9[0])", *edges, "return 5",
+                                          "return 6"))
         self.assertEqual(graph.stubs, {0: [6], 1: [6], 2: [6], 3: [6]})
         self.assertEqual((graph.lines, graph.edges), ([[0, 1, 2, 3, 4, 5], [6]], []))
         self.assertEqual(graph.returning, [True, False])
 
     def test_a_single_edge_to_such_code_is_drawn(self):
         graph = drawing.graph_of(facts_of(3, "next 0 1", "next 0 2", "return 1"))
-        self.assertEqual((graph.stubs, graph.edges, graph.returning), ({}, [(0, 1), (0, 2)], [True, True, False]))
+        self.assertEqual((graph.stubs, graph.edges, graph.returning),
+                         ({}, [(0, 1), (0, 2)], [True, True, False]))
 
     def test_a_function_that_never_returns(self):
         graph = drawing.graph_of(facts_of(2, "next 0 1", "next 1 0"))

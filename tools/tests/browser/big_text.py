@@ -3,9 +3,9 @@
 
     big_text.py POINTS [SEED]
 
-The text is for looking at pages: it has remark lines, and is no account of any function. Each call may unwind
-to one block at the end. Regions are live on a stretch of points and feed the next one, as references do that
-are handed on; the last one is handed out, so that there is a fault.
+The text is for looking at pages: it has remark lines, and is no account of any function. Each call
+may unwind to one block at the end. Regions are live on a stretch of points and feed the next one,
+as references do that are handed on; the last one is handed out, so that there is a fault.
 """
 
 import random
@@ -15,7 +15,9 @@ CALLS = ["len", "push", "get", "split_at", "next", "insert", "as_str"]
 
 
 class Function:
-    """Points as they are made, in order; edges to points that aren't there yet are patched in later."""
+    """Points as they are made, in order; edges to points that aren't there yet are patched in
+    later.
+    """
 
     def __init__(self, draw):
         self.draw = draw
@@ -60,7 +62,8 @@ class Function:
     def branch(self, after, budget, depth):
         at = self.point("switchInt(move _4)", after)
         arms = self.draw.choice([2, 2, 2, 3, 5])
-        ends = [end for _ in range(arms) for end in self.body([at], max(budget // arms, 2), depth + 1)]
+        ends = [end for _ in range(arms)
+                for end in self.body([at], max(budget // arms, 2), depth + 1)]
         return [self.point("goto", ends)]
 
     def loop(self, after, budget, depth):
@@ -79,16 +82,20 @@ def facts_text(points, seed):
     count = len(function.words)
     regions = (count - 2) // 20 + 1
     lines = ["nll-facts 1", "# function: big", f"points {count}"]
-    lines += [f"# point {n}: line {line}: {words} (bb{n // 9}[{n % 9}])" for n, (line, words) in enumerate(function.words)]
+    lines += [f"# point {n}: line {line}: {words} (bb{n // 9}[{n % 9}])"
+              for n, (line, words) in enumerate(function.words)]
     lines += ["# region 'a: line 2: 'a of the signature", "universal 'a", "universal 'b"]
     for n in range(regions):
-        lines += [f"# region 'r{n}: line {function.words[n * 20][0]}: the borrow in _{n * 20}", f"region 'r{n}"]
+        lines += [f"# region 'r{n}: line {function.words[n * 20][0]}: the borrow in _{n * 20}",
+                  f"region 'r{n}"]
     lines += [f"next {p} {q}" for p, q in sorted(set(function.edges))]
     lines += [f"return {back}", f"return {resume}"]
     for n in range(regions):
-        lines += [f"base 'r{n} {p}" for p in range(n * 20, min(n * 20 + 45, back)) if draw.random() < 0.93]
+        lines += [f"base 'r{n} {p}" for p in range(n * 20, min(n * 20 + 45, back))
+                  if draw.random() < 0.93]
     lines += [f"constraint 'r{n} 'r{n + 1} {n * 20 + 20}" for n in range(regions - 1)]
-    lines += [f"constraint 'r{regions - 1} 'a {back}", f"constraint 'b 'r{regions - 1} {back}", "end", ""]
+    lines += [f"constraint 'r{regions - 1} 'a {back}", f"constraint 'b 'r{regions - 1} {back}",
+              "end", ""]
     return "\n".join(lines)
 
 

@@ -13,20 +13,26 @@ import shutil
 import subprocess
 import tempfile
 
+PROBES = os.path.join(os.path.dirname(os.path.abspath(__file__)), "probes.js")
 NAMES = ("chromium", "chromium-browser", "google-chrome")
 
-KEYS = {"Enter": (13, "\r"), "Escape": (27, ""), "Tab": (9, ""), " ": (32, " "), "ArrowLeft": (37, ""),
-        "ArrowUp": (38, ""), "ArrowRight": (39, ""), "ArrowDown": (40, ""), "Home": (36, ""), "End": (35, "")}
+KEYS = {"Enter": (13, "\r"), "Escape": (27, ""), "Tab": (9, ""), " ": (32, " "),
+        "ArrowLeft": (37, ""),
+        "ArrowUp": (38, ""), "ArrowRight": (39, ""), "ArrowDown": (40, ""), "Home": (36, ""),
+        "End": (35, "")}
 
 
 class Browser:
-    """One process. It reads commands from its descriptor 3 and answers on 4, each ended by a zero byte."""
+    """One process. It reads commands from its descriptor 3 and answers on 4, each ended by a zero
+    byte.
+    """
 
     def __init__(self):
         program = next(filter(None, map(shutil.which, NAMES)), None)
         if program is None:
             raise SystemExit("no Chromium is found; Debian has it: apt-get install chromium")
-        self.profile = tempfile.TemporaryDirectory(prefix="nll-page-browser.", ignore_cleanup_errors=True)
+        self.profile = tempfile.TemporaryDirectory(prefix="nll-page-browser.",
+                                                   ignore_cleanup_errors=True)
         to_browser, from_us = os.pipe()
         from_browser, to_us = os.pipe()
 
@@ -38,7 +44,8 @@ class Browser:
         to_browser, to_us = raised(to_browser), raised(to_us)
         self.process = subprocess.Popen(
             [program, "--headless=new", "--remote-debugging-pipe", "--no-sandbox", "--disable-gpu",
-             "--hide-scrollbars", "--disable-dev-shm-usage", f"--user-data-dir={self.profile.name}", "about:blank"],
+             "--hide-scrollbars", "--disable-dev-shm-usage", f"--user-data-dir={self.profile.name}",
+             "about:blank"],
             pass_fds=(3, 4, to_browser, to_us), preexec_fn=descriptors,
             stdin=subprocess.DEVNULL, stdout=subprocess.DEVNULL, stderr=subprocess.DEVNULL)
         os.close(to_browser)
@@ -91,7 +98,8 @@ class Browser:
     def open(self, path, width=1440, height=900, scheme="light", fragment=""):
         target = self.call("Target.createTarget", url="about:blank")["targetId"]
         session = self.call("Target.attachToTarget", targetId=target, flatten=True)["sessionId"]
-        return Page(self, session, "file://" + os.path.abspath(path) + fragment, width, height, scheme)
+        return Page(self, session, "file://" + os.path.abspath(path) + fragment, width, height,
+                    scheme)
 
 
 def raised(descriptor):
@@ -109,48 +117,58 @@ class Page:
         self.session = session
         self.call("Page.enable")
         self.call("Runtime.enable")
-        self.call("Emulation.setDeviceMetricsOverride", width=width, height=height, deviceScaleFactor=1, mobile=False)
+        self.call("Emulation.setDeviceMetricsOverride", width=width, height=height,
+                  deviceScaleFactor=1, mobile=False)
         self.call("Emulation.setEmulatedMedia",
                   features=[{"name": "prefers-color-scheme", "value": scheme}])
         browser.events.clear()
         self.call("Page.navigate", url=address)
         browser.wait_for("Page.loadEventFired")
+        with open(PROBES, encoding="utf-8") as file:
+            self.value(file.read())
 
     def call(self, method, **parameters):
         return self.browser.call(method, self.session, **parameters)
 
     def value(self, script):
         """What the expression is in the page."""
-        answer = self.call("Runtime.evaluate", expression=script, returnByValue=True, awaitPromise=True)
+        answer = self.call("Runtime.evaluate", expression=script, returnByValue=True,
+                           awaitPromise=True)
         if "exceptionDetails" in answer:
-            raise RuntimeError(answer["exceptionDetails"].get("exception", {}).get("description", script))
+            raise RuntimeError(answer["exceptionDetails"].get("exception", {}).get("description",
+                                                                                   script))
         return answer["result"].get("value")
 
     def complaints(self):
         """What the page's script raised and its console told, so far."""
         return [event["params"] for event in self.browser.events
-                if event.get("method") in ("Runtime.exceptionThrown", "Runtime.consoleAPICalled", "Log.entryAdded")]
+                if event.get("method") in ("Runtime.exceptionThrown", "Runtime.consoleAPICalled",
+                                           "Log.entryAdded")]
+
+    def probe(self, name, *arguments):
+        """The answer of one of the functions in `probes.js`."""
+        return self.value(f"probe.{name}({', '.join(map(json.dumps, arguments))})")
+
+    def resize(self, width, height):
+        self.call("Emulation.setDeviceMetricsOverride", width=width, height=height,
+                  deviceScaleFactor=1, mobile=False)
 
     def click(self, selector):
-        """A press and release of the mouse in the middle of the first element that is in sight."""
-        found = self.value(f"""(() => {{
-            const node = [...document.querySelectorAll({json.dumps(selector)})].find((n) => n.getClientRects().length);
-            if (!node) return null;
-            node.scrollIntoView({{ block: "center", inline: "nearest" }});
-            const box = node.getBoundingClientRect();
-            return [box.x + box.width / 2, box.y + box.height / 2];
-        }})()""")
-        if found is None:
+        """A press and release of the mouse in the middle of the first node that is in sight."""
+        middle = self.probe("middle", selector)
+        if middle is None:
             raise RuntimeError(f"nothing in sight is {selector}")
         for kind in ("mousePressed", "mouseReleased"):
-            self.call("Input.dispatchMouseEvent", type=kind, x=found[0], y=found[1], button="left", clickCount=1)
+            self.call("Input.dispatchMouseEvent", type=kind, x=middle[0], y=middle[1],
+                      button="left", clickCount=1)
 
     def key(self, name, shift=False):
         code, text = KEYS.get(name, (ord(name.upper()[0]), name))
         shared = {"key": name, "windowsVirtualKeyCode": code, "modifiers": 8 if shift else 0}
         if len(name) > 1:
             shared["code"] = name
-        self.call("Input.dispatchKeyEvent", type="keyDown", **shared, **({"text": text} if text else {}))
+        self.call("Input.dispatchKeyEvent", type="keyDown", **shared,
+                  **({"text": text} if text else {}))
         self.call("Input.dispatchKeyEvent", type="keyUp", **shared)
 
     def screenshot(self, path, clip=None):

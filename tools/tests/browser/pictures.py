@@ -50,16 +50,19 @@ def last_call(facts):
 def main(folder):
     os.makedirs(folder, exist_ok=True)
     with tempfile.TemporaryDirectory() as pages, Browser() as browser:
-        subprocess.run([os.path.join(ROOT, "nllc.sh"), "rust", "examples/three.rs", "-o", pages], cwd=ROOT,
+        subprocess.run([os.path.join(ROOT, "nllc.sh"), "rust", "examples/three.rs", "-o", pages],
+                       cwd=ROOT,
                        stdout=subprocess.DEVNULL, stderr=subprocess.DEVNULL, check=False)
         for name, function, scheme, chosen in PICTURES:
             with open(os.path.join(pages, f"{function}.facts"), "rb") as file:
                 text = file.read()
-            page = browser.open(os.path.join(pages, f"{function}.html"), *SIZE, scheme, fragment(text, chosen))
+            page = browser.open(os.path.join(pages, f"{function}.html"), *SIZE, scheme,
+                                fragment(text, chosen))
             picture = os.path.join(folder, f"{name}.png")
             page.screenshot(picture)
             if shutil.which("pngquant"):  # a third of the size
-                subprocess.run(["pngquant", "--force", "--ext", ".png", "--quality", "80-100", picture], check=False)
+                subprocess.run(["pngquant", "--force", "--ext", ".png", "--quality", "80-100",
+                                picture], check=False)
 
 
 if __name__ == "__main__":
