@@ -2,6 +2,7 @@
 # Runs nllc on these words: the program that `./nllc.sh --prove` proved and built, while no source is newer.
 # Until then a build of the same sources that nothing has proved, with checks at run time and not optimised: it is
 # compiled once, in about a minute, and kept in out/; each run says so in one line on standard error.
+# `nllc.sh rust FILE.rs` is another program: tools/nll-rust, which has this one answer what it makes of FILE.rs.
 here=$(dirname -- "$(readlink -f -- "$0")")
 proved=$here/crates/nllc/out/nllc
 unproved=$here/out/nllc-unproved
@@ -33,7 +34,10 @@ compile() (
     [ -x "$room/nllc" ] && touch -r "$room/began" "$room/nllc" && mv "$room/nllc" "$unproved"
 )
 
-if [ "$#" = 1 ] && [ "$1" = --prove ]; then
+if [ "$1" = rust ]; then
+    shift
+    exec python3 "$here/tools/nll-rust" "$@"
+elif [ "$#" = 1 ] && [ "$1" = --prove ]; then
     needs_rt
     say "proving every crate, which takes 5 to 15 minutes; $here/out/prove.log says how far it is"
     mkdir -p "$here/out" && touch "$here/out/began" && cd "$here/crates/nllc" || exit

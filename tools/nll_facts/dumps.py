@@ -1,0 +1,140 @@
+"""What rustc left for each function, and how functions are named and chosen."""
+
+import os
+import re
+from dataclasses import dataclass
+from typing import Optional
+
+from .mir import Span, read_body
+from .refusal import Refusal
+
+IMPL_AT = re.compile(r"<impl at (.+?):(\d+):(\d+): (\d+):(\d+)>")
+HEADER = re.compile(r"(?:unsafe\s+)?impl\b")
+
+
+@dataclass(frozen=True)
+class Dump:
+    """The files of one function: its name for a person, its tables' folder, its MIR, its lines.
+
+    The value of a constant is a body of its own too, which is answered where it is asked for alone.
+    """
+
+    name: str
+    file_name: str
+    facts: str
+    mir: str
+    span: Optional[Span]
+    is_function: bool = True
+
+    def has_line(self, line: int) -> bool:
+        return self.span is not None and self.span.first <= line <= self.span.last
+
+
+def closure_note(function: str) -> str:
+    """What to know of a closure's faults; empty for other functions."""
+    if "{closure#" not in function:
+        return ""
+    return "a closure: what it needs of lifetimes from outside, the function around it has to keep"
+
+
+def find_dumps(facts: str, mir: str, crate: str, root: str = "") -> list[Dump]:
+    """All functions of one run of rustc, in the order of the source.
+
+    rustc names its files relatively to the folder in which it ran, which is `root`.
+    """
+    folders = sorted(os.listdir(facts)) if os.path.isdir(facts) else []
+    dumps = []
+    for folder in folders:
+        mir_path = find_mir(mir, crate, folder)
+        if mir_path is not None:
+            dumps.append(dump_of(os.path.join(facts, folder), mir_path, root))
+    return sorted(dumps, key=lambda dump: (dump.span or Span("", 0, 0), dump.file_name))
+
+
+def find_mir(mir: str, crate: str, folder: str) -> Optional[str]:
+    path = os.path.join(mir, f"{crate}.{folder}.-------.nll.0.mir")
+    return path if os.path.isfile(path) else None
+
+
+def dump_of(facts: str, mir_path: str, root: str) -> Dump:
+    body = read_body(mir_path)
+    result = body.locals.get(0)
+    head = result.span if result else None
+    lines = [span for span in body.spans() if head and span.file == head.file]
+    span = None
+    if lines:
+        span = Span(head.file, min(s.first for s in lines), max(s.last for s in lines))
+    name = IMPL_AT.sub(lambda found: impl_name(found, root), body.path)
+    return Dump(name, file_name(os.path.basename(facts)), facts, mir_path, span, body.is_function)
+
+
+def file_name(folder: str) -> str:
+    """The name of rustc's folder without what shells and people stumble over."""
+    return re.sub(r"[^\w.-]+", "", folder).lstrip("-.") or "function"
+
+
+def impl_name(found: re.Match, root: str) -> str:
+    """The type of an `impl`, read from the source where rustc says only where it stands."""
+    try:
+        with open(os.path.join(root, found[1]), encoding="utf-8") as file:
+            lines = file.read().split("\n")[int(found[2]) - 1:int(found[4])]
+    except (OSError, UnicodeDecodeError):
+        return found[0]
+    if not lines:
+        return found[0]
+    last = len(lines) - 1
+    lines[last] = lines[last][:int(found[5]) - 1]
+    lines[0] = lines[0][int(found[3]) - 1:]
+    return type_name(" ".join(lines)) or found[0]
+
+
+def type_name(header: str) -> Optional[str]:
+    """`S` of `impl<'a, T> Iterator for module::S<'a, T> where ..`; `derive(Debug)` of `Debug`."""
+    header = header.strip()
+    begin = HEADER.match(header)
+    if not begin:
+        return f"derive({header})" if re.fullmatch(r"\w+", header) else None
+    flat = without_arguments(header[begin.end():].replace("->", ""))
+    subject = flat.split(" where ")[0].split(" for ")[-1]
+    words = re.findall(r"\w+", subject)
+    return words[-1] if words else None
+
+
+def without_arguments(text: str) -> str:
+    """The text without what stands between `<` and `>`."""
+    kept, depth = [], 0
+    for sign in text:
+        depth += (sign == "<")
+        if depth == 0:
+            kept.append(sign)
+        depth -= (sign == ">")
+    return "".join(kept)
+
+
+def choose(dumps: list[Dump], wanted: str) -> Dump:
+    """The one function that a name or a line of the source means."""
+    if wanted.isdigit():
+        return choose_at(dumps, int(wanted))
+    fitting = [dump for dump in dumps if dump.name == wanted]
+    fitting = fitting or [dump for dump in dumps if dump.name.endswith(f"::{wanted}")]
+    if not fitting:
+        known = ", ".join(dump.name for dump in dumps[:12]) + (", .." if len(dumps) > 12 else "")
+        raise Refusal(f"no function `{wanted}` has facts (one without a body has none, nor one "
+                      f"whose types rustc refuses); these do: {known}")
+    if len(fitting) > 1:
+        places = ", ".join(f"{dump.name} (line {line_of(dump)})" for dump in fitting)
+        raise Refusal(f"`{wanted}` fits several functions: {places}; "
+                      f"give one of these names in full, or the line in place of a name")
+    return fitting[0]
+
+
+def choose_at(dumps: list[Dump], line: int) -> Dump:
+    """The smallest function round a line."""
+    fitting = [dump for dump in dumps if dump.has_line(line)]
+    if not fitting:
+        raise Refusal(f"no function with facts has line {line}")
+    return min(fitting, key=lambda dump: dump.span.last - dump.span.first)
+
+
+def line_of(dump: Dump) -> str:
+    return str(dump.span.first) if dump.span else "?"

@@ -1,0 +1,158 @@
+"""Reads rustc's MIR dump of one function (`-Zdump-mir=nll`), and the names of its regions.
+
+What is taken from it is what a person reads: statements, variables, types, lines of the source. All
+that the problem itself needs is in the fact tables, save which terminators leave the function.
+"""
+
+import os
+import re
+from dataclasses import dataclass, field
+from typing import Iterator, NamedTuple, Optional
+
+from .refusal import Refusal
+from .tables import Location
+
+TITLE = re.compile(r"// MIR for `(.*)` 0 nll")
+SPAN = re.compile(r"(?P<file>.+):(?P<line>\d+):\d+: (?P<last>\d+):\d+(?: \(#\d+\))?")
+CODE = re.compile(r"(?P<indent> +)(?P<code>\S.*?)\s+// (?:\S+ )*?in scope \d+ at (?P<span>.*)"
+                  r"|        (?P<statement>\S.*);\s+// (?:bb\S+ )?scope \d+ at (?P<where>.*)")
+LET = re.compile(r"let (?:mut )?_(\d+): (.*?)(?: as UserTypeProjection .*)?;")
+DEBUG = re.compile(r"debug (\S+) => _(\d+);")
+BLOCK = re.compile(r"    bb(\d+)(?: \(cleanup\))?: \{")
+STATEMENT = re.compile(r" {8}[^\s/]")
+PARAMETER = re.compile(r"(?:^|, )_(\d+): ")
+EXTERNAL = re.compile(r"\| '\?(\d+) \| External \|")
+NAME = re.compile(r"    r(\d+)\[label=\"\\'\?\d+ \(\\'([A-Za-z0-9_]+)\)\"\]")
+
+
+class Span(NamedTuple):
+    """Where something stands in the source: the file as rustc writes it, first and last line."""
+
+    file: str
+    first: int
+    last: int
+
+
+class Statement(NamedTuple):
+    """A statement or terminator as rustc prints it."""
+
+    text: str
+    span: Optional[Span]
+
+
+@dataclass
+class Local:
+    """A variable of MIR: its type without regions, its name in the source, where it is declared."""
+
+    type: str
+    name: Optional[str] = None
+    span: Optional[Span] = None
+
+
+@dataclass
+class Body:
+    """The dump of one function."""
+
+    path: str
+    is_function: bool = False
+    locals: dict[int, Local] = field(default_factory=dict)
+    statements: dict[Location, Statement] = field(default_factory=dict)
+    names: dict[int, str] = field(default_factory=dict)
+    external: set[int] = field(default_factory=set)
+
+    def spans(self) -> Iterator[Span]:
+        """The places in the source that the dump names."""
+        for thing in [*self.locals.values(), *self.statements.values()]:
+            if thing.span is not None:
+                yield thing.span
+
+
+def read_body(mir_path: str) -> Body:
+    """The body of a `.mir` file; the names come from the graph of regions that stands beside it."""
+    lines = read_lines(mir_path)
+    title = TITLE.fullmatch(lines[0]) if lines else None
+    if not title:
+        raise Refusal(f"{mir_path} is no MIR dump that is known here; rustc 1.95 is known to work")
+    body = Body(path=title[1])
+    body.external = {int(found[1]) for found in map(EXTERNAL.match, lines) if found}
+    begin = next((i for i, line in enumerate(lines[1:], 1) if line and line[0] not in "/|"), 1)
+    read_header(body, lines[begin])
+    read_code(body, lines[begin + 1:])
+    body.names = read_names(mir_path.removesuffix(".mir") + ".regioncx.all.dot")
+    return body
+
+
+def read_lines(path: str) -> list[str]:
+    try:
+        with open(path, encoding="utf-8") as file:
+            return file.read().split("\n")
+    except OSError:
+        raise Refusal(f"{path} isn't there: this rustc's MIR dumps have another form; "
+                      f"1.95 is known to work") from None
+
+
+def read_header(body: Body, line: str) -> None:
+    """Takes the parameters of `fn NAME(_1: T, ..) -> T {`; a constant has none."""
+    begin = line.find("(_1: ")
+    body.is_function = line.startswith(("fn ", "unsafe fn ", "const fn "))
+    if begin < 0 or not body.is_function:
+        return
+    inside = line[begin + 1:closing(line, begin)]
+    found = list(PARAMETER.finditer(inside))
+    for this, following in zip(found, [*found[1:], None]):
+        end = following.start() if following else len(inside)
+        body.locals[int(this[1])] = Local(inside[this.end():end])
+
+
+def closing(text: str, begin: int) -> int:
+    """Where the bracket that opens at `begin` closes; the text's end if it doesn't."""
+    depth = 0
+    for at in range(begin, len(text)):
+        depth += {"(": 1, ")": -1}.get(text[at], 0)
+        if depth == 0:
+            return at
+    return len(text)
+
+
+def read_code(body: Body, lines: list[str]) -> None:
+    """Takes declarations, then blocks, up to the brace that closes the function.
+
+    A statement whose text has a line feed, in `asm!`, goes on up to where it stands in the source.
+    """
+    block, index, begun = None, 0, ""
+    for line in lines:
+        if line == "}":
+            return
+        line, begun = f"{begun} {line.strip()}" if begun else line, ""
+        if found := BLOCK.fullmatch(line):
+            block, index = int(found[1]), 0
+        elif not (found := CODE.fullmatch(line)):
+            begun = line if block is not None and STATEMENT.match(line) else ""
+        elif found["statement"] and block is not None:
+            statement = Statement(found["statement"], span_of(found["where"]))
+            body.statements[Location(block, index)] = statement
+            index += 1
+        elif found["code"] and block is None:
+            read_declaration(body, found["code"], span_of(found["span"]))
+
+
+def read_declaration(body: Body, code: str, span: Optional[Span]) -> None:
+    """Takes `let mut _3: T;` and `debug x => _3;`, whose span is where a parameter is declared."""
+    if found := LET.fullmatch(code):
+        known = body.locals.get(int(found[1]))
+        body.locals[int(found[1])] = Local(found[2], known.name if known else None, span)
+    elif found := DEBUG.fullmatch(code):
+        local = body.locals.setdefault(int(found[2]), Local(""))
+        local.name = local.name or found[1]
+        local.span = local.span or span
+
+
+def span_of(text: str) -> Optional[Span]:
+    found = SPAN.fullmatch(text)
+    return Span(found["file"], int(found["line"]), int(found["last"])) if found else None
+
+
+def read_names(dot_path: str) -> dict[int, str]:
+    """The names that regions have in the signature, without the `'`."""
+    return {int(found[1]): found[2]
+            for found in map(NAME.match, read_lines(dot_path)) if found}

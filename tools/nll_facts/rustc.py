@@ -1,0 +1,93 @@
+"""Runs the user's own rustc so that it leaves facts and MIR of each function."""
+
+import json
+import os
+import re
+import shutil
+import subprocess
+from dataclasses import dataclass, field
+
+from .refusal import Refusal
+
+CRATE = "input"
+NO_RUSTC = ("there is no rustc: install one (https://rustup.rs), "
+            "or name it by the variable RUSTC")
+# `-Zpolonius=next`: without it rustc leaves out which regions the drop of a variable uses
+# whose regions all outlive a named lifetime; it takes those regions to hold everywhere.
+FLAGS = ("-Znll-facts", "-Zdump-mir=nll", "-Zpolonius=next")
+
+
+@dataclass(frozen=True)
+class Error:
+    """An error of rustc: as it would print it, and the lines of the file that it is about."""
+
+    rendered: str
+    lines: list[int]
+
+
+@dataclass
+class Run:
+    """What a run of rustc left: the folders of facts and MIR, and its errors."""
+
+    facts: str
+    mir: str
+    errors: list[Error] = field(default_factory=list)
+
+
+def flags(folder: str) -> list[str]:
+    """The flags by which rustc leaves `facts/` and `mir/` in a folder."""
+    return [*FLAGS, f"-Znll-facts-dir={os.path.join(folder, 'facts')}",
+            f"-Zdump-mir-dir={os.path.join(folder, 'mir')}"]
+
+
+def find_rustc() -> str:
+    """The program in the variable RUSTC, or the `rustc` on the PATH."""
+    found = shutil.which(os.environ.get("RUSTC") or "rustc")
+    if not found:
+        raise Refusal(NO_RUSTC)
+    return found
+
+
+def run_rustc(file: str, folder: str, options: list[str], in_colour: bool = False) -> Run:
+    """Checks a file as a library; facts, MIR and what else rustc makes go to the folder."""
+    if not os.path.isfile(file):
+        raise Refusal(f"{file} is no file that can be read; give the path of a Rust file")
+    form = ["--json=diagnostic-rendered-ansi"] if in_colour else []
+    words = [find_rustc(), "--crate-type=lib", f"--crate-name={CRATE}", "--cap-lints=allow",
+             "--error-format=json", *form, "--emit=metadata", f"--out-dir={folder}",
+             *flags(folder), *options, file]
+    try:
+        done = subprocess.run(words, stdin=subprocess.DEVNULL, capture_output=True, check=False,
+                              env=os.environ | {"RUSTC_BOOTSTRAP": "1"})
+    except OSError as error:
+        raise Refusal(f"{words[0]} can't be run: {error.strerror}; {NO_RUSTC}") from None
+    run = Run(os.path.join(folder, "facts"), os.path.join(folder, "mir"))
+    for line in done.stderr.decode(errors="replace").splitlines():
+        run.errors.extend(read_error(line, file))
+    judge(done.returncode, run, words[0])
+    return run
+
+
+def read_error(line: str, file: str) -> list[Error]:
+    """The error that a line of rustc's JSON tells; what isn't JSON it tells before it has begun."""
+    try:
+        said = json.loads(line)
+    except ValueError:
+        return [Error(line + "\n", [])]
+    if said.get("level") != "error" or not said.get("rendered"):
+        return []
+    lines = [span["line_start"] for span in said.get("spans", ())
+             if span.get("is_primary") and span.get("file_name") == file]
+    return [Error(said["rendered"], lines)]
+
+
+def judge(status: int, run: Run, rustc: str) -> None:
+    """Refuses where rustc didn't know its words, or stopped without a reason."""
+    unknown = [error.rendered for error in run.errors
+               if re.search(r"unknown (unstable|debugging|codegen)? ?option|Unrecognized option"
+                            r"|only accepted on the nightly|incorrect value", error.rendered)]
+    if unknown:
+        raise Refusal(f"{rustc} doesn't take what it was given ({unknown[0].splitlines()[0]}); "
+                      f"1.95 knows all flags: `rustup update stable`, or name one by RUSTC")
+    if status != 0 and not run.errors:
+        raise Refusal(f"{rustc} ended with status {status} and says not why; run it by itself")

@@ -1,0 +1,45 @@
+"""The table at the end of many functions: a row for each file of the source, faults below."""
+
+from typing import Iterable
+
+from .dumps import closure_note
+from .jobs import Row
+
+HEAD = ("Source", "Functions", "Points", "Seconds", "Faults")
+
+
+def table(rows: list[Row], answered: bool) -> str:
+    """The table, then a line for each fault and for each function that has no answer."""
+    by_source: dict[str, list[Row]] = {}
+    for row in rows:
+        by_source.setdefault(row.source or "?", []).append(row)
+    body = [cells(source, some, answered) for source, some in sorted(by_source.items())]
+    total = cells(f"{len(by_source)} files", rows, answered)
+    return "\n".join([*aligned([HEAD, *body, total]), *told(rows)]) + "\n"
+
+
+def cells(name: str, rows: list[Row], answered: bool) -> tuple[str, ...]:
+    faults = str(sum(len(row.faults) for row in rows)) if answered else "-"
+    return (name, str(len(rows)), str(sum(row.points for row in rows)),
+            f"{sum(row.seconds for row in rows):.1f}", faults)
+
+
+def aligned(lines: list[tuple[str, ...]]) -> Iterable[str]:
+    """The cells in columns, numbers to the right, with a rule below the head and above the sum."""
+    widths = [max(len(line[column]) for line in lines) for column in range(len(HEAD))]
+    rule = "  ".join("-" * width for width in widths)
+    for number, line in enumerate(lines):
+        if number in (1, len(lines) - 1):
+            yield rule
+        yield "  ".join([line[0].ljust(widths[0]),
+                         *(cell.rjust(width) for cell, width in zip(line[1:], widths[1:]))])
+
+
+def told(rows: list[Row]) -> Iterable[str]:
+    for row in rows:
+        place = f"{row.source}:{row.line}: {row.function}"
+        for fault in row.faults:
+            note = closure_note(row.function)
+            yield f"{place}: {fault.removeprefix('fault ')}  ({note or row.path})"
+        if row.failure:
+            yield f"{place}: no answer: {row.failure}"

@@ -1,0 +1,91 @@
+"""Writes a problem as a facts text, version 1 (docs/FORMATS.md), with remarks for a person.
+
+    # function: NAME                    # point N: line L: TEXT
+    # source: PATH                      # region 'NAME: line L: TEXT
+
+`line L: ` is left out where the line isn't known.
+"""
+
+import os
+import tempfile
+from typing import Container, Iterator
+
+from .convert import Problem
+from .refusal import Refusal
+from .wording import Remark
+
+MOST_BYTES = 67_108_864
+
+
+def facts_text(problem: Problem) -> str:
+    """The text."""
+    text = "\n".join(lines(problem)) + "\n"
+    if len(text.encode()) > MOST_BYTES:
+        raise Refusal(f"{problem.function}: a text of more than {MOST_BYTES} bytes, and nllc takes "
+                      f"no more; cut the function into smaller ones")
+    return text
+
+
+def lines(problem: Problem) -> Iterator[str]:
+    yield "nll-facts 1"
+    yield f"# function: {problem.function}"
+    yield f"# source: {problem.source}"
+    yield f"points {len(problem.points)}"
+    for number, remark in enumerate(problem.points):
+        yield f"# point {number}: {words(remark)}"
+    for name, remark in problem.universals:
+        yield f"# region '{name}: {words(remark)}"
+        yield f"universal '{name}"
+    yield from (f"outlives '{sup} '{sub}" for sup, sub in problem.outlives)
+    for name, remark in problem.regions:
+        yield f"# region '{name}: {words(remark)}"
+        yield f"region '{name}"
+    for point, successors in enumerate(problem.successors):
+        yield from (f"next {point} {successor}" for successor in successors)
+    yield from (f"return {point}" for point in problem.returns)
+    for name, live in problem.bases:
+        yield from (f"base '{name} {point}" for point in live)
+    yield from (f"constraint '{sup} '{sub} {at}" for sup, sub, at in problem.constraints)
+    yield "end"
+
+
+def words(remark: Remark) -> str:
+    """The remark on one line."""
+    text = " ".join(remark.text.split())
+    return text if remark.line is None else f"line {remark.line}: {text}"
+
+
+def make_folder(folder: str) -> None:
+    try:
+        os.makedirs(folder, exist_ok=True)
+    except OSError as error:
+        raise Refusal(f"{folder} can't be made: {error.strerror}; give another: -o FOLDER",
+                      3) from None
+
+
+def free_path(folder: str, name: str, taken: Container[str]) -> str:
+    """The path of a text, with a number where another function has the name already."""
+    path = os.path.join(folder, f"{name}.facts")
+    number = 2
+    while path in taken:
+        path = os.path.join(folder, f"{name}-{number}.facts")
+        number += 1
+    return path
+
+
+def write_whole(path: str, text: str) -> None:
+    """Writes a file so that it is there whole or not at all."""
+    folder = os.path.dirname(path) or "."
+    try:
+        handle, unfinished = tempfile.mkstemp(dir=folder, prefix=".nll-facts-")
+        try:
+            with os.fdopen(handle, "w", encoding="utf-8", newline="\n") as file:
+                file.write(text)
+            os.chmod(unfinished, 0o644)
+            os.replace(unfinished, path)
+        except BaseException:
+            os.unlink(unfinished)
+            raise
+    except OSError as error:
+        raise Refusal(f"{path} can't be written: {error.strerror}; give another folder: -o FOLDER",
+                      3) from None

@@ -1,0 +1,15 @@
+"""One static HTML page of a facts text: the source, the control-flow graph, regions and faults.
+
+The values are those that `nllc` prints. Nothing here computes them, and nothing here is proved.
+
+    command     the words of the command line, files, statuses
+    facts       reads a facts text               remarks     reads its remark lines
+    nllc        finds and runs `nllc`            values      reads its report
+    faults      which ends are faults            chains      how an end came there
+    words       sentences                        source      the lines of the Rust file
+    lines       straight lines of points         layout      where the graph's boxes stand
+    drawing     the graph as SVG                 page        puts the page together
+    fault_list, region_list, point_list          its other parts
+    escaping    makes text from outside safe     refusal     lines for a person
+    templates/  the page's HTML, style and script
+"""

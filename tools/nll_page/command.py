@@ -1,0 +1,191 @@
+"""The command line: words, files, what is printed, statuses."""
+
+import argparse
+import os
+import signal
+import sys
+import tempfile
+
+from . import chains, faults, nllc, source, words
+from .escaping import visible
+from .facts import is_facts_text, read_facts
+from .page import Content, Fault, page
+from .refusal import Refusal
+from .values import read_values
+
+MOST_POINTS = 50_000
+
+ABOUT = """\ Writes one HTML page of a facts text (docs/FORMATS.md): its source or its list of
+points beside its control-flow graph, its regions, and each fault in words. Prints the page's path.
+The values are those of the nllc that is found: the program in the variable NLLC, nllc.sh beside the
+folder tools/, or the nllc on the PATH; or of FILE."""
+
+STATUSES = """\ status 0: the page was written; 2: words, a file or the text was refused; 3: nllc
+gave no answer, or the page couldn't be written; each with one line on standard error, and no page
+is left half-written"""
+
+
+def main(arguments):
+    """Runs the program on these words; its status."""
+    for number in (signal.SIGTERM, signal.SIGHUP):
+        signal.signal(number, signal.default_int_handler)  # what is half-written is taken away
+    try:
+        return run(words_of(arguments))
+    except Refusal as refusal:
+        say(str(refusal))
+        return refusal.status
+    except KeyboardInterrupt:
+        say("stopped")
+        return 130
+
+
+def words_of(arguments):
+    parser = argparse.ArgumentParser(prog="nll-page", description=ABOUT, epilog=STATUSES,
+                                     allow_abbrev=False,
+                                     formatter_class=argparse.RawDescriptionHelpFormatter)
+    parser.add_argument("facts", metavar="FACTS",
+                        help="a facts text; tools/nll-facts makes it of a Rust file")
+    parser.add_argument("source", metavar="SOURCE.rs", nargs="?",
+                        help="the Rust file; else the one that the text's `# source:` line names, "
+                             "if it is there")
+    parser.add_argument("--values", metavar="FILE",
+                        help="what `nllc values FACTS` printed, in place of running nllc")
+    parser.add_argument("--faults", action="store_true", help="print each fault in words, too")
+    parser.add_argument("-o", metavar="OUT.html", dest="out",
+                        help="the page (otherwise FACTS with .html in place of .facts)")
+    return parser.parse_args(arguments)
+
+
+def run(asked):
+    out = asked.out or beside(asked.facts)
+    for path in (asked.facts, asked.source, asked.values):
+        if path and same_file(path, out):
+            raise Refusal(f"the page would be written over {path}; name another by -o OUT.html")
+    content = content_of(asked)
+    write(out, page(content))
+    print(out)
+    if asked.faults:
+        tell_faults(content)
+    note_missing(asked, content)
+    return 0
+
+
+def beside(facts_path):
+    """The page's path where none is given: beside the text."""
+    is_file_or_folder = os.path.isfile(facts_path) or os.path.isdir(facts_path)
+    if os.path.exists(facts_path) and not is_file_or_folder:
+        raise Refusal(f"{facts_path} has no place beside it; name the page by -o OUT.html")
+    return facts_path.removesuffix(".facts") + ".html"
+
+
+def content_of(asked):
+    text = read_bytes(asked.facts)
+    if not is_facts_text(text):
+        read_facts(text, asked.facts)  # refuses it
+    told, standing = None, nllc.UNKNOWN
+    if asked.values:
+        report, origin = read_bytes(asked.values).decode("utf-8", "replace"), asked.values
+    else:
+        report, told, origin, standing = nllc.run(text)
+    facts = read_facts(text, asked.facts)
+    if facts.points > MOST_POINTS:
+        raise Refusal(f"{asked.facts} has {facts.points:,} points, and a page of more than "
+                      f"{MOST_POINTS:,} is no use "
+                      f"to anybody; `nllc values` and `nllc check` answer it")
+    values = read_values(report, facts, asked.values or origin)
+    found = faults.faults(facts, values)
+    if told is not None and told != [(facts.names[a], facts.names[b]) for a, b in found]:
+        raise Refusal(f"the faults of `{origin} check` aren't those of `{origin} values`", 3)
+    path = source.find(facts, asked.facts, asked.source)
+    return Content(facts, values, explained(facts, values, found, origin), asked.facts,
+                   source.read(path, facts) if path else None, origin, standing)
+
+
+def explained(facts, values, found, origin):
+    """The faults with their chains, each checked against the values."""
+    try:
+        steps = {}
+        for universal in {sub for _, sub in found}:
+            regions = [sup for sup, sub in found if sub == universal]
+            for region, its in chains.chains(facts, values, regions, universal).items():
+                chains.check(facts, values, region, universal, its)
+                steps[region, universal] = its
+        return [Fault(sup, sub, steps[sup, sub]) for sup, sub in found]
+    except chains.WrongValues as wrong:
+        raise Refusal(f"the values of {origin} don't follow from the text: {wrong}") from None
+
+
+def read_bytes(path):
+    try:
+        with open(path, "rb") as file:
+            return file.read()
+    except OSError as error:
+        raise Refusal(f"{path} can't be read: {error.strerror}") from None
+
+
+def same_file(path, other):
+    try:
+        return os.path.samefile(path, other)
+    except OSError:
+        return False
+
+
+def write(path, text):
+    """Writes the file whole or not at all."""
+    folder = os.path.dirname(path) or "."
+    try:
+        handle, temporary = tempfile.mkstemp(prefix=".nll-page.", suffix=".html", dir=folder)
+        try:
+            with os.fdopen(handle, "w", encoding="utf-8") as file:
+                file.write(text)
+            os.chmod(temporary, 0o666 & ~umask())
+            os.replace(temporary, path)
+        except BaseException:
+            os.unlink(temporary)
+            raise
+    except OSError as error:
+        raise Refusal(f"{path} can't be written: {error.strerror}; name another page by -o "
+                      "OUT.html", 3) from None
+
+
+def umask():
+    mask = os.umask(0)
+    os.umask(mask)
+    return mask
+
+
+def tell_faults(content):
+    """Each fault for a terminal: its head with the first line, and a line for each step of its
+    chain.
+    """
+    facts = content.facts
+    for fault in content.faults:
+        lines = words.arising(facts, fault.steps)
+        path = content.source.path if content.source else facts.remarks.source
+        where = "".join(f"{path}:{line}: " if path else f"line {line}: " for line in lines[:1])
+        tell(f"{where}{words.plain(words.fault_head(facts, fault.sup, fault.sub))}")
+        tell(f"    {words.plain([words.end(facts, fault.sub), ' comes'])}")
+        for step in fault.steps:
+            tell(f"    {words.plain(words.step_brief(facts, step))}")
+    if not content.faults:
+        tell("no fault")
+
+
+def tell(line):
+    print(visible(line))
+
+
+def note_missing(asked, content):
+    """Says what the page lacks, and how to get it."""
+    remarks = content.facts.remarks
+    if content.faults and not remarks.points:
+        say(f"note: {asked.facts} has no remark lines of points, so faults are told by numbers of "
+            "points; "
+            f"tools/nll-facts FILE.rs writes texts that have them")
+    if remarks.source and not content.source:
+        say(f"note: {remarks.source}, the source that the text names, isn't there; "
+            f"give it behind FACTS, and the page shows it")
+
+
+def say(line):
+    sys.stderr.write(f"nll-page: {visible(line)}\n")

@@ -1,0 +1,252 @@
+"""The graph as SVG: a box for each straight line of points, folded to cells or with a row for each
+statement.
+"""
+
+import re
+from collections import Counter
+from typing import NamedTuple
+
+from . import layout, lines
+from .escaping import text as escape
+from .escaping import visible
+from .words import unwinds
+
+CELL = 11           # the side of a point's cell
+PITCH = 13          # from one cell to the next
+HEAD = 18           # the height of a box's title
+PAD = 6
+ROW = 20            # the height of a statement's row
+LETTER = 6.65       # the width of a letter of a statement
+TITLE_LETTER = 6.6  # of a letter of a title
+MOST_LETTERS = 44
+TARGETS = re.compile(r" -> (?:\[.*\]|bb\d+)$")
+STUB = 14           # the length of a stub's arrow
+STUB_PITCH = 13     # from one stub to the next
+MANY = 3            # so many edges to code that doesn't return are drawn as stubs
+
+
+class Graph(NamedTuple):
+    """What is drawn: straight lines of points as boxes, the edges between boxes, and edges that are
+    only begun.
+    """
+
+    lines: list
+    edges: list
+    stubs: dict         # a point to the points to which it has an edge that is only begun
+    returning: list     # whether the function can still return from the box
+
+
+def graph_of(facts):
+    returning = reaches_return(facts)
+    stubs = stubs_of(facts, returning)
+    successors = [[q for q in following if q not in stubs.get(p, ())]
+                  for p, following in enumerate(facts.successors)]
+    found = lines.straight_lines(successors)
+    box_of = {point: box for box, line in enumerate(found) for point in line}
+    edges = sorted({(box, box_of[q]) for box, line in enumerate(found)
+                    for q in successors[line[-1]]})
+    return Graph(found, edges, stubs, [returning[line[0]] for line in found])
+
+
+def stubs_of(facts, returning):
+    """The edges to code that doesn't return, where several lead to the same point, as from calls
+    that may unwind.
+    """
+    leaving = [(p, q) for p, following in enumerate(facts.successors) for q in following
+               if returning[p] and not returning[q]]
+    into = Counter(q for _, q in leaving)
+    stubs = {}
+    for p, q in leaving:
+        if into[q] >= MANY:
+            stubs.setdefault(p, []).append(q)
+    return stubs
+
+
+def reaches_return(facts):
+    """For each point whether a return can be reached; where none can from anywhere, all count as if
+    it could.
+
+    A point from which the function unwinds is a return point for `nllc`, and none here.
+    """
+    todo = [point for point in facts.returns if not unwinds(facts, point)]
+    answer = [not todo] * facts.points
+    for point in todo:
+        answer[point] = True
+    while todo:
+        for point in facts.predecessors[todo.pop()]:
+            if not answer[point]:
+                answer[point] = True
+                todo.append(point)
+    return answer
+
+
+def columns(count):
+    """How many cells stand side by side in a folded box."""
+    return min(count, max(4, min(16, int((2.2 * count) ** 0.5))))
+
+
+def title_width(facts, line):
+    block, numbers = lines.title(facts, line)
+    return 2 * PAD + TITLE_LETTER * (len(block) + len(numbers) + 1)
+
+
+def folded_size(facts, line):
+    wide = columns(len(line))
+    high = -(-len(line) // wide)
+    return max(wide * PITCH - 2 + 2 * PAD, title_width(facts, line)), HEAD + high * PITCH - 2 + PAD
+
+
+def row_words(row):
+    """The statement, shortened: where it goes on to is what the edges show."""
+    text = TARGETS.sub("", visible(row.text))
+    return text if len(text) <= MOST_LETTERS else text[:MOST_LETTERS - 1] + "…"
+
+
+def unfolded_size(facts, line, rows):
+    cells = max(len(row.points) for row in rows)
+    letters = max(len(row_words(row)) for row in rows)
+    number = len(str(max(p for row in rows for p in row.points)))
+    return max(PAD * 2 + cells * PITCH + (number + 1 + letters) * LETTER + 4,
+               title_width(facts, line)), HEAD + len(rows) * ROW + 2
+
+
+def folded(facts, graph, shape):
+    """The drawing in which a straight line is a block of cells."""
+    sizes = [folded_size(facts, line) for line in graph.lines]
+    return svg("folded", facts, graph, shape, sizes, lambda box: (
+        folded_cells(facts, graph.lines[box]) + folded_stubs(graph, graph.lines[box], sizes[box])))
+
+
+def unfolded(facts, graph, shape):
+    """The drawing in which each statement has a row."""
+    rows = [lines.rows(facts, line) for line in graph.lines]
+    sizes = [unfolded_size(facts, line, found) for line, found in zip(graph.lines, rows)]
+    return svg("statements", facts, graph, shape, sizes, lambda box: (
+        row_cells(facts, rows[box], sizes[box][0]) + row_stubs(graph, rows[box], sizes[box][0])))
+
+
+def folded_stubs(graph, line, size):
+    """A stub for each point to which several of the line's points lead; the last stands lowest."""
+    sources = {}
+    for point in line:
+        for target in graph.stubs.get(point, ()):
+            sources.setdefault(target, []).append(point)
+    most = max(1, int((size[1] - 4) // STUB_PITCH))
+    shown = list(sources.items())[:most]
+    return "".join(stub(points, target, size[0], size[1] - 9 - STUB_PITCH * at)
+                   for at, (target, points) in enumerate(reversed(shown)))
+
+
+def row_stubs(graph, rows, width):
+    return "".join(stub([point], target, width, HEAD + at * ROW + ROW / 2)
+                   for at, row in enumerate(rows) for point in row.points
+                   for target in graph.stubs.get(point, ())[:1])
+
+
+def folded_cells(facts, line):
+    wide = columns(len(line))
+    return "".join(cell(facts, point, PAD + at % wide * PITCH, HEAD + at // wide * PITCH)
+                   for at, point in enumerate(line))
+
+
+def row_cells(facts, rows, width):
+    parts = []
+    cells = max(len(row.points) for row in rows)
+    for at, row in enumerate(rows):
+        top = HEAD + at * ROW
+        parts.append(f'<rect class="band" data-p="{row.points[0]}" x="1" y="{top:g}" '
+                     f'width="{width - 2:g}" '
+                     f'height="{ROW}"/>')
+        for place, point in enumerate(row.points):
+            parts.append(cell(facts, point, PAD + place * PITCH, top + (ROW - CELL) / 2))
+        left = PAD + cells * PITCH + 3
+        parts.append(f'<text class="words" data-row="{row.points[0]}" x="{left:g}" '
+                     f'y="{top + 14:g}">'
+                     f'<tspan class="number">{row.points[0]}</tspan> '
+                     f'{escape(row_words(row))}</text>')
+    return "".join(parts)
+
+
+def cell(facts, point, x, y):
+    mark = f'<path class="mark" d="M{x + 3:g} {y + 3.5:g}h5l-2.5 4.5z"/>'
+    returns = mark if point in facts.returns else ""
+    words = lines.words_of(facts, point)
+    label = f"point {point}" + (f": {words}" if words else "")
+    return (f'<g class="cell" data-p="{point}" role="button" tabindex="-1" '
+            f'aria-label="{escape(label)}">'
+            f"<title>{escape(label)}</title>"
+            f'<rect x="{x:g}" y="{y:g}" width="{CELL}" height="{CELL}" rx="2.5"/>{returns}</g>')
+
+
+def svg(name, facts, graph, shape, sizes, inside):
+    wide = STUB + LETTER * len(str(facts.points))
+    room = [wide if any(point in graph.stubs for point in line) else 0 for line in graph.lines]
+    drawing = layout.place(shape, [(*size, free) for size, free in zip(sizes, room)])
+    parts = [f'<svg class="graph {name}" viewBox="0 0 {drawing.width:.0f} {drawing.height:.0f}" '
+             f'width="{drawing.width:.0f}" '
+             f'height="{drawing.height:.0f}" role="group" aria-label="control-flow graph">',
+             '<g class="edges">']
+    parts += [edge_path(graph, edge, route, edge in shape.turned)
+              for edge, route in drawing.routes.items()]
+    parts += [loop_path(graph, box, drawing.corners[box], sizes[box]) for box, other in graph.edges
+              if box == other]
+    parts.append("</g>")
+    for box, line in enumerate(graph.lines):
+        x, y = drawing.corners[box]
+        parts.append(box_group(facts, graph, box, x, y, sizes[box], inside(box)))
+    parts.append("</svg>")
+    return "".join(parts)
+
+
+def box_group(facts, graph, box, x, y, size, inside):
+    block, numbers = lines.title(facts, graph.lines[box])
+    label = f'<tspan class="block">{escape(block)}</tspan> ' if block else ""
+    dim = "" if graph.returning[box] else " aside"
+    return (f'<g class="box{dim}" transform="translate({x:.1f} {y:.1f})">'
+            f'<rect class="frame" width="{size[0]:.1f}" height="{size[1]:.1f}" rx="5"/>'
+            f'<text class="title" x="{PAD}" y="13">{label}{escape(numbers)}</text>{inside}</g>')
+
+
+def stub(points, target, x, y):
+    """A short arrow to the right with the number of the point to which these points lead."""
+    ways = " ".join(f"{point}-{target}" for point in points)
+    return (f'<g class="stub" data-go="{target}" data-edge="{ways}"><title>from '
+            f'{", ".join(map(str, points))} to point '
+            f"{target}, from which the function doesn’t return</title>"
+            f'<path d="M{x:.1f} {y:.1f}h10m-3.5 -3.5l3.5 3.5l-3.5 3.5"/>'
+            f'<text x="{x + 14:.1f}" y="{y + 3.5:.1f}">{target}</text></g>')
+
+
+def edge_ends(graph, edge):
+    """The points between which the edge goes."""
+    return graph.lines[edge[0]][-1], graph.lines[edge[1]][0]
+
+
+def edge_path(graph, edge, route, turned):
+    """A smooth line down through the route, with an arrow where the edge ends."""
+    (x, y), *rest = route
+    path = [f"M{x:.1f} {y + (5 if turned else 0):.1f}"]
+    for at, (to_x, to_y) in enumerate(rest):
+        if at == len(rest) - 1 and not turned:
+            to_y -= 5
+        bend = (to_y - y) / 2
+        path.append(f"V{to_y:.1f}" if abs(to_x - x) < 0.5 else
+                    f"C{x:.1f} {y + bend:.1f} {to_x:.1f} {to_y - bend:.1f} {to_x:.1f} {to_y:.1f}")
+        x, y = to_x, to_y
+    (hx, hy), tip = (route[0], -5) if turned else (route[-1], 5)
+    head = f"M{hx - 3.5:.1f} {hy + (6 if turned else -6):.1f}l3.5 {tip}l3.5 {-tip}z"
+    return edge_group(graph, edge, " ".join(path), head, turned)
+
+
+def loop_path(graph, box, corner, size):
+    """An edge from a box to itself, at its right."""
+    x, top, bottom = corner[0] + size[0], corner[1] + 9, corner[1] + size[1] - 6
+    path = f"M{x:.1f} {bottom:.1f}c20 0 20 {top - bottom:.1f} 5 {top - bottom:.1f}"
+    return edge_group(graph, (box, box), path, f"M{x + 6:.1f} {top - 3.5:.1f}l-5 3.5l5 3.5z", True)
+
+
+def edge_group(graph, edge, path, head, turned):
+    a, b = edge_ends(graph, edge)
+    aside = "" if graph.returning[edge[0]] and graph.returning[edge[1]] else " aside"
+    return (f'<g class="edge{" back" if turned else ""}{aside}" data-edge="{a}-{b}">'
+            f'<path class="way" d="{path}"/><path class="head" d="{head}"/></g>')

@@ -1,0 +1,33 @@
+"""Makes text from outside safe to show, in HTML, in JSON inside HTML, and on a terminal."""
+
+import html
+import json
+import re
+
+from .words import Code
+
+# Characters that show nothing or change how their neighbours are shown.
+HIDDEN = re.compile("[\x00-\x08\x0b-\x1f\x7f-\x9f\u061c\u200b-\u200f"
+                    "\u2028-\u202e\u2060-\u2069\ufeff\ufff9-\ufffb]")
+
+
+def visible(text):
+    """The text with a code in place of each hidden character, and blanks in place of tabs."""
+    return HIDDEN.sub(lambda found: f"‹U+{ord(found[0]):04X}›", text.replace("\t", "    "))
+
+
+def text(value):
+    """A text as the content of an HTML element or of a quoted attribute."""
+    return html.escape(visible(str(value)))
+
+
+def sentence(parts):
+    """A sentence as HTML, its code in `code`."""
+    return "".join(f"<code>{text(part)}</code>" if isinstance(part, Code) else text(part)
+                   for part in parts)
+
+
+def script_data(value):
+    """JSON that may stand in a `script` element: it holds no `<`, so it can't end the element."""
+    compact = json.dumps(value, separators=(",", ":"))
+    return compact.replace("<", "\\u003c").replace(">", "\\u003e").replace("&", "\\u0026")

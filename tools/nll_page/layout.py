@@ -1,0 +1,315 @@
+"""Where the boxes of a graph stand: in layers from top to bottom, with few crossings.
+
+The steps are those of Sugiyama's method: edges that go back are turned round, each box gets a layer
+below those that lead to it, an edge over several layers gets a place in each of them, the places of
+a layer are put in an order with few crossings, and then get coordinates.
+"""
+
+from dataclasses import dataclass, field
+
+GAP_X = 22
+GAP_Y = 28
+MARGIN = 16
+ORDER_SWEEPS = 10
+PLACE_SWEEPS = 17  # the last one goes down, so that what has one box above it stands below that
+
+
+@dataclass
+class Shape:
+    """The order of a graph's boxes, without sizes. Boxes have numbers; a number past them is an
+    edge's place.
+    """
+
+    boxes: int
+    layers: list
+    paths: dict        # an edge to the list of numbers that it goes through, from top to bottom
+    turned: set        # edges that are drawn from bottom to top
+
+
+@dataclass
+class Drawing:
+    """Coordinates: the left upper corner of each box, and the points through which each edge goes.
+    """
+
+    width: float = 0
+    height: float = 0
+    corners: dict = field(default_factory=dict)
+    routes: dict = field(default_factory=dict)
+
+
+def shape_of(boxes, edges):
+    """The order of the boxes 0 to `boxes` - 1 with these distinct edges; those from a box to itself
+    are left out.
+    """
+    edges = [edge for edge in edges if edge[0] != edge[1]]
+    turned = edges_back(boxes, edges)
+    down = [(b, a) if (a, b) in turned else (a, b) for a, b in edges]
+    layer = layers_of(boxes, down)
+    layers = [[] for _ in range(max(layer, default=0) + 1)]
+    for box in range(boxes):
+        layers[layer[box]].append(box)
+    paths = {}
+    count = boxes
+    for edge, (top, bottom) in zip(edges, down):
+        between = range(layer[top] + 1, layer[bottom])
+        paths[edge] = [top, *range(count, count + len(between)), bottom]
+        for place, number in enumerate(between, count):
+            layers[number].append(place)
+        count += len(between)
+    return Shape(boxes, ordered(layers, paths, count), paths, turned)
+
+
+def successors_of(count, edges):
+    table = [[] for _ in range(count)]
+    for a, b in edges:
+        table[a].append(b)
+    return table
+
+
+def edges_back(boxes, edges):
+    """The edges that a walk in depth finds to lead back to a box that it comes from."""
+    after = successors_of(boxes, edges)
+    state = [0] * boxes  # 0 unseen, 1 on the way, 2 done
+    back = set()
+    for root in range(boxes):
+        if state[root]:
+            continue
+        state[root] = 1
+        way = [(root, iter(after[root]))]
+        while way:
+            box, rest = way[-1]
+            following = next(rest, None)
+            if following is None:
+                state[box] = 2
+                way.pop()
+            elif state[following] == 1:
+                back.add((box, following))
+            elif state[following] == 0:
+                state[following] = 1
+                way.append((following, iter(after[following])))
+    return back
+
+
+def layers_of(boxes, down):
+    """Each box one layer below the lowest that leads to it; one to which nothing leads just above
+    what it leads to.
+    """
+    after = successors_of(boxes, down)
+    waiting = [0] * boxes
+    for _, b in down:
+        waiting[b] += 1
+    roots = [box for box in range(boxes) if not waiting[box]]
+    layer = [0] * boxes
+    todo = list(roots)
+    while todo:
+        box = todo.pop()
+        for b in after[box]:
+            layer[b] = max(layer[b], layer[box] + 1)
+            waiting[b] -= 1
+            if not waiting[b]:
+                todo.append(b)
+    for box in roots:
+        if box and after[box]:
+            layer[box] = min(layer[b] for b in after[box]) - 1
+    return apart(boxes, down, layer)
+
+
+def apart(boxes, down, layer):
+    """The layers with all that hangs together with box 0 first, and the rest below it."""
+    beside = successors_of(boxes, [*down, *((b, a) for a, b in down)])
+    first = {0}
+    todo = [0]
+    while todo:
+        for box in beside[todo.pop()]:
+            if box not in first:
+                first.add(box)
+                todo.append(box)
+    depth = max((layer[box] for box in first if box < boxes), default=0) + 1
+    return [at if box in first else at + depth for box, at in enumerate(layer)]
+
+
+def neighbours(paths, count):
+    """For each number those above it and those below it along the edges."""
+    above, below = [[] for _ in range(count)], [[] for _ in range(count)]
+    for path in paths.values():
+        for a, b in zip(path, path[1:]):
+            below[a].append(b)
+            above[b].append(a)
+    return above, below
+
+
+def ordered(layers, paths, count):
+    """The layers, each in an order with few crossings: the best that some sweeps of averages come
+    by.
+    """
+    above, below = neighbours(paths, count)
+    layers = by_first_visit(layers, below, count)
+    best, fewest = [list(layer) for layer in layers], crossings(layers, below, count)
+    for sweep in range(ORDER_SWEEPS):
+        if not fewest:
+            break
+        sweep_once(layers, above if sweep % 2 == 0 else below, sweep % 2 == 1)
+        now = crossings(layers, below, count)
+        if now < fewest:
+            best, fewest = [list(layer) for layer in layers], now
+    return best
+
+
+def by_first_visit(layers, below, count):
+    """The layers in the order in which a walk in depth comes to their members."""
+    visit = {}
+    for root in [number for layer in layers for number in layer]:
+        todo = [root]
+        while todo:
+            number = todo.pop()
+            if number not in visit:
+                visit[number] = len(visit)
+                todo.extend(reversed(below[number]))
+    return [sorted(layer, key=visit.get) for layer in layers]
+
+
+def sweep_once(layers, towards, upwards):
+    """Sorts each layer by the average place of its members' neighbours in the layer just passed."""
+    place = {number: at for layer in layers for at, number in enumerate(layer)}
+    for layer in reversed(layers) if upwards else layers:
+        wish = {number: average([place[n] for n in towards[number]], place[number])
+                for number in layer}
+        layer.sort(key=wish.get)
+        place.update((number, at) for at, number in enumerate(layer))
+
+
+def average(numbers, otherwise):
+    return sum(numbers) / len(numbers) if numbers else otherwise
+
+
+def crossings(layers, below, count):
+    """How many pairs of edges cross between neighbouring layers."""
+    total = 0
+    for upper, lower in zip(layers, layers[1:]):
+        place = {number: at for at, number in enumerate(lower)}
+        ends = [at for number in upper for at in sorted(place[b] for b in below[number])]
+        total += inversions(ends, len(lower))
+    return total
+
+
+def inversions(numbers, size):
+    """The pairs of numbers that stand in the wrong order, counted with a tree of sums."""
+    tree = [0] * (size + 1)
+    total = 0
+    for seen, number in enumerate(numbers):
+        at, smaller = number + 1, 0
+        while at:
+            smaller += tree[at]
+            at &= at - 1
+        total += seen - smaller
+        at = number + 1
+        while at <= size:
+            tree[at] += 1
+            at += at & -at
+    return total
+
+
+def place(shape, sizes):
+    """Coordinates for boxes of these sizes (width, height, room to be left free at the right)."""
+    count = 1 + max((number for layer in shape.layers for number in layer), default=0)
+    width = [sizes[n][0] if n < shape.boxes else 6 for n in range(count)]
+    free = [sizes[n][2] if n < shape.boxes else 0 for n in range(count)]
+    middle = middles(shape, width, free)
+    tops, heights = rows_of(shape, sizes, middle)
+    drawing = Drawing(width=max((middle[n] + width[n] / 2 + free[n] for n in range(count)),
+                                default=0) + MARGIN,
+                      height=(tops[-1] + heights[-1] if tops else 0) + MARGIN)
+    level = {number: at for at, layer in enumerate(shape.layers) for number in layer}
+    for box in range(shape.boxes):
+        drawing.corners[box] = (middle[box] - width[box] / 2, tops[level[box]])
+    ports = ports_of(shape, middle, width)
+    for edge, path in shape.paths.items():
+        drawing.routes[edge] = route(shape, edge, path, ports, middle, level, tops, heights, sizes)
+    return drawing
+
+
+def rows_of(shape, sizes, middle):
+    """The upper edge and the height of each layer; the gap below grows with the edges that slant
+    there.
+    """
+    _, below = neighbours(shape.paths, len(middle))
+    tops, heights = [], []
+    top = MARGIN
+    for layer in shape.layers:
+        height = max((sizes[n][1] for n in layer if n < shape.boxes), default=0)
+        slanting = sum(abs(middle[n] - middle[b]) > 40 for n in layer for b in below[n])
+        tops.append(top)
+        heights.append(height)
+        top += height + GAP_Y + min(4 * slanting, 48)
+    return tops, heights
+
+
+def middles(shape, width, free):
+    """The middle of each place: near those of its neighbours, in the order of its layer."""
+    count = len(width)
+    above, below = neighbours(shape.paths, count)
+    middle = [0.0] * count
+    for layer in shape.layers:
+        spread(layer, middle, width, free, [float(at) for at in range(len(layer))],
+               [1.0] * len(layer))
+    for sweep in range(PLACE_SWEEPS):
+        downwards = sweep % 2 == 0
+        for layer in shape.layers if downwards else reversed(shape.layers):
+            wishes, weights = [], []
+            for number in layer:
+                near = (above if downwards else below)[number]
+                wishes.append(average([middle[n] for n in near], middle[number]))
+                weights.append((1.0 if near else 0.1) * (4.0 if number >= shape.boxes else 1.0))
+            spread(layer, middle, width, free, wishes, weights)
+    left = min((middle[n] - width[n] / 2 for n in range(count)), default=0)
+    return [m - left + MARGIN for m in middle]
+
+
+def spread(layer, middle, width, free, wishes, weights):
+    """Sets the middles of a layer as near to the wishes as its order and the gaps allow (least
+    squares).
+    """
+    offsets, at = [], 0.0
+    for before, number in zip([None, *layer], layer):
+        if before is not None:
+            at += (width[before] + width[number]) / 2 + free[before] + GAP_X
+        offsets.append(at)
+    groups = []  # mean, weight and size of runs that stand as close as they may
+    for wish, weight, offset in zip(wishes, weights, offsets):
+        mean, size = wish - offset, 1
+        while groups and groups[-1][0] > mean:
+            other, other_weight, other_size = groups.pop()
+            mean = (mean * weight + other * other_weight) / (weight + other_weight)
+            weight += other_weight
+            size += other_size
+        groups.append((mean, weight, size))
+    means = [mean for mean, _, size in groups for _ in range(size)]
+    for number, mean, offset in zip(layer, means, offsets):
+        middle[number] = mean + offset
+
+
+def ports_of(shape, middle, width):
+    """Where each edge leaves the upper box and comes to the lower one: side by side, in the order
+    of the other ends.
+    """
+    leaving, coming = {}, {}
+    for edge, path in shape.paths.items():
+        leaving.setdefault(path[0], []).append((middle[path[1]], edge))
+        coming.setdefault(path[-1], []).append((middle[path[-2]], edge))
+    ports = {}
+    for kind, table in (("from", leaving), ("to", coming)):
+        for box, ends in table.items():
+            room = min(12.0, (width[box] - 12) / max(len(ends), 1))
+            for at, (_, edge) in enumerate(sorted(ends)):
+                ports[kind, edge] = middle[box] + (at - (len(ends) - 1) / 2) * room
+    return ports
+
+
+def route(shape, edge, path, ports, middle, level, tops, heights, sizes):
+    """The corners of an edge from its upper box to its lower one, as (x, y)."""
+    points = [(ports["from", edge], tops[level[path[0]]] + sizes[path[0]][1])]
+    for number in path[1:-1]:
+        top = tops[level[number]]
+        points += [(middle[number], top), (middle[number], top + heights[level[number]])]
+    points.append((ports["to", edge], tops[level[path[-1]]]))
+    return points

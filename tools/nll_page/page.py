@@ -1,0 +1,130 @@
+"""Puts the page together: templates, and the parts that depend on the text."""
+
+import os
+import re
+from typing import NamedTuple, Optional
+
+from . import drawing, layout, lines, words
+from .escaping import script_data, text, visible
+from .fault_list import fault_list
+from .nllc import PROVED, UNKNOWN, UNPROVED
+from .point_list import all_rows, end_list, point_list, source_list, tabs
+from .region_list import region_list, region_words
+from .source import Source
+
+TEMPLATES = os.path.join(os.path.dirname(os.path.abspath(__file__)), "templates")
+SCRIPTS = ("values.js", "show.js", "words.js", "choose.js", "graph.js", "keys.js", "start.js")
+
+FEW_ROWS = 60       # up to so many statements, the graph is first shown with them
+MOST_ROWS = 4000    # more are shown folded only
+
+STANDINGS = {
+    PROVED: "the proved build",
+    UNPROVED: "a build that nothing has proved",
+    UNKNOWN: "a program of which this page doesn’t know whether it is proved",
+}
+
+
+class Fault(NamedTuple):
+    """A pair of universal regions, and the steps that bring the second one's end to the first."""
+
+    sup: int
+    sub: int
+    steps: list
+
+
+class Content(NamedTuple):
+    """All that a page shows."""
+
+    facts: object
+    values: object
+    faults: list
+    facts_path: str
+    source: Optional[Source]
+    origin: str         # where the values come from
+    standing: str       # and whether that is proved
+
+
+def page(content):
+    """The whole page, as one text."""
+    facts = content.facts
+    graph = drawing.graph_of(facts)
+    shape = layout.shape_of(len(graph.lines), graph.edges)
+    rows = len(all_rows(facts))
+    return fill("page.html", {
+        "title": text(name_of(content)),
+        "css": template("page.css"),
+        "js": "\n".join(map(template, SCRIPTS)),
+        "name": text(name_of(content)),
+        "about": about(content),
+        "verdict": verdict(content),
+        "provenance": provenance(content),
+        "faults": fault_list(content),
+        "regions": region_list(content),
+        "tabs": tabs(content),
+        "source": source_list(content),
+        "points": point_list(facts),
+        "folded": drawing.folded(facts, graph, shape),
+        "statements": drawing.unfolded(facts, graph, shape) if rows <= MOST_ROWS else "",
+        "view": "statements" if rows <= FEW_ROWS else "folded",
+        "ends": end_list(facts),
+        "data": script_data(data(content)),
+    })
+
+
+def template(name):
+    with open(os.path.join(TEMPLATES, name), encoding="utf-8") as file:
+        return file.read()
+
+
+def fill(name, parts):
+    """The template with each `{{part}}` in place; what is put in isn't looked at again."""
+    return re.sub(r"\{\{(\w+)\}\}", lambda found: parts[found[1]], template(name))
+
+
+def name_of(content):
+    named = content.facts.remarks.function
+    return named or os.path.basename(content.facts_path).removesuffix(".facts")
+
+
+def about(content):
+    facts = content.facts
+    counts = [words.plural(facts.points, "point"), words.plural(len(facts.names), "region"),
+              words.plural(len(facts.constraints), "constraint")]
+    path = content.source.path if content.source else facts.remarks.source or content.facts_path
+    return f'<span class="path">{text(path)}</span> <span>{" · ".join(counts)}</span>'
+
+
+def verdict(content):
+    count = len(content.faults)
+    if not count:
+        return '<p class="verdict fine"><span aria-hidden="true">✓</span> no fault</p>'
+    return (f'<p class="verdict faulty"><span aria-hidden="true">✕</span> '
+            f'{words.plural(count, "fault")}</p>')
+
+
+def provenance(content):
+    return f"Values from <code>{text(content.origin)}</code>, {STANDINGS[content.standing]}."
+
+
+def data(content):
+    """What the script reads."""
+    facts = content.facts
+    return {
+        "points": facts.points,
+        "universals": facts.universals,
+        "regions": [region_data(content, region) for region in range(len(facts.names))],
+        "constraints": [[c.sup, c.sub, c.at] for c in facts.constraints],
+        "next": facts.successors,
+        "returns": sorted(facts.returns),
+        "texts": [visible(lines.words_of(facts, point)) for point in range(facts.points)],
+        "lines": [facts.remarks.point(point).line for point in range(facts.points)],
+    }
+
+
+def region_data(content, region):
+    facts = content.facts
+    return {"name": facts.names[region], "what": visible(region_words(facts, region)),
+            "line": facts.remarks.region(facts.names[region]).line,
+            "holds": words.spans(content.values.elements(region)),
+            "base": words.spans(sorted(facts.bases[region]))}

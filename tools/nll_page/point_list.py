@@ -1,0 +1,116 @@
+"""The source of a page with the points of each line, the list of all points, and the ends."""
+
+from . import lines, words
+from .escaping import text, visible
+from .source import pieces
+
+
+def tabs(content):
+    """The tabs of source and points: the source comes first where points have lines."""
+    named = bool(content.source) and content.facts.remarks.has_lines()
+    source = tab("source", "Source", named) if content.source else ""
+    return source + tab("points", "Points", not named)
+
+
+def tab(name, title, is_chosen):
+    return (f'<button type="button" role="tab" id="tab-{name}" aria-controls="{name}" '
+            f'aria-selected="{str(is_chosen).lower()}">{title}</button>')
+
+
+def source_list(content):
+    if not content.source:
+        return ""
+    facts = content.facts
+    rows = {}
+    for row in all_rows(facts):
+        rows.setdefault(facts.remarks.point(row.points[0]).line, []).append(row)
+    asking = {number for fault in content.faults for number in words.arising(facts, fault.steps)}
+    return "".join(source_line(facts, number, line, rows.get(number, []), number in asking)
+                   for number, line in enumerate(content.source.lines, content.source.first))
+
+
+def source_line(facts, number, line, rows, asks):
+    """A line of the source; with points it opens, and shows them."""
+    head = f'<span class="no">{number}</span>'
+    code = "".join(f'<span class="{kind}">{text(piece)}</span>' if kind else text(piece)
+                   for kind, piece in pieces(visible(line)))
+    if not rows:
+        return (f'<div class="line" id="line-{number}">{head}<span class="strip"></span>'
+                f"<code>{code}</code></div>")
+    kind, told = ("line asks", " title='a constraint of a fault’s chain arises here'") \
+        if asks else ("line", "")
+    return (f'<details class="{kind}" id="line-{number}"><summary{told}>{head}{strip(rows)}'
+            f"<code>{code}</code></summary>"
+            f'<div class="rows">{"".join(point_row(facts, row) for row in rows)}</div></details>')
+
+
+def strip(rows):
+    """A strip with a part for each point of a line."""
+    points = [point for row in rows for point in row.points]
+    parts = "".join(f'<i data-p="{point}"></i>' for point in points)
+    return f'<span class="strip" title="{words.plural(len(points), "point")}">{parts}</span>'
+
+
+def all_rows(facts):
+    """All points ascending, by statement."""
+    return lines.rows(facts, range(facts.points))
+
+
+def point_list(facts):
+    parts = []
+    block = None
+    for row in all_rows(facts):
+        spot = facts.remarks.point(row.points[0]).spot()
+        if spot and spot[0] != block:
+            block = spot[0]
+            parts.append(f'<h3 class="block">{text(block)}</h3>')
+        parts.append(point_row(facts, row, line_mark(facts.remarks.point(row.points[0]))))
+    return "".join(parts)
+
+
+def line_mark(remark):
+    return f'<span class="at">line {remark.line}</span>' if remark.line is not None else ""
+
+
+def point_row(facts, row, behind=""):
+    """The buttons of a statement's points, and its words; what stands behind them comes last."""
+    buttons = "".join(f'<button type="button" class="point" data-p="{point}" tabindex="-1">'
+                      f"{point}</button>" for point in row.points)
+    return (f'<div class="row"><span class="numbers">{buttons}</span>{row_words(facts, row)}'
+            f"{return_mark(facts, row)}{behind}</div>")
+
+
+def row_words(facts, row):
+    if facts.remarks.point(row.points[0]).text:
+        return f"<code>{text(row.text)}</code>"
+    return f'<code class="said">{text(said_at(facts, row.points[0]))}</code>'
+
+
+def return_mark(facts, row):
+    """Says that the function may return there, where the statement itself doesn't."""
+    told = facts.remarks.point(row.points[0]).statement() in ("return", "resume")
+    if told or not any(point in facts.returns for point in row.points):
+        return ""
+    return '<span class="returns" title="the function may return here">returns</span>'
+
+
+def said_at(facts, point):
+    """What the text says of a point whose statement it doesn't give."""
+    asked = [f"({words.tick(facts, sup)}: {words.tick(facts, sub)})"
+             for sup, sub in facts.asked.get(point, ())]
+    live = [words.tick(facts, region) for region in facts.live.get(point, ())]
+    parts = [some(asked)] if asked else []
+    parts += [f"live: {some(live)}"] if live else []
+    return ";  ".join(parts)
+
+
+def some(names, most=4):
+    """The first of the names, and how many more there are."""
+    more = f" and {len(names) - most} more" if len(names) > most else ""
+    return ", ".join(names[:most]) + more
+
+
+def end_list(facts):
+    return "".join(f'<button type="button" class="end" data-p="{facts.end_of(region)}" '
+                   f'tabindex="-1">end(&#x27;{text(facts.names[region])})</button>'
+                   for region in range(facts.universals))

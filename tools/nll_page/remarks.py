@@ -1,0 +1,83 @@
+"""Reads the remark lines by which a facts text says what its points and regions are.
+
+    # function: NAME
+    # source: PATH
+    # point N: line L: TEXT
+    # region 'NAME: line L: TEXT
+
+`line L: ` is left out where the line isn't known. `nllc` skips all of them, and any may be missing;
+a remark of another form is for the reader of the text alone.
+"""
+
+import re
+from dataclasses import dataclass, field
+from typing import NamedTuple, Optional
+
+FUNCTION = re.compile(r"#\s*function:\s*(\S.*)", re.ASCII)
+SOURCE = re.compile(r"#\s*source:\s*(\S.*)", re.ASCII)
+POINT = re.compile(r"#\s*point (\d{1,9}):\s*(?:line (\d{1,9}):\s*)?(.*)", re.ASCII)
+REGION = re.compile(r"#\s*region '(\w+):\s*(?:line (\d{1,9}):\s*)?(.*)", re.ASCII)
+
+# Where rustc's MIR has a statement: `(bb1[2])`, or of its two points `(bb1[2], start)` and
+# `(bb1[2], mid)`.
+SPOT = re.compile(r"\s*\((bb\d+)\[(\d+)\](?:,\s*(start|mid))?\)$")
+
+
+class Remark(NamedTuple):
+    """What a text says of one point or region: the line of the source, where it is known, and
+    words.
+    """
+
+    line: Optional[int]
+    text: str
+
+    def spot(self):
+        """Block, place in it and half of a point, where the words end with them; else None."""
+        found = SPOT.search(self.text)
+        return found.groups() if found else None
+
+    def statement(self):
+        """The words without the place."""
+        return SPOT.sub("", self.text)
+
+
+NOTHING = Remark(None, "")
+
+
+@dataclass
+class Remarks:
+    """All remarks of a text; of two of the same thing the first counts."""
+
+    function: str = ""
+    source: str = ""
+    points: dict = field(default_factory=dict)
+    regions: dict = field(default_factory=dict)
+
+    def point(self, point):
+        return self.points.get(point, NOTHING)
+
+    def region(self, name):
+        return self.regions.get(name, NOTHING)
+
+    def has_lines(self):
+        return any(remark.line is not None for remark in self.points.values())
+
+    def read(self, line):
+        """Takes a remark line in, if it has one of the forms."""
+        line = line.strip(" \t\r")
+        if found := POINT.fullmatch(line):
+            self.points.setdefault(int(found[1]), remark_of(found))
+        elif found := REGION.fullmatch(line):
+            self.regions.setdefault(found[1], remark_of(found))
+        elif found := FUNCTION.fullmatch(line):
+            self.function = self.function or found[1]
+        elif found := SOURCE.fullmatch(line):
+            self.source = self.source or found[1]
+
+
+def is_remark(line):
+    return line.lstrip(" \t\r").startswith("#")
+
+
+def remark_of(found):
+    return Remark(int(found[2]) if found[2] else None, found[3].strip())

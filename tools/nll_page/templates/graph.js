@@ -1,0 +1,52 @@
+// The graph's view and its size.
+
+let scale = 1;
+const svgs = all("#graph svg").map((svg) => ({
+  svg, width: svg.width.baseVal.value, height: svg.height.baseVal.value,
+}));
+
+// Draws the graph at this scale; what is in the middle of the pane stays there.
+function zoomTo(next) {
+  const pane = byId("graph");
+  const [across, down] = [pane.clientWidth / 2, pane.clientHeight / 2];
+  const middle = [(pane.scrollLeft + across) / scale, (pane.scrollTop + down) / scale];
+  scale = Math.min(4, Math.max(0.05, next));
+  for (const { svg, width, height } of svgs) {
+    svg.setAttribute("width", width * scale);
+    svg.setAttribute("height", height * scale);
+  }
+  pane.classList.toggle("small", scale < 0.45);
+  pane.scrollLeft = middle[0] * scale - across;
+  pane.scrollTop = middle[1] * scale - down;
+}
+
+const zoomBy = (factor) => zoomTo(scale * factor);
+
+function fit() {
+  const shown = svgs.find(({ svg }) => isThere(svg));
+  if (shown) zoomTo(Math.min(1.5, (byId("graph").clientWidth - 4) / shown.width));
+}
+
+function setView(view) {
+  if (!document.querySelector(`.graph.${view}`)) return;
+  document.body.dataset.view = view;
+  for (const name of ["statements", "folded"]) {
+    byId(`view-${name}`).setAttribute("aria-pressed", String(name === view));
+  }
+  const graph = document.querySelector(`.graph.${view}`);
+  reveal(graph.querySelector(".cell.picked") || graph.querySelector(".cell"));
+}
+
+const otherView = () => setView(document.body.dataset.view === "folded" ? "statements" : "folded");
+
+// Puts the first box into the middle, where the graph is wider than its pane.
+function centre() {
+  const pane = byId("graph");
+  for (const { svg, width } of svgs) {
+    const frame = svg.querySelector(".frame");
+    if (!isThere(frame) || width <= pane.clientWidth) continue;
+    const box = frame.getBoundingClientRect();
+    const left = box.x - pane.getBoundingClientRect().x + pane.scrollLeft;
+    pane.scrollLeft = left + box.width / 2 - pane.clientWidth / 2;
+  }
+}

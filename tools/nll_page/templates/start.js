@@ -1,0 +1,109 @@
+// Tabs, filter, scheme and address; what is clicked; the start.
+
+function setTab(name) {
+  for (const tab of all("[role=tab]")) {
+    const isChosen = tab.id === `tab-${name}`;
+    tab.setAttribute("aria-selected", String(isChosen));
+    tab.tabIndex = isChosen ? 0 : -1;
+  }
+  byId("source").hidden = name !== "source";
+  byId("points").hidden = name !== "points";
+}
+
+function filterRegions() {
+  const wanted = byId("filter").value.trim().toLowerCase();
+  for (const button of regionButtons) {
+    button.parentElement.hidden = !button.textContent.toLowerCase().includes(wanted);
+  }
+  const first = regionButtons.find((button) => !button.parentElement.hidden);
+  byId("no-region").hidden = first !== undefined;
+  rove(regionButtons, first);
+}
+
+const schemes = ["system", "light", "dark"];
+
+function nextScheme() {
+  const now = document.documentElement.dataset.scheme || "system";
+  const next = schemes[(schemes.indexOf(now) + 1) % schemes.length];
+  if (next === "system") delete document.documentElement.dataset.scheme;
+  else document.documentElement.dataset.scheme = next;
+  byId("scheme").querySelector("span").textContent = next;
+}
+
+// Writes what is chosen into the address, so that a link can point at it.
+function remember() {
+  const words = new URLSearchParams();
+  if (chosen.region !== null) words.set("region", data.regions[chosen.region].name);
+  if (chosen.element !== null) words.set("point", elementName(chosen.element));
+  if (chosen.step) words.set("step", String(all(".step").indexOf(chosen.step)));
+  try {
+    history.replaceState(null, "", String(words) ? `#${words}` : location.href.split("#")[0]);
+  } catch {
+    // Some browsers allow it for no page from a file. The address then stays as it is.
+  }
+}
+
+// Chooses what an address says.
+function recall(address) {
+  const words = new URLSearchParams(address.slice(1));
+  const step = all(".step")[Number(words.get("step") ?? -1)];
+  const region = data.regions.findIndex(({ name }) => name === words.get("region"));
+  const element = [...places.keys()].find((one) => elementName(one) === words.get("point"));
+  if (step) {
+    step.closest("details").open = true;
+    chooseStep(step);
+    return;
+  }
+  if (region >= 0) chooseRegion(region);
+  if (element !== undefined) chooseElement(element);
+}
+
+// What is clicked: the selector, and what to do with the node that it fits.
+const clicks = [
+  [".cell, .point, .end", (node) => chooseElement(Number(node.dataset.p), node)],
+  [".region", (node) => chooseRegion(Number(node.dataset.r))],
+  [".show", (node) => chooseStep(node.closest(".step"))],
+  [".row", (node) => chooseElement(Number(node.querySelector(".point").dataset.p), node)],
+  [".words", (node) => chooseElement(Number(node.dataset.row), node)],
+  [".stub", (node) => chooseElement(Number(node.dataset.go))],
+  ["[role=tab]", (node) => setTab(node.id.slice(4))],
+  ["#scheme", nextScheme],
+  ["#help-button", () => byId("help").showModal()],
+  ["#view-statements", () => setView("statements")],
+  ["#view-folded", () => setView("folded")],
+  ["#zoom-in", () => zoomBy(1.25)],
+  ["#zoom-out", () => zoomBy(0.8)],
+  ["#zoom-fit", fit],
+  ["a[data-line]", (node, event) => {
+    event.preventDefault();
+    showLine(node.dataset.line);
+  }],
+];
+
+document.addEventListener("click", (event) => {
+  for (const [selector, act] of clicks) {
+    const node = event.target.closest(selector);
+    if (node) {
+      act(node, event);
+      return;
+    }
+  }
+});
+
+byId("graph").addEventListener("wheel", (event) => {
+  if (!event.ctrlKey) return;
+  event.preventDefault();
+  zoomBy(event.deltaY < 0 ? 1.15 : 1 / 1.15);
+}, { passive: false });
+
+byId("filter").addEventListener("input", filterRegions);
+
+setTab(document.querySelector("[role=tab][aria-selected=true]").id.slice(4));
+setView(document.body.dataset.view);
+byId("view-statements").hidden = !document.querySelector(".graph.statements");
+for (const list of [regionButtons, all("#points .point"), all(".end")]) rove(list, list[0]);
+for (const list of all("#graph svg, #source .rows")) rove([], list.querySelector(".cell, .point"));
+centre();
+const address = location.hash; // before `show` writes it anew
+show();
+recall(address);

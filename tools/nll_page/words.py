@@ -1,0 +1,184 @@
+"""Faults, chains and places in sentences.
+
+A sentence is a list of strings; those that are `Code` are shown as code. So text that comes from
+outside is never read as markup.
+"""
+
+
+class Code(str):
+    """A piece of a sentence that is code."""
+
+    __slots__ = ()
+
+
+def plain(parts):
+    """The sentence for a terminal."""
+    return "".join(f"`{part}`" if isinstance(part, Code) else part for part in parts)
+
+
+def tick(facts, region):
+    return Code(f"'{facts.names[region]}")
+
+
+def end(facts, universal):
+    return Code(f"end('{facts.names[universal]})")
+
+
+def joined(pieces, last=" and "):
+    """Sentences' pieces, with commas and an `and`."""
+    parts = []
+    for number, piece in enumerate(pieces):
+        if number:
+            parts.append(last if number == len(pieces) - 1 else ", ")
+        parts.extend(piece)
+    return parts
+
+
+def plural(count, noun):
+    return f"{count:,} {noun}" if count == 1 else f"{count:,} {noun}s"
+
+
+def fault_head(facts, sup, sub):
+    return [tick(facts, sup), " must outlive ", tick(facts, sub),
+            ", which the signature doesn’t say"]
+
+
+def spans(elements):
+    """Ascending numbers as pairs of the first and the last of each run."""
+    runs = []
+    for element in elements:
+        if runs and runs[-1][1] == element - 1:
+            runs[-1][1] = element
+        else:
+            runs.append([element, element])
+    return runs
+
+
+MOST_ORIGINS = 3    # of more statements none is named
+
+
+def origins(facts, at):
+    """The points whose statements may ask for what a constraint at this point says: those before
+    it.
+    """
+    spot = facts.remarks.point(at).spot()
+    if spot and spot[2] == "mid":
+        return [at]
+    return sorted(facts.predecessors[at]) or [at]
+
+
+def statement(facts, point):
+    """`STATEMENT` (line L), as far as a remark says it; else the point's number."""
+    remark = facts.remarks.point(point)
+    words = remark.statement()
+    if words and remark.line is not None:
+        return [Code(words), f" (line {remark.line})"]
+    if words:
+        return [Code(words), f" (point {point})"]
+    return [f"line {remark.line}"] if remark.line is not None else [f"point {point}"]
+
+
+def arising(facts, steps):
+    """The lines of the source at which the constraints of a chain arise, ascending, each once."""
+    found = [origins(facts, step.constraint.at) for step in steps
+             if not is_everywhere(facts, step.constraint)]
+    points = [p for several in found if len(several) <= MOST_ORIGINS for p in several]
+    lines = {facts.remarks.point(p).line for p in points}
+    return sorted(line for line in lines if line is not None)
+
+
+def beginning(facts, universal):
+    """The sentence before the first step."""
+    name = facts.names[universal]
+    lasts = "lasts for ever" if name == "static" else \
+        "lasts after the return for as long as the caller likes"
+    return [tick(facts, universal), f" {lasts}: that is the element ", end(facts, universal),
+            ", which ", tick(facts, universal), " holds from the start."]
+
+
+def step_head(facts, step, universal):
+    return [end(facts, universal), " comes to ", tick(facts, step.constraint.sup)]
+
+
+def region_words(facts, region, most=60):
+    """What the region is, by its remark; of several things the first."""
+    words = facts.remarks.region(facts.names[region]).text.split("; ")[0]
+    if not words and facts.names[region] == "static":
+        return "lasts for ever"
+    return words if len(words) <= most else words[:most - 1] + "…"
+
+
+def step_sentence(facts, step, universal):
+    """Why this constraint, and the walk, bring the end to the larger region."""
+    sup, sub, at = step.constraint.sup, step.constraint.sub, step.constraint.at
+    return [*reason(facts, step.constraint), tick(facts, sup),
+            " must hold all that is reached inside ",
+            tick(facts, sub), f" from point {at} on. ", *walk_words(facts, step, universal),
+            "; so ",
+            tick(facts, sup), " holds it too."]
+
+
+def step_brief(facts, step):
+    """The step in one line of a terminal: where the end comes, what asks for it, and along which
+    points.
+    """
+    sup, sub = step.constraint.sup, step.constraint.sub
+    what = region_words(facts, sup)
+    asked = reason(facts, step.constraint)[:-1] or [f"From point {step.constraint.at} on"]
+    return ["to ", tick(facts, sup), f", {what}: " if what else ": ",
+            asked[0][0].lower() + asked[0][1:],
+            *asked[1:], ", inside ", tick(facts, sub), f" by {walk_text(step.walk)}"]
+
+
+def reason(facts, constraint):
+    """The statements that ask for it, where something is known of them."""
+    if is_everywhere(facts, constraint):
+        return ["At every point ", tick(facts, constraint.sup), " must outlive ",
+                tick(facts, constraint.sub), ": "]
+    points = origins(facts, constraint.at)
+    if not any(any(facts.remarks.point(p)) for p in points):
+        return []
+    if len(points) > MOST_ORIGINS:
+        return [f"By one of the {len(points)} statements before point {constraint.at}", ", "]
+    return ["After ", *joined([statement(facts, p) for p in points], " or "), ", "]
+
+
+def is_everywhere(facts, constraint):
+    """Whether the text has it at every point, so that no statement asks for it."""
+    return facts.points > 1 and facts.spread[constraint.sup, constraint.sub] == facts.points
+
+
+def walk_words(facts, step, universal):
+    """How the walk comes to a return and to the end."""
+    points = step.walk
+    sub = tick(facts, step.constraint.sub)
+    holds = [end(facts, universal), ", which ", sub, " holds"]
+    leaves = "unwinds" if unwinds(facts, points[-1]) else "returns"
+    if len(points) == 1:
+        return [f"The function {leaves} right there, and the walk goes on to ", *holds]
+    return ["Inside ", sub,
+            f" a walk from there ({walk_text(points)}) leads to point {points[-1]}, where the "
+            "function "
+            f"{leaves}, and on to ", *holds]
+
+
+def unwinds(facts, point):
+    """Whether a panic goes out of the function there; that is a return, too, as far as regions go.
+    """
+    return facts.remarks.point(point).statement().rstrip(";") in ("resume", "UnwindResume")
+
+
+def walk_text(points, most=7):
+    """The points with arrows; of long walks the runs of numbers are shortened."""
+    if len(points) <= most:
+        return " → ".join(map(str, points))
+    return " → ".join(f"{a} → … → {b}" if b - a > 2 else " → ".join(map(str, range(a, b + 1)))
+                      for a, b in spans(points))
+
+
+def conclusion(facts, sup, sub):
+    """What the end in the value means, and what would make it known."""
+    wish = Code(f"where '{facts.names[sup]}: '{facts.names[sub]}")
+    return ["So ", tick(facts, sup), " would have to last as long as ", tick(facts, sub),
+            ", whatever the caller "
+            "chooses. The signature may ask that of its callers by ", wish, "; it doesn’t."]

@@ -1,0 +1,128 @@
+"""No text from outside becomes markup, script or a hidden character."""
+
+import json
+import unittest
+from html.parser import HTMLParser
+
+from page_support import solved, text
+
+from nll_page import nllc
+from nll_page.escaping import script_data, sentence, visible
+from nll_page.faults import faults
+from nll_page.chains import chain
+from nll_page.page import SCRIPTS, Content, Fault, fill, page, template
+from nll_page.source import Source, pieces
+from nll_page.words import Code, plain
+
+NASTY = """</script><img src=x onerror=alert(1)> & "quoted" 'and' `so` {{data}} $& <!-- \\u003c --> ]]>"""
+
+
+class Elements(HTMLParser):
+    """Collects the elements of a page and the text of its scripts."""
+
+    def __init__(self):
+        super().__init__()
+        self.tags = []
+        self.attributes = []
+        self.scripts = []
+        self.text = []
+        self.inside = None
+
+    def handle_starttag(self, tag, attributes):
+        self.tags.append(tag)
+        self.attributes += attributes
+        self.inside = tag
+
+    def handle_endtag(self, tag):
+        self.inside = None
+
+    def handle_data(self, data):
+        (self.scripts if self.inside == "script" else self.text).append(data)
+
+
+def page_of(nasty):
+    data = text(2, f"# function: {nasty}", f"# source: {nasty}",
+                f"# point 0: line 1: {nasty} (bb0[0])",
+                f"# region 'a: {nasty}", f"# region 'x: line 1: {nasty}", "universal 'a",
+                "region 'x", "next 0 1",
+                "return 1", "base 'x 0", "constraint 'x 'a 1", "constraint 'a 'static 1")
+    facts, values = solved(data)
+    found = [Fault(a, b, chain(facts, values, a, b)) for a, b in faults(facts, values)]
+    source = Source(nasty, 1, [nasty, f"fn f() {{ \"{nasty}\" }} // {nasty}"])
+    return page(Content(facts, values, found, nasty, source, nasty, nllc.UNKNOWN))
+
+
+class Pages(unittest.TestCase):
+    def test_text_stays_text(self):
+        plain_page, nasty_page = Elements(), Elements()
+        plain_page.feed(page_of("harmless"))
+        made = page_of(NASTY)
+        nasty_page.feed(made)
+        self.assertNotIn("<img", made)
+        self.assertEqual(set(nasty_page.tags), set(plain_page.tags))
+        self.assertEqual(nasty_page.tags.count("script"), 2)
+        self.assertFalse([name for name, _ in nasty_page.attributes if name.startswith("on")])
+        self.assertIn(NASTY, "".join(nasty_page.text))
+        self.assertIn(NASTY, dict(enumerate(json.loads(nasty_page.scripts[0])["texts"]))[0])
+
+    def test_nothing_is_fetched(self):
+        made = Elements()
+        made.feed(page_of("harmless"))
+        self.assertFalse({"link", "img", "iframe", "object", "embed", "base", "audio",
+                          "video"} & set(made.tags))
+        names = [name for name, _ in made.attributes]
+        self.assertNotIn("src", names)
+        self.assertTrue(all(value.startswith("#") for name, value in made.attributes
+                            if name == "href"))
+        self.assertIn("default-src 'none'", page_of("harmless"))
+
+    def test_each_identity_is_there_once(self):
+        made = Elements()
+        made.feed(page_of(NASTY))
+        found = [value for name, value in made.attributes if name == "id"]
+        self.assertEqual(len(found), len(set(found)))
+
+
+class Pieces(unittest.TestCase):
+    def test_hidden_characters_are_shown(self):
+        self.assertEqual(visible("a\u202eb\x1b[0m\tc\0"), "a‹U+202E›b‹U+001B›[0m    c‹U+0000›")
+
+    def test_data_of_scripts(self):
+        made = script_data({"a": "</script><!--", "b": "\u2028&"})
+        self.assertNotRegex(made, "[<>&\u2028]")
+        self.assertEqual(json.loads(made), {"a": "</script><!--", "b": "\u2028&"})
+
+    def test_sentences(self):
+        parts = ["a < b, ", Code("<'a>"), " & more"]
+        self.assertEqual(sentence(parts), "a &lt; b, <code>&lt;&#x27;a&gt;</code> &amp; more")
+        self.assertEqual(plain(parts), "a < b, `<'a>` & more")
+
+    def test_what_is_put_in_is_not_looked_at_again(self):
+        with_marks = fill("page.html", {name: "{{css}}" for name in
+                                        ("title", "css", "js", "name", "about", "verdict",
+                                         "provenance", "faults",
+                                         "regions", "tabs", "source", "points", "folded",
+                                         "statements", "view",
+                                         "ends", "data")})
+        self.assertIn("<style>\n{{css}}</style>", with_marks)
+
+    def test_pieces_of_a_line_are_the_line(self):
+        for line in [NASTY, "let x: &'a str = \"a\\\"b\"; // 'c'", "'\\'' 'x' b'y' 'label: loop",
+                     "/* a */ 0x1f 'a\"", ""]:
+            self.assertEqual("".join(piece for _, piece in pieces(line)), line)
+
+    def test_kinds_of_pieces(self):
+        self.assertEqual([kind for kind, _ in pieces("fn f<'a>(x: &'a u8) -> u8 { 'b' }") if kind],
+                         ["keyword", "lifetime", "lifetime", "char"])
+
+
+class Scripts(unittest.TestCase):
+    def test_the_script_makes_no_markup(self):
+        for script in map(template, SCRIPTS):
+            for forbidden in ("innerHTML", "outerHTML", "insertAdjacentHTML", "document.write",
+                              "eval(", "</script"):
+                self.assertNotIn(forbidden, script)
+
+
+if __name__ == "__main__":
+    unittest.main()

@@ -1,0 +1,110 @@
+"""Sentences, places, and the part of the source that is shown."""
+
+import unittest
+
+from page_support import SAMPLES, facts_of, file_bytes, solved
+
+from nll_page import chains, source, words
+from nll_page.facts import Constraint
+from nll_page.words import Code, plain
+
+
+class Sentences(unittest.TestCase):
+    def setUp(self):
+        self.facts, self.values = solved(file_bytes(SAMPLES, "pick.facts"))
+        self.steps = chains.chain(self.facts, self.values, 2, 1)
+
+    def test_the_fault(self):
+        self.assertEqual(plain(words.fault_head(self.facts, 2, 1)),
+                         "`'b` must outlive `'a`, which the signature doesn’t say")
+
+    def test_each_step(self):
+        self.assertEqual([plain(words.step_sentence(self.facts, step, 1)) for step in self.steps], [
+            "After `_0 = copy best` (line 9), `'best` must hold all that is reached inside `'a` "
+            "from point 8 on. The "
+            "function returns right there, and the walk goes on to `end('a)`, which `'a` holds; so "
+            "`'best` holds it too.",
+            "After `best = copy second` (line 7), `'b` must hold all that is reached inside "
+            "`'best` from point 6 on. "
+            "Inside `'best` a walk from there (6 → 7 → 8) leads to point 8, where the function "
+            "returns, and on to "
+            "`end('a)`, which `'best` holds; so `'b` holds it too."])
+
+    def test_the_lines(self):
+        self.assertEqual(words.arising(self.facts, self.steps), [7, 9])
+
+    def test_a_step_without_remarks(self):
+        facts = facts_of(2, "universal 'a", "region 'x", "next 0 1", "return 1",
+                         "constraint 'x 'a 1")
+        step = chains.Step(Constraint(2, 1, 1), [1])
+        self.assertTrue(plain(words.step_sentence(facts, step,
+                                                  1)).startswith("`'x` must hold all that is "
+                                                                 "reached inside"))
+        self.assertEqual(plain(words.step_brief(facts, step)),
+                         "to `'x`: from point 1 on, inside `'a` by 1")
+        self.assertEqual(words.arising(facts, [step]), [])
+
+    def test_a_constraint_at_every_point(self):
+        facts = facts_of(2, "universal 'a", "region 'x", "next 0 1", "return 1",
+                         "# point 0: line 4: x = y",
+                         "constraint 'x 'a 0", "constraint 'x 'a 1")
+        step = chains.Step(Constraint(2, 1, 1), [1])
+        self.assertTrue(plain(words.step_sentence(facts, step,
+                                                  1)).startswith("At every point `'x` must "
+                                                                 "outlive `'a`: "))
+        self.assertEqual(words.arising(facts, [step]), [])
+
+    def test_several_statements(self):
+        remarks = [f"# point {p}: line {p + 5}: x{p}" for p in range(4)]
+        edges = [f"next {p} 4" for p in range(4)]
+        few = facts_of(5, *remarks, *edges[:2])
+        self.assertEqual(plain(words.reason(few, Constraint(0, 0, 4))),
+                         "After `x0` (line 5) or `x1` (line 6), ")
+        many = facts_of(5, *remarks, *edges)
+        self.assertEqual(plain(words.reason(many, Constraint(0, 0, 4))),
+                         "By one of the 4 statements before point 4, ")
+
+    def test_a_way_out_by_a_panic(self):
+        facts = facts_of(2, "universal 'a", "return 0", "# point 0: resume (bb3[0])")
+        step = chains.Step(Constraint(0, 1, 0), [0])
+        self.assertIn("The function unwinds right there",
+                      plain(words.step_sentence(facts, step, 1)))
+
+    def test_a_point_in_the_middle_of_a_statement(self):
+        facts = facts_of(3, "next 0 1", "next 1 2", "# point 1: line 2: x = y (bb0[0], mid)")
+        self.assertEqual((words.origins(facts, 1), words.origins(facts, 2),
+                          words.origins(facts, 0)), ([1], [1], [0]))
+
+    def test_walks(self):
+        self.assertEqual(words.walk_text([3]), "3")
+        self.assertEqual(words.walk_text([1, 2, 3, 7]), "1 → 2 → 3 → 7")
+        self.assertEqual(words.walk_text([1, 2, 3, 4, 5, 9, 11, 12, 13]),
+                         "1 → … → 5 → 9 → 11 → 12 → 13")
+
+    def test_small_words(self):
+        self.assertEqual(words.spans([0, 1, 2, 5, 7, 8]), [[0, 2], [5, 5], [7, 8]])
+        self.assertEqual((words.plural(1, "point"), words.plural(2000, "point")),
+                         ("1 point", "2,000 points"))
+        self.assertEqual(plain(words.joined([["a"], [Code("b")], ["c"]])), "a, `b` and c")
+        facts = facts_of(1, "# region 'a: " + "x" * 80, "# region 'b: first; second",
+                         "universal 'a", "universal 'b")
+        self.assertEqual(words.region_words(facts, 1), "x" * 59 + "…")
+        self.assertEqual(words.region_words(facts, 2), "first")
+        self.assertEqual(words.region_words(facts, 0), "lasts for ever")
+
+
+class Windows(unittest.TestCase):
+    LINES = ["use a;", "", "/// Doc.", "#[inline]", "pub fn f(", "    x: u8,", ") {", "    g();",
+             "}", "", "fn g() {}"]
+
+    def test_the_function_and_no_other(self):
+        self.assertEqual(source.window(self.LINES, [8]), (3, 9))
+        self.assertEqual(source.window(self.LINES, [5, 8, 9]), (3, 9))
+        self.assertEqual(source.window(self.LINES, [11]), (11, 11))
+
+    def test_no_function_above(self):
+        self.assertEqual(source.window(["a", "b", "c"], [2]), (2, 2))
+
+
+if __name__ == "__main__":
+    unittest.main()
