@@ -107,14 +107,12 @@ class Body:
 
     def reborrows(self, region, place):
         """The pairs that a borrow of this region asks: those of its supporting dereferences."""
-        pairs = set()
-        for at, projection in enumerate(place.projections):
-            inner = self.type_of(mir.Place(place.variable, place.projections[:at]))
-            outer = [self.type_of(mir.Place(place.variable, place.projections[:k]))
-                     for k in range(at + 1, len(place.projections)) if place.projections[k] == "*"]
-            if projection == "*" and all(t.mutable for t in outer):
-                pairs.add((inner.regions[0], region))
-        return pairs
+        before = [self.said.variables[place.variable]]
+        for projection in place.projections:
+            before.append(types.behind(self.said.structs, before[-1], projection))
+        dereferences = [t for t, projection in zip(before, place.projections) if projection == "*"]
+        return {(t.regions[0], region) for at, t in enumerate(dereferences)
+                if all(behind.mutable for behind in dereferences[at + 1:])}
 
     def wants(self, t, u):
         return types.wants(self.said.structs, t, u)
