@@ -533,7 +533,7 @@ def point_limits():
     many += b"".join(b"block bb%d\ngoto bb%d\n" % (i, i + 1) for i in range(1_048_575))
     yield "blocks_at_limit", many + b"block bb1048575\nreturn\nend\n", "ok"
     yield "statement_past_points", many + b"block bb1048575\nnop\nreturn\nend\n", (
-        "line 2097157: limit points")
+        "line 2097156: limit points")
     switch = b"switch const " + b" ".join(b"bb%d" % i for i in range(2_048)) + b"\n"
     edges = top + b"blocks 2049\n"
     edges += b"".join(b"block bb%d\n" % i + switch for i in range(2_048)) + b"block bb2048\n"
@@ -578,8 +578,8 @@ def long_lines():
     yield "line_of_a_mebibyte", with_body(let(b"()"), b"_0 = make ()" + b" " * (1 << 20) + b"()"), "ok"
     names = [b"'r%d" % i for i in range(60_000)]
     yield "struct_of_many_parameters", with_body(
-        [b"struct S<" + b", ".join([name + b" =" for name in names]) + b"> drop (&'r7 int)",
-         b"region 'x"] + let(b"S<" + b", ".join([b"'x"] * 60_000) + b">"), b"_0.0 = copy _0.0"), "ok"
+        [b"region 'x", b"struct S<" + b", ".join([name + b" =" for name in names])
+         + b"> drop (&'r7 int)"] + let(b"S<" + b", ".join([b"'x"] * 60_000) + b">"), b"_0.0 = copy _0.0"), "ok"
 
 
 def size_limits():

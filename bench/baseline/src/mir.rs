@@ -405,10 +405,15 @@ impl<'t> Reader<'t> {
         self.over(form, first as usize)
     }
 
-    /// The shape of this form over the parts that are complete from `first` on.
+    /// The shape of this form over the parts that are complete from `first` on; none is made where
+    /// a fault was noted that is told before those of shapes.
     fn over(&mut self, form: Form, first: usize) -> Shape {
         let parts = &self.complete[first..];
-        let shape = if parts.contains(&NONE) { NONE } else { self.body.shapes.add(form, parts) };
+        let is_faulty = self.fault.is_some_and(|fault| fault < Kind::Shape);
+        let shape = match is_faulty || parts.contains(&NONE) {
+            true => NONE,
+            false => self.body.shapes.add(form, parts),
+        };
         self.complete.truncate(first);
         shape
     }

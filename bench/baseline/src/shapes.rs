@@ -13,6 +13,9 @@ pub type Shape = u32;
 /// The shape of what has a fault.
 pub const NONE: Shape = u32::MAX;
 
+/// An empty slot of the table.
+const EMPTY: u64 = u64::MAX;
+
 /// The shape of `int`, which stands first in the table.
 pub const INT: Shape = 0;
 
@@ -123,12 +126,15 @@ pub struct Shapes {
     parts: Vec<Shape>,
     /// For each of the parts the items of the parts before it in its shape.
     items_before: Vec<u32>,
-    slots: Vec<Shape>,
+    /// The shapes by the hash of their nodes: the hash above, the shape below, or `EMPTY`.
+    slots: Vec<u64>,
     pub structs: Vec<Struct>,
     /// The items of all fields.
     pub items: Vec<u32>,
     /// The shape of a field by the shape of the struct's use and the field's number.
     fields: NumberMap,
+    /// The parts of shapes that are being made.
+    made: Vec<Shape>,
 }
 
 impl Shapes {
@@ -137,10 +143,11 @@ impl Shapes {
             nodes: Vec::new(),
             parts: Vec::new(),
             items_before: Vec::new(),
-            slots: vec![NONE; 64],
+            slots: vec![EMPTY; 64],
             structs: Vec::new(),
             items: Vec::new(),
             fields: NumberMap::default(),
+            made: Vec::new(),
         };
         shapes.add(Form::Int, &[]);
         shapes
@@ -165,12 +172,15 @@ impl Shapes {
         self.nodes[shape as usize].items
     }
 
-    fn slot_of(&self, form: Form, parts: &[Shape]) -> usize {
+    /// The slot that has this node, or the empty one where it belongs.
+    fn slot_of(&self, hash: u64, form: Form, parts: &[Shape]) -> usize {
         let mask = self.slots.len() - 1;
-        let mut slot = hash_of(form.code(), parts) as usize & mask;
+        let mut slot = hash as usize & mask;
         loop {
-            let shape = self.slots[slot];
-            if shape == NONE || (self.form(shape) == form && self.parts(shape) == parts) {
+            let held = self.slots[slot];
+            let shape = held as Shape;
+            let is_same = || self.form(shape) == form && self.parts(shape) == parts;
+            if held == EMPTY || (held >> 32 == hash && is_same()) {
                 return slot;
             }
             slot = (slot + 1) & mask;
@@ -178,10 +188,14 @@ impl Shapes {
     }
 
     fn double(&mut self) {
-        self.slots = vec![NONE; self.slots.len() * 2];
-        for shape in 0..self.nodes.len() as u32 {
-            let slot = self.slot_of(self.form(shape), self.parts(shape));
-            self.slots[slot] = shape;
+        let size = self.slots.len() * 2;
+        let old = std::mem::replace(&mut self.slots, vec![EMPTY; size]);
+        for held in old.into_iter().filter(|&held| held != EMPTY) {
+            let mut slot = (held >> 32) as usize & (size - 1);
+            while self.slots[slot] != EMPTY {
+                slot = (slot + 1) & (size - 1);
+            }
+            self.slots[slot] = held;
         }
     }
 
@@ -190,9 +204,10 @@ impl Shapes {
         if self.nodes.len() * 2 >= self.slots.len() {
             self.double();
         }
-        let slot = self.slot_of(form, parts);
-        if self.slots[slot] != NONE {
-            return self.slots[slot];
+        let hash = hash_of(form.code(), parts) & 0xFFFF_FFFF;
+        let slot = self.slot_of(hash, form, parts);
+        if self.slots[slot] != EMPTY {
+            return self.slots[slot] as Shape;
         }
         let own = match form {
             Form::Int | Form::Tuple => 0,
@@ -217,103 +232,29 @@ impl Shapes {
         let shape = self.nodes.len() as u32;
         self.parts.extend_from_slice(parts);
         self.nodes.push(node);
-        self.slots[slot] = shape;
+        self.slots[slot] = hash << 32 | u64::from(shape);
         shape
     }
 
-    /// The shape with these arguments put in for the type parameters.
+    /// The shape with arguments put in for the type parameters: those parts that begin at a place.
     ///
     /// The shape is one of a field, so its depth is within the limit.
-    fn put_in(&mut self, shape: Shape, arguments: &[Shape]) -> Shape {
+    fn put_in(&mut self, shape: Shape, arguments: u32, made: &mut Vec<Shape>) -> Shape {
         let node = self.nodes[shape as usize];
         if !node.is_open {
             return shape;
         }
         if let Form::Parameter(k) = node.form {
-            return arguments[k as usize];
+            return self.parts[(arguments + k) as usize];
         }
-        let mut parts = Vec::with_capacity(node.parts as usize);
+        let first = made.len();
         for k in 0..node.parts {
-            parts.push(self.put_in(self.parts[(node.first + k) as usize], arguments));
+            let part = self.put_in(self.parts[(node.first + k) as usize], arguments, made);
+            made.push(part);
         }
-        self.add(node.form, &parts)
-    }
-
-    /// How many items of a shape stand before those of a part.
-    fn items_before(&self, shape: Shape, k: u32) -> u32 {
-        let node = &self.nodes[shape as usize];
-        let parts = self.items_before[(node.first + k) as usize];
-        match node.form {
-            Form::Reference { .. } => 1,
-            Form::Struct(s) => parts + self.structs[s as usize].regions_before[k as usize],
-            _ => parts,
-        }
-    }
-
-    /// The item that a struct's use has for a region parameter.
-    fn region_argument(&self, s: u32, shape: Shape, items: &[u32], region: u32) -> u32 {
-        let node = &self.nodes[shape as usize];
-        let types = self.structs[s as usize].types_before[region as usize];
-        let parts = match types {
-            0 => 0,
-            _ => {
-                let last = (node.first + types - 1) as usize;
-                self.items_before[last] + self.items(self.parts[last])
-            }
-        };
-        items[(region + parts) as usize]
-    }
-
-    /// Appends the items of a place's type with one projection more.
-    pub fn items_behind(&self, typed: (Shape, &[u32]), projection: u32, out: &mut Vec<u32>) {
-        let (shape, items) = typed;
-        let k = if projection == DEREFERENCE { 0 } else { projection };
-        let Form::Struct(s) = self.form(shape) else {
-            let first = self.items_before(shape, k) as usize;
-            out.extend_from_slice(&items[first..][..self.items(self.parts(shape)[k as usize]) as usize]);
-            return;
-        };
-        let field = self.structs[s as usize].fields[k as usize];
-        let count = self.items(field.shape) as usize;
-        for &item in &self.items[field.first as usize..][..count] {
-            if item == STATIC_ITEM {
-                out.push(0);
-            } else if item & TYPE_ITEM == 0 {
-                out.push(self.region_argument(s, shape, items, item));
-            } else {
-                let argument = item & !TYPE_ITEM;
-                let first = self.items_before(shape, argument) as usize;
-                let part = self.parts(shape)[argument as usize];
-                out.extend_from_slice(&items[first..][..self.items(part) as usize]);
-            }
-        }
-    }
-
-    /// Appends for each item of a shape whether it stands at an invariant position.
-    pub fn push_signs(&self, shape: Shape, outer: bool, out: &mut Vec<bool>) {
-        match self.form(shape) {
-            Form::Int | Form::Parameter(_) => {}
-            Form::Reference { mutable } => {
-                out.push(outer);
-                self.push_signs(self.parts(shape)[0], outer || mutable, out);
-            }
-            Form::Tuple => {
-                for &part in self.parts(shape) {
-                    self.push_signs(part, outer, out);
-                }
-            }
-            Form::Struct(s) => {
-                let mut parts = self.parts(shape).iter();
-                for parameter in &self.structs[s as usize].parameters {
-                    let sign = outer || parameter.invariant;
-                    if parameter.is_region {
-                        out.push(sign);
-                    } else if let Some(&part) = parts.next() {
-                        self.push_signs(part, sign, out);
-                    }
-                }
-            }
-        }
+        let shape = self.add(node.form, &made[first..]);
+        made.truncate(first);
+        shape
     }
 
     /// The number of fields or parts of a tuple or struct.
@@ -347,8 +288,10 @@ impl Shapes {
         if let Some(found) = self.fields.get(key) {
             return found;
         }
-        let arguments = self.parts(shape).to_vec();
-        let found = self.put_in(field, &arguments);
+        let arguments = self.nodes[shape as usize].first;
+        let mut made = std::mem::take(&mut self.made);
+        let found = self.put_in(field, arguments, &mut made);
+        self.made = made;
         self.fields.insert(key, found);
         found
     }
