@@ -257,6 +257,83 @@ impl Shapes {
         shape
     }
 
+    /// How many items of a shape stand before those of a part.
+    fn items_before(&self, shape: Shape, k: u32) -> u32 {
+        let node = &self.nodes[shape as usize];
+        let parts = self.items_before[(node.first + k) as usize];
+        match node.form {
+            Form::Reference { .. } => 1,
+            Form::Struct(s) => parts + self.structs[s as usize].regions_before[k as usize],
+            _ => parts,
+        }
+    }
+
+    /// The item that a struct's use has for a region parameter.
+    fn region_argument(&self, s: u32, shape: Shape, items: &[u32], region: u32) -> u32 {
+        let node = &self.nodes[shape as usize];
+        let types = self.structs[s as usize].types_before[region as usize];
+        let parts = match types {
+            0 => 0,
+            _ => {
+                let last = (node.first + types - 1) as usize;
+                self.items_before[last] + self.items(self.parts[last])
+            }
+        };
+        items[(region + parts) as usize]
+    }
+
+    /// Appends the items of a place's type with one projection more.
+    pub fn items_behind(&self, typed: (Shape, &[u32]), projection: u32, out: &mut Vec<u32>) {
+        let (shape, items) = typed;
+        let k = if projection == DEREFERENCE { 0 } else { projection };
+        let Form::Struct(s) = self.form(shape) else {
+            let first = self.items_before(shape, k) as usize;
+            out.extend_from_slice(&items[first..][..self.items(self.parts(shape)[k as usize]) as usize]);
+            return;
+        };
+        let field = self.structs[s as usize].fields[k as usize];
+        let count = self.items(field.shape) as usize;
+        for &item in &self.items[field.first as usize..][..count] {
+            if item == STATIC_ITEM {
+                out.push(0);
+            } else if item & TYPE_ITEM == 0 {
+                out.push(self.region_argument(s, shape, items, item));
+            } else {
+                let argument = item & !TYPE_ITEM;
+                let first = self.items_before(shape, argument) as usize;
+                let part = self.parts(shape)[argument as usize];
+                out.extend_from_slice(&items[first..][..self.items(part) as usize]);
+            }
+        }
+    }
+
+    /// Appends for each item of a shape whether it stands at an invariant position.
+    pub fn push_signs(&self, shape: Shape, outer: bool, out: &mut Vec<bool>) {
+        match self.form(shape) {
+            Form::Int | Form::Parameter(_) => {}
+            Form::Reference { mutable } => {
+                out.push(outer);
+                self.push_signs(self.parts(shape)[0], outer || mutable, out);
+            }
+            Form::Tuple => {
+                for &part in self.parts(shape) {
+                    self.push_signs(part, outer, out);
+                }
+            }
+            Form::Struct(s) => {
+                let mut parts = self.parts(shape).iter();
+                for parameter in &self.structs[s as usize].parameters {
+                    let sign = outer || parameter.invariant;
+                    if parameter.is_region {
+                        out.push(sign);
+                    } else if let Some(&part) = parts.next() {
+                        self.push_signs(part, sign, out);
+                    }
+                }
+            }
+        }
+    }
+
     /// The number of fields or parts of a tuple or struct.
     pub fn width(&self, shape: Shape) -> Option<u32> {
         match self.form(shape) {
