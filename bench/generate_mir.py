@@ -61,11 +61,11 @@ class Small:
         for name in rng.sample(STRUCTS, k=rng.choice([0, 1, 2, 2, 3, 4])):
             self.struct(name)
         self.declare_variables()
-        blocks = rng.choice([1, 1, 2, 3, 4, 6])
+        blocks = rng.choice([1, 1, 2, 3, 4, 6, 9])
         self.lines.append(b"blocks %d" % blocks)
         for number in range(blocks):
             self.lines.append(b"block bb%d" % number)
-            for _ in range(rng.choice([0, 1, 1, 2, 3, 5])):
+            for _ in range(rng.choice([0, 1, 1, 2, 3, 5, 8])):
                 self.lines.append(self.statement())
             self.lines.append(self.terminator(blocks, number == blocks - 1))
         return self.laid_out([b"nll-mir 1"] + self.lines + [b"end"])
@@ -575,11 +575,32 @@ def line(kind, mebibytes):
 def long_lines():
     for kind, (_, _, _, refusal) in LINES.items():
         yield f"line_of_{kind}", line(kind, 64), f"line 2: {refusal}"
-    yield "line_of_a_mebibyte", with_body(let(b"()"), b"_0 = make ()" + b" " * (1 << 20) + b"()"), "ok"
+    yield from mebibyte_lines()
     names = [b"'r%d" % i for i in range(60_000)]
     yield "struct_of_many_parameters", with_body(
         [b"region 'x", b"struct S<" + b", ".join([name + b" =" for name in names])
          + b"> drop (&'r7 int)"] + let(b"S<" + b", ".join([b"'x"] * 60_000) + b">"), b"_0.0 = copy _0.0"), "ok"
+
+
+def mebibyte_lines():
+    """Lines of about 1 MiB, each of one form."""
+    declared = [b"region 'a"] + let(b"()", b"int", nested(4_095))
+    blank = b" " * (1 << 20)
+    yield "blanks_of_a_mebibyte", with_body(declared, b"_0 = make ()" + blank + b"()"), "ok"
+    yield "place_of_a_mebibyte", with_body(declared, b"read _2" + b" . *" * 300_000), (
+        "line 8: shape")
+    yield "make_of_a_mebibyte", with_body(
+        declared, b"_0 = make () (" + b", ".join([b"copy _1"] * 120_000) + b")"), "line 8: shape"
+    target = b"-> bb0\n"
+    forms = {
+        "operands": b"_0 = call f(" + b", ".join([b"copy _1: int"] * 80_000) + b"): () " + target,
+        "types": b"_0 = call f(" + b", ".join([b"const: int"] * 100_000) + b"): () " + target,
+        "clauses": b"_0 = call f(): () where " + b", ".join([b"'a: 'static"] * 90_000) + target,
+        "targets": b"switch const " + b"bb0 " * 260_000 + b"\n",
+    }
+    for name, form in forms.items():
+        text = with_body(declared, form).replace(b"\n\nreturn", b"")
+        yield f"{name}_of_a_mebibyte", text, "ok"
 
 
 def size_limits():

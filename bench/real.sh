@@ -1,5 +1,5 @@
 #!/bin/sh
-# Runs `nllc values` beside the baseline on every facts text of a folder of real inputs.
+# Runs `nllc values` beside the baseline on every text (`.facts`, `.mir`) of a folder of real inputs.
 #
 #   real.sh --nllc PATH --inputs FOLDER [--runs N] [--seconds S]
 #

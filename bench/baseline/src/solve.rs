@@ -52,7 +52,7 @@ impl Iterator for Bits {
 }
 
 /// Above so many words for all reached sets together none is kept, and paths are walked anew.
-const KEPT_WORDS: usize = 1 << 28;
+const KEPT_WORDS: usize = 1 << 24;
 
 /// What paths from `at` reach inside one region, asked for by constraints of several regions.
 struct Frontier {
