@@ -24,8 +24,9 @@ import sys
 import tempfile
 
 import generate
-import generate_mir
+import limits_mir
 import reference
+import small_mir
 
 HERE = os.path.dirname(os.path.abspath(__file__))
 BASELINE = os.path.join(HERE, "baseline", "target", "release", "baseline")
@@ -114,14 +115,15 @@ def compare(text):
 
 def texts(args):
     """The texts to compare on."""
-    source = generate_mir if args.mir else generate
+    source = small_mir if args.mir else generate
     if args.every:
         with open(args.every, "rb") as file:
             text = file.read()
         yield text
         yield from source.mutations(text)
     elif args.limits or args.hostile:
-        found = source.limits() if args.limits else source.hostile()
+        at_limits = limits_mir.limits if args.mir else generate.limits
+        found = at_limits() if args.limits else limits_mir.hostile()
         yield from (text for _, text, _ in found)
     else:
         for number in range(args.count):
@@ -157,6 +159,7 @@ def words():
     parser.add_argument("--every", metavar="FILE", help="each small change of this text")
     parser.add_argument("--limits", action="store_true", help="texts at the limits")
     parser.add_argument("--hostile", action="store_true", help="MIR texts with hostile types")
+    parser.add_argument("--first", action="store_true", help="end with the first difference")
     parser.add_argument("--seconds", type=float, default=10.0, help="time limit of a run")
     parser.add_argument("--processes", type=int, default=2)
     parser.add_argument("--save", default=os.path.join(tempfile.gettempdir(), "nllc-differences"))
@@ -180,6 +183,8 @@ def main():
             if difference is not None:
                 differ += 1
                 report(args, compared, difference)
+                if args.first:
+                    break
     print(f"{compared} compared, {differ} differ")
     return 1 if differ else 0
 

@@ -17,7 +17,7 @@ import time
 
 import differential
 import generate
-import generate_mir
+import limits_mir
 import worked_mir
 
 
@@ -135,10 +135,10 @@ def wanted_answers(args):
         refused += REFUSED + (list(generate.limits()) if args.large else [])
     if "mir" in args.formats:
         answered += worked_mir.ANSWERED
-        refused += worked_mir.REFUSED + list(generate_mir.hostile())
+        refused += worked_mir.REFUSED + list(limits_mir.hostile())
     for name, command, body, lines, status in answered:
         yield name, command, body, ("".join(f"{line}\n" for line in lines).encode(), status, b"")
-    large = generate_mir.limits() if args.large and "mir" in args.formats else []
+    large = limits_mir.limits() if args.large and "mir" in args.formats else []
     for name, body, refusal in itertools.chain(refused, large):
         if refusal == "ok":
             yield name, "check", body, (b"ok\n", 0, b"")

@@ -99,7 +99,8 @@ def bodies_rows(args, name):
     text = os.path.join(args.texts, name + ".accepted")
     refused = os.path.join(args.texts, name + ".refused")
     commands = {
-        "read": {"nllc": [args.nllc, "check", refused], "baseline": [args.baseline, "read", refused]},
+        "read": {"nllc": [args.nllc, "check", refused],
+                 "baseline": [args.baseline, "read", refused]},
         "problem": {"baseline": [args.baseline, "problem", text]},
         "check": {who: [program, "check", text]
                   for who, program in (("nllc", args.nllc), ("baseline", args.baseline))},

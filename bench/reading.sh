@@ -37,7 +37,8 @@ if [ -n "$mir" ]; then
 else
     sizes="8 64"
     for size in $sizes; do
-        python3 "$here/generate.py" reading "$size" $shuffled --refused > "$texts/refused-$size.text"
+        python3 "$here/generate.py" reading "$size" $shuffled --refused \
+            > "$texts/refused-$size.text"
         sed '$s/.*/end/' "$texts/refused-$size.text" > "$texts/accepted-$size.text"
     done
 fi

@@ -8,7 +8,7 @@ grows sets of integers in whole rounds until a round adds nothing. Only for smal
     reference.py body FILE                          what is said at each point of a MIR text
 
 Reading order: `reference_text`, `reference_facts`, `reference_solve`; for MIR texts then
-`reference_types`, `reference_mir`, `reference_body`.
+`reference_grammar`, `reference_types`, `reference_mir`, `reference_body`.
 """
 
 import sys

@@ -2,6 +2,7 @@
 
 import functools
 
+import reference_grammar as grammar
 import reference_mir as mir
 import reference_text as text
 import reference_types as types
@@ -9,37 +10,37 @@ import reference_types as types
 
 def operands_of(form):
     """The places that a line reads as operands."""
-    if isinstance(form, (mir.Assign, mir.Switch)):
+    if isinstance(form, (grammar.Assign, grammar.Switch)):
         operands = [form.operand]
     else:
-        operands = form.operands if isinstance(form, (mir.Make, mir.Call)) else []
+        operands = form.operands if isinstance(form, (grammar.Make, grammar.Call)) else []
     return [operand for operand in operands if operand is not None]
 
 
 def uses(form):
     """The variables that a line uses."""
     places = operands_of(form)
-    if isinstance(form, mir.Borrow):
+    if isinstance(form, grammar.Borrow):
         places = places + [form.borrowed]
-    if isinstance(form, mir.Read):
+    if isinstance(form, grammar.Read):
         places = places + [form.place]
     elif hasattr(form, "place") and form.place.projections:
         places = places + [form.place]
-    returned = {0} if isinstance(form, mir.Return) else set()
+    returned = {0} if isinstance(form, grammar.Return) else set()
     return {place.variable for place in places} | returned
 
 
 def defines(form):
     """The variables that a line defines: one at most."""
-    if isinstance(form, (mir.Live, mir.Dead)):
+    if isinstance(form, (grammar.Live, grammar.Dead)):
         return {form.variable}
-    is_target = hasattr(form, "place") and not isinstance(form, mir.Read)
+    is_target = hasattr(form, "place") and not isinstance(form, grammar.Read)
     return {form.place.variable} if is_target and not form.place.projections else set()
 
 
 def drops(form):
     """The variables that a line drops: one at most."""
-    return {form.variable} if isinstance(form, mir.Drop) else set()
+    return {form.variable} if isinstance(form, grammar.Drop) else set()
 
 
 class Body:
@@ -51,7 +52,7 @@ class Body:
         self.universals = said.universals
         self.outlives = said.outlives
         self.edges = {(p, q) for p in range(self.points) for q in self.successors(p)}
-        self.returns = {p for p in range(self.points) if isinstance(self.form(p), mir.Return)}
+        self.returns = {p for p in range(self.points) if isinstance(self.form(p), grammar.Return)}
 
     def names(self):
         return self.universals + self.said.further
@@ -64,14 +65,14 @@ class Body:
         return self.said.points[p][2]
 
     def successors(self, p):
-        if isinstance(self.form(p), mir.STATEMENTS):
+        if isinstance(self.form(p), grammar.STATEMENTS):
             return {p + 1}
         return {self.said.firsts[block] for block in mir.targets_of(self.form(p))}
 
     # Liveness
 
     def is_live(self, x, p, what):
-        """Whether a walk leads from p to a point that uses (drops) x, and none before it defines x."""
+        """Whether a walk leads from p to a use (drop) of x, with no definition before its end."""
         seen, left = set(), [p]
         while left:
             q = left.pop()
@@ -122,19 +123,19 @@ class Body:
 
     def asks(self, form):
         """The pairs of regions that a line asks at each successor."""
-        if isinstance(form, mir.Assign):
+        if isinstance(form, grammar.Assign):
             return self.wants(self.type_of(form.operand), self.type_of(form.place))
-        if isinstance(form, mir.Borrow):
+        if isinstance(form, grammar.Borrow):
             made = mir.reference_to(form, self.type_of(form.borrowed))
             pairs = self.wants(made, self.type_of(form.place))
             return pairs | self.reborrows(form.region, form.borrowed)
-        if isinstance(form, mir.Make):
+        if isinstance(form, grammar.Make):
             made = self.written(form.type)
             pairs = self.wants(made, self.type_of(form.place))
             for operand, part in zip(form.operands, types.parts_of(self.said.structs, made)):
                 pairs |= self.wants(self.type_of(operand), part)
             return pairs
-        if isinstance(form, mir.Call):
+        if isinstance(form, grammar.Call):
             pairs = self.wants(self.written(form.result), self.type_of(form.place))
             for operand, nodes in zip(form.operands, form.types):
                 pairs |= self.wants(self.type_of(operand), self.written(nodes))

@@ -288,7 +288,8 @@ impl Shapes {
         let k = if projection == DEREFERENCE { 0 } else { projection };
         let Form::Struct(s) = self.form(shape) else {
             let first = self.items_before(shape, k) as usize;
-            out.extend_from_slice(&items[first..][..self.items(self.parts(shape)[k as usize]) as usize]);
+            let count = self.items(self.parts(shape)[k as usize]) as usize;
+            out.extend_from_slice(&items[first..][..count]);
             return;
         };
         let field = self.structs[s as usize].fields[k as usize];
