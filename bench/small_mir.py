@@ -87,7 +87,11 @@ class Small:
             count = rng.choice([0, 1, 2, 2, 3])
             parts = [self.type(depth - 1, regions, parameters) for _ in range(count)]
             return types.make("tuple", parts=tuple(parts))
-        name = rng.choice(list(self.structs))
+        return self.use_of(rng.choice(list(self.structs)), depth, regions, parameters)
+
+    def use_of(self, name, depth, regions, parameters):
+        """A use of a struct."""
+        rng = self.rng
         wanted = self.structs[name].parameters
         mine = tuple([rng.choice(regions) for p in wanted if p.is_region])
         parts = [self.type(depth - 1, regions, parameters) for p in wanted if not p.is_region]
@@ -97,7 +101,7 @@ class Small:
         rng = self.rng
         regions = rng.sample(NAMES, k=rng.choice([0, 1, 1, 2]))
         names = rng.sample(PARAMETERS, k=rng.choice([0, 0, 1, 1, 2]))
-        parameters = [types.Parameter(one in regions, one, rng.choice("+="), rng.random() < 0.3)
+        parameters = [types.Parameter(one in regions, one, rng.choice("+="), rng.random() < 0.4)
                       for one in rng.sample(regions + names, k=len(regions + names))]
         fields = [self.type(rng.choice([0, 1, 2]), regions + [b"static"], names)
                   for _ in range(rng.choice([0, 1, 1, 2, 3]))]
@@ -124,9 +128,10 @@ class Small:
     def declare_variables(self):
         rng = self.rng
         seeds = [self.type(rng.choice([1, 2, 3]), self.regions, []) for _ in range(3)] + [types.INT]
+        seeds += [self.use_of(name, 2, self.regions, []) for name in self.structs]
         for number in range(rng.randrange(1, 8)):
             t = self.renewed(rng.choice(seeds))
-            for _ in range(rng.choice([0, 0, 1, 1, 2])):
+            for _ in range(rng.choice([0, 0, 0, 1, 1, 2])):
                 region = (rng.choice(self.regions),)
                 t = types.make("reference", None, rng.random() < 0.5, region, (t,))
             if rng.random() < 0.2:
@@ -240,7 +245,10 @@ class Small:
         if kind == "goto":
             return b"goto " + self.block(blocks)
         if kind == "drop":
-            return b"drop %s -> %s%s" % (self.variable(), self.block(blocks), self.unwind(blocks))
+            owned = [b"_%d" % number for number, t in enumerate(self.variables)
+                     if t.form in ("struct", "tuple")]
+            dropped = rng.choice(owned) if owned and rng.random() < 0.7 else self.variable()
+            return b"drop %s -> %s%s" % (dropped, self.block(blocks), self.unwind(blocks))
         if kind == "switch":
             operand, _ = self.operand(types.INT)
             targets = [self.block(blocks) for _ in range(rng.choice([1, 2, 2, 3]))]
@@ -275,20 +283,19 @@ def small(rng):
 
 PIECES = [b"const", b"copy", b"move", b"mut", b"make", b"call", b"where", b"unwind", b"drop",
           b"end", b"block", b"blocks", b"goto", b"switch", b"return", b"stop", b"nop", b"read",
-          b"live",
-          b"dead", b"let", b"struct", b"region", b"universal", b"outlives", b"int", b"_0", b"_1",
-          b"_9", b"_01", b"_", b"bb0", b"bb1", b"bb9", b"bb", b"bb00", b"0", b"1", b"9", b"01",
-          b"1_0", b"999999999", b"1000000000", b"W", b"T", b"Z", b"w", b"'static", b"'z", b"->",
-          b"()", b"(int)", b"<", b">", b"= ?", b""] + [bytes([sign]) for sign in b"=&()<>,:.*+?-"]
+          b"live", b"dead", b"let", b"struct", b"region", b"universal", b"outlives", b"int",
+          b"_0", b"_1", b"_9", b"_01", b"_", b"bb0", b"bb1", b"bb9", b"bb", b"bb00", b"0", b"1",
+          b"9", b"01", b"1_0", b"999999999", b"1000000000", b"W", b"T", b"Z", b"w", b"'static",
+          b"'z", b"->", b"()", b"(int)", b"<", b">", b"= ?", b""]
+PIECES += [bytes([sign]) for sign in b"=&()<>,:.*+?-"]
 
 WRONG = [b"_9 = copy _8.*", b"read _0.7", b"drop _9 -> bb99", b"goto bb999999999", b"end",
          b"end end", b"universal 'static", b"region 'static", b"outlives 'z 'static", b"blocks 0",
          b"blocks 1", b"block bb0", b"block bb9", b"let _0: int", b"let _9: Z<'z>", b"struct W ()",
-         b"# \xff",
          b"struct Z<'static +, T +, T => (T<int>, Z, 'z)", b"struct Z<T +> (T, &'static int)",
+         b"# \xff",
          b"live _9", b"dead _0", b"nop", b"stop", b"return", b"switch copy _0 bb0 bb9", b"read",
-         b"_0 = make () ()", b"_0 = make int ()", b"_0 = & 'static _0",
-         b"= & ( ) < > , : . * + ?",
+         b"_0 = make () ()", b"_0 = make int ()", b"_0 = & 'static _0", b"= & ( ) < > , : . * + ?",
          b"_0 = call f(const: int): int -> bb0 unwind bb0", b"- >", b"''", b"'", b"return \xff",
          b"_0 = call f(): int where 'z: 'static -> bb9", b"next 0 1", b"points 1", b"(((((",
          b"let _1: ("]
