@@ -1,14 +1,17 @@
 #!/usr/bin/env python3
-"""Compares programs on random and on changed small facts texts.
+"""Compares programs on random and on changed small facts texts, or MIR texts with `--mir`.
 
-    differential.py --nllc PATH [--count N] [--seed S] [--every FILE] [--limits] [--reference]
+    differential.py [--mir] --nllc PATH [--count N] [--seed S] [--reference]
+    differential.py [--mir] --nllc PATH --every FILE | --limits
+    differential.py --mir --nllc PATH --hostile [--reference]
 
 Runs `PATH values FILE` and `PATH check FILE` beside the baseline and compares standard output,
 status and standard error byte by byte. With `--reference` the slow reference is compared too;
-without `--nllc` it alone, and then on the counts of `read` as well. The first half of the texts
-has no change. `--every` takes each small change of a text in place of random texts; `--limits`
-takes the texts at the limits of the format. A text on which two answers differ is saved, after
-lines that don't matter were taken out of it.
+without `--nllc` it alone, and then on the counts of `read` and `problem` as well. The first half
+of the texts has no change. `--every` takes each small change of a text in place of random texts;
+`--limits` takes the texts at the limits of the format, `--hostile` MIR texts whose types are deep
+or would grow without end. A text on which two answers differ is saved, after lines that don't
+matter were taken out of it.
 Ends with `N compared, M differ`; status 1 where M isn't 0.
 """
 
@@ -21,7 +24,9 @@ import sys
 import tempfile
 
 import generate
+import limits_mir
 import reference
+import small_mir
 
 HERE = os.path.dirname(os.path.abspath(__file__))
 BASELINE = os.path.join(HERE, "baseline", "target", "release", "baseline")
@@ -42,7 +47,7 @@ class Comparison:
 
     def __init__(self, args):
         self.args = args
-        self.file = tempfile.NamedTemporaryFile(suffix=".facts", dir=memory_folder())
+        self.file = tempfile.NamedTemporaryFile(suffix=suffix(args), dir=memory_folder())
 
     def answers(self, command, text):
         """The answers to one command by the name of who gave them."""
@@ -60,7 +65,7 @@ class Comparison:
 
     def difference(self, text):
         """The command on which answers differ and these answers, or None."""
-        counts = () if self.args.nllc else ("read",)
+        counts = () if self.args.nllc else ("read", "problem")
         for command in counts + ("values", "check"):
             found = self.answers(command, text)
             if len(set(found.values())) > 1:
@@ -79,6 +84,10 @@ class Comparison:
                 lines = fewer
             at -= 1
         return b"\n".join(lines)
+
+
+def suffix(args):
+    return ".mir" if args.mir else ".facts"
 
 
 def memory_folder():
@@ -106,18 +115,21 @@ def compare(text):
 
 def texts(args):
     """The texts to compare on."""
+    source = small_mir if args.mir else generate
     if args.every:
         with open(args.every, "rb") as file:
             text = file.read()
         yield text
-        yield from generate.mutations(text)
-    elif args.limits:
-        yield from (text for _, text, _ in generate.limits())
+        yield from source.mutations(text)
+    elif args.limits or args.hostile:
+        at_limits = limits_mir.limits if args.mir else generate.limits
+        found = at_limits() if args.limits else limits_mir.hostile()
+        yield from (text for _, text, _ in found)
     else:
         for number in range(args.count):
             rng = random.Random(f"{args.seed} {number}")
-            text = generate.small(rng)
-            yield text if number * 2 < args.count else generate.mutant(rng, text)
+            text = source.small(rng)
+            yield text if number * 2 < args.count else source.mutant(rng, text)
 
 
 def shown(who, answer):
@@ -129,7 +141,7 @@ def report(args, number, difference):
     """Saves the text and prints what was answered."""
     text, command, found = difference
     os.makedirs(args.save, exist_ok=True)
-    path = os.path.join(args.save, f"{number:06}.facts")
+    path = os.path.join(args.save, f"{number:06}{suffix(args)}")
     with open(path, "wb") as file:
         file.write(text)
     print(f"differ on {command} {path}")
@@ -138,6 +150,7 @@ def report(args, number, difference):
 
 def words():
     parser = argparse.ArgumentParser(description=__doc__.split("\n")[0])
+    parser.add_argument("--mir", action="store_true", help="MIR texts in place of facts texts")
     parser.add_argument("--nllc", help="the program to compare")
     parser.add_argument("--baseline", default=BASELINE)
     parser.add_argument("--reference", action="store_true", help="compare the reference too")
@@ -145,12 +158,16 @@ def words():
     parser.add_argument("--seed", type=int, default=1)
     parser.add_argument("--every", metavar="FILE", help="each small change of this text")
     parser.add_argument("--limits", action="store_true", help="texts at the limits")
+    parser.add_argument("--hostile", action="store_true", help="MIR texts with hostile types")
+    parser.add_argument("--first", action="store_true", help="end with the first difference")
     parser.add_argument("--seconds", type=float, default=10.0, help="time limit of a run")
     parser.add_argument("--processes", type=int, default=2)
     parser.add_argument("--save", default=os.path.join(tempfile.gettempdir(), "nllc-differences"))
     args = parser.parse_args()
     if args.limits and args.reference:
         parser.error("the reference is for small texts: no --limits")
+    if args.hostile and not args.mir:
+        parser.error("--hostile is for --mir")
     if not args.nllc and not args.reference:
         parser.error("nothing to compare: --nllc PATH, --reference or both")
     return args
@@ -160,12 +177,14 @@ def main():
     args = words()
     compared = differ = 0
     with multiprocessing.Pool(args.processes, begin, (args,)) as pool:
-        chunk = 1 if args.limits else 32
+        chunk = 1 if args.limits or args.hostile else 32
         for difference in pool.imap(compare, texts(args), chunksize=chunk):
             compared += 1
             if difference is not None:
                 differ += 1
                 report(args, compared, difference)
+                if args.first:
+                    break
     print(f"{compared} compared, {differ} differ")
     return 1 if differ else 0
 

@@ -1,20 +1,24 @@
 #!/usr/bin/env python3
-"""Worked examples of facts texts, with answers found by hand from the definitions.
+"""Worked examples of facts and MIR texts, with answers found by hand from the definitions.
 
-    examples.py --program PATH [--large]
+    examples.py --program PATH [--formats facts mir] [--large]
 
 Runs `PATH values FILE` or `PATH check FILE` on each and compares output, status and the line on
-standard error. `--large` adds the texts at the limits of the format (up to 64 MiB each).
+standard error. `--large` adds the texts at the limits of the formats (up to 64 MiB each).
 Prints each example that differs, then `N examples, M differ`; status 1 where M isn't 0.
 """
 
 import argparse
+import itertools
 import os
 import sys
 import tempfile
+import time
 
 import differential
 import generate
+import limits_mir
+import worked_mir
 
 
 def text(points, *lines):
@@ -123,12 +127,19 @@ REFUSED = [
 ]
 
 
-def wanted_answers(large):
+def wanted_answers(args):
     """For each example its name, command, text, and what the program must answer."""
-    for name, command, body, lines, status in ANSWERED:
+    answered, refused = [], []
+    if "facts" in args.formats:
+        answered += ANSWERED
+        refused += REFUSED + (list(generate.limits()) if args.large else [])
+    if "mir" in args.formats:
+        answered += worked_mir.ANSWERED
+        refused += worked_mir.REFUSED + list(limits_mir.hostile())
+    for name, command, body, lines, status in answered:
         yield name, command, body, ("".join(f"{line}\n" for line in lines).encode(), status, b"")
-    cases = REFUSED + (list(generate.limits()) if large else [])
-    for name, body, refusal in cases:
+    large = limits_mir.limits() if args.large and "mir" in args.formats else []
+    for name, body, refusal in itertools.chain(refused, large):
         if refusal == "ok":
             yield name, "check", body, (b"ok\n", 0, b"")
         else:
@@ -138,16 +149,21 @@ def wanted_answers(large):
 def main():
     parser = argparse.ArgumentParser(description=__doc__.split("\n")[0])
     parser.add_argument("--program", default=differential.BASELINE)
+    parser.add_argument("--formats", nargs="+", choices=["facts", "mir"], default=["facts", "mir"])
+    parser.add_argument("--times", action="store_true", help="print the seconds of each")
     parser.add_argument("--large", action="store_true", help="texts at the limits too")
     parser.add_argument("--seconds", type=float, default=60.0, help="time limit of a run")
     args = parser.parse_args()
     count = differ = 0
     with tempfile.TemporaryDirectory(dir=differential.memory_folder()) as folder:
         path = os.path.join(folder, "example.facts")
-        for name, command, body, wanted in wanted_answers(args.large):
+        for name, command, body, wanted in wanted_answers(args):
             with open(path, "wb") as file:
                 file.write(body)
+            began = time.perf_counter()
             found = differential.program_answer(args.program, command, path, args.seconds)
+            if args.times:
+                print(f"{name}: {time.perf_counter() - began:.3f} s", flush=True)
             count += 1
             if found != wanted:
                 differ += 1

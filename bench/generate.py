@@ -189,20 +189,18 @@ def with_lines(text, change):
     return b"\n".join(lines)
 
 
-def mutations(text):
-    """Every text that one small change makes of a text."""
+def byte_changes(text):
+    """Each beginning of a text, and each text with one byte taken out, put in or replaced."""
     yield from (text[:k] for k in range(len(text)))
     for at in range(len(text)):
         yield replaced(text, at, at + 1, b"")
         for byte in BYTES:
             yield replaced(text, at, at + 1, bytes([byte]))
             yield replaced(text, at, at, bytes([byte]))
-    for start, end in spans(rb"\b\d+\b", text):
-        yield from (replaced(text, start, end, number) for number in NUMBERS)
-    for start, end in spans(rb"'\w+", text):
-        yield from (replaced(text, start, end, b"'" + name) for name in [b"static", b"z"])
-    for start, end in spans(rb"\b[a-z]+\b", text):
-        yield from (replaced(text, start, end, word) for word in KEYWORDS)
+
+
+def line_changes(text):
+    """Each text with one line taken out, put in elsewhere too, or swapped with another."""
     lines = text.split(b"\n")
     for i in range(len(lines)):
         yield b"\n".join(lines[:i] + lines[i + 1:])
@@ -210,6 +208,18 @@ def mutations(text):
             yield b"\n".join(lines[:i] + [lines[j]] + lines[i:])
         for j in range(i):
             yield b"\n".join(lines[:j] + [lines[i]] + lines[j + 1:i] + [lines[j]] + lines[i + 1:])
+
+
+def mutations(text):
+    """Every text that one small change makes of a text."""
+    yield from byte_changes(text)
+    for start, end in spans(rb"\b\d+\b", text):
+        yield from (replaced(text, start, end, number) for number in NUMBERS)
+    for start, end in spans(rb"'\w+", text):
+        yield from (replaced(text, start, end, b"'" + name) for name in [b"static", b"z"])
+    for start, end in spans(rb"\b[a-z]+\b", text):
+        yield from (replaced(text, start, end, word) for word in KEYWORDS)
+    yield from line_changes(text)
 
 
 def change_bytes(rng, text):
@@ -233,16 +243,19 @@ def change_token(rng, text):
     return replaced(text, start, end, rng.choice(pieces))
 
 
-def change_lines(rng, text):
-    """Drops, doubles, moves or swaps lines, or puts in a line with several faults."""
+# Lines with several faults.
+WRONG = [b"constraint 'z '1 999", b"next 99 99 ->", b"universal 'static", b"region 'static",
+         b"outlives 'z 'static", b"base 'z 1048576", b"points 0", b"end", b"end end",
+         b"# \xff", b"next 0", b"next 01 2", b"region 'a 'b", b"= & ( ) < > , : . * + ?",
+         b"- >", b"return -> 0", b"''", b"'", b"return 999 \xff"]
+
+
+def change_lines(rng, text, wrong):
+    """Drops, doubles, moves or swaps lines, or puts in a wrong one."""
     def change(lines):
         ends = [0, 1, 2, len(lines) - 2, len(lines) - 1]
         i, j = rng.choice([ends, range(len(lines))]), rng.choice([ends, range(len(lines))])
         i, j = rng.choice(i) % len(lines), rng.choice(j) % len(lines)
-        wrong = [b"constraint 'z '1 999", b"next 99 99 ->", b"universal 'static", b"region 'static",
-                 b"outlives 'z 'static", b"base 'z 1048576", b"points 0", b"end", b"end end",
-                 b"# \xff", b"next 0", b"next 01 2", b"region 'a 'b", b"= & ( ) < > , : . * + ?",
-                 b"- >", b"return -> 0", b"''", b"'", b"return 999 \xff"]
         kind = rng.randrange(6)
         if kind == 0:
             del lines[i]
@@ -264,7 +277,11 @@ def mutant(rng, text):
     for _ in range(rng.choice([1, 1, 1, 2, 3])):
         if rng.random() < 0.1:
             text = text[:rng.randrange(len(text) + 1)]
-        text = rng.choice([change_bytes, change_token, change_token, change_lines])(rng, text)
+        kind = rng.choice(["bytes", "token", "token", "lines"])
+        if kind == "lines":
+            text = change_lines(rng, text, WRONG)
+        else:
+            text = (change_bytes if kind == "bytes" else change_token)(rng, text)
     return text
 
 

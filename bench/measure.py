@@ -1,7 +1,8 @@
 #!/usr/bin/env python3
-"""Times programs and prints Markdown tables; `reading.sh`, `real.sh` and `line.sh` call it.
+"""Times programs and prints Markdown tables; the scripts beside it call it.
 
-    measure.py reading --nllc PATH --baseline PATH --texts FOLDER [--runs N]
+    measure.py reading --nllc PATH --baseline PATH --texts FOLDER [--sizes SIZES] [--runs N]
+    measure.py bodies --nllc PATH --baseline PATH --texts FOLDER [--runs N]
     measure.py real --nllc PATH --baseline PATH --inputs FOLDER --outputs FOLDER [--runs N]
     measure.py line --nllc PATH --texts FOLDER [--most MIB]
 
@@ -55,7 +56,7 @@ def machine(args):
 
 def reading_rows(args, size):
     """The rows of one size: both programs on the refused text, the baseline on the accepted one."""
-    refused, accepted = (os.path.join(args.texts, f"{kind}-{size}.facts")
+    refused, accepted = (os.path.join(args.texts, f"{kind}-{size}.text")
                          for kind in ("refused", "accepted"))
     commands = {
         "nllc": [args.nllc, "values", refused],
@@ -85,12 +86,53 @@ def reading_rows(args, size):
 
 
 def reading(args):
-    print(f"Reading a facts text that is refused at its last line, {args.runs} runs of each "
-          f"program in turn; {machine(args)}")
+    print(f"Reading a text that is refused at its last line, {args.runs} runs of each program in "
+          f"turn; {machine(args)}")
     print("| MiB | program | best wall s | median wall s | median user s | peak MiB | ratio |")
     print("|---|---|---|---|---|---|---|")
     fine = [reading_rows(args, size) for size in args.sizes.split()]
     return all(fine)
+
+
+def bodies_rows(args, name):
+    """The rows of one body: reading it, its problem (the baseline alone), and the whole."""
+    text = os.path.join(args.texts, name + ".accepted")
+    refused = os.path.join(args.texts, name + ".refused")
+    commands = {
+        "read": {"nllc": [args.nllc, "check", refused],
+                 "baseline": [args.baseline, "read", refused]},
+        "problem": {"baseline": [args.baseline, "problem", text]},
+        "check": {who: [program, "check", text]
+                  for who, program in (("nllc", args.nllc), ("baseline", args.baseline))},
+        "values": {who: [program, "values", text]
+                   for who, program in (("nllc", args.nllc), ("baseline", args.baseline))},
+    }
+    fine = True
+    for part, programs in commands.items():
+        runs = {who: [] for who in programs}
+        for _ in range(args.runs):
+            for who, command in programs.items():
+                runs[who].append(run(command, args.seconds))
+        ends = {(one.status, one.err) for found in runs.values() for one in found}
+        alike = len(ends) == 1 and None not in next(iter(ends))
+        fine = fine and alike
+        best = {who: min(one.wall for one in found) for who, found in runs.items()}
+        for who, found in runs.items():
+            wall = median(one.wall for one in found)
+            peak = max(one.peak for one in found)
+            print(f"| {name} | {part} | {who} | {best[who]:.3f} | {wall:.3f} | {peak:.1f} "
+                  f"| {best[who] / best['baseline']:.2f} |{'' if alike else f' UNLIKE {ends}'}",
+                  flush=True)
+    return fine
+
+
+def bodies(args):
+    """The ratios here are of best times."""
+    names = sorted({name.rsplit(".", 1)[0] for name in os.listdir(args.texts)})
+    print(f"Whole bodies, {args.runs} runs of each program in turn; {machine(args)}")
+    print("| body | part | program | best wall s | median wall s | peak MiB | ratio |")
+    print("|---|---|---|---|---|---|---|")
+    return all([bodies_rows(args, name) for name in names])
 
 
 def real_row(args, name):
@@ -116,7 +158,7 @@ def real_row(args, name):
 
 
 def real(args):
-    names = sorted(name for name in os.listdir(args.inputs) if name.endswith(".facts"))
+    names = sorted(name for name in os.listdir(args.inputs) if name.endswith((".facts", ".mir")))
     print(f"`values` of real functions, best wall seconds of {args.runs} runs of each program in "
           f"turn; {machine(args)}")
     print("| input | bytes | bytes out | nllc s | baseline s | ratio | nllc peak MiB "
@@ -157,20 +199,21 @@ def line(args):
 
 def main():
     parser = argparse.ArgumentParser(description=__doc__.split("\n", maxsplit=1)[0])
-    parser.add_argument("what", choices=["reading", "real", "line"])
+    parser.add_argument("what", choices=["reading", "bodies", "real", "line"])
     parser.add_argument("--nllc", required=True)
     parser.add_argument("--baseline", help="the program to compare with; not for `line`")
     parser.add_argument("--most", type=float, default=8.0,
                         help="MiB that a process may take beside the text of one line")
-    parser.add_argument("--texts", help="folder of refused-MIB.facts and accepted-MIB.facts")
+    parser.add_argument("--texts", help="folder of the texts to measure on")
     parser.add_argument("--sizes", default="8 64")
-    parser.add_argument("--inputs", help="folder of facts texts")
+    parser.add_argument("--inputs", help="folder of facts and MIR texts")
     parser.add_argument("--outputs", help="folder for the two outputs that are compared")
     parser.add_argument("--runs", type=int, default=5)
     parser.add_argument("--seconds", type=float, default=60.0, help="time limit of a run")
     parser.add_argument("--commit", default="none", help="told beside the figures")
     args = parser.parse_args()
-    return 0 if {"reading": reading, "real": real, "line": line}[args.what](args) else 1
+    what = {"reading": reading, "bodies": bodies, "real": real, "line": line}[args.what]
+    return 0 if what(args) else 1
 
 
 if __name__ == "__main__":

@@ -71,8 +71,9 @@ def words():
     parser.add_argument("--seconds", type=float, default=10.0, help="time limit of a run")
     parser.add_argument("files", metavar="FILE", nargs="*")
     args = parser.parse_args()
-    examples = os.path.join(HERE, "..", "examples", "*.facts")
-    args.files = args.files or sorted(map(os.path.normpath, glob.glob(examples)))
+    examples = [os.path.join(HERE, "..", "examples", name) for name in ("*.facts", "*.mir")]
+    found = [os.path.normpath(path) for pattern in examples for path in glob.glob(pattern)]
+    args.files = args.files or sorted(found)
     return args
 
 

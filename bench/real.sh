@@ -1,5 +1,6 @@
 #!/bin/sh
-# Runs `nllc values` beside the baseline on every facts text of a folder of real inputs.
+# Runs `nllc values` beside the baseline on each text of a folder of real inputs
+# (`.facts` and `.mir`).
 #
 #   real.sh --nllc PATH --inputs FOLDER [--runs N] [--seconds S]
 #

@@ -1,22 +1,30 @@
-//! A plain Rust program that reads facts texts (version 1) and answers as `nllc` does, written by
-//! hand without any proof: the partner of `nllc` in measurements and in differential tests.
-//! Reading order: `main`, `read` (the whole format and its refusals), `tables`, `problem`, `solve`,
-//! `report`.
+//! A plain Rust program that reads facts and MIR texts (version 1) and answers as `nllc` does,
+//! written by hand without any proof: the partner of `nllc` in measurements and in differential
+//! tests. Reading order: `main`, `text` (lines, tokens, which fault is told), `tables`, `facts`,
+//! `problem`, `solve`, `report`; for MIR texts `shapes`, `mir`, `rules`.
 //!
-//! `baseline read FILE` prints one line of counts, `baseline values FILE` and `baseline check FILE`
-//! print what `nllc` prints. Status: 0 answered, 1 `check` found faults, 2 words, file or text
-//! refused, 3 output failed.
+//! `baseline read FILE` and `baseline problem FILE` print one line of counts, of what is read and
+//! of the problem that it means; `baseline values FILE` and `baseline check FILE` print what
+//! `nllc` prints. Status: 0 answered, 1 `check` found faults, 2 words, file or text refused,
+//! 3 output failed.
 
+mod facts;
+mod mir;
 mod problem;
-mod read;
 mod report;
+mod rules;
+mod shapes;
 mod solve;
 mod tables;
+mod text;
 
+use facts::Facts;
+use mir::Reader;
 use problem::Problem;
 use std::fs::File;
 use std::io::{self, Read, Write};
 use std::process::exit;
+use text::Fault;
 
 /// The greatest length of a text in bytes.
 const TEXT_LIMIT: u64 = 67_108_864;
@@ -31,11 +39,28 @@ fn bytes_of(path: &str) -> io::Result<Vec<u8>> {
     Ok(bytes)
 }
 
+/// The problem of a text; only its counts are printed where `command` is `read`.
+fn problem<'t>(command: &str, text: &'t [u8]) -> Result<Problem<'t>, Fault> {
+    if !text::is_of::<Reader>(text) {
+        let mut facts = Facts::new();
+        text::read(text, &mut facts)?;
+        return Ok(facts.finish());
+    }
+    let mut reader = Reader::new();
+    text::read(text, &mut reader)?;
+    let body = reader.finish();
+    if command == "read" {
+        let status = report::body_counts(&body, &mut io::stdout().lock()).map(|()| 0);
+        exit(status.unwrap_or_else(|_| cannot_write()))
+    }
+    Ok(rules::problem(body).unwrap_or_else(|| refuse("nllc: limit constraints")))
+}
+
 /// Writes the answer of a command and gives the status.
 fn answer(command: &str, problem: &Problem) -> io::Result<i32> {
     let mut out = io::stdout().lock();
     match command {
-        "read" => report::counts(problem, &mut out).map(|()| 0),
+        "read" | "problem" => report::counts(problem, &mut out).map(|()| 0),
         "values" => report::values(problem, &solve::solve(problem), &mut out).map(|()| 0),
         _ => {
             let faults = report::faults(problem, &solve::solve(problem));
@@ -52,13 +77,19 @@ fn refuse(line: &str) -> ! {
     exit(2)
 }
 
+/// Tells that output failed, and gives the status.
+fn cannot_write() -> i32 {
+    let _ = writeln!(io::stderr(), "nllc: cannot write");
+    3
+}
+
 fn main() {
     let words: Vec<String> = std::env::args().skip(1).collect();
     let [command, path] = words.as_slice() else {
-        refuse("usage: baseline read|values|check FILE");
+        refuse("usage: baseline read|problem|values|check FILE");
     };
-    if !["read", "values", "check"].contains(&command.as_str()) {
-        refuse("usage: baseline read|values|check FILE");
+    if !["read", "problem", "values", "check"].contains(&command.as_str()) {
+        refuse("usage: baseline read|problem|values|check FILE");
     }
     let Ok(mut text) = bytes_of(path) else {
         refuse(&format!("nllc: cannot read {path}"));
@@ -66,12 +97,12 @@ fn main() {
     if text.len() as u64 > TEXT_LIMIT {
         refuse("nllc: line 1: limit text");
     }
-    let status = match read::read(&mut text) {
+    if text.last() != Some(&b'\n') {
+        text.push(b'\n');
+    }
+    let status = match problem(command, &text) {
         Err(fault) => refuse(&format!("nllc: line {}: {}", fault.line, fault.kind)),
-        Ok(problem) => answer(command, &problem).unwrap_or_else(|_| {
-            let _ = writeln!(io::stderr(), "nllc: cannot write");
-            3
-        }),
+        Ok(problem) => answer(command, &problem).unwrap_or_else(|_| cannot_write()),
     };
     exit(status)
 }

@@ -1,4 +1,4 @@
-//! The problem that a facts text means, and its counts.
+//! The problem that a text means, and its counts.
 
 use crate::tables::Lists;
 
@@ -13,7 +13,13 @@ pub struct Constraint {
 /// A set of universal regions, 256 at most.
 pub type Universals = [u64; 4];
 
-/// What a facts text says: points, regions (universals first, `'static` is 0) and facts, each once.
+/// How points are named: by their numbers, or by their block and index, from each block's first.
+pub enum Labels {
+    Numbers,
+    Blocks(Vec<u32>),
+}
+
+/// What a text means: points, regions (universals first, `'static` is 0) and facts, each once.
 pub struct Problem<'t> {
     pub points: u32,
     pub universals: u32,
@@ -22,12 +28,13 @@ pub struct Problem<'t> {
     pub successors: Lists,
     /// For each point whether it is a return point.
     pub returns: Vec<bool>,
-    /// For each region the points of its `base` lines, ascending.
+    /// For each region its base elements but those that universals have by themselves, ascending.
     pub bases: Vec<Vec<u32>>,
     /// Ascending by sub-region and point.
     pub constraints: Vec<Constraint>,
     /// For each universal those that an `outlives` line puts below it.
     pub outlives: Vec<Universals>,
+    pub labels: Labels,
 }
 
 impl Problem<'_> {

@@ -1,6 +1,7 @@
 //! What the program prints: counts, value lines and faults.
 
-use crate::problem::{Problem, Universals};
+use crate::mir::Body;
+use crate::problem::{Labels, Problem, Universals};
 use crate::solve::Row;
 use std::io::{self, Write};
 
@@ -15,6 +16,20 @@ pub fn counts(problem: &Problem, out: &mut impl Write) -> io::Result<()> {
         problem.universals,
         problem.bases.iter().map(Vec::len).sum::<usize>(),
         problem.constraints.len(),
+    )
+}
+
+/// One line of counts of a body.
+pub fn body_counts(body: &Body, out: &mut impl Write) -> io::Result<()> {
+    writeln!(
+        out,
+        "points {} edges {} regions {} universals {} structs {} variables {}",
+        body.lines.len(),
+        body.edges,
+        body.names.list.len(),
+        body.universals,
+        body.shapes.structs.len(),
+        body.variables.len(),
     )
 }
 
@@ -36,6 +51,23 @@ fn push_number(line: &mut Vec<u8>, mut number: u32) {
     line.extend_from_slice(&digits[at..]);
 }
 
+/// Appends the name of a point; ascending points begin with the block of the one before.
+fn push_point(line: &mut Vec<u8>, labels: &Labels, p: u32, block: &mut usize) {
+    let Labels::Blocks(firsts) = labels else {
+        return push_number(line, p);
+    };
+    if firsts.get(*block + 1).is_some_and(|&next| next <= p) {
+        *block += 1;
+        if firsts.get(*block + 1).is_some_and(|&next| next <= p) {
+            *block += firsts[*block + 1..].partition_point(|&first| first <= p);
+        }
+    }
+    line.extend_from_slice(b"bb");
+    push_number(line, *block as u32);
+    line.push(b'/');
+    push_number(line, p - firsts[*block]);
+}
+
 /// A line a region: its name, a colon, then points and ends in order, each after a space.
 pub fn values(problem: &Problem, values: &[Row], out: &mut impl Write) -> io::Result<()> {
     let mut text = Vec::with_capacity(CHUNK + 512);
@@ -43,10 +75,11 @@ pub fn values(problem: &Problem, values: &[Row], out: &mut impl Write) -> io::Re
         text.push(b'\'');
         text.extend_from_slice(name);
         text.push(b':');
+        let mut block = 0;
         for e in value.iter() {
             text.push(b' ');
             if e < problem.points {
-                push_number(&mut text, e);
+                push_point(&mut text, &problem.labels, e, &mut block);
             } else {
                 text.extend_from_slice(b"end('");
                 text.extend_from_slice(problem.names[(e - problem.points) as usize]);

@@ -52,7 +52,7 @@ impl Iterator for Bits {
 }
 
 /// Above so many words for all reached sets together none is kept, and paths are walked anew.
-const KEPT_WORDS: usize = 1 << 28;
+const KEPT_WORDS: usize = 1 << 24;
 
 /// What paths from `at` reach inside one region, asked for by constraints of several regions.
 struct Frontier {
@@ -75,6 +75,8 @@ struct Solver<'p> {
     frontiers: Vec<Frontier>,
     starts: Vec<usize>,
     keeps: bool,
+    /// An empty row with room, for the frontier that is walked where none is kept.
+    spare: Row,
     begun: Vec<bool>,
     dirty: Vec<bool>,
     /// For each region that has begun the elements that came to it since it was looked at.
@@ -163,6 +165,7 @@ impl<'p> Solver<'p> {
             words,
             values: vec![Row::default(); regions],
             keeps: frontiers.len().saturating_mul(words) <= KEPT_WORDS,
+            spare: Row::default(),
             frontiers,
             starts,
             begun: vec![false; regions],
@@ -190,6 +193,9 @@ impl<'p> Solver<'p> {
         let fresh = std::mem::take(&mut self.fresh[at]);
         let mut found = Vec::new();
         for index in self.starts[at]..self.starts[at + 1] {
+            if !self.keeps {
+                self.frontiers[index].reached = std::mem::take(&mut self.spare);
+            }
             let frontier = &self.frontiers[index];
             let open = begun && frontier.reached.has(frontier.at);
             if open {
@@ -264,13 +270,13 @@ impl<'p> Solver<'p> {
         }
     }
 
-    /// Empties a frontier of what a flood from its point found, and lets its memory go.
+    /// Empties a frontier of what a flood from its point found, and hands its room on.
     fn forget(&mut self, index: usize, found: &[u32]) {
         let frontier = &mut self.frontiers[index];
         frontier.returned = false;
         for &e in found {
             frontier.reached.remove(e);
         }
-        frontier.reached = Row::default();
+        self.spare = std::mem::take(&mut frontier.reached);
     }
 }

@@ -1,0 +1,50 @@
+"""Least values and faults of a problem, straight from the definitions."""
+
+
+def step(problem, e):
+    """The elements that a step from e leads to; the end of universal i is `points + i`."""
+    if e >= problem.points:
+        return set()
+    targets = {q for (p, q) in problem.edges if p == e}
+    if e in problem.returns:
+        targets |= {problem.points + i for i in range(len(problem.universals))}
+    return targets
+
+
+def reach(problem, at, inside):
+    """What paths from a point reach whose elements all lie in a set."""
+    reached = {at} & inside
+    while True:
+        more = {f for e in reached for f in step(problem, e)} & inside
+        if more <= reached:
+            return reached
+        reached |= more
+
+
+def solve(problem):
+    """The least values: rounds over all constraints until a whole round adds nothing."""
+    values = {name: set() for name in problem.names()}
+    for index, name in enumerate(problem.universals):
+        values[name] = set(range(problem.points)) | {problem.points + index}
+    for name, p in problem.bases:
+        values[name].add(p)
+    while True:
+        before = sum(len(value) for value in values.values())
+        for a, b, p in problem.constraints:
+            values[a] |= reach(problem, p, values[b])
+        if sum(len(value) for value in values.values()) == before:
+            return values
+
+
+def faults(problem, values):
+    """The pairs of universals that hold an end and aren't known to outlive its region."""
+    known = {(a, a) for a in problem.universals} | {(b"static", a) for a in problem.universals}
+    known |= problem.outlives
+    while True:
+        more = {(a, d) for (a, b) in known for (c, d) in known if b == c}
+        if more <= known:
+            break
+        known |= more
+    ends = [(name, problem.points + index) for index, name in enumerate(problem.universals)]
+    return [(a, b) for a in problem.universals for (b, end) in ends
+            if end in values[a] and (a, b) not in known]
