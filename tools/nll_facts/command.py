@@ -2,6 +2,7 @@
 
 import argparse
 import os
+import signal
 import sys
 import tempfile
 from typing import Callable, Optional, Sequence
@@ -22,6 +23,7 @@ def main(words: Sequence[str]) -> int:
 
 def guarded(program: str, work: Callable[[], int]) -> int:
     """The status of the work; a refusal is one line on standard error."""
+    signal.signal(signal.SIGTERM, signal.getsignal(signal.SIGINT))
     try:
         return work()
     except Refusal as refusal:
