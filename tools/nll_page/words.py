@@ -168,8 +168,8 @@ def walk_text(points, most=7):
     """The points with arrows; of long walks the runs of numbers are shortened."""
     if len(points) <= most:
         return " → ".join(map(str, points))
-    return " → ".join(f"{a} → … → {b}" if b - a > 2 else " → ".join(map(str, range(a, b + 1)))
-                      for a, b in spans(points))
+    return " → ".join(f"{a} → … → {b}" if b - a > 2
+                      else " → ".join(map(str, range(a, b + 1))) for a, b in spans(points))
 
 
 def conclusion(facts, sup, sub):
