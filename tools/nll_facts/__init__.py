@@ -9,7 +9,9 @@ and these modules are the ones that give it.
     tables       reads rustc's fact tables       mir          reads its MIR dump
     points       numbers the points              liveness     where variables are live
     regions      merges and names regions        origins      says where regions come from
+    wording      statements and types in words   rustc-wrapper  what cargo runs for rustc
     convert      makes a problem of all this     text         writes it as a facts text
     jobs         many functions side by side     answers      what nllc says of a text
-    table        the table at the end            refusal      lines for a person
+    table        the table at the end            rust         from a Rust file to its pages
+    progress     a line that says what goes on   refusal      lines for a person
 """

@@ -20,6 +20,18 @@ def find_nllc() -> str:
     return found
 
 
+def make_ready() -> None:
+    """Has `nllc.sh` compile now what it would compile for each of many runs at once."""
+    program = find_nllc()
+    if os.path.basename(program) != "nllc.sh":
+        return
+    done = subprocess.run([program, "--help"], stdin=subprocess.DEVNULL, check=False,
+                          stdout=subprocess.DEVNULL)
+    if done.returncode != 0:
+        raise Refusal(f"{program} can't answer, as it says above; or name another nllc by the "
+                      f"variable NLLC", 3)
+
+
 def check(path: str, seconds: float) -> list[str]:
     """The lines of `nllc check` that tell a fault; refuses where it doesn't answer in time."""
     program = find_nllc()

@@ -1,4 +1,4 @@
-"""All functions of a crate: `cargo check` with a wrapper round rustc, then the functions as jobs."""
+"""All functions of a crate: `cargo check` with a wrapper round rustc, then a job for each."""
 
 import argparse
 import json
@@ -84,7 +84,7 @@ def units(room: str) -> list[tuple[str, str, str]]:
 def jobs_of_unit(dumps: list[Dump], folder: str, root: str) -> list[Job]:
     jobs: list[Job] = []
     taken: set[str] = set()
-    for dump in dumps:
+    for dump in (dump for dump in dumps if dump.is_function):
         path = free_path(folder, dump.file_name, taken)
         taken.add(path)
         jobs.append(Job(dump, path, root))

@@ -4,11 +4,12 @@ import argparse
 import os
 import sys
 import tempfile
-from typing import Callable, Sequence
+from typing import Callable, Optional, Sequence
 
 from .cargo import whole_crate
 from .convert import Problem, convert
 from .dumps import Dump, choose, find_dumps
+from .progress import Progress
 from .refusal import Refusal
 from .rustc import CRATE, Error, run_rustc
 from .text import facts_text, free_path, make_folder, write_whole
@@ -80,38 +81,52 @@ def one_file(asked: argparse.Namespace) -> int:
     return 0
 
 
-def problems_of_file(file: str, function: str | None, edition: str,
+def problems_of_file(file: str, function: Optional[str], edition: str,
                      options: list[str]) -> tuple[list[tuple[Dump, Problem]], bool]:
-    """The problems of a file's functions, or of the one, and whether rustc told errors, shown."""
+    """The problems of a file's functions, or of the one, and whether rustc refuses any of them.
+
+    What rustc says against them is shown.
+    """
     with tempfile.TemporaryDirectory(prefix="nll-facts.") as room:
-        run = run_rustc(file, room, [f"--edition={edition}", *options], sys.stderr.isatty())
+        with Progress(lambda: f"rustc checks {file}"):
+            run = run_rustc(file, room, [f"--edition={edition}", *options], sys.stderr.isatty())
         dumps = find_dumps(run.facts, run.mir, CRATE)
-        for error in run.errors:
-            sys.stderr.write(error.rendered)
-        if not dumps:
-            raise Refusal(f"rustc refuses {file} before it checks borrows: mend what it says above"
-                          if run.errors else f"{file} has no function with a body")
-        chosen = [choose(dumps, function)] if function else dumps
+        if run.errors and not dumps:
+            show(run.errors)
+            raise Refusal(f"rustc refuses {file} before it checks borrows: mend what it says above")
         if not function:
-            refuse_unchecked(file, run.errors, dumps)
-        return [(dump, convert(dump)) for dump in chosen], bool(run.errors)
+            show(run.errors)
+            chosen = functions(file, run.errors, dumps)
+            return [(dump, convert(dump)) for dump in chosen], bool(run.errors)
+        dump = choose(dumps, function)
+        errors = [error for error in run.errors if any(map(dump.has_line, error.lines))]
+        show(errors)
+        return [(dump, convert(dump))], bool(errors)
 
 
-def refuse_unchecked(file: str, errors: list[Error], dumps: list[Dump]) -> None:
-    """Refuses a file with an error outside the functions whose borrows rustc has checked.
+def show(errors: list[Error]) -> None:
+    for error in errors:
+        sys.stderr.write(error.rendered)
+
+
+def functions(file: str, errors: list[Error], dumps: list[Dump]) -> list[Dump]:
+    """All functions; refuses a file with an error outside those whose borrows rustc has checked.
 
     A function that has facts was checked. So an error inside it is one of the borrow checker, and
     its facts are what is wanted.
     """
+    found = [dump for dump in dumps if dump.is_function]
+    if not found:
+        raise Refusal(f"{file} has no function with a body: nothing in it has regions to solve")
     for error in errors:
-        inside = [line for line in error.lines if any(
-            dump.span and dump.span.first <= line <= dump.span.last for dump in dumps)]
+        inside = any(dump.has_line(line) for dump in dumps for line in error.lines)
         if error.lines and not inside:
             raise Refusal(f"rustc refuses {file} before it checks all borrows: mend what it says "
                           f"above of line {error.lines[0]}, or name a function that has no error")
+    return found
 
 
-def write_all(out: str | None, file: str, problems: list[tuple[Dump, Problem]]) -> list[str]:
+def write_all(out: Optional[str], file: str, problems: list[tuple[Dump, Problem]]) -> list[str]:
     """Writes a text for each problem, all made before the first is written; gives the paths."""
     folder = out or f"{os.path.splitext(os.path.basename(file))[0]}-facts"
     texts = [(dump.file_name, facts_text(problem)) for dump, problem in problems]

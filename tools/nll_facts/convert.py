@@ -49,9 +49,13 @@ class Problem:
             "constraints": (len(self.constraints), MOST_CONSTRAINTS),
         }
         for what, (count, most) in counts.items():
-            if count > most:
-                raise Refusal(f"{self.function}: {count} {what}, and nllc takes {most}; "
-                              f"cut the function into smaller ones")
+            refuse_past(self.function, what, count, most)
+
+
+def refuse_past(function: str, what: str, count: int, most: int) -> None:
+    if count > most:
+        raise Refusal(f"{function}: {count} {what}, and nllc takes {most}; "
+                      f"cut the function into smaller ones")
 
 
 def convert(dump: Dump, root: str = "") -> Problem:
@@ -60,12 +64,9 @@ def convert(dump: Dump, root: str = "") -> Problem:
     body = read_body(dump.mir)
     points = number_points(tables, body)
     regions = Regions(tables)
-    asked = list(constraints(points, tables, regions))
+    asked = list(constraints(dump.name, points, tables, regions))
     universals = kept_universals(body.names, regions, tables, asked)
-    mentioned = [region for _, region in tables.use_of_var_derefs_origin]
-    mentioned += [region for region, _ in tables.loan_issued_at]
-    mentioned += [region for sup, sub, _ in asked for region in (sup, sub)]
-    others = regions.classes(mentioned)
+    others = regions.classes(mentioned(tables, asked))
     names = name_regions(body, [*universals, *others])
     wording = Wording(body, tables, regions, names)
     said = origins(tables, regions, wording)
@@ -90,25 +91,38 @@ def convert(dump: Dump, root: str = "") -> Problem:
     return problem
 
 
-def constraints(points: Points, tables: Tables,
+def constraints(function: str, points: Points, tables: Tables,
                 regions: Regions) -> Iterator[tuple[int, int, int]]:
-    """Each constraint once: what a statement asks at each point after it, the rest at each point."""
+    """Each constraint once: what a statement asks, at the points after it; the rest everywhere."""
+    subsets = tables.subset_base
     located = {(regions.find(sup), regions.find(sub), following)
-               for sup, sub, spot in tables.subset_base.located
+               for sup, sub, spot in subsets.located
                for following in points.successors[points.number[spot.location]]}
-    everywhere = {(regions.find(sup), regions.find(sub)) for sup, sub in tables.subset_base.everywhere}
-    spread = {(sup, sub, at) for sup, sub in everywhere for at in range(len(points.locations))}
+    everywhere = {(regions.find(sup), regions.find(sub)) for sup, sub in subsets.everywhere}
+    everywhere = {(sup, sub) for sup, sub in everywhere if sup != sub}
+    all_points = range(len(points.locations))
+    refuse_past(function, "constraints", len(everywhere) * len(all_points), MOST_CONSTRAINTS)
+    spread = {(sup, sub, at) for sup, sub in everywhere for at in all_points}
     for sup, sub, at in sorted(located | spread, key=lambda asked: (asked[2], *asked[:2])):
         if sup != sub:
             yield sup, sub, at
+
+
+def mentioned(tables: Tables, asked: list[tuple[int, int, int]]) -> Iterator[int]:
+    """The regions of variables' types and drops, of borrows and of constraints."""
+    yield from (region for _, region in tables.use_of_var_derefs_origin)
+    yield from (region for _, region in tables.drop_of_var_derefs_origin)
+    yield from (region for region, _ in tables.loan_issued_at)
+    for sup, sub, _ in asked:
+        yield sup
+        yield sub
 
 
 def kept_universals(own_names: dict[int, str], regions: Regions, tables: Tables,
                     asked: list[tuple[int, int, int]]) -> list[int]:
     """The universal regions without rustc's own one of the body, where nothing speaks of it."""
     *others, last = regions.universals
-    spoken = {regions.find(region) for _, region in tables.use_of_var_derefs_origin}
-    spoken.update(region for sup, sub, _ in asked for region in (sup, sub))
+    spoken = {regions.find(region) for region in mentioned(tables, asked)}
     is_body = last not in own_names and last not in spoken
     return others if is_body and others else regions.universals
 

@@ -14,13 +14,27 @@ HEADER = re.compile(r"(?:unsafe\s+)?impl\b")
 
 @dataclass(frozen=True)
 class Dump:
-    """The files of one function: its name for a person, its tables' folder, its MIR, its lines."""
+    """The files of one function: its name for a person, its tables' folder, its MIR, its lines.
+
+    The value of a constant is a body of its own too, which is answered where it is asked for alone.
+    """
 
     name: str
     file_name: str
     facts: str
     mir: str
     span: Optional[Span]
+    is_function: bool = True
+
+    def has_line(self, line: int) -> bool:
+        return self.span is not None and self.span.first <= line <= self.span.last
+
+
+def closure_note(function: str) -> str:
+    """What to know of a closure's faults; empty for other functions."""
+    if "{closure#" not in function:
+        return ""
+    return "a closure: what it needs of lifetimes from outside, the function around it has to keep"
 
 
 def find_dumps(facts: str, mir: str, crate: str, root: str = "") -> list[Dump]:
@@ -47,14 +61,16 @@ def dump_of(facts: str, mir_path: str, root: str) -> Dump:
     result = body.locals.get(0)
     head = result.span if result else None
     lines = [span for span in body.spans() if head and span.file == head.file]
-    span = Span(head.file, min(s.first for s in lines), max(s.last for s in lines)) if lines else None
+    span = None
+    if lines:
+        span = Span(head.file, min(s.first for s in lines), max(s.last for s in lines))
     name = IMPL_AT.sub(lambda found: impl_name(found, root), body.path)
-    return Dump(name, file_name(os.path.basename(facts)), facts, mir_path, span)
+    return Dump(name, file_name(os.path.basename(facts)), facts, mir_path, span, body.is_function)
 
 
 def file_name(folder: str) -> str:
     """The name of rustc's folder without what shells and people stumble over."""
-    return re.sub(r"[^A-Za-z0-9_.-]+", "", folder).lstrip("-.") or "function"
+    return re.sub(r"[^\w.-]+", "", folder).lstrip("-.") or "function"
 
 
 def impl_name(found: re.Match, root: str) -> str:
@@ -73,11 +89,12 @@ def impl_name(found: re.Match, root: str) -> str:
 
 
 def type_name(header: str) -> Optional[str]:
-    """`S` of `impl<'a, T> Iterator for module::S<'a, T> where ..`; None where it is no such head."""
-    begin = HEADER.match(header.strip())
+    """`S` of `impl<'a, T> Iterator for module::S<'a, T> where ..`; `derive(Debug)` of `Debug`."""
+    header = header.strip()
+    begin = HEADER.match(header)
     if not begin:
-        return None
-    flat = without_arguments(header.strip()[begin.end():].replace("->", ""))
+        return f"derive({header})" if re.fullmatch(r"\w+", header) else None
+    flat = without_arguments(header[begin.end():].replace("->", ""))
     subject = flat.split(" where ")[0].split(" for ")[-1]
     words = re.findall(r"\w+", subject)
     return words[-1] if words else None
@@ -102,7 +119,8 @@ def choose(dumps: list[Dump], wanted: str) -> Dump:
     fitting = fitting or [dump for dump in dumps if dump.name.endswith(f"::{wanted}")]
     if not fitting:
         known = ", ".join(dump.name for dump in dumps[:12]) + (", .." if len(dumps) > 12 else "")
-        raise Refusal(f"no function `{wanted}` has facts; these do: {known}")
+        raise Refusal(f"no function `{wanted}` has facts (one without a body has none, nor one "
+                      f"whose types rustc refuses); these do: {known}")
     if len(fitting) > 1:
         places = ", ".join(f"{dump.name} (line {line_of(dump)})" for dump in fitting)
         raise Refusal(f"`{wanted}` fits several functions: {places}; "
@@ -112,7 +130,7 @@ def choose(dumps: list[Dump], wanted: str) -> Dump:
 
 def choose_at(dumps: list[Dump], line: int) -> Dump:
     """The smallest function round a line."""
-    fitting = [dump for dump in dumps if dump.span and dump.span.first <= line <= dump.span.last]
+    fitting = [dump for dump in dumps if dump.has_line(line)]
     if not fitting:
         raise Refusal(f"no function with facts has line {line}")
     return min(fitting, key=lambda dump: dump.span.last - dump.span.first)

@@ -6,10 +6,10 @@ from concurrent.futures import ProcessPoolExecutor, as_completed
 from dataclasses import dataclass, field
 from functools import partial
 
-from .answers import check
-from .bar import Bar
+from .answers import check, make_ready
 from .convert import convert
 from .dumps import Dump
+from .progress import Bar, Progress
 from .refusal import Refusal
 from .text import facts_text, make_folder, write_whole
 
@@ -39,10 +39,12 @@ class Row:
 
 def run_jobs(jobs: list[Job], answer: bool, seconds: float) -> list[Row]:
     """Does the jobs on all cores, with a bar where somebody looks; the rows are in their order."""
+    if answer:
+        make_ready()
     for folder in sorted({os.path.dirname(job.path) for job in jobs}):
         make_folder(folder)
     bar = Bar(len(jobs))
-    with ProcessPoolExecutor() as pool:
+    with ProcessPoolExecutor() as pool, Progress(bar.words):
         futures = [pool.submit(partial(do, answer=answer, seconds=seconds), job) for job in jobs]
         try:
             for future in as_completed(futures):
@@ -50,8 +52,6 @@ def run_jobs(jobs: list[Job], answer: bool, seconds: float) -> list[Row]:
         except BaseException:
             pool.shutdown(wait=False, cancel_futures=True)
             raise
-        finally:
-            bar.end()
     return [future.result() for future in futures]
 
 

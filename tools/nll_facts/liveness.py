@@ -70,7 +70,7 @@ def spread(neighbours: Neighbours, begin: Iterable[Spot],
 
 
 class Moves:
-    """Which move paths (a variable, its fields, their fields) are assigned and moved out of where."""
+    """Where move paths (a variable, its fields, their fields) are assigned and moved out of."""
 
     def __init__(self, tables: Tables, after: Neighbours):
         self.after = after

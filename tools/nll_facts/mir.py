@@ -16,9 +16,10 @@ TITLE = re.compile(r"// MIR for `(.*)` 0 nll")
 SPAN = re.compile(r"(?P<file>.+):(?P<line>\d+):\d+: (?P<last>\d+):\d+(?: \(#\d+\))?")
 CODE = re.compile(r"(?P<indent> +)(?P<code>\S.*?)\s+// (?:\S+ )*?in scope \d+ at (?P<span>.*)"
                   r"|        (?P<statement>\S.*);\s+// (?:bb\S+ )?scope \d+ at (?P<where>.*)")
-LET = re.compile(r"let (?:mut )?_(\d+): (.*);")
+LET = re.compile(r"let (?:mut )?_(\d+): (.*?)(?: as UserTypeProjection .*)?;")
 DEBUG = re.compile(r"debug (\S+) => _(\d+);")
 BLOCK = re.compile(r"    bb(\d+)(?: \(cleanup\))?: \{")
+STATEMENT = re.compile(r" {8}[^\s/]")
 PARAMETER = re.compile(r"(?:^|, )_(\d+): ")
 EXTERNAL = re.compile(r"\| '\?(\d+) \| External \|")
 NAME = re.compile(r"    r(\d+)\[label=\"\\'\?\d+ \(\\'([A-Za-z0-9_]+)\)\"\]")
@@ -114,15 +115,19 @@ def closing(text: str, begin: int) -> int:
 
 
 def read_code(body: Body, lines: list[str]) -> None:
-    """Takes declarations, then blocks, up to the brace that closes the function."""
-    block, index = None, 0
+    """Takes declarations, then blocks, up to the brace that closes the function.
+
+    A statement whose text has a line feed, in `asm!`, goes on up to where it stands in the source.
+    """
+    block, index, begun = None, 0, ""
     for line in lines:
         if line == "}":
             return
+        line, begun = f"{begun} {line.strip()}" if begun else line, ""
         if found := BLOCK.fullmatch(line):
             block, index = int(found[1]), 0
         elif not (found := CODE.fullmatch(line)):
-            continue
+            begun = line if block is not None and STATEMENT.match(line) else ""
         elif found["statement"] and block is not None:
             statement = Statement(found["statement"], span_of(found["where"]))
             body.statements[Location(block, index)] = statement

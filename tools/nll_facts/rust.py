@@ -1,4 +1,4 @@
-"""The one command from a Rust file to its pages: texts, what `nllc` says of them, a page of each."""
+"""The one command from a Rust file to its pages: a text, `nllc`'s answer and a page of each."""
 
 import argparse
 import os
@@ -9,10 +9,11 @@ from concurrent.futures import ThreadPoolExecutor
 from dataclasses import dataclass
 from typing import Sequence
 
-from .bar import Bar
+from .answers import make_ready
 from .command import guarded, problems_of_file, split_words, write_all
 from .convert import Problem
-from .refusal import Refusal
+from .dumps import closure_note
+from .progress import Bar, Progress
 
 PAGE = os.path.join(os.path.dirname(os.path.dirname(os.path.abspath(__file__))), "nll-page")
 
@@ -54,13 +55,13 @@ def read_words(words: Sequence[str]) -> argparse.Namespace:
 def answer_file(asked: argparse.Namespace) -> int:
     problems, refused = problems_of_file(asked.file, asked.function, asked.edition, asked.options)
     paths = write_all(asked.out, asked.file, problems)
+    make_ready()
     bar = Bar(len(paths))
     answers = []
-    with ThreadPoolExecutor(os.cpu_count()) as pool:
+    with ThreadPoolExecutor(os.cpu_count()) as pool, Progress(bar.words):
         for answer in pool.map(answer_text, paths):
             answers.append(answer)
             bar.step(len(answer.faults))
-    bar.end()
     for (_, problem), answer in zip(problems, answers):
         tell(problem, answer)
     if refused:
@@ -92,6 +93,6 @@ def tell(problem: Problem, answer: Answer) -> None:
     print(f"{problem.function}: {counts}: {'faults' if answer.faults else 'no fault'}")
     for line in answer.faults:
         print(f"  {line}")
-    if answer.faults and "{closure#" in problem.function:
-        print("  (a closure: what it needs of lifetimes from outside, the function around it keeps)")
+    if answer.faults and closure_note(problem.function):
+        print(f"  ({closure_note(problem.function)})")
     print(f"  page: {answer.page}")

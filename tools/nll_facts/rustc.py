@@ -52,10 +52,10 @@ def run_rustc(file: str, folder: str, options: list[str], in_colour: bool = Fals
     """Checks a file as a library; facts, MIR and what else rustc makes go to the folder."""
     if not os.path.isfile(file):
         raise Refusal(f"{file} is no file that can be read; give the path of a Rust file")
-    form = "diagnostic-rendered-ansi," if in_colour else ""
+    form = ["--json=diagnostic-rendered-ansi"] if in_colour else []
     words = [find_rustc(), "--crate-type=lib", f"--crate-name={CRATE}", "--cap-lints=allow",
-             "--error-format=json", f"--json={form}artifacts", "--emit=metadata",
-             f"--out-dir={folder}", *flags(folder), *options, file]
+             "--error-format=json", *form, "--emit=metadata", f"--out-dir={folder}",
+             *flags(folder), *options, file]
     try:
         done = subprocess.run(words, stdin=subprocess.DEVNULL, capture_output=True, check=False,
                               env=os.environ | {"RUSTC_BOOTSTRAP": "1"})

@@ -2,6 +2,7 @@
 
 from typing import Iterable
 
+from .dumps import closure_note
 from .jobs import Row
 
 HEAD = ("Source", "Functions", "Points", "Seconds", "Faults")
@@ -38,6 +39,7 @@ def told(rows: list[Row]) -> Iterable[str]:
     for row in rows:
         place = f"{row.source}:{row.line}: {row.function}"
         for fault in row.faults:
-            yield f"{place}: {fault.removeprefix('fault ')}  ({row.path})"
+            note = closure_note(row.function)
+            yield f"{place}: {fault.removeprefix('fault ')}  ({note or row.path})"
         if row.failure:
             yield f"{place}: no answer: {row.failure}"

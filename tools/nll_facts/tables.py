@@ -1,8 +1,8 @@
 """Reads the tables of facts that `rustc -Znll-facts` writes for one function.
 
-Each table is a file `NAME.facts`; a row is a line of quoted fields with tabs between them. rustc has
-two points for each location of MIR, `Start(bb2[0])` and `Mid(bb2[0])`: before the statement runs,
-and when it takes effect. Here such a point is a `Spot`.
+Each table is a file `NAME.facts`; a row is a line of quoted fields with tabs between them. rustc
+has two points for each location of MIR, `Start(bb2[0])` and `Mid(bb2[0])`: before the statement
+runs, and when it takes effect. Here such a point is a `Spot`.
 """
 
 import os

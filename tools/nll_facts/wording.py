@@ -1,4 +1,4 @@
-"""Puts statements, types and regions into words, with the names of the source where there are any."""
+"""Puts statements, types and regions into words, with the source's names where there are any."""
 
 import re
 from collections import Counter
@@ -13,6 +13,8 @@ VARIABLE = re.compile(r"(?<!\w)_(\d+)(?!\w)")
 BORROW = re.compile(r"((?:_(\d+)|.*?) = &)(?!raw )")
 HOLE = re.compile(r"&(?!')|'_(?!\w)")
 LONGEST = 120
+# Of several lines that these span, they run at the last.
+CLOSING = ("StorageDead", "drop", "return", "resume")
 
 
 class Remark(NamedTuple):
@@ -40,7 +42,7 @@ class Wording:
                        and not VARIABLE.fullmatch(local.name)}
 
     def regions_of_borrows(self, tables: Tables) -> dict[Location, int]:
-        """The region of each borrow: of those that are loans, and of `_3 = &..` behind a shared one.
+        """The region of each borrow: of loans, and of `_3 = &..` behind a shared reference.
 
         rustc counts no loan of what a shared reference leads to. But the borrow's region is the one
         that must outlive the outer region in the type of `_3`.
@@ -68,13 +70,23 @@ class Wording:
 
     def statement(self, location: Location) -> Remark:
         """The statement with names for variables and for the region of a borrow, and its place."""
-        statement = self.body.statements[location]
-        return Remark(self.line(statement.span), f"{self.code(location)} ({location})")
+        return Remark(self.line_of(location), f"{self.code(location)} ({location})")
+
+    def line_of(self, location: Location) -> Optional[int]:
+        """The line of a statement; a `goto` that spans several, a whole loop or `if`, has none."""
+        text, span = self.body.statements[location]
+        if span is None or span.first == span.last:
+            return self.line(span)
+        if text.startswith("goto"):
+            return None
+        closes = text.startswith(CLOSING) or text.endswith(" = const ()")
+        return self.line(span._replace(first=span.last) if closes else span)
 
     def code(self, location: Location) -> str:
         text = self.body.statements[location].text
         if location in self.borrows:
-            text = BORROW.sub(lambda found: f"{found[1]}{self.name(self.borrows[location])} ", text, 1)
+            name = self.name(self.borrows[location])
+            text = BORROW.sub(lambda found: f"{found[1]}{name} ", text, 1)
         return self.with_variables(text)
 
     def with_variables(self, text: str) -> str:

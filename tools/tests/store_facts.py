@@ -1,0 +1,52 @@
+#!/usr/bin/env python3
+"""Makes the stored dumps and the golden texts anew, with the rustc at hand (1.95).
+
+    python3 tools/tests/store_facts.py
+
+Look at what changed before it is committed: the tests compare with these files.
+"""
+
+import json
+import os
+import shutil
+import tempfile
+
+import facts_support as support
+from nll_facts.rustc import run_rustc
+from nll_facts.tables import Tables
+
+TABLES = {f"{name}.facts" for name in Tables.__dataclass_fields__}
+
+
+def wanted(path):
+    return os.path.basename(path) in TABLES or path.endswith((".nll.0.mir", ".all.dot"))
+
+
+def files_of(folder):
+    for place, _, names in sorted(os.walk(folder)):
+        for name in sorted(names):
+            path = os.path.join(place, name)
+            if wanted(path):
+                with open(path, encoding="utf-8") as file:
+                    yield os.path.relpath(path, folder), file.read().split("\n")
+
+
+def store(source):
+    with tempfile.TemporaryDirectory() as room:
+        run_rustc(support.source_path(source), room, ["--edition=2021"])
+        with open(os.path.join(support.DUMPS, f"{source}.json"), "w", encoding="utf-8") as file:
+            json.dump(dict(files_of(room)), file, indent=0, ensure_ascii=False)
+            file.write("\n")
+        folder = os.path.join(support.GOLDEN, source)
+        shutil.rmtree(folder, ignore_errors=True)
+        os.makedirs(folder)
+        for name, text in support.texts_of(room).items():
+            with open(os.path.join(folder, name), "w", encoding="utf-8") as file:
+                file.write(text)
+
+
+if __name__ == "__main__":
+    os.chdir(support.HERE)
+    os.makedirs(support.DUMPS, exist_ok=True)
+    for one in support.SOURCES:
+        store(one)

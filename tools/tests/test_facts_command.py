@@ -1,0 +1,206 @@
+"""The commands with a real rustc: fresh texts are the golden ones, bad inputs are one line each.
+
+Where there is no rustc, or another than the stored dumps are of, these tests are skipped.
+"""
+
+import os
+import shutil
+import subprocess
+import tempfile
+import unittest
+
+import facts_support as support
+
+KNOWN = "1.95."
+FACTS = os.path.join(support.TOOLS, "nll-facts")
+RUST = os.path.join(support.ROOT, "nllc.sh")
+
+
+def version():
+    rustc = shutil.which(os.environ.get("RUSTC") or "rustc")
+    if not rustc:
+        return ""
+    done = subprocess.run([rustc, "--version"], capture_output=True, check=False, text=True)
+    return done.stdout.removeprefix("rustc ")
+
+
+VERSION = version()
+needs_rustc = unittest.skipUnless(VERSION, "no rustc")
+needs_known = unittest.skipUnless(VERSION.startswith(KNOWN), f"no rustc {KNOWN}x")
+
+
+class Room(unittest.TestCase):
+    """A folder for each test, and what a program leaves there."""
+
+    def setUp(self):
+        self.room = tempfile.mkdtemp()
+        self.addCleanup(shutil.rmtree, self.room)
+
+    def path(self, *names):
+        return os.path.join(self.room, *names)
+
+    def write(self, name, text):
+        os.makedirs(os.path.dirname(self.path(name)), exist_ok=True)
+        with open(self.path(name), "w", encoding="utf-8") as file:
+            file.write(text)
+        return self.path(name)
+
+    def left(self):
+        return sorted(os.path.relpath(os.path.join(place, name), self.room)
+                      for place, _, names in os.walk(self.room) for name in names)
+
+    def refused(self, done, words):
+        """The last line says it, the status is 2, and no text was left."""
+        self.assertEqual(done.returncode, 2, done.stderr)
+        self.assertEqual(done.stdout, "")
+        self.assertIn(words, done.stderr.strip().split("\n")[-1])
+        self.assertFalse([name for name in self.left() if not name.endswith((".rs", ".toml"))])
+
+
+@needs_known
+class Fresh(Room):
+    def test_fresh_texts_are_the_golden_ones(self):
+        for source in support.SOURCES:
+            with self.subTest(source=source):
+                out = self.path(source)
+                done = support.run(FACTS, support.source_path(source), "-o", out, cwd=support.HERE)
+                self.assertEqual(done.returncode, 0, done.stderr)
+                golden = support.golden_texts(source)
+                self.assertEqual(sorted(os.listdir(out)), sorted(golden))
+                for name, text in golden.items():
+                    with open(os.path.join(out, name), encoding="utf-8") as file:
+                        self.assertEqual(file.read(), text, name)
+
+    def test_one_function_by_name_and_by_line(self):
+        for wanted in ("running", "15"):
+            done = support.run(FACTS, support.source_path("rfc2094"), wanted, "-o", self.path("o"),
+                               cwd=support.HERE)
+            self.assertIn("running: 74 points", done.stdout, done.stderr)
+            self.assertEqual(os.listdir(self.path("o")), ["running.facts"])
+
+    def test_method_by_type(self):
+        done = support.run(FACTS, support.source_path("small"), "Pair::next", "-o", self.path("o"),
+                           cwd=support.HERE)
+        self.assertIn("impl0-next.facts", done.stdout, done.stderr)
+
+    def test_rustc_refuses_borrows_alone(self):
+        done = support.run(FACTS, support.source_path("differ"), "-o", self.path("o"),
+                           cwd=support.HERE)
+        self.assertEqual(done.returncode, 0)
+        self.assertIn("lifetime may not live long enough", done.stderr)
+
+
+@needs_rustc
+class Refused(Room):
+    def convert(self, text, *words, **options):
+        return support.run(FACTS, self.write("a.rs", text), *words, "-o", self.path("o"), **options)
+
+    def test_no_such_file(self):
+        done = support.run(FACTS, self.path("none.rs"), "-o", self.path("o"))
+        self.refused(done, "none.rs is no file that can be read; give the path of a Rust file")
+
+    def test_types_that_do_not_fit(self):
+        done = self.convert('fn f() -> u8 {\n    "a"\n}\n')
+        self.assertIn("mismatched types", done.stderr)
+        self.refused(done, "rustc refuses")
+
+    def test_one_function_of_several_is_wrong(self):
+        text = 'fn f() -> u8 {\n    "a"\n}\nfn g(x: &u8) -> &u8 {\n    x\n}\n'
+        self.refused(self.convert(text), "of line 2, or name a function that has no error")
+        self.assertEqual(self.convert(text, "g").returncode, 0)
+
+    def test_no_rust(self):
+        self.refused(self.convert("fn f("), "rustc refuses")
+
+    def test_no_function(self):
+        self.refused(self.convert("pub struct S;\n"), "has no function with a body")
+
+    def test_unknown_name(self):
+        done = self.convert("fn f() {}\ntrait T { fn g(&self); }\n", "g")
+        self.refused(done, "no function `g` has facts (one without a body has none, "
+                     "nor one whose types rustc refuses); these do: f")
+
+    def test_name_of_several(self):
+        done = self.convert("mod a { pub fn f() {} }\nmod b { pub fn f() {} }\n", "f")
+        self.refused(done, "`f` fits several functions: a::f (line 1), b::f (line 2); give one")
+
+    def test_no_rustc(self):
+        done = self.convert("fn f() {}\n", env=os.environ | {"RUSTC": self.path("rustc")})
+        self.refused(done, "there is no rustc: install one")
+
+    def test_unknown_flags(self):
+        done = self.convert("fn f() {}\n", "--", "-Znone-such")
+        self.refused(done, "doesn't take what it was given")
+
+    def test_folder_that_cannot_be_made(self):
+        done = support.run(FACTS, self.write("a.rs", "fn f() {}\n"), "-o", self.path("a.rs", "o"))
+        self.assertEqual(done.returncode, 3)
+        self.assertIn("can't be made", done.stderr)
+
+    def test_no_crate(self):
+        done = support.run(FACTS, "--crate", self.room, "-o", self.path("o"))
+        self.refused(done, "has no Cargo.toml; give the folder of a crate or workspace")
+
+
+@needs_known
+class Crate(Room):
+    def test_workspace_with_a_dependency(self):
+        self.write("ws/Cargo.toml", '[workspace]\nmembers = ["one", "two"]\nresolver = "2"\n')
+        self.write("ws/one/Cargo.toml", '[package]\nname = "one"\nversion = "0.1.0"\n')
+        self.write("ws/one/src/lib.rs", "pub fn f(x: &u8) -> &u8 {\n    x\n}\n")
+        self.write("ws/two/Cargo.toml", '[package]\nname = "two"\nversion = "0.1.0"\n'
+                   '[dependencies]\none = { path = "../one" }\n')
+        self.write("ws/two/src/main.rs", "fn main() {\n    one::f(&3);\n}\n"
+                   "pub fn bad<'a>(x: &'a u8) -> &'static u8 {\n    x\n}\n")
+        program = self.write("nllc", "#!/bin/sh\nexec python3 "
+                             f"{support.ROOT}/bench/reference.py \"$@\"\n")
+        os.chmod(program, 0o755)
+        done = support.run(FACTS, "--crate", self.path("ws"), "-o", self.path("o"), "--",
+                           "--workspace", "--offline", env=os.environ | {"NLLC": program})
+        self.assertEqual(done.returncode, 0, done.stderr)
+        self.assertRegex(done.stdout, r"one/src/lib\.rs +1 +2 +\d+\.\d +0\n")
+        self.assertRegex(done.stdout, r"two/src/main\.rs +2 +\d+ +\d+\.\d +1\n")
+        self.assertIn("two/src/main.rs:4: bad: 'a must outlive 'static", done.stdout)
+        self.assertEqual([name for name in self.left() if name.startswith("o/")],
+                         ["o/one/f.facts", "o/two/bad.facts", "o/two/main.facts"])
+
+
+@needs_known
+class OneCommand(Room):
+    """`nllc.sh rust`, with the slow reference as `nllc`."""
+
+    def setUp(self):
+        super().setUp()
+        self.program = self.write("nllc", "#!/bin/sh\nexec python3 "
+                                  f"{support.ROOT}/bench/reference.py \"$@\"\n")
+        os.chmod(self.program, 0o755)
+
+    def rust(self, *words):
+        return subprocess.run([RUST, "rust", *words, "-o", self.path("o")], capture_output=True,
+                              check=False, cwd=support.HERE, encoding="utf-8",
+                              env=os.environ | {"NLLC": self.program})
+
+    def test_fault_in_words(self):
+        done = self.rust(support.source_path("differ"), "longer")
+        self.assertEqual(done.returncode, 1, done.stderr)
+        source = os.path.join(support.HERE, support.source_path("differ"))
+        with open(source, encoding="utf-8") as file:
+            line = file.read().split("\n").index("        r = y;") + 1
+        self.assertIn(f"sources/differ.rs:{line}: `'b` must outlive `'a`", done.stdout)
+        self.assertIn(f"page: {self.path('o', 'longer.html')}", done.stdout)
+        self.assertTrue(os.path.isfile(self.path("o", "longer.html")))
+
+    def test_problem_cases(self):
+        done = self.rust(support.source_path("rfc2094"))
+        self.assertEqual(done.returncode, 0, done.stdout + done.stderr)
+        self.assertEqual(done.stdout.count("no fault\n"), 14)
+
+    def test_refusal(self):
+        done = self.rust("none.rs")
+        self.assertEqual(done.returncode, 2)
+        self.assertEqual(done.stderr, "nllc.sh rust: none.rs is no file that can be read; "
+                         "give the path of a Rust file\n")
+
+
+if __name__ == "__main__":
+    unittest.main()

@@ -1,0 +1,224 @@
+"""The parts of the facts tool on small made-up inputs."""
+
+import contextlib
+import io
+import os
+import tempfile
+import unittest
+
+import facts_support as support
+from nll_facts.convert import Problem
+from nll_facts.dumps import Dump, choose, file_name, type_name
+from nll_facts.jobs import Row
+from nll_facts.liveness import bases
+from nll_facts.mir import Body, Local, Span
+from nll_facts.refusal import Refusal
+from nll_facts.regions import Regions, name_regions
+from nll_facts.table import table
+from nll_facts.tables import Location, Reader, Spot, Subsets, Tables, read_tables
+from nll_facts.text import free_path, write_whole
+from nll_facts.wording import Remark, Wording
+from nll_page.command import main as page
+
+
+def tables(**given):
+    """Tables that are empty but for some."""
+    rows = {name: [] for name in Tables.__dataclass_fields__}
+    rows["subset_base"] = Subsets(set(), set())
+    return Tables(**(rows | given))
+
+
+def chain(length):
+    """The edges of one block."""
+    spots = [Spot(Location(0, i), mid) for i in range(length) for mid in (False, True)]
+    return list(zip(spots, spots[1:]))
+
+
+def mid(index):
+    return Spot(Location(0, index), True)
+
+
+class Liveness(unittest.TestCase):
+    def live(self, **given):
+        return sorted({location.index for _, location in bases(tables(cfg_edge=chain(6), **given))})
+
+    def test_from_definition_to_last_use(self):
+        self.assertEqual(self.live(use_of_var_derefs_origin=[(1, 5)], var_defined_at=[(1, mid(1))],
+                                   var_used_at=[(1, mid(2)), (1, mid(4))]), [2, 3, 4])
+
+    def test_a_point_that_uses_and_defines_is_a_use(self):
+        self.assertEqual(self.live(use_of_var_derefs_origin=[(1, 5)], var_defined_at=[(1, mid(2))],
+                                   var_used_at=[(1, mid(2))]), [0, 1, 2])
+
+    def drops(self, **given):
+        return self.live(drop_of_var_derefs_origin=[(1, 5)], var_dropped_at=[(1, mid(4))],
+                         path_is_var=[(7, 1)], **given)
+
+    def test_drop_of_what_is_there(self):
+        self.assertEqual(self.drops(path_assigned_at_base=[(7, mid(1))]), [2, 3, 4])
+
+    def test_drop_of_what_was_moved(self):
+        self.assertEqual(self.drops(path_assigned_at_base=[(7, mid(1))],
+                                    path_moved_at_base=[(7, mid(3))]), [])
+
+    def test_drop_of_what_was_moved_in_part(self):
+        self.assertEqual(self.drops(child_path=[(8, 7), (9, 7)],
+                                    path_assigned_at_base=[(7, mid(1))],
+                                    path_moved_at_base=[(8, mid(3))]), [2, 3, 4])
+
+    def test_drop_of_what_was_never_there(self):
+        self.assertEqual(self.drops(), [])
+
+
+class Merging(unittest.TestCase):
+    def test_equal_regions_have_the_universal_name(self):
+        regions = Regions(tables(universal_region=[0, 1, 2], subset_base=Subsets(
+            {(1, 4), (4, 1), (4, 6), (6, 4), (5, 6)}, set())))
+        self.assertEqual([regions.find(region) for region in (1, 4, 5, 6)], [1, 1, 5, 1])
+
+    def test_universal_regions_stay_apart(self):
+        regions = Regions(tables(universal_region=[0, 1, 2],
+                                 subset_base=Subsets({(1, 2), (2, 1)}, set())))
+        self.assertEqual([regions.find(1), regions.find(2)], [1, 2])
+
+    def test_names_do_not_clash(self):
+        body = Body("f", names={1: "a", 2: "r5", 3: "_", 4: "a"})
+        self.assertEqual(name_regions(body, [1, 2, 3, 4, 5]),
+                         {1: "a", 2: "r5", 3: "r3", 4: "r4", 5: "r5_"})
+
+
+class Names(unittest.TestCase):
+    def test_type_of_an_impl(self):
+        for header, name in {
+            "impl S": "S",
+            "impl<'a, T: Fn() -> u8> module::S<'a, T>": "S",
+            "unsafe impl<T> Send for Box<S<T>> where T: Send": "Box",
+            "impl Iterator for &S": "S",
+            "Debug": "derive(Debug)",
+            "&mut *self": None,
+        }.items():
+            self.assertEqual(type_name(header), name, header)
+
+    def test_file_names(self):
+        self.assertEqual(file_name("{impl#1}-get-{closure#0}"), "impl1-get-closure0")
+        self.assertEqual(free_path("o", "f", ["o/f.facts", "o/f-2.facts"]), "o/f-3.facts")
+
+    def test_smallest_function_round_a_line(self):
+        dumps = [Dump(name, name, "", "", Span("a.rs", *lines)) for name, lines in
+                 {"f": (1, 9), "f::{closure#0}": (3, 4), "g": (11, 12)}.items()]
+        self.assertEqual(choose(dumps, "3").name, "f::{closure#0}")
+        self.assertEqual(choose(dumps, "5").name, "f")
+        with self.assertRaisesRegex(Refusal, "no function with facts has line 10"):
+            choose(dumps, "10")
+
+
+class Words(unittest.TestCase):
+    def wording(self, local, origins):
+        given = tables(universal_region=[0], use_of_var_derefs_origin=[(1, r) for r in origins])
+        body = Body("f", locals={1: local})
+        names = {region: f"r{region}" for region in origins}
+        return Wording(body, given, Regions(given), names)
+
+    def test_regions_in_a_type(self):
+        wording = self.wording(Local("&mut Vec<&S<'_>>", "x"), [3, 4, 5])
+        self.assertEqual(wording.type_of(1, 4), "the type of x: &'r3 mut Vec<&'r4 S<'r5>>")
+
+    def test_regions_without_a_place(self):
+        wording = self.wording(Local("&dyn Debug", "x"), [3, 4])
+        self.assertEqual(wording.type_of(1, 4), "region 2 of 2 in the type of x: &dyn Debug")
+
+    def test_bound_regions_have_no_place(self):
+        wording = self.wording(Local("(for<'a> fn(&'a str), &u8)"), [3])
+        self.assertEqual(wording.type_of(1, 3),
+                         "the type of the temporary _1: (for<'a> fn(&'a str), &'r3 u8)")
+
+    def test_variables_in_strings_stay(self):
+        wording = self.wording(Local("&u8", "x"), [3])
+        self.assertEqual(wording.with_variables('_1 = "_1 \\" _1" _12 _1'),
+                         'x = "_1 \\" _1" _12 x')
+
+
+class Strange(unittest.TestCase):
+    """Tables of another form are refused."""
+
+    def test_missing_table(self):
+        with tempfile.TemporaryDirectory() as folder:
+            with self.assertRaisesRegex(Refusal, "rustc 1.95 is known to work"):
+                read_tables(folder)
+
+    def test_row_of_another_form(self):
+        with tempfile.TemporaryDirectory() as folder:
+            for name in Tables.__dataclass_fields__:
+                with open(os.path.join(folder, f"{name}.facts"), "w", encoding="utf-8") as file:
+                    file.write('"a"\t"b"\n')
+            with self.assertRaisesRegex(Refusal, "another form"):
+                read_tables(folder)
+
+    def test_everywhere_and_located(self):
+        with tempfile.TemporaryDirectory() as folder:
+            with open(os.path.join(folder, "subset_base.facts"), "w", encoding="utf-8") as file:
+                file.write('"\'?3"\t"\'?4"\t"Mid(bb0[1])"\n' '"\'?5"\t"\'?6"\t"Start(bb0[0])"\n'
+                           '"\'?5"\t"\'?6"\t"Mid(bb0[0])"\n')
+            subsets = Reader(folder).subsets()
+        self.assertEqual(subsets.everywhere, {(5, 6)})
+        self.assertEqual(subsets.located, {(3, 4, mid(1))})
+
+
+class Limits(unittest.TestCase):
+    def problem(self, universals):
+        named = [(f"a{n}", Remark(None, "")) for n in range(universals)]
+        return Problem("f", "", [Remark(None, "")], named, [], [], [[]], [], [], [])
+
+    def test_named_lifetimes(self):
+        self.problem(255).check_limits()
+        with self.assertRaisesRegex(Refusal, "f: 257 named lifetimes, and nllc takes 256; cut"):
+            self.problem(256).check_limits()
+
+
+class Writing(unittest.TestCase):
+    def test_nothing_half_written(self):
+        with tempfile.TemporaryDirectory() as folder:
+            path = os.path.join(folder, "f.facts")
+            with self.assertRaises(UnicodeEncodeError):
+                write_whole(path, "points 1\n\udc80")
+            self.assertEqual(os.listdir(folder), [])
+            write_whole(path, "points 1\n")
+            self.assertEqual(os.listdir(folder), ["f.facts"])
+
+
+class TableAtTheEnd(unittest.TestCase):
+    def test_rows_sums_faults(self):
+        rows = [Row("f", "a.rs", 3, "o/f.facts", 10, 0.25, ["fault 'a must outlive 'b"]),
+                Row("g", "b.rs", 1, "o/g.facts", 2, 0.5, failure="no answer in 60 s")]
+        self.assertEqual(table(rows, answered=True), """\
+Source   Functions  Points  Seconds  Faults
+-------  ---------  ------  -------  ------
+a.rs             1      10      0.2       1
+b.rs             1       2      0.5       0
+-------  ---------  ------  -------  ------
+2 files          2      12      0.8       1
+a.rs:3: f: 'a must outlive 'b  (o/f.facts)
+b.rs:1: g: no answer: no answer in 60 s
+""")
+
+
+class Pages(unittest.TestCase):
+    """A page is made of each text, with the values of the slow reference."""
+
+    def test_pages_of_the_golden_texts(self):
+        for source in support.SOURCES:
+            folder = os.path.join(support.GOLDEN, source)
+            for name, text in support.golden_texts(source).items():
+                with self.subTest(text=f"{source}/{name}"), tempfile.TemporaryDirectory() as room:
+                    values = os.path.join(room, "values")
+                    with open(values, "wb") as file:
+                        file.write(support.reference.answer("values", text.encode())[0])
+                    words = [os.path.join(folder, name),
+                             os.path.join(support.HERE, support.source_path(source)),
+                             "--values", values, "-o", os.path.join(room, "page.html")]
+                    with contextlib.redirect_stdout(io.StringIO()):
+                        self.assertEqual(page(words), 0)
+
+
+if __name__ == "__main__":
+    unittest.main()
