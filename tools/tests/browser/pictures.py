@@ -27,11 +27,11 @@ SIZE = (1440, 860)
 LEARNING = ("running", "running_everywhere", "overwritten", "overwritten_everywhere")
 
 # A picture's name, the function, the scheme, and what is chosen: a step, or a region by its words
-# and perhaps a point.
+# and perhaps the last point with these words.
 PICTURES = [
     ("longer", "longer", "light", "step=3"),
     ("news", "news", "light", "the borrow &draft"),
-    ("news-point", "news", "dark", "the borrow &draft @ the second show(text)"),
+    ("news-point", "news", "dark", "the borrow &draft @ (*text)"),
     ("fixed", "fixed", "dark", "the type of text"),
 ]
 
@@ -40,16 +40,16 @@ def fragment(text, chosen):
     """The part of a page's address that chooses this."""
     if chosen.startswith("step="):
         return f"#{chosen}"
-    words, _, place = chosen.partition(" @ ")
+    words, _, used = chosen.partition(" @ ")
     facts = read_facts(text, "text")
     name = next(n for n in facts.names if facts.remarks.region(n).text.startswith(words))
-    point = f"&point={last_call(facts)}" if place else ""
+    point = f"&point={last_use(facts, used)}" if used else ""
     return f"#region={name}{point}"
 
 
-def last_call(facts):
-    """The point of the last call of `show`."""
-    return max(p for p in range(facts.points) if "= show(" in facts.remarks.point(p).text)
+def last_use(facts, used):
+    """The last point whose statement has these words."""
+    return max(p for p in range(facts.points) if used in facts.remarks.point(p).text)
 
 
 def main(folder):
