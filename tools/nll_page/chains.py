@@ -43,9 +43,7 @@ def chains(facts, values, regions, universal):
 
 
 def search(facts, values, wanted, universal):
-    """For each region to which the end comes the last step of a shortest chain, until all that are
-    wanted have one.
-    """
+    """For each region to which the end comes the last step of a shortest chain there."""
     end = facts.end_of(universal)
     by_sub = {}
     for constraint in facts.constraints:
@@ -80,9 +78,7 @@ def backwards(came_by, region, universal):
 
 
 def ways_to_return(facts, inside):
-    """For each point from which a walk inside the set leads to a return point: how far, and the
-    next point.
-    """
+    """For each point from which a walk inside the set comes to a return: how far, what is next."""
     onward = {point: (1, None) for point in sorted(facts.returns) if point in inside}
     todo = deque(onward)
     while todo:

@@ -155,9 +155,7 @@ def umask():
 
 
 def tell_faults(content):
-    """Each fault for a terminal: its head with the first line, and a line for each step of its
-    chain.
-    """
+    """Each fault for a terminal: a line for it, and one for each step of its chain."""
     facts = content.facts
     for fault in content.faults:
         lines = words.arising(facts, fault.steps)

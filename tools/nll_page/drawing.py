@@ -1,6 +1,4 @@
-"""The graph as SVG: a box for each straight line of points, folded to cells or with a row for each
-statement.
-"""
+"""The graph as SVG: boxes of points, folded to cells or with a row for each statement."""
 
 import re
 from collections import Counter
@@ -26,9 +24,7 @@ MANY = 3            # so many edges to code that doesn't return are drawn as stu
 
 
 class Graph(NamedTuple):
-    """What is drawn: straight lines of points as boxes, the edges between boxes, and edges that are
-    only begun.
-    """
+    """What is drawn: lines of points as boxes, edges, and edges that are only begun."""
 
     lines: list
     edges: list
@@ -49,9 +45,7 @@ def graph_of(facts):
 
 
 def stubs_of(facts, returning):
-    """The edges to code that doesn't return, where several lead to the same point, as from calls
-    that may unwind.
-    """
+    """The edges to code that doesn't return, where several lead to the same point."""
     leaving = [(p, q) for p, following in enumerate(facts.successors) for q in following
                if returning[p] and not returning[q]]
     into = Counter(q for _, q in leaving)

@@ -22,9 +22,7 @@ FORMS = {"points": "n", "universal": "r", "outlives": "rr", "region": "r", "next
 
 
 class Constraint(NamedTuple):
-    """`(sup: sub) @ at`: sup holds all that is reached from the point inside sub. Regions by
-    number.
-    """
+    """`(sup: sub) @ at`: sup holds all that is reached from the point inside sub."""
 
     sup: int
     sub: int
@@ -33,9 +31,7 @@ class Constraint(NamedTuple):
 
 @dataclass
 class Facts:
-    """A problem as its text says it. Regions are numbers in the order of their lines, `'static` is
-    0.
-    """
+    """A problem. Regions are numbers in the order of their lines, `'static` is 0."""
 
     points: int = 0
     names: list = field(default_factory=lambda: ["static"])

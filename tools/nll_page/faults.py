@@ -2,9 +2,7 @@
 
 
 def known(facts):
-    """For each universal region those that it is known to outlive: itself, and by chains of
-    `outlives`.
-    """
+    """For each universal region those that it is known to outlive, itself among them."""
     direct = [[] for _ in range(facts.universals)]
     for long, short in facts.outlives:
         direct[long].append(short)

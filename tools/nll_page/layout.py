@@ -16,9 +16,7 @@ PLACE_SWEEPS = 17  # the last one goes down, so that what has one box above it s
 
 @dataclass
 class Shape:
-    """The order of a graph's boxes, without sizes. Boxes have numbers; a number past them is an
-    edge's place.
-    """
+    """The order of a graph's boxes, without sizes; numbers past the boxes are edges' places."""
 
     boxes: int
     layers: list
@@ -38,9 +36,7 @@ class Drawing:
 
 
 def shape_of(boxes, edges):
-    """The order of the boxes 0 to `boxes` - 1 with these distinct edges; those from a box to itself
-    are left out.
-    """
+    """The order of the boxes 0 to `boxes` - 1, which these distinct edges join."""
     edges = [edge for edge in edges if edge[0] != edge[1]]
     turned = edges_back(boxes, edges)
     down = [(b, a) if (a, b) in turned else (a, b) for a, b in edges]
@@ -91,9 +87,7 @@ def edges_back(boxes, edges):
 
 
 def layers_of(boxes, down):
-    """Each box one layer below the lowest that leads to it; one to which nothing leads just above
-    what it leads to.
-    """
+    """Each box one layer below the lowest that leads to it; roots just above what follows."""
     after = successors_of(boxes, down)
     waiting = [0] * boxes
     for _, b in down:
@@ -139,9 +133,7 @@ def neighbours(paths, count):
 
 
 def ordered(layers, paths, count):
-    """The layers, each in an order with few crossings: the best that some sweeps of averages come
-    by.
-    """
+    """The layers in orders with few crossings: the best that some sweeps come by."""
     above, below = neighbours(paths, count)
     layers = by_first_visit(layers, below, count)
     best, fewest = [list(layer) for layer in layers], crossings(layers, below, count)
@@ -229,9 +221,7 @@ def place(shape, sizes):
 
 
 def rows_of(shape, sizes, middle):
-    """The upper edge and the height of each layer; the gap below grows with the edges that slant
-    there.
-    """
+    """Where each layer begins, and its height; gaps grow with the edges that slant there."""
     _, below = neighbours(shape.paths, len(middle))
     tops, heights = [], []
     top = MARGIN
@@ -266,9 +256,7 @@ def middles(shape, width, free):
 
 
 def spread(layer, middle, width, free, wishes, weights):
-    """Sets the middles of a layer as near to the wishes as its order and the gaps allow (least
-    squares).
-    """
+    """Sets the middles of a layer as near to the wishes as its order allows (least squares)."""
     offsets, at = [], 0.0
     for before, number in zip([None, *layer], layer):
         if before is not None:
@@ -289,9 +277,7 @@ def spread(layer, middle, width, free, wishes, weights):
 
 
 def ports_of(shape, middle, width):
-    """Where each edge leaves the upper box and comes to the lower one: side by side, in the order
-    of the other ends.
-    """
+    """Where edges leave and come to boxes: side by side, in the order of their other ends."""
     leaving, coming = {}, {}
     for edge, path in shape.paths.items():
         leaving.setdefault(path[0], []).append((middle[path[1]], edge))

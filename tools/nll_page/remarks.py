@@ -24,9 +24,7 @@ SPOT = re.compile(r"\s*\((bb\d+)\[(\d+)\](?:,\s*(start|mid))?\)$")
 
 
 class Remark(NamedTuple):
-    """What a text says of one point or region: the line of the source, where it is known, and
-    words.
-    """
+    """What a text says of one point or region: the line, where it is known, and words."""
 
     line: Optional[int]
     text: str

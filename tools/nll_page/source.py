@@ -29,9 +29,7 @@ class Source(NamedTuple):
 
 
 def find(facts, facts_path, given):
-    """The path of the source: the one that was given, or the one of the text's remark if it is
-    there.
-    """
+    """The path of the source: the given one, or that of the text's remark if it is there."""
     if given is not None:
         return given
     named = facts.remarks.source
@@ -65,9 +63,7 @@ def read(path, facts):
 
 
 def window(lines, named):
-    """From the `fn` above the first line, with its attributes and comments, to the end of the last
-    line's block.
-    """
+    """From the `fn` above the first line to the end of the last line's block."""
     first, last = min(named), max(named)
     for above in range(first, max(first - 40, 0), -1):
         if re.search(r"\bfn\b", lines[above - 1]):

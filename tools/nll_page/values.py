@@ -52,9 +52,7 @@ def foreign(source):
 
 
 def fits(facts, region, row):
-    """Whether a row may be the value of the region: elements ascend, and what it holds from the
-    start is there.
-    """
+    """Whether a row may be the value of the region, by its form and its first elements."""
     last = facts.points + facts.universals - 1
     if any(a >= b for a, b in zip(row, row[1:])) or row and not 0 <= row[0] <= row[-1] <= last:
         return False

@@ -58,9 +58,7 @@ MOST_ORIGINS = 3    # of more statements none is named
 
 
 def origins(facts, at):
-    """The points whose statements may ask for what a constraint at this point says: those before
-    it.
-    """
+    """The points whose statements may ask for a constraint at this point: those before it."""
     spot = facts.remarks.point(at).spot()
     if spot and spot[2] == "mid":
         return [at]
@@ -119,9 +117,7 @@ def step_sentence(facts, step, universal):
 
 
 def step_brief(facts, step):
-    """The step in one line of a terminal: where the end comes, what asks for it, and along which
-    points.
-    """
+    """The step in one line of a terminal."""
     sup, sub = step.constraint.sup, step.constraint.sub
     what = region_words(facts, sup)
     asked = reason(facts, step.constraint)[:-1] or [f"From point {step.constraint.at} on"]
@@ -172,8 +168,8 @@ def walk_text(points, most=7):
     """The points with arrows; of long walks the runs of numbers are shortened."""
     if len(points) <= most:
         return " → ".join(map(str, points))
-    return " → ".join(f"{a} → … → {b}" if b - a > 2 else " → ".join(map(str, range(a, b + 1)))
-                      for a, b in spans(points))
+    return " → ".join(f"{a} → … → {b}" if b - a > 2
+                      else " → ".join(map(str, range(a, b + 1))) for a, b in spans(points))
 
 
 def conclusion(facts, sup, sub):

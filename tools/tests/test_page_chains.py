@@ -1,6 +1,4 @@
-"""The chain of each fault: re-checked against the reference's values, and as short as the shortest
-there is.
-"""
+"""The chain of each fault: re-checked by the reference, and as short as any."""
 
 import glob
 import os

@@ -38,9 +38,7 @@ class Folding(unittest.TestCase):
         self.assertEqual(lines_of(4, (0, 3), (3, 2), (2, 1)), [[0, 3, 2, 1]])
 
     def test_by_the_definition(self):
-        """Each point is in one line; neighbours in a line are each other's only ones, and others
-        aren't.
-        """
+        """Neighbours in a line are each other's only ones, and others aren't."""
         for seed in range(300):
             facts = read_facts(random_text(seed), "TEXT")
             lines = straight_lines(facts.successors)

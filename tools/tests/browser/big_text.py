@@ -15,9 +15,7 @@ CALLS = ["len", "push", "get", "split_at", "next", "insert", "as_str"]
 
 
 class Function:
-    """Points as they are made, in order; edges to points that aren't there yet are patched in
-    later.
-    """
+    """Points as they are made, in order."""
 
     def __init__(self, draw):
         self.draw = draw

@@ -23,9 +23,7 @@ KEYS = {"Enter": (13, "\r"), "Escape": (27, ""), "Tab": (9, ""), " ": (32, " "),
 
 
 class Browser:
-    """One process. It reads commands from its descriptor 3 and answers on 4, each ended by a zero
-    byte.
-    """
+    """One process. It reads commands from descriptor 3 and answers on 4; a zero byte ends each."""
 
     def __init__(self):
         program = next(filter(None, map(shutil.which, NAMES)), None)

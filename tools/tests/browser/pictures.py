@@ -1,9 +1,10 @@
 #!/usr/bin/env python3
-"""Makes the pictures of docs/FROM-RUST.md: pages of examples/three.rs in a headless Chromium.
+"""Makes what docs/ shows of pages: the pictures of docs/FROM-RUST.md, and docs/LEARNING.md's pages.
 
     pictures.py [FOLDER]
 
-Needs rustc, Chromium and an `nllc`. Run by hand where the page's look or an example has changed.
+The pictures are of examples/three.rs in a headless Chromium. Needs rustc, Chromium and an `nllc`.
+Run by hand where the page's look or an example has changed; FOLDER is docs/ otherwise.
 """
 
 import os
@@ -22,11 +23,15 @@ from nll_page.facts import read_facts  # noqa: E402
 
 SIZE = (1440, 860)
 
-# A picture's name, the function, the scheme, and what is chosen: a step, or a region by its words and a point.
+# The examples of docs/LEARNING.md.
+LEARNING = ("running", "running_everywhere", "overwritten", "overwritten_everywhere")
+
+# A picture's name, the function, the scheme, and what is chosen: a step, or a region by its words
+# and perhaps the last point with these words.
 PICTURES = [
     ("longer", "longer", "light", "step=3"),
     ("news", "news", "light", "the borrow &draft"),
-    ("news-point", "news", "dark", "the borrow &draft @ the second show(text)"),
+    ("news-point", "news", "dark", "the borrow &draft @ (*text)"),
     ("fixed", "fixed", "dark", "the type of text"),
 ]
 
@@ -35,35 +40,43 @@ def fragment(text, chosen):
     """The part of a page's address that chooses this."""
     if chosen.startswith("step="):
         return f"#{chosen}"
-    words, _, place = chosen.partition(" @ ")
+    words, _, used = chosen.partition(" @ ")
     facts = read_facts(text, "text")
     name = next(n for n in facts.names if facts.remarks.region(n).text.startswith(words))
-    point = f"&point={last_call(facts)}" if place else ""
+    point = f"&point={last_use(facts, used)}" if used else ""
     return f"#region={name}{point}"
 
 
-def last_call(facts):
-    """The point of the last call of `show`."""
-    return max(p for p in range(facts.points) if "= show(" in facts.remarks.point(p).text)
+def last_use(facts, used):
+    """The last point whose statement has these words."""
+    return max(p for p in range(facts.points) if used in facts.remarks.point(p).text)
 
 
 def main(folder):
-    os.makedirs(folder, exist_ok=True)
+    for part in ("pictures", "pages"):
+        os.makedirs(os.path.join(folder, part), exist_ok=True)
+    for name in LEARNING:
+        subprocess.run(["tools/nll-page", f"examples/{name}.facts", "-o",
+                        os.path.join(folder, "pages", f"{name}.html")], cwd=ROOT, check=True)
     with tempfile.TemporaryDirectory() as pages, Browser() as browser:
-        subprocess.run([os.path.join(ROOT, "nllc.sh"), "rust", "examples/three.rs", "-o", pages],
-                       cwd=ROOT,
+        subprocess.run(["./nllc.sh", "rust", "examples/three.rs", "-o", pages], cwd=ROOT,
                        stdout=subprocess.DEVNULL, stderr=subprocess.DEVNULL, check=False)
-        for name, function, scheme, chosen in PICTURES:
-            with open(os.path.join(pages, f"{function}.facts"), "rb") as file:
-                text = file.read()
-            page = browser.open(os.path.join(pages, f"{function}.html"), *SIZE, scheme,
-                                fragment(text, chosen))
-            picture = os.path.join(folder, f"{name}.png")
-            page.screenshot(picture)
-            if shutil.which("pngquant"):  # a third of the size
-                subprocess.run(["pngquant", "--force", "--ext", ".png", "--quality", "80-100",
-                                picture], check=False)
+        for picture in PICTURES:
+            take(browser, pages, os.path.join(folder, "pictures"), *picture)
+
+
+def take(browser, pages, folder, name, function, scheme, chosen):
+    """One picture. Its colours are made fewer where pngquant is there, for a third of the size."""
+    with open(os.path.join(pages, f"{function}.facts"), "rb") as file:
+        text = file.read()
+    path = os.path.join(pages, f"{function}.html")
+    page = browser.open(path, *SIZE, scheme, fragment(text, chosen))
+    picture = os.path.join(folder, f"{name}.png")
+    page.screenshot(picture)
+    if shutil.which("pngquant"):
+        subprocess.run(["pngquant", "--force", "--ext", ".png", "--quality", "80-100", picture],
+                       check=False)
 
 
 if __name__ == "__main__":
-    main(sys.argv[1] if len(sys.argv) > 1 else os.path.join(ROOT, "docs", "pictures"))
+    main(os.path.abspath(sys.argv[1] if len(sys.argv) > 1 else os.path.join(ROOT, "docs")))
