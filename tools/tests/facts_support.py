@@ -63,7 +63,7 @@ def golden_text(source, function):
 
 def said(text):
     """The problem of a text, by the slow reader."""
-    return reference.read(text.encode())
+    return reference.said_in(text.encode())
 
 
 def faults(text):

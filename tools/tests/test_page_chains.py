@@ -49,7 +49,7 @@ def holds(said, values, name, element):
 class Chains(unittest.TestCase):
     def checked_by_reference(self, data, sup, sub, steps):
         """Each step once more, on what `bench/reference.py` reads and solves alone."""
-        said = reference.read(data)
+        said = reference.said_in(data)
         values = reference.solve(said)
         names = said.names()
         end = said.points + sub

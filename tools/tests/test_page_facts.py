@@ -28,7 +28,7 @@ class Facts(unittest.TestCase):
 
     def test_what_the_reference_reads(self):
         for seed in range(200):
-            said = reference.read(random_text(seed))
+            said = reference.said_in(random_text(seed))
             facts = read_facts(random_text(seed), "TEXT")
             names = [name.encode() for name in facts.names]
             self.assertEqual(names, said.names())
