@@ -4,15 +4,21 @@ use nll_report::{AnswerError, Command, answer};
 use std::alloc::{AllocError, Global};
 use std::str;
 
-/// A text of lines, which stand between bars, below its header and above its end.
-pub fn text_of(alloc: Global, lines: &str) -> Result<String, AllocError> {
-    let mut text = String::from_str(alloc, "nll-facts 1\n")?;
+// Writes lines, which stand between bars, below the header of a text and above its end.
+fn write_text(out: &mut String, lines: &str) -> Result<(), AllocError> {
+    out.push_str("nll-facts 1\n")?;
     for line in lines.split('|') {
-        text.push_str(line)?;
-        text.push_str("\n")?;
+        out.push_str(line)?;
+        out.push_str("\n")?;
     }
-    text.push_str("end\n")?;
-    Ok(text)
+    out.push_str("end\n")
+}
+
+/// A text of lines, which stand between bars.
+pub fn text_of(alloc: Global, lines: &str) -> Result<String, AllocError> {
+    let mut text = String::new(alloc);
+    let written = write_text(&mut text, lines);
+    written.and(Ok(text))
 }
 
 // A report, and its status where that isn't 0.

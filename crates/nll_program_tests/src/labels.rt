@@ -114,24 +114,35 @@ fn values_report(alloc: Global, problem: &Problem, labels: &Labels) -> Result<Ve
     report
 }
 
+// A problem of 'static and so many points.
+fn problem_of(alloc: Global, points: u32) -> Result<Problem, BuildError> {
+    let builder = ProblemBuilder::new(alloc, points, 1)?;
+    builder.finish()
+}
+
 // The values report of a problem of 'static and so many points, which these labels name.
-fn report_told(alloc: Global, points: u32, labels: Labels) -> Result<String, BuildError> {
-    let problem = ProblemBuilder::new(alloc, points, 1)?.finish()?;
-    let report = values_report(alloc, &problem, &labels);
+fn report_told(alloc: Global, points: u32, labels: &Labels) -> Result<String, BuildError> {
+    let problem = problem_of(alloc, points)?;
+    let report = values_report(alloc, &problem, labels);
     drop(problem);
+    let report = report?;
+    let text = str::from_utf8(report.as_slice()).unwrap_or("not utf-8");
+    Ok(String::from_str(alloc, text)?)
+}
+
+// The same, where points are named by blocks that begin at 0 and at 2.
+fn report_by_blocks(alloc: Global, points: u32) -> Result<String, BuildError> {
+    let starts = vec![in alloc; 0u32, 2]?;
+    let labels = Labels::with_blocks(Names::new(alloc)?, starts);
+    let report = report_told(alloc, points, &labels);
     drop(labels);
-    Ok(String::from_str(
-        alloc,
-        str::from_utf8(report?.as_slice()).unwrap_or("not utf-8"),
-    )?)
+    report
 }
 
 // A report names the points of blocks by their block and their place in it.
 #[test]
 fn reports_points_by_blocks(rt: HostRuntime) -> Result<(), Fail> {
-    let starts = vec![in rt.alloc(); 0u32, 2]?;
-    let labels = Labels::with_blocks(Names::new(rt.alloc())?, starts);
-    let report = report_told(rt.alloc(), 3, labels)?;
+    let report = report_by_blocks(rt.alloc(), 3)?;
     let want = "'static: bb0/0 bb0/1 bb1/0 end('static)\n";
     compare(&rt, "blocks", Ok(report), want);
     Ok(())

@@ -1,21 +1,22 @@
 //! Texts at the limits of the format, and past them.
 use super::answers::answer_to;
 use super::comparing::compare;
-use super::reading::fault_of;
-use nll_core::Kind;
-use nll_mir::{MAX_TEXT, TextError, TextKind};
+use nll_mir::MAX_TEXT;
 use nll_report::Command;
 use std::alloc::{AllocError, Global};
-use std::test::Fail;
 
-// A text of one point that declares so many regions by a word, and then has further lines.
-fn declaring(alloc: Global, word: &str, count: u32, lines: &str) -> Result<String, AllocError> {
-    let mut text = String::from_str(alloc, "nll-facts 1\npoints 1\n")?;
+// Writes a text of one point that declares so many regions by a word, and then has further lines.
+fn write_declaring(
+    out: &mut String,
+    word: &str,
+    count: u32,
+    lines: &str,
+) -> Result<(), AllocError> {
+    out.push_str("nll-facts 1\npoints 1\n")?;
     for number in 0..count {
-        write!(text, "{word} 'r{number}\n")?;
+        write!(out, "{word} 'r{number}\n")?;
     }
-    text.push_str(lines)?;
-    Ok(text)
+    out.push_str(lines)
 }
 
 // What is answered to such a text.
@@ -25,8 +26,9 @@ fn answer_to_declaring(
     count: u32,
     lines: &str,
 ) -> Result<String, AllocError> {
-    let text = declaring(alloc, word, count, lines)?;
-    answer_to(alloc, Command::Check, text.as_bytes())
+    let mut text = String::new(alloc);
+    let written = write_declaring(&mut text, word, count, lines);
+    written.and(answer_to(alloc, Command::Check, text.as_bytes()))
 }
 
 // Declarations by a word, and what is answered to further lines.
@@ -70,22 +72,19 @@ fn refuses_declarations_past_the_limits(rt: HostRuntime) {
     }
 }
 
-// What is wrong with a text of blanks.
-fn fault_of_blanks(alloc: Global, bytes: usize) -> Result<Option<TextError>, AllocError> {
+// What is answered to a text of so many blanks.
+fn answer_to_blanks(alloc: Global, bytes: usize) -> Result<String, AllocError> {
     let text = Vec::from_elem(alloc, b' ', bytes)?;
-    Ok(fault_of(alloc, text.as_slice()))
+    answer_to(alloc, Command::Check, text.as_slice())
 }
 
 // The text's length is judged before its header.
 #[test]
-fn refuses_a_long_text(rt: HostRuntime) -> Result<(), Fail> {
-    let kind = TextKind::Header;
-    let longest = fault_of_blanks(rt.alloc(), MAX_TEXT)?;
-    assert!(rt; longest == Some(TextError { line: 1, kind }));
-    let kind = TextKind::Limit(Kind::Text);
-    let longer = fault_of_blanks(rt.alloc(), MAX_TEXT + 1)?;
-    assert!(rt; longer == Some(TextError { line: 1, kind }));
-    Ok(())
+fn refuses_a_long_text(rt: HostRuntime) {
+    let longest = answer_to_blanks(rt.alloc(), MAX_TEXT);
+    compare(&rt, "the longest text", longest, "line 1: Header");
+    let longer = answer_to_blanks(rt.alloc(), MAX_TEXT + 1);
+    compare(&rt, "a longer text", longer, "line 1: Limit(Text)");
 }
 
 // A text whose region has a name of so many letters, and a remark of as many.
@@ -127,24 +126,24 @@ fn takes_the_last_point(rt: HostRuntime) {
     );
 }
 
-// A text of so many constraints: of each of a hundred regions at each of a thousand points.
-fn with_constraints(alloc: Global, count: u32) -> Result<String, AllocError> {
-    let mut text = String::from_str(alloc, "nll-facts 1\npoints 1000\nuniversal 'a\n")?;
+// Writes a text of so many constraints: of each of a hundred regions at each of a thousand points.
+fn write_constraints(out: &mut String, count: u32) -> Result<(), AllocError> {
+    out.push_str("nll-facts 1\npoints 1000\nuniversal 'a\n")?;
     for number in 0..100u32 {
-        write!(text, "region 'r{number}\n")?;
+        write!(out, "region 'r{number}\n")?;
     }
     for number in 0..count {
         let (region, point) = (number / 1000 % 100, number % 1000);
-        write!(text, "constraint 'r{region} 'static {point}\n")?;
+        write!(out, "constraint 'r{region} 'static {point}\n")?;
     }
-    text.push_str("return 999\nconstraint 'a 'r99 999\nend\n")?;
-    Ok(text)
+    out.push_str("return 999\nconstraint 'a 'r99 999\nend\n")
 }
 
 // What is answered to such a text.
 fn answer_to_constraints(alloc: Global, count: u32) -> Result<String, AllocError> {
-    let text = with_constraints(alloc, count)?;
-    answer_to(alloc, Command::Check, text.as_bytes())
+    let mut text = String::new(alloc);
+    let written = write_constraints(&mut text, count);
+    written.and(answer_to(alloc, Command::Check, text.as_bytes()))
 }
 
 // A hundred thousand constraints are read and solved.

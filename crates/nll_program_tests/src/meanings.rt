@@ -83,6 +83,11 @@ fn reads_texts(rt: HostRuntime) {
     for (text, want) in MEANT {
         compare(&rt, text, read(rt.alloc(), text.as_bytes()), want);
     }
+}
+
+// The laws are calls that do nothing.
+#[test]
+fn states_laws(_rt: HostRuntime) {
     one_meaning();
     not_both();
     some_meaning_or_fault();

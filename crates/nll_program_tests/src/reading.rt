@@ -33,11 +33,9 @@ fn name_of(labels: &Labels, region: RegionId) -> &str {
 fn write_regions(out: &mut String, problem: &Problem, labels: &Labels) -> Result<(), AllocError> {
     for number in 0..problem.regions() {
         let name = name_of(labels, RegionId(number));
-        if number < problem.universals() {
-            write!(out, "universal '{name}|")?;
-        } else {
-            write!(out, "region '{name}|")?;
-        }
+        let is_universal = number < problem.universals();
+        let kind = if is_universal { "universal" } else { "region" };
+        write!(out, "{kind} '{name}|")?;
     }
     Ok(())
 }
@@ -84,23 +82,27 @@ fn write_constraints(
     labels: &Labels,
 ) -> Result<(), AllocError> {
     for Constraint { sup, sub, at } in constraints {
-        write!(out, "constraint '{} ", name_of(labels, *sup))?;
-        write!(out, "'{} {at}|", name_of(labels, *sub))?;
+        let (sup, sub) = (name_of(labels, *sup), name_of(labels, *sub));
+        write!(out, "constraint '{sup} '{sub} {at}|")?;
     }
     Ok(())
 }
 
-// All that a text says. A universal region holds all points, so no base of it is written.
-fn said(alloc: Global, facts: &Facts) -> Result<String, AllocError> {
-    let (problem, labels) = (&facts.problem, &facts.labels);
-    let mut out = String::new(alloc);
+// Writes all that a text says. A universal region holds all points, so no base of it is written.
+fn write_said(out: &mut String, problem: &Problem, labels: &Labels) -> Result<(), AllocError> {
     write!(out, "points {}|", problem.points())?;
-    write_regions(&mut out, problem, labels)?;
-    write_graph(&mut out, problem.graph())?;
+    write_regions(out, problem, labels)?;
+    write_graph(out, problem.graph())?;
     for number in 0..problem.regions() {
         let region = RegionId(number);
-        write_bases(&mut out, problem, region, name_of(labels, region))?;
+        write_bases(out, problem, region, name_of(labels, region))?;
     }
-    write_constraints(&mut out, problem.constraints(), labels)?;
-    Ok(out)
+    write_constraints(out, problem.constraints(), labels)
+}
+
+// All that a text says.
+fn said(alloc: Global, facts: &Facts) -> Result<String, AllocError> {
+    let mut out = String::new(alloc);
+    let written = write_said(&mut out, &facts.problem, &facts.labels);
+    written.and(Ok(out))
 }

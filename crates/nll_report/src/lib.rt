@@ -14,9 +14,8 @@ mod writing;
 pub use disk::Disk;
 pub use error::{Unread, Unwritten};
 pub use messages::{Refusal, USAGE};
+pub use nll_answer::{AnswerError, Command, answer, faults_text, values_text};
+pub use nll_command_line::{Line, LineError, Task, line};
 pub use program::{Texts, drive, run_in_process};
 pub use sink::Sink;
 pub use writing::put;
-
-pub use nll_answer::{AnswerError, Command, answer, faults_text, values_text};
-pub use nll_command_line::{Line, LineError, Task, line};
