@@ -2,6 +2,7 @@
 
 import argparse
 import os
+import signal
 import sys
 import tempfile
 from typing import Callable, Optional, Sequence
@@ -22,6 +23,7 @@ def main(words: Sequence[str]) -> int:
 
 def guarded(program: str, work: Callable[[], int]) -> int:
     """The status of the work; a refusal is one line on standard error."""
+    signal.signal(signal.SIGTERM, signal.getsignal(signal.SIGINT))
     try:
         return work()
     except Refusal as refusal:
@@ -98,8 +100,8 @@ def problems_of_file(file: str, function: Optional[str], edition: str,
             show(run.errors)
             chosen = functions(file, run.errors, dumps)
             return [(dump, convert(dump)) for dump in chosen], bool(run.errors)
-        dump = choose(dumps, function)
-        errors = [error for error in run.errors if any(map(dump.has_line, error.lines))]
+        dump = choose(dumps, file, function)
+        errors = [error for error in run.errors if any(map(dump.has, error.places))]
         show(errors)
         return [(dump, convert(dump))], bool(errors)
 
@@ -119,10 +121,11 @@ def functions(file: str, errors: list[Error], dumps: list[Dump]) -> list[Dump]:
     if not found:
         raise Refusal(f"{file} has no function with a body: nothing in it has regions to solve")
     for error in errors:
-        inside = any(dump.has_line(line) for dump in dumps for line in error.lines)
-        if error.lines and not inside:
+        inside = any(dump.has(place) for dump in dumps for place in error.places)
+        if error.places and not inside:
             raise Refusal(f"rustc refuses {file} before it checks all borrows: mend what it says "
-                          f"above of line {error.lines[0]}, or name a function that has no error")
+                          f"above of line {error.places[0][1]}, or name a function that has no "
+                          f"error")
     return found
 
 

@@ -26,8 +26,11 @@ class Dump:
     span: Optional[Span]
     is_function: bool = True
 
-    def has_line(self, line: int) -> bool:
-        return self.span is not None and self.span.first <= line <= self.span.last
+    def has(self, place: tuple[str, int]) -> bool:
+        """Whether a line of a file is one of the function's."""
+        file, line = place
+        span = self.span
+        return span is not None and span.file == file and span.first <= line <= span.last
 
 
 def closure_note(function: str) -> str:
@@ -111,10 +114,10 @@ def without_arguments(text: str) -> str:
     return "".join(kept)
 
 
-def choose(dumps: list[Dump], wanted: str) -> Dump:
-    """The one function that a name or a line of the source means."""
+def choose(dumps: list[Dump], file: str, wanted: str) -> Dump:
+    """The one function that a name or a line of the file means."""
     if wanted.isdigit():
-        return choose_at(dumps, int(wanted))
+        return choose_at(dumps, file, int(wanted))
     fitting = [dump for dump in dumps if dump.name == wanted]
     fitting = fitting or [dump for dump in dumps if dump.name.endswith(f"::{wanted}")]
     if not fitting:
@@ -128,11 +131,11 @@ def choose(dumps: list[Dump], wanted: str) -> Dump:
     return fitting[0]
 
 
-def choose_at(dumps: list[Dump], line: int) -> Dump:
+def choose_at(dumps: list[Dump], file: str, line: int) -> Dump:
     """The smallest function round a line."""
-    fitting = [dump for dump in dumps if dump.has_line(line)]
+    fitting = [dump for dump in dumps if dump.has((file, line))]
     if not fitting:
-        raise Refusal(f"no function with facts has line {line}")
+        raise Refusal(f"no function with facts has line {line} of {file}")
     return min(fitting, key=lambda dump: dump.span.last - dump.span.first)
 
 

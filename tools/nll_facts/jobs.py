@@ -1,6 +1,7 @@
 """Many functions side by side: each makes its text and, where it is wanted, has it answered."""
 
 import os
+import signal
 import time
 from concurrent.futures import ProcessPoolExecutor, as_completed
 from dataclasses import dataclass, field
@@ -44,7 +45,7 @@ def run_jobs(jobs: list[Job], answer: bool, seconds: float) -> list[Row]:
     for folder in sorted({os.path.dirname(job.path) for job in jobs}):
         make_folder(folder)
     bar = Bar(len(jobs))
-    with ProcessPoolExecutor() as pool, Progress(bar.words):
+    with ProcessPoolExecutor(initializer=leave_signals) as pool, Progress(bar.words):
         futures = [pool.submit(partial(do, answer=answer, seconds=seconds), job) for job in jobs]
         try:
             for future in as_completed(futures):
@@ -53,6 +54,12 @@ def run_jobs(jobs: list[Job], answer: bool, seconds: float) -> list[Row]:
             pool.shutdown(wait=False, cancel_futures=True)
             raise
     return [future.result() for future in futures]
+
+
+def leave_signals() -> None:
+    """Leaves it to the first process to stop the others."""
+    signal.signal(signal.SIGINT, signal.SIG_IGN)
+    signal.signal(signal.SIGTERM, signal.SIG_DFL)
 
 
 def do(job: Job, answer: bool, seconds: float) -> Row:

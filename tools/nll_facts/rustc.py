@@ -19,10 +19,10 @@ FLAGS = ("-Znll-facts", "-Zdump-mir=nll", "-Zpolonius=next")
 
 @dataclass(frozen=True)
 class Error:
-    """An error of rustc: as it would print it, and the lines of the file that it is about."""
+    """An error of rustc: as it would print it, and the files and lines that it is about."""
 
     rendered: str
-    lines: list[int]
+    places: list[tuple[str, int]]
 
 
 @dataclass
@@ -63,12 +63,12 @@ def run_rustc(file: str, folder: str, options: list[str], in_colour: bool = Fals
         raise Refusal(f"{words[0]} can't be run: {error.strerror}; {NO_RUSTC}") from None
     run = Run(os.path.join(folder, "facts"), os.path.join(folder, "mir"))
     for line in done.stderr.decode(errors="replace").splitlines():
-        run.errors.extend(read_error(line, file))
+        run.errors.extend(read_error(line))
     judge(done.returncode, run, words[0])
     return run
 
 
-def read_error(line: str, file: str) -> list[Error]:
+def read_error(line: str) -> list[Error]:
     """The error that a line of rustc's JSON tells; what isn't JSON it tells before it has begun."""
     try:
         said = json.loads(line)
@@ -76,9 +76,9 @@ def read_error(line: str, file: str) -> list[Error]:
         return [Error(line + "\n", [])]
     if said.get("level") != "error" or not said.get("rendered"):
         return []
-    lines = [span["line_start"] for span in said.get("spans", ())
-             if span.get("is_primary") and span.get("file_name") == file]
-    return [Error(said["rendered"], lines)]
+    places = [(span["file_name"], span["line_start"]) for span in said.get("spans", ())
+              if span.get("is_primary")]
+    return [Error(said["rendered"], places)]
 
 
 def judge(status: int, run: Run, rustc: str) -> None:

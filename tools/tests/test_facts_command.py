@@ -109,6 +109,11 @@ class Refused(Room):
         self.refused(self.convert(text), "of line 2, or name a function that has no error")
         self.assertEqual(self.convert(text, "g").returncode, 0)
 
+    def test_a_module_of_another_file(self):
+        self.write("m.rs", 'pub fn f() -> u8 {\n    "a"\n}\n')
+        done = self.convert("mod m;\nfn g(x: &u8) -> &u8 {\n    x\n}\n")
+        self.refused(done, "of line 2, or name a function that has no error")
+
     def test_no_rust(self):
         self.refused(self.convert("fn f("), "rustc refuses")
 

@@ -106,10 +106,10 @@ class Names(unittest.TestCase):
     def test_smallest_function_round_a_line(self):
         dumps = [Dump(name, name, "", "", Span("a.rs", *lines)) for name, lines in
                  {"f": (1, 9), "f::{closure#0}": (3, 4), "g": (11, 12)}.items()]
-        self.assertEqual(choose(dumps, "3").name, "f::{closure#0}")
-        self.assertEqual(choose(dumps, "5").name, "f")
-        with self.assertRaisesRegex(Refusal, "no function with facts has line 10"):
-            choose(dumps, "10")
+        self.assertEqual(choose(dumps, "a.rs", "3").name, "f::{closure#0}")
+        self.assertEqual(choose(dumps, "a.rs", "5").name, "f")
+        with self.assertRaisesRegex(Refusal, "no function with facts has line 10 of a.rs"):
+            choose(dumps, "a.rs", "10")
 
 
 class Words(unittest.TestCase):

@@ -1,35 +1,82 @@
-"""Each value is a part of the one that rustc infers, whose constraints hold at all points.
+"""Compares liveness and values with those that rustc prints in its MIR dump.
 
-rustc prints its own values in the MIR dump. `nllc` asks for less, since a constraint holds from a
-point on; what it asks for beyond that would be a mistake of the conversion.
+Where variables are live is the same, but for the one point at which a statement mentions a region.
+Each value is a part of rustc's, whose constraints hold at all points; what is beyond would be a
+mistake of the conversion.
 """
 
 import re
 import tempfile
 import unittest
+from collections import defaultdict
 
 import facts_support as support
 from nll_facts.dumps import find_dumps
+from nll_facts.liveness import bases
 from nll_facts.mir import read_body
 from nll_facts.points import number_points
 from nll_facts.rustc import CRATE
 from nll_facts.tables import Location, read_tables
 
 VALUE = re.compile(r"\| '\?(\d+) \| U\d+ \| \{(.*)\}")
+LIVE = re.compile(r"\| '\?(\d+) live at \{(.*)\}")
 RUN = re.compile(r"bb(\d+)\[(\d+)(?:\.\.=(\d+))?\]")
 UNIVERSAL = re.compile(r"'\?(\d+)")
+
+
+def stored_functions():
+    """Each function of the stored dumps, with its source."""
+    for source in support.SOURCES:
+        with tempfile.TemporaryDirectory() as folder:
+            support.unpack(source, folder)
+            for dump in find_dumps(f"{folder}/facts", f"{folder}/mir", CRATE):
+                if dump.is_function:
+                    yield source, dump
+
+
+class SameLiveness(unittest.TestCase):
+    def test_bases(self):
+        compared = 0
+        for source, dump in stored_functions():
+            with self.subTest(text=f"{source}/{dump.file_name}"):
+                compared += self.compare(read_tables(dump.facts), dump.mir)
+        self.assertGreater(compared, 500)
+
+    def compare(self, tables, mir):
+        own, printed, mentioned = defaultdict(set), live_at(mir), defaultdict(set)
+        for region, location in bases(tables):
+            own[region].add(location)
+        for sup, sub, spot in tables.subset_base.located:
+            mentioned[sup].add(spot.location)
+            mentioned[sub].add(spot.location)
+        for region in {*own, *printed} - set(tables.universal_region):
+            self.assertLessEqual(own[region], printed[region], region)
+            self.assertLessEqual(printed[region] - own[region], mentioned[region], region)
+        return sum(map(len, own.values()))
+
+
+def live_at(mir):
+    """The locations at which rustc takes each region to be live."""
+    found = defaultdict(set)
+    with open(mir, encoding="utf-8") as file:
+        for line in filter(None, map(LIVE.fullmatch, file.read().split("\n"))):
+            found[int(line[1])].update(locations(line[2]))
+    return found
+
+
+def locations(text):
+    """What `bb0[1..=2], bb1[0]` says."""
+    for run in RUN.finditer(text):
+        for index in range(int(run[2]), int(run[3] or run[2]) + 1):
+            yield Location(int(run[1]), index)
 
 
 class WithinRustc(unittest.TestCase):
     def test_values(self):
         compared = 0
-        for source in support.SOURCES:
-            with tempfile.TemporaryDirectory() as folder:
-                support.unpack(source, folder)
-                dumps = find_dumps(f"{folder}/facts", f"{folder}/mir", CRATE)
-                for dump in (dump for dump in dumps if dump.is_function):
-                    with self.subTest(text=f"{source}/{dump.file_name}"):
-                        compared += self.compare(dump, support.golden_text(source, dump.file_name))
+        for source, dump in stored_functions():
+            with self.subTest(text=f"{source}/{dump.file_name}"):
+                compared += self.compare(dump, support.golden_text(source, dump.file_name))
         self.assertGreater(compared, 150)
 
     def compare(self, dump, text):
@@ -55,8 +102,7 @@ def rustc_values(mir, numbers):
     values = {}
     with open(mir, encoding="utf-8") as file:
         for found in filter(None, map(VALUE.fullmatch, file.read().split("\n"))):
-            points = {numbers[Location(int(run[1]), index)] for run in RUN.finditer(found[2])
-                      for index in range(int(run[2]), int(run[3] or run[2]) + 1)}
+            points = {numbers[location] for location in locations(found[2])}
             values[int(found[1])] = points, {int(end) for end in UNIVERSAL.findall(found[2])}
     return values
 
