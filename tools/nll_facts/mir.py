@@ -4,7 +4,6 @@ What is taken from it is what a person reads: statements, variables, types, line
 that the problem itself needs is in the fact tables, save which terminators leave the function.
 """
 
-import os
 import re
 from dataclasses import dataclass, field
 from typing import Iterator, NamedTuple, Optional

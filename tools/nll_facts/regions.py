@@ -11,6 +11,7 @@ from .tables import Tables
 
 STATIC = 0
 
+
 class Regions:
     """The classes of equal regions; a class is known by one of its regions.
 

@@ -98,9 +98,9 @@ def step_head(facts, step, universal):
     return [end(facts, universal), " comes to ", tick(facts, step.constraint.sup)]
 
 
-def region_words(facts, region, most=60):
-    """What the region is, by its remark; of several things the first."""
-    words = facts.remarks.region(facts.names[region]).text.split("; ")[0]
+def region_words(facts, region, most=90):
+    """What the region is, by its remark, cut where it is long."""
+    words = facts.remarks.region(facts.names[region]).text
     if not words and facts.names[region] == "static":
         return "lasts for ever"
     return words if len(words) <= most else words[:most - 1] + "…"
@@ -174,7 +174,13 @@ def walk_text(points, most=7):
 
 def conclusion(facts, sup, sub):
     """What the end in the value means, and what would make it known."""
+    said = [facts.remarks.region(facts.names[region]).text for region in (sup, sub)]
+    so = ["So ", tick(facts, sup), " would have to last as long as ", tick(facts, sub),
+          ", whatever the caller chooses. "]
+    if any("around this closure" in text for text in said):
+        return [*so, "A closure may need that: it is the function around it that has to keep it."]
+    names = ["with names in place of ", tick(facts, sup), " and ", tick(facts, sub), ", "] \
+        if any("without a name" in text for text in said) else []
     wish = Code(f"where '{facts.names[sup]}: '{facts.names[sub]}")
-    return ["So ", tick(facts, sup), " would have to last as long as ", tick(facts, sub),
-            ", whatever the caller "
-            "chooses. The signature may ask that of its callers by ", wish, "; it doesn’t."]
+    return [*so, "The signature may ask that of its callers, ", *names, "by ", wish,
+            "; it doesn’t."]

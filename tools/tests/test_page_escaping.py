@@ -4,7 +4,7 @@ import json
 import unittest
 from html.parser import HTMLParser
 
-from page_support import solved, text
+from page_support import random_text, solved, text
 
 from nll_page import nllc
 from nll_page.escaping import script_data, sentence, visible
@@ -38,6 +38,36 @@ class Elements(HTMLParser):
 
     def handle_data(self, data):
         (self.scripts if self.inside == "script" else self.text).append(data)
+
+
+class Nesting(HTMLParser):
+    """Which elements stay open, and which ends fit none."""
+
+    VOID = {"meta", "input", "rect", "path", "br"}
+
+    def __init__(self):
+        super().__init__()
+        self.open = []
+        self.wrong = []
+
+    def handle_starttag(self, tag, attributes):
+        if tag not in self.VOID:
+            self.open.append(tag)
+
+    def handle_startendtag(self, tag, attributes):
+        pass
+
+    def handle_endtag(self, tag):
+        if self.open and self.open[-1] == tag:
+            self.open.pop()
+        else:
+            self.wrong.append((tag, self.open[-3:]))
+
+
+def page_of_text(data):
+    facts, values = solved(data)
+    found = [Fault(a, b, chain(facts, values, a, b)) for a, b in faults(facts, values)]
+    return page(Content(facts, values, found, "TEXT", None, "nllc.sh", nllc.PROVED))
 
 
 def page_of(nasty):
@@ -75,6 +105,12 @@ class Pages(unittest.TestCase):
         self.assertTrue(all(value.startswith("#") for name, value in made.attributes
                             if name == "href"))
         self.assertIn("default-src 'none'", page_of("harmless"))
+
+    def test_elements_are_closed_in_order(self):
+        for data in [page_of(NASTY)] + [page_of_text(random_text(seed)) for seed in range(40)]:
+            made = Nesting()
+            made.feed(data)
+            self.assertEqual((made.open, made.wrong), ([], []))
 
     def test_each_identity_is_there_once(self):
         made = Elements()

@@ -30,6 +30,19 @@ class Sentences(unittest.TestCase):
             "returns, and on to "
             "`end('a)`, which `'best` holds; so `'b` holds it too."])
 
+    def test_what_would_make_it_known(self):
+        def said(remark):
+            facts = facts_of(1, f"# region 'a: {remark}", "universal 'a", "universal 'b")
+            return plain(words.conclusion(facts, 1, 2)).partition("chooses. ")[2]
+
+        self.assertEqual(said("'a of the signature"), "The signature may ask that of its callers, "
+                         "by `where 'a: 'b`; it doesn’t.")
+        self.assertEqual(said("a lifetime of the signature without a name"),
+                         "The signature may ask that of its callers, with names in place of `'a` "
+                         "and `'b`, by `where 'a: 'b`; it doesn’t.")
+        self.assertEqual(said("'a of the function around this closure"),
+                         "A closure may need that: it is the function around it that has to keep it.")
+
     def test_the_lines(self):
         self.assertEqual(words.arising(self.facts, self.steps), [7, 9])
 
@@ -86,10 +99,10 @@ class Sentences(unittest.TestCase):
         self.assertEqual((words.plural(1, "point"), words.plural(2000, "point")),
                          ("1 point", "2,000 points"))
         self.assertEqual(plain(words.joined([["a"], [Code("b")], ["c"]])), "a, `b` and c")
-        facts = facts_of(1, "# region 'a: " + "x" * 80, "# region 'b: first; second",
+        facts = facts_of(1, "# region 'a: " + "x" * 100, "# region 'b: first; second",
                          "universal 'a", "universal 'b")
-        self.assertEqual(words.region_words(facts, 1), "x" * 59 + "…")
-        self.assertEqual(words.region_words(facts, 2), "first")
+        self.assertEqual(words.region_words(facts, 1), "x" * 89 + "…")
+        self.assertEqual(words.region_words(facts, 2), "first; second")
         self.assertEqual(words.region_words(facts, 0), "lasts for ever")
 
 

@@ -1,5 +1,6 @@
 // The graph's view and its size.
 
+const LEGIBLE = 0.66; // the least scale at which statements are read with ease
 let scale = 1;
 const svgs = all("#graph svg").map((svg) => ({
   svg, width: svg.width.baseVal.value, height: svg.height.baseVal.value,
@@ -39,14 +40,17 @@ function setView(view) {
 
 const otherView = () => setView(document.body.dataset.view === "folded" ? "statements" : "folded");
 
-// Puts the first box into the middle, where the graph is wider than its pane.
-function centre() {
+// At first: the graph a little smaller where that shows its whole width, else its first box in the middle.
+function firstView() {
   const pane = byId("graph");
-  for (const { svg, width } of svgs) {
-    const frame = svg.querySelector(".frame");
-    if (!isThere(frame) || width <= pane.clientWidth) continue;
-    const box = frame.getBoundingClientRect();
-    const left = box.x - pane.getBoundingClientRect().x + pane.scrollLeft;
-    pane.scrollLeft = left + box.width / 2 - pane.clientWidth / 2;
+  const shown = svgs.find(({ svg }) => isThere(svg));
+  const ratio = (pane.clientWidth - 4) / shown.width;
+  if (ratio >= 1) return;
+  if (ratio >= LEGIBLE) {
+    zoomTo(ratio);
+    return;
   }
+  const box = shown.svg.querySelector(".frame").getBoundingClientRect();
+  const left = box.x - pane.getBoundingClientRect().x + pane.scrollLeft;
+  pane.scrollLeft = left + box.width / 2 - pane.clientWidth / 2;
 }

@@ -103,7 +103,7 @@ setView(document.body.dataset.view);
 byId("view-statements").hidden = !document.querySelector(".graph.statements");
 for (const list of [regionButtons, all("#points .point"), all(".end")]) rove(list, list[0]);
 for (const list of all("#graph svg, #source .rows")) rove([], list.querySelector(".cell, .point"));
-centre();
+firstView();
 const address = location.hash; // before `show` writes it anew
 show();
 recall(address);
