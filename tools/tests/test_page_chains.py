@@ -124,6 +124,14 @@ class Chains(unittest.TestCase):
             with self.assertRaises(chains.WrongValues):
                 chains.check(facts, values, 2, 1, each)
 
+    def test_a_larger_region_without_the_end_is_refused(self):
+        facts, values = solved(file_bytes(SAMPLES, "pick.facts"))
+        steps = chains.chain(facts, values, 2, 1)
+        values.rows[2].remove(facts.end_of(1))
+        values.sets.clear()
+        with self.assertRaises(chains.WrongValues):
+            chains.check(facts, values, 2, 1, steps)
+
     def test_no_chain_is_found_in_values_of_another_text(self):
         facts, values = solved(file_bytes(SAMPLES, "pick.facts"))
         values.rows[3] = [1, 2, 3, 4, 6, 7]  # 'best without the end of 'a

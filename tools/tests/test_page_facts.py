@@ -48,6 +48,10 @@ class Facts(unittest.TestCase):
             with self.subTest(line=line), self.assertRaisesRegex(Refusal, "line 3.*nllc check"):
                 facts_of(3, line)
 
+    def test_a_universal_behind_a_region(self):
+        with self.assertRaisesRegex(Refusal, "line 4"):
+            facts_of(1, "region 'x", "universal 'a")
+
     def test_no_facts_text(self):
         for data in [b"", b"fn main() {}\n", b"nll-facts 2\npoints 1\nend\n", b"\xff\xfe\n"]:
             with self.subTest(data=data), self.assertRaisesRegex(Refusal,

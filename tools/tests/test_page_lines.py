@@ -98,7 +98,7 @@ class Layers(unittest.TestCase):
     def test_edges_go_down_and_boxes_are_apart(self):
         for seed in range(200):
             boxes, edges = self.random_graph(seed)
-            shape, drawn = self.drawn(boxes, edges, (40, 20, 15))
+            shape, drawn = self.drawn(boxes, edges, (40, 20, 60))
             level = {number: at for at, layer in enumerate(shape.layers) for number in layer}
             for edge, path in shape.paths.items():
                 self.assertEqual([level[n] for n in path],
@@ -108,10 +108,10 @@ class Layers(unittest.TestCase):
             corners = list(drawn.corners.values())
             self.assertEqual(len(corners), boxes)
             for at, (x, y) in enumerate(corners):
-                self.assertTrue(0 <= x and x + 55 <= drawn.width and 0 <= y
+                self.assertTrue(0 <= x and x + 100 <= drawn.width and 0 <= y
                                 and y + 20 <= drawn.height)
                 for other_x, other_y in corners[:at]:
-                    self.assertTrue(abs(x - other_x) > 55 or abs(y - other_y) > 20)
+                    self.assertTrue(abs(x - other_x) > 100 or abs(y - other_y) > 20)
 
     def test_crossings_are_counted(self):
         for seed in range(100):
@@ -124,6 +124,20 @@ class Layers(unittest.TestCase):
         shape, _ = self.drawn(5, [(0, 2), (1, 3), (3, 1)])
         self.assertEqual(shape.layers[:2], [[0], [2]])
         self.assertEqual(sorted(shape.layers[2]), [1, 4])
+
+    def test_sweeps_take_crossings_away(self):
+        before = after = 0
+        for seed in range(200):
+            boxes, edges = self.random_graph(seed)
+            shape = layout.shape_of(boxes, edges)
+            count = 1 + max(number for layer in shape.layers for number in layer)
+            _, below = layout.neighbours(shape.paths, count)
+            layers = [sorted(layer) for layer in shape.layers]
+            first = layout.crossings(layout.by_first_visit(layers, below, count), below, count)
+            last = layout.crossings(shape.layers, below, count)
+            self.assertLessEqual(last, first)
+            before, after = before + first, after + last
+        self.assertLess(after, 0.8 * before)
 
     def test_no_crossing_where_none_is_needed(self):
         edges = [(0, 1), (0, 2), (0, 3), (1, 6), (2, 5), (3, 4), (4, 7), (5, 7), (6, 7)]

@@ -90,6 +90,7 @@ class Sentences(unittest.TestCase):
 
     def test_walks(self):
         self.assertEqual(words.walk_text([3]), "3")
+        self.assertEqual(words.walk_text([1, 2, 3, 4, 5, 6, 7]), "1 → 2 → 3 → 4 → 5 → 6 → 7")
         self.assertEqual(words.walk_text([1, 2, 3, 7]), "1 → 2 → 3 → 7")
         self.assertEqual(words.walk_text([1, 2, 3, 4, 5, 9, 11, 12, 13]),
                          "1 → … → 5 → 9 → 11 → 12 → 13")
