@@ -100,10 +100,10 @@ class Small:
     def struct(self, name):
         rng = self.rng
         regions = rng.sample(NAMES, k=rng.choice([0, 1, 1, 2]))
-        names = rng.sample(PARAMETERS, k=rng.choice([0, 0, 1, 1, 2]))
+        names = rng.sample(PARAMETERS, k=rng.choice([0, 1, 1, 1, 2]))
         parameters = [types.Parameter(one in regions, one, rng.choice("+="), rng.random() < 0.4)
                       for one in rng.sample(regions + names, k=len(regions + names))]
-        fields = [self.type(rng.choice([0, 1, 2]), regions + [b"static"], names)
+        fields = [self.field(regions + [b"static"], names)
                   for _ in range(rng.choice([0, 1, 1, 2, 3]))]
         drop = rng.random() < 0.5
         written = [(b"'" if p.is_region else b"") + p.name + b" " + p.sign.encode()
@@ -113,6 +113,12 @@ class Small:
         self.lines.append(b"struct " + name + listed + (b" drop" if drop else b" ")
                           + b"(" + inside + b")")
         self.structs[name] = types.Struct(parameters, drop, fields)
+
+    def field(self, regions, names):
+        """A type of a field: often a struct over the parameters, so that drops lead through it."""
+        if self.structs and self.rng.random() < 0.5:
+            return self.use_of(self.rng.choice(list(self.structs)), 1, regions, names)
+        return self.type(self.rng.choice([0, 1, 2]), regions, names)
 
     def renewed(self, t):
         """The type with its regions taken anew."""
@@ -301,6 +307,21 @@ WRONG = [b"_9 = copy _8.*", b"read _0.7", b"drop _9 -> bb99", b"goto bb999999999
          b"let _1: ("]
 
 
+# Struct lines with a fault, or beside one.
+WRONG_STRUCTS = [b"struct Q<W +> (W)", b"struct Q<Q => (Q)", b"struct Q<'static +> (&'static int)",
+                 b"struct Q<'b +, 'b =?> (&'b int)", b"struct Q<T +, T +> (T)", b"struct W ()",
+                 b"struct Q<T +, W +> drop (T)", b"struct Q<'T =, T =?> (&'T T)", b"struct Q (Q)",
+                 b"struct Q<T +> (T<>)", b"struct Q<T +> (T<int>)", b"struct Q (&'static W<int>)",
+                 b"struct Q (W)", b"struct Q ((), &'b int)", b"struct Q<T +> (W<T>, W<'static>)"]
+
+
+def change_struct(rng, text):
+    """Puts in a struct line before the variables, and perhaps a variable of it."""
+    at = text.find(b"let ")
+    at = 0 if at < 0 else text.rfind(b"\n", 0, at) + 1
+    return text[:at] + rng.choice(WRONG_STRUCTS) + b"\n" + text[at:]
+
+
 def mutations(text):
     """Every text that one small change makes of a text."""
     yield from generate.byte_changes(text)
@@ -349,10 +370,11 @@ def mutant(rng, text):
     for _ in range(rng.choice([1, 1, 1, 2, 3])):
         if rng.random() < 0.05:
             text = text[:rng.randrange(len(text) + 1)]
-        kind = rng.choice(["bytes", "token", "alike", "alike", "alike", "alike", "lines"])
+        kind = rng.choice(["bytes", "token", "alike", "alike", "alike", "alike", "lines", "struct"])
         if kind == "lines":
             text = generate.change_lines(rng, text, WRONG)
         else:
-            changes = {"bytes": generate.change_bytes, "token": change_token, "alike": change_alike}
+            changes = {"bytes": generate.change_bytes, "token": change_token,
+                       "alike": change_alike, "struct": change_struct}
             text = changes[kind](rng, text)
     return text
