@@ -28,6 +28,8 @@ class Small:
         self.lines = []
         # So often a line of the body is of a kind and of places taken at random.
         self.sloppy = rng.choice([0.0, 0.0, 0.0, 0.02, 0.1])
+        # Whether the body hardly does more than drop, so that nothing else is live.
+        self.only_drops = rng.random() < 0.25
 
     def text(self):
         rng = self.rng
@@ -36,10 +38,11 @@ class Small:
             pair = rng.choice(self.universals), rng.choice(self.universals)
             self.lines.append(b"outlives '%s '%s" % pair)
         self.lines += [b"region '" + name for name in self.regions[len(self.universals):]]
-        for name in rng.sample(STRUCTS, k=rng.choice([0, 1, 2, 2, 3, 4])):
+        count = rng.choice([3, 4, 5] if self.only_drops else [0, 1, 2, 2, 3, 4])
+        for name in rng.sample(STRUCTS, k=count):
             self.struct(name)
         self.declare_variables()
-        blocks = rng.choice([1, 1, 2, 3, 4, 6, 9])
+        blocks = rng.choice([3, 4, 6] if self.only_drops else [1, 1, 2, 3, 4, 6, 9])
         self.lines.append(b"blocks %d" % blocks)
         for number in range(blocks):
             self.lines.append(b"block bb%d" % number)
@@ -135,9 +138,12 @@ class Small:
         rng = self.rng
         seeds = [self.type(rng.choice([1, 2, 3]), self.regions, []) for _ in range(3)] + [types.INT]
         seeds += [self.use_of(name, 2, self.regions, []) for name in self.structs]
+        if self.only_drops:
+            seeds = [self.use_of(name, rng.choice([2, 3]), self.regions, [])
+                     for name in list(self.structs)[1:]]
         for number in range(rng.randrange(1, 8)):
             t = self.renewed(rng.choice(seeds))
-            for _ in range(rng.choice([0, 0, 0, 1, 1, 2])):
+            for _ in range(0 if self.only_drops else rng.choice([0, 0, 0, 1, 1, 2])):
                 region = (rng.choice(self.regions),)
                 t = types.make("reference", None, rng.random() < 0.5, region, (t,))
             if rng.random() < 0.2:
@@ -188,6 +194,8 @@ class Small:
         rng = self.rng
         kinds = [self.assign, self.assign, self.borrow, self.borrow, self.make, self.read,
                  self.mark]
+        if self.only_drops and rng.random() < 0.9:
+            kinds = [self.mark]
         return rng.choice(kinds)() or self.read()
 
     def assign(self):
@@ -244,6 +252,8 @@ class Small:
         rng = self.rng
         kind = rng.choice(["goto", "switch", "switch", "drop", "drop", "call", "call", "return",
                            "stop"])
+        if self.only_drops and rng.random() < 0.9:
+            kind = "drop"
         if is_last and rng.random() < 0.7:
             kind = "return"
         if kind in ("return", "stop"):
