@@ -28,6 +28,8 @@ class Small:
         self.lines = []
         # So often a line of the body is of a kind and of places taken at random.
         self.sloppy = rng.choice([0.0, 0.0, 0.0, 0.02, 0.1])
+        # Whether the body hardly does more than drop, so that nothing else is live.
+        self.only_drops = rng.random() < 0.25
 
     def text(self):
         rng = self.rng
@@ -36,10 +38,11 @@ class Small:
             pair = rng.choice(self.universals), rng.choice(self.universals)
             self.lines.append(b"outlives '%s '%s" % pair)
         self.lines += [b"region '" + name for name in self.regions[len(self.universals):]]
-        for name in rng.sample(STRUCTS, k=rng.choice([0, 1, 2, 2, 3, 4])):
+        count = rng.choice([3, 4, 5] if self.only_drops else [0, 1, 2, 2, 3, 4])
+        for name in rng.sample(STRUCTS, k=count):
             self.struct(name)
         self.declare_variables()
-        blocks = rng.choice([1, 1, 2, 3, 4, 6, 9])
+        blocks = rng.choice([3, 4, 6] if self.only_drops else [1, 1, 2, 3, 4, 6, 9])
         self.lines.append(b"blocks %d" % blocks)
         for number in range(blocks):
             self.lines.append(b"block bb%d" % number)
@@ -100,10 +103,10 @@ class Small:
     def struct(self, name):
         rng = self.rng
         regions = rng.sample(NAMES, k=rng.choice([0, 1, 1, 2]))
-        names = rng.sample(PARAMETERS, k=rng.choice([0, 0, 1, 1, 2]))
+        names = rng.sample(PARAMETERS, k=rng.choice([0, 1, 1, 1, 2]))
         parameters = [types.Parameter(one in regions, one, rng.choice("+="), rng.random() < 0.4)
                       for one in rng.sample(regions + names, k=len(regions + names))]
-        fields = [self.type(rng.choice([0, 1, 2]), regions + [b"static"], names)
+        fields = [self.field(regions + [b"static"], names)
                   for _ in range(rng.choice([0, 1, 1, 2, 3]))]
         drop = rng.random() < 0.5
         written = [(b"'" if p.is_region else b"") + p.name + b" " + p.sign.encode()
@@ -113,6 +116,12 @@ class Small:
         self.lines.append(b"struct " + name + listed + (b" drop" if drop else b" ")
                           + b"(" + inside + b")")
         self.structs[name] = types.Struct(parameters, drop, fields)
+
+    def field(self, regions, names):
+        """A type of a field: often a struct over the parameters, so that drops lead through it."""
+        if self.structs and self.rng.random() < 0.5:
+            return self.use_of(self.rng.choice(list(self.structs)), 1, regions, names)
+        return self.type(self.rng.choice([0, 1, 2]), regions, names)
 
     def renewed(self, t):
         """The type with its regions taken anew."""
@@ -129,9 +138,12 @@ class Small:
         rng = self.rng
         seeds = [self.type(rng.choice([1, 2, 3]), self.regions, []) for _ in range(3)] + [types.INT]
         seeds += [self.use_of(name, 2, self.regions, []) for name in self.structs]
+        if self.only_drops:
+            seeds = [self.use_of(name, rng.choice([2, 3]), self.regions, [])
+                     for name in list(self.structs)[1:]]
         for number in range(rng.randrange(1, 8)):
             t = self.renewed(rng.choice(seeds))
-            for _ in range(rng.choice([0, 0, 0, 1, 1, 2])):
+            for _ in range(0 if self.only_drops else rng.choice([0, 0, 0, 1, 1, 2])):
                 region = (rng.choice(self.regions),)
                 t = types.make("reference", None, rng.random() < 0.5, region, (t,))
             if rng.random() < 0.2:
@@ -182,6 +194,8 @@ class Small:
         rng = self.rng
         kinds = [self.assign, self.assign, self.borrow, self.borrow, self.make, self.read,
                  self.mark]
+        if self.only_drops and rng.random() < 0.9:
+            kinds = [self.mark]
         return rng.choice(kinds)() or self.read()
 
     def assign(self):
@@ -238,6 +252,8 @@ class Small:
         rng = self.rng
         kind = rng.choice(["goto", "switch", "switch", "drop", "drop", "call", "call", "return",
                            "stop"])
+        if self.only_drops and rng.random() < 0.9:
+            kind = "drop"
         if is_last and rng.random() < 0.7:
             kind = "return"
         if kind in ("return", "stop"):
@@ -301,6 +317,21 @@ WRONG = [b"_9 = copy _8.*", b"read _0.7", b"drop _9 -> bb99", b"goto bb999999999
          b"let _1: ("]
 
 
+# Struct lines with a fault, or beside one.
+WRONG_STRUCTS = [b"struct Q<W +> (W)", b"struct Q<Q => (Q)", b"struct Q<'static +> (&'static int)",
+                 b"struct Q<'b +, 'b =?> (&'b int)", b"struct Q<T +, T +> (T)", b"struct W ()",
+                 b"struct Q<T +, W +> drop (T)", b"struct Q<'T =, T =?> (&'T T)", b"struct Q (Q)",
+                 b"struct Q<T +> (T<>)", b"struct Q<T +> (T<int>)", b"struct Q (&'static W<int>)",
+                 b"struct Q (W)", b"struct Q ((), &'b int)", b"struct Q<T +> (W<T>, W<'static>)"]
+
+
+def change_struct(rng, text):
+    """Puts in a struct line before the variables, and perhaps a variable of it."""
+    at = text.find(b"let ")
+    at = 0 if at < 0 else text.rfind(b"\n", 0, at) + 1
+    return text[:at] + rng.choice(WRONG_STRUCTS) + b"\n" + text[at:]
+
+
 def mutations(text):
     """Every text that one small change makes of a text."""
     yield from generate.byte_changes(text)
@@ -349,10 +380,11 @@ def mutant(rng, text):
     for _ in range(rng.choice([1, 1, 1, 2, 3])):
         if rng.random() < 0.05:
             text = text[:rng.randrange(len(text) + 1)]
-        kind = rng.choice(["bytes", "token", "alike", "alike", "alike", "alike", "lines"])
+        kind = rng.choice(["bytes", "token", "alike", "alike", "alike", "alike", "lines", "struct"])
         if kind == "lines":
             text = generate.change_lines(rng, text, WRONG)
         else:
-            changes = {"bytes": generate.change_bytes, "token": change_token, "alike": change_alike}
+            changes = {"bytes": generate.change_bytes, "token": change_token,
+                       "alike": change_alike, "struct": change_struct}
             text = changes[kind](rng, text)
     return text

@@ -1,13 +1,14 @@
 //! A plain Rust program that reads facts and MIR texts (version 1) and answers as `nllc` does,
 //! written by hand without any proof: the partner of `nllc` in measurements and in differential
 //! tests. Reading order: `main`, `text` (lines, tokens, which fault is told), `tables`, `facts`,
-//! `problem`, `solve`, `report`; for MIR texts `shapes`, `mir`, `rules`.
+//! `problem`, `solve`, `report`; for MIR texts `shapes`, `body`, `mir`, `rules`.
 //!
 //! `baseline read FILE` and `baseline problem FILE` print one line of counts, of what is read and
 //! of the problem that it means; `baseline values FILE` and `baseline check FILE` print what
 //! `nllc` prints. Status: 0 answered, 1 `check` found faults, 2 words, file or text refused,
 //! 3 output failed.
 
+mod body;
 mod facts;
 mod mir;
 mod problem;

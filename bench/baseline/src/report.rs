@@ -1,6 +1,6 @@
 //! What the program prints: counts, value lines and faults.
 
-use crate::mir::Body;
+use crate::body::Body;
 use crate::problem::{Labels, Problem, Universals};
 use crate::solve::Row;
 use std::io::{self, Write};

@@ -1,6 +1,6 @@
 //! The problem of a body: liveness, drop regions, and what its statements ask.
 
-use crate::mir::{Body, Call, Line, Make, CONST};
+use crate::body::{Body, Call, Line, Make, CONST};
 use crate::problem::{Constraint, Labels, Problem};
 use crate::shapes::{Form, Shape, Source, Typed, DEREFERENCE, STATIC_ITEM};
 use crate::tables::Lists;
