@@ -1,15 +1,16 @@
 //! A plain Rust program that reads facts texts (version 1) and answers as `nllc` does, written by
 //! hand without any proof: the partner of `nllc` in measurements and in differential tests.
 //! Reading order: `main`, `read` (the whole format and its refusals), `tables`, `problem`, `solve`,
-//! `report`.
+//! `runs`, `report`.
 //!
 //! `baseline read FILE` prints one line of counts, `baseline values FILE` and `baseline check FILE`
-//! print what `nllc` prints. Status: 0 answered, 1 `check` found faults, 2 words, file or text
+//! print what `nllc` prints; with `--runs` first, by the algorithm that `nllc` has. Status: 0 answered, 1 `check` found faults, 2 words, file or text
 //! refused, 3 output failed.
 
 mod problem;
 mod read;
 mod report;
+mod runs;
 mod solve;
 mod tables;
 
@@ -31,17 +32,28 @@ fn bytes_of(path: &str) -> io::Result<Vec<u8>> {
     Ok(bytes)
 }
 
+/// Writes the values, or the faults, and gives the status.
+fn report<V: report::Value>(
+    command: &str,
+    problem: &Problem,
+    values: &[V],
+    out: &mut impl Write,
+) -> io::Result<i32> {
+    if command == "values" {
+        return report::values(problem, values, out).map(|()| 0);
+    }
+    let faults = report::faults(problem, values);
+    report::fault_lines(problem, &faults, out)?;
+    Ok(if faults.is_empty() { 0 } else { 1 })
+}
+
 /// Writes the answer of a command and gives the status.
-fn answer(command: &str, problem: &Problem) -> io::Result<i32> {
+fn answer(command: &str, by_runs: bool, problem: &Problem) -> io::Result<i32> {
     let mut out = io::stdout().lock();
     match command {
         "read" => report::counts(problem, &mut out).map(|()| 0),
-        "values" => report::values(problem, &solve::solve(problem), &mut out).map(|()| 0),
-        _ => {
-            let faults = report::faults(problem, &solve::solve(problem));
-            report::fault_lines(problem, &faults, &mut out)?;
-            Ok(if faults.is_empty() { 0 } else { 1 })
-        }
+        _ if by_runs => report(command, problem, &runs::solve(problem), &mut out),
+        _ => report(command, problem, &solve::solve(problem), &mut out),
     }
     .and_then(|status| out.flush().map(|()| status))
 }
@@ -53,12 +65,14 @@ fn refuse(line: &str) -> ! {
 }
 
 fn main() {
-    let words: Vec<String> = std::env::args().skip(1).collect();
+    let mut words: Vec<String> = std::env::args().skip(1).collect();
+    let by_runs = words.first().is_some_and(|word| word == "--runs");
+    words.drain(..by_runs as usize);
     let [command, path] = words.as_slice() else {
-        refuse("usage: baseline read|values|check FILE");
+        refuse("usage: baseline [--runs] read|values|check FILE");
     };
     if !["read", "values", "check"].contains(&command.as_str()) {
-        refuse("usage: baseline read|values|check FILE");
+        refuse("usage: baseline [--runs] read|values|check FILE");
     }
     let Ok(mut text) = bytes_of(path) else {
         refuse(&format!("nllc: cannot read {path}"));
@@ -68,7 +82,7 @@ fn main() {
     }
     let status = match read::read(&mut text) {
         Err(fault) => refuse(&format!("nllc: line {}: {}", fault.line, fault.kind)),
-        Ok(problem) => answer(command, &problem).unwrap_or_else(|_| {
+        Ok(problem) => answer(command, by_runs, &problem).unwrap_or_else(|_| {
             let _ = writeln!(io::stderr(), "nllc: cannot write");
             3
         }),

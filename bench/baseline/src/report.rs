@@ -1,6 +1,7 @@
 //! What the program prints: counts, value lines and faults.
 
 use crate::problem::{Problem, Universals};
+use crate::runs::Runs;
 use crate::solve::Row;
 use std::io::{self, Write};
 
@@ -16,6 +17,32 @@ pub fn counts(problem: &Problem, out: &mut impl Write) -> io::Result<()> {
         problem.bases.iter().map(Vec::len).sum::<usize>(),
         problem.constraints.len(),
     )
+}
+
+/// The value of a region, in whichever form.
+pub trait Value {
+    fn has(&self, e: u32) -> bool;
+    fn elements(&self) -> impl Iterator<Item = u32> + '_;
+}
+
+impl Value for Row {
+    fn has(&self, e: u32) -> bool {
+        Row::has(self, e)
+    }
+
+    fn elements(&self) -> impl Iterator<Item = u32> + '_ {
+        self.iter()
+    }
+}
+
+impl Value for Runs {
+    fn has(&self, e: u32) -> bool {
+        Runs::has(self, e)
+    }
+
+    fn elements(&self) -> impl Iterator<Item = u32> + '_ {
+        self.iter()
+    }
 }
 
 /// So many bytes are gathered before they are written.
@@ -37,13 +64,17 @@ fn push_number(line: &mut Vec<u8>, mut number: u32) {
 }
 
 /// A line a region: its name, a colon, then points and ends in order, each after a space.
-pub fn values(problem: &Problem, values: &[Row], out: &mut impl Write) -> io::Result<()> {
+pub fn values<V: Value>(
+    problem: &Problem,
+    values: &[V],
+    out: &mut impl Write,
+) -> io::Result<()> {
     let mut text = Vec::with_capacity(CHUNK + 512);
     for (name, value) in problem.names.iter().zip(values) {
         text.push(b'\'');
         text.extend_from_slice(name);
         text.push(b':');
-        for e in value.iter() {
+        for e in value.elements() {
             text.push(b' ');
             if e < problem.points {
                 push_number(&mut text, e);
@@ -78,7 +109,7 @@ fn known(problem: &Problem) -> Vec<Universals> {
 
 /// The pairs of universals where the first holds the end of the second and isn't known to outlive
 /// it, by the first, then by the second.
-pub fn faults(problem: &Problem, values: &[Row]) -> Vec<(u32, u32)> {
+pub fn faults<V: Value>(problem: &Problem, values: &[V]) -> Vec<(u32, u32)> {
     let known = known(problem);
     let mut faults = Vec::new();
     for a in 0..problem.universals {
