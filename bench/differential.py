@@ -11,7 +11,7 @@ without `--nllc` it alone, and then on the counts of `read` and `problem` as wel
 of the texts has no change. `--every` takes each small change of a text in place of random texts;
 `--limits` takes the texts at the limits of the format, `--hostile` MIR texts whose types are deep
 or would grow without end. A text on which two answers differ is saved, after lines that don't
-matter were taken out of it.
+matter were taken out of it. Behind PATH may stand words, as in `--baseline 'PATH --runs'`.
 Ends with `N compared, M differ`; status 1 where M isn't 0.
 """
 
@@ -19,6 +19,7 @@ import argparse
 import multiprocessing
 import os
 import random
+import shlex
 import subprocess
 import sys
 import tempfile
@@ -33,9 +34,10 @@ BASELINE = os.path.join(HERE, "baseline", "target", "release", "baseline")
 
 
 def program_answer(program, command, path, seconds):
-    """Standard output, status and standard error of a program; a run past the time has none."""
+    """Standard output, status and standard error of a program, which may have words behind its
+    path; a run past the time has none."""
     try:
-        done = subprocess.run([program, command, path], stdin=subprocess.DEVNULL,
+        done = subprocess.run([*shlex.split(program), command, path], stdin=subprocess.DEVNULL,
                               capture_output=True, timeout=seconds, check=False)
     except subprocess.TimeoutExpired:
         return b"", "no answer in time", b""
@@ -152,7 +154,7 @@ def words():
     parser = argparse.ArgumentParser(description=__doc__.split("\n")[0])
     parser.add_argument("--mir", action="store_true", help="MIR texts in place of facts texts")
     parser.add_argument("--nllc", help="the program to compare")
-    parser.add_argument("--baseline", default=BASELINE)
+    parser.add_argument("--baseline", metavar="PATH", default=BASELINE)
     parser.add_argument("--reference", action="store_true", help="compare the reference too")
     parser.add_argument("--count", type=int, default=10_000)
     parser.add_argument("--seed", type=int, default=1)

@@ -9,6 +9,7 @@ Every text depends on its arguments and its seed alone.
     generate.py mutations FILE --into DIR                         each small change of a text
     generate.py limits --into DIR                                 texts at the limits of the format
     generate.py line KIND MIB                                     one long line behind the header
+    generate.py family NAME                                       a big problem to measure solving
 
 All but `mutations` and `limits` write to standard output. `differential.py` uses the functions of this file.
 """
@@ -100,6 +101,129 @@ def line(kind, mebibytes):
     room = (mebibytes << 20) - len(head)
     piece = PIECES[kind]
     return head + piece * (room // len(piece)) + b" " * (room % len(piece))
+
+
+# Problems to measure solving
+
+def problem_text(points, universals, regions, facts):
+    """A text of these numbers and of these lines of facts, over regions 'r0, 'r1 and so on."""
+    lines = [b"nll-facts 1", b"points %d" % points]
+    lines += [b"universal 'u%d" % i for i in range(universals)]
+    lines += [b"region 'r%d" % i for i in range(regions)]
+    return b"\n".join(lines + list(facts) + [b"end", b""])
+
+
+def steps(points):
+    """A straight line of points that returns at its end."""
+    yield from (b"next %d %d" % (p, p + 1) for p in range(points - 1))
+    yield b"return %d" % (points - 1)
+
+
+def branches(points, rng):
+    """A straight line with some branches ahead and back."""
+    yield from steps(points)
+    for p in range(0, points - 1, 7):
+        yield b"next %d %d" % (p, rng.randrange(points))
+
+
+def stretches(region, points, count, most, rng):
+    """Base elements of a region: so many stretches of at most so many points."""
+    for _ in range(count):
+        first = rng.randrange(points)
+        for p in range(first, min(points, first + rng.randrange(1, most + 1))):
+            yield b"base 'r%d %d" % (region, p)
+
+
+def asks(sup, sub, at):
+    return b"constraint 'r%d 'r%d %d" % (sup, sub, at)
+
+
+def dense_family(rng, regions=300, points=1_000):
+    """Each region takes from each other one."""
+    facts = list(branches(points, rng))
+    for region in range(regions):
+        facts += stretches(region, points, 3, 20, rng)
+    pairs = [(a, b) for a in range(regions) for b in range(regions) if a != b]
+    facts += [asks(a, b, rng.randrange(points)) for a, b in pairs]
+    return problem_text(points, 3, regions, facts)
+
+
+def cycle_family(rng, length=2_000):
+    """Regions that take from each other in a circle, over a circle of points."""
+    facts = list(steps(length)) + [b"next %d 0" % (length - 1)]
+    for region in range(length):
+        facts.append(b"base 'r%d %d" % (region, region))
+        facts.append(asks((region + 1) % length, region, region))
+    facts += [b"base 'r0 %d" % p for p in range(length)]
+    return problem_text(length, 2, length, facts)
+
+
+def sparse_family(rng, regions=60_000, points=1_000_000):
+    """Many regions of a few points each, over many points."""
+    facts = list(steps(points))
+    for region in range(regions):
+        first = rng.randrange(points - 8)
+        facts += [b"base 'r%d %d" % (region, p) for p in range(first, first + rng.randrange(1, 6))]
+        facts.append(asks(rng.randrange(regions), region, first))
+    return problem_text(points, 2, regions, facts)
+
+
+def points_family(rng, regions=50, points=15_000):
+    """A chain of regions each of which takes from the one before at all points."""
+    facts = list(steps(points)) + [b"base 'r0 %d" % p for p in range(points)]
+    for region in range(1, regions):
+        facts += [asks(region, region - 1, p) for p in range(points)]
+    return problem_text(points, 2, regions, facts)
+
+
+def stairs_family(rng, steps_up=3_000):
+    """Two regions that open one step to each other by turns, the last step first in the text."""
+    points = steps_up + 1
+    facts = list(steps(points)) + [b"base 'r0 0"]
+    # The region of a step has the next point, which the region of the next step has from it alone.
+    facts += [b"base 'r%d %d" % (k % 2, k + 1) for k in range(steps_up)]
+    facts += [asks((k + 1) % 2, k % 2, k) for k in reversed(range(steps_up))]
+    return problem_text(points, 2, 2, facts)
+
+
+def most_family(rng, regions=65_000, points=2_000, constraints=800_000):
+    """Nearly as many regions and constraints as a text may have."""
+    facts = list(branches(points, rng))
+    for region in range(regions):
+        facts += stretches(region, points, 1, 6, rng)
+    for _ in range(constraints):
+        sub = rng.randrange(regions)
+        facts.append(asks(min(regions - 1, sub + rng.randrange(40)), sub, rng.randrange(points)))
+    return problem_text(points, 4, regions, facts)
+
+
+def trickle_family(rng, changes=300, runs=1_000):
+    """A value of many runs that changes by one element at a time inside a cycle of constraints."""
+    points = 4 * runs
+    facts = [b"next %d %d" % (2 * p, 2 * p + 2) for p in range(points // 2 - 1)]
+    facts += [b"return %d" % (points - 2)]
+    facts += [b"base 'r0 %d" % (2 * p) for p in range(runs)]
+    # Each change opens one more point, which a further region has, to the next change.
+    for k in range(changes):
+        at = 2 * (runs + k)
+        facts.append(b"base 'r%d %d" % (k + 1, at))
+        facts.append(b"base 'r%d 0" % (k + 1))
+        facts.append(b"next 0 %d" % at)
+        facts.append(asks(0, k + 1, at))
+        facts.append(asks(k + 1, 0, at - 2))
+    return problem_text(points, 1, changes + 1, facts)
+
+
+FAMILIES = {
+    "chain": lambda rng: chain(1_000_000, 3),
+    "dense": dense_family,
+    "cycle": cycle_family,
+    "sparse": sparse_family,
+    "points": points_family,
+    "stairs": stairs_family,
+    "most": most_family,
+    "trickle": trickle_family,
+}
 
 
 # Small texts
@@ -360,6 +484,7 @@ def words():
     command = commands.add_parser("line")
     command.add_argument("kind", choices=sorted(PIECES))
     command.add_argument("mebibytes", type=int)
+    commands.add_parser("family").add_argument("name", choices=sorted(FAMILIES))
     commands.add_parser("random").add_argument("--seed", type=int, default=1)
     command = commands.add_parser("mutations")
     command.add_argument("file")
@@ -377,6 +502,8 @@ def main():
         sys.stdout.buffer.write(chain(args.points, args.regions))
     elif args.command == "line":
         sys.stdout.buffer.write(line(args.kind, args.mebibytes))
+    elif args.command == "family":
+        sys.stdout.buffer.write(FAMILIES[args.name](random.Random(1)))
     elif args.command == "random":
         sys.stdout.buffer.write(small(random.Random(args.seed)))
     elif args.command == "mutations":

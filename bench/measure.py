@@ -1,10 +1,11 @@
 #!/usr/bin/env python3
-"""Times programs and prints Markdown tables; the scripts beside it call it.
+"""Times programs and prints Markdown tables; the scripts of this folder call it.
 
     measure.py reading --nllc PATH --baseline PATH --texts FOLDER [--sizes SIZES] [--runs N]
     measure.py bodies --nllc PATH --baseline PATH --texts FOLDER [--runs N]
     measure.py real --nllc PATH --baseline PATH --inputs FOLDER --outputs FOLDER [--runs N]
     measure.py line --nllc PATH --texts FOLDER [--most MIB]
+    measure.py solving --nllc PATH --baseline PATH --texts FOLDER --outputs FOLDER [--runs N]
 
 Wall time is from start to end of a process, user time and peak memory are the system's own figures
 of it (`wait4`). A process that is started counts the memory of the one that starts it as its own
@@ -197,9 +198,56 @@ def line(args):
     return 0 < len(fine) == sum(fine)
 
 
+def solving_runs(args, name):
+    """Runs the programs in turn on one text: for each the best times, the peak, and the output."""
+    programs = {"nllc": [args.nllc], "partner, runs": [args.baseline, "--runs"],
+                "partner, old": [args.baseline]}
+    accepted = os.path.join(args.texts, name)
+    refused = os.path.join(args.texts, "refused", name)
+    found = {}
+    for _ in range(args.runs):
+        for who, program in programs.items():
+            out = os.path.join(args.outputs, who.replace(", ", "-"))
+            values = run(program + ["values", accepted], args.seconds, out)
+            check = run(program + ["check", accepted], args.seconds)
+            read = run(program + ["check", refused], args.seconds)
+            fine = values.status == 0 and check.status in (0, 1) and read.status == 2
+            best, peak, ended = found.get(who, ([args.seconds] * 3, 0.0, True))
+            best = [min(pair) for pair in zip(best, (values.wall, check.wall, read.wall))]
+            found[who] = best, max(peak, values.peak), ended and fine
+    same = {who: filecmp.cmp(os.path.join(args.outputs, "nllc"),
+                             os.path.join(args.outputs, who.replace(", ", "-")), shallow=False)
+            for who in programs}
+    return found, same
+
+
+def solving_rows(args, name):
+    """The rows of one text; whether `nllc` and the partner that goes about it alike agree."""
+    found, same = solving_runs(args, name)
+    for who, (best, peak, ended) in found.items():
+        if not ended:
+            print(f"| {name.removesuffix('.facts')} | {who} | - | - | - | - | past {args.seconds:.0f} "
+                  f"s or its memory |", flush=True)
+            continue
+        print(f"| {name.removesuffix('.facts')} | {who} | {best[0]:.3f} | {best[1]:.3f} "
+              f"| {best[1] - best[2]:.3f} | {peak:.1f} | {'same' if same[who] else 'UNLIKE'} |",
+              flush=True)
+    return all(found[who][2] and same[who] for who in ("nllc", "partner, runs"))
+
+
+def solving(args):
+    print(f"`values` and `check` of large problems, best wall seconds of {args.runs} runs of each "
+          f"program in turn; {machine(args)}")
+    print("| text | program | values s | check s | check beyond reading s | peak MiB | output |")
+    print("|---|---|---|---|---|---|---|")
+    names = sorted(name for name in os.listdir(args.texts) if name.endswith(".facts"))
+    fine = [solving_rows(args, name) for name in names]
+    return 0 < len(fine) == sum(fine)
+
+
 def main():
     parser = argparse.ArgumentParser(description=__doc__.split("\n", maxsplit=1)[0])
-    parser.add_argument("what", choices=["reading", "bodies", "real", "line"])
+    parser.add_argument("what", choices=["reading", "bodies", "real", "line", "solving"])
     parser.add_argument("--nllc", required=True)
     parser.add_argument("--baseline", help="the program to compare with; not for `line`")
     parser.add_argument("--most", type=float, default=8.0,
@@ -212,7 +260,7 @@ def main():
     parser.add_argument("--seconds", type=float, default=60.0, help="time limit of a run")
     parser.add_argument("--commit", default="none", help="told beside the figures")
     args = parser.parse_args()
-    what = {"reading": reading, "bodies": bodies, "real": real, "line": line}[args.what]
+    what = {"reading": reading, "bodies": bodies, "real": real, "line": line, "solving": solving}[args.what]
     return 0 if what(args) else 1
 
 

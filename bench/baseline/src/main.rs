@@ -1,12 +1,12 @@
 //! A plain Rust program that reads facts and MIR texts (version 1) and answers as `nllc` does,
 //! written by hand without any proof: the partner of `nllc` in measurements and in differential
 //! tests. Reading order: `main`, `text` (lines, tokens, which fault is told), `tables`, `facts`,
-//! `problem`, `solve`, `report`; for MIR texts `shapes`, `body`, `mir`, `rules`.
+//! `problem`, `solve`, `runs`, `report`; for MIR texts `shapes`, `body`, `mir`, `rules`.
 //!
 //! `baseline read FILE` and `baseline problem FILE` print one line of counts, of what is read and
 //! of the problem that it means; `baseline values FILE` and `baseline check FILE` print what
-//! `nllc` prints. Status: 0 answered, 1 `check` found faults, 2 words, file or text refused,
-//! 3 output failed.
+//! `nllc` prints; with `--runs` before the command, by the algorithm that `nllc` has. Status: 0
+//! answered, 1 `check` found faults, 2 words, file or text refused, 3 output failed.
 
 mod body;
 mod facts;
@@ -14,6 +14,7 @@ mod mir;
 mod problem;
 mod report;
 mod rules;
+mod runs;
 mod shapes;
 mod solve;
 mod tables;
@@ -57,17 +58,28 @@ fn problem<'t>(command: &str, text: &'t [u8]) -> Result<Problem<'t>, Fault> {
     Ok(rules::problem(body).unwrap_or_else(|| refuse("nllc: limit constraints")))
 }
 
+/// Writes the values, or the faults, and gives the status.
+fn report<V: report::Value>(
+    command: &str,
+    problem: &Problem,
+    values: &[V],
+    out: &mut impl Write,
+) -> io::Result<i32> {
+    if command == "values" {
+        return report::values(problem, values, out).map(|()| 0);
+    }
+    let faults = report::faults(problem, values);
+    report::fault_lines(problem, &faults, out)?;
+    Ok(if faults.is_empty() { 0 } else { 1 })
+}
+
 /// Writes the answer of a command and gives the status.
-fn answer(command: &str, problem: &Problem) -> io::Result<i32> {
+fn answer(command: &str, by_runs: bool, problem: &Problem) -> io::Result<i32> {
     let mut out = io::stdout().lock();
     match command {
         "read" | "problem" => report::counts(problem, &mut out).map(|()| 0),
-        "values" => report::values(problem, &solve::solve(problem), &mut out).map(|()| 0),
-        _ => {
-            let faults = report::faults(problem, &solve::solve(problem));
-            report::fault_lines(problem, &faults, &mut out)?;
-            Ok(if faults.is_empty() { 0 } else { 1 })
-        }
+        _ if by_runs => report(command, problem, &runs::solve(problem), &mut out),
+        _ => report(command, problem, &solve::solve(problem), &mut out),
     }
     .and_then(|status| out.flush().map(|()| status))
 }
@@ -85,12 +97,14 @@ fn cannot_write() -> i32 {
 }
 
 fn main() {
-    let words: Vec<String> = std::env::args().skip(1).collect();
+    let mut words: Vec<String> = std::env::args().skip(1).collect();
+    let by_runs = words.first().is_some_and(|word| word == "--runs");
+    words.drain(..by_runs as usize);
     let [command, path] = words.as_slice() else {
-        refuse("usage: baseline read|problem|values|check FILE");
+        refuse("usage: baseline [--runs] read|problem|values|check FILE");
     };
     if !["read", "problem", "values", "check"].contains(&command.as_str()) {
-        refuse("usage: baseline read|problem|values|check FILE");
+        refuse("usage: baseline [--runs] read|problem|values|check FILE");
     }
     let Ok(mut text) = bytes_of(path) else {
         refuse(&format!("nllc: cannot read {path}"));
@@ -103,7 +117,7 @@ fn main() {
     }
     let status = match problem(command, &text) {
         Err(fault) => refuse(&format!("nllc: line {}: {}", fault.line, fault.kind)),
-        Ok(problem) => answer(command, &problem).unwrap_or_else(|_| cannot_write()),
+        Ok(problem) => answer(command, by_runs, &problem).unwrap_or_else(|_| cannot_write()),
     };
     exit(status)
 }

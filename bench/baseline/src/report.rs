@@ -2,6 +2,7 @@
 
 use crate::body::Body;
 use crate::problem::{Labels, Problem, Universals};
+use crate::runs::Runs;
 use crate::solve::Row;
 use std::io::{self, Write};
 
@@ -31,6 +32,32 @@ pub fn body_counts(body: &Body, out: &mut impl Write) -> io::Result<()> {
         body.shapes.structs.len(),
         body.variables.len(),
     )
+}
+
+/// The value of a region, in whichever form.
+pub trait Value {
+    fn has(&self, e: u32) -> bool;
+    fn elements(&self) -> impl Iterator<Item = u32> + '_;
+}
+
+impl Value for Row {
+    fn has(&self, e: u32) -> bool {
+        Row::has(self, e)
+    }
+
+    fn elements(&self) -> impl Iterator<Item = u32> + '_ {
+        self.iter()
+    }
+}
+
+impl Value for Runs {
+    fn has(&self, e: u32) -> bool {
+        Runs::has(self, e)
+    }
+
+    fn elements(&self) -> impl Iterator<Item = u32> + '_ {
+        self.iter()
+    }
 }
 
 /// So many bytes are gathered before they are written.
@@ -69,14 +96,18 @@ fn push_point(line: &mut Vec<u8>, labels: &Labels, p: u32, block: &mut usize) {
 }
 
 /// A line a region: its name, a colon, then points and ends in order, each after a space.
-pub fn values(problem: &Problem, values: &[Row], out: &mut impl Write) -> io::Result<()> {
+pub fn values<V: Value>(
+    problem: &Problem,
+    values: &[V],
+    out: &mut impl Write,
+) -> io::Result<()> {
     let mut text = Vec::with_capacity(CHUNK + 512);
     for (name, value) in problem.names.iter().zip(values) {
         text.push(b'\'');
         text.extend_from_slice(name);
         text.push(b':');
         let mut block = 0;
-        for e in value.iter() {
+        for e in value.elements() {
             text.push(b' ');
             if e < problem.points {
                 push_point(&mut text, &problem.labels, e, &mut block);
@@ -111,7 +142,7 @@ fn known(problem: &Problem) -> Vec<Universals> {
 
 /// The pairs of universals where the first holds the end of the second and isn't known to outlive
 /// it, by the first, then by the second.
-pub fn faults(problem: &Problem, values: &[Row]) -> Vec<(u32, u32)> {
+pub fn faults<V: Value>(problem: &Problem, values: &[V]) -> Vec<(u32, u32)> {
     let known = known(problem);
     let mut faults = Vec::new();
     for a in 0..problem.universals {

@@ -101,7 +101,7 @@ pub fn solve(problem: &Problem) -> Vec<Row> {
 }
 
 /// The regions in an order in which a sub-region stands before its super-regions save in circles.
-fn order_of(problem: &Problem) -> Vec<u32> {
+pub fn order_of(problem: &Problem) -> Vec<u32> {
     let regions = problem.regions() as usize;
     let mut starts = vec![0; regions + 1];
     for constraint in &problem.constraints {

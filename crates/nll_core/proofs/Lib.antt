@@ -7,3 +7,4 @@ pub mod JumpLemmas
 pub mod WalkingLemmas
 pub mod RunValueLemmas
 pub mod WorklistLemmas
+pub mod OrderLemmas

@@ -5,3 +5,4 @@ pub mod Outliving
 pub mod Lines
 pub mod Walking
 pub mod Worklist
+pub mod Order

@@ -1,17 +1,18 @@
 //! The least solution of a problem of location-aware regions, and its faults.
 //! The problem is that of `nll_problem`, the sets are those of `nll_sets`; both are found here too.
 //!
-//! Reading order: `values`, `base_values`, `lines` (with `line_ends`, `jumps`), `stretches`, `walk`,
-//! `pairs`, `meeting`, `solver`; then `search`, `reachability`, `outliving`, `fault_check`.
+//! Reading order: `values`, `bases`, `lines` (with `line_ends`, `jumps`), `stretches`, `walk`,
+//! `pairs`, `meeting`, `order`, `solver`; then `search`, `reachability`, `outliving`, `fault_check`.
 //! The definitions are in specs/.
 #![tactic(auto)]
 
-mod base_values;
+mod bases;
 mod fault_check;
 mod jumps;
 mod line_ends;
 mod lines;
 mod meeting;
+mod order;
 mod outliving;
 mod pairs;
 mod reachability;
@@ -22,6 +23,7 @@ mod stretches;
 mod values;
 mod walk;
 
+pub use bases::base_values;
 pub use fault_check::faults;
 pub use nll_problem::{
     BuildError, Constraint, Graph, Kind, MAX_CONSTRAINTS, MAX_EDGES, MAX_POINTS, MAX_REGIONS,

@@ -12,11 +12,12 @@ ghost use Rattle.nll_problem.specs.Solution.{Least};
 ghost use Rattle.nll_problem.specs.declared.constraint.Constraint as spec;
 ghost use Rattle.nll_core.specs.Values.{IsHeld, IsShaped};
 ghost use Rattle.nll_core.specs.Growing.{StaysBelow, IsClosed, IsMet};
-ghost use Rattle.nll_core.specs.Worklist.{IsTracked, IsCleared, Turns, Visits, SupsAscend};
+ghost use Rattle.nll_core.specs.Worklist.{AreRegions, IsTracked, IsCleared, Turns, Visits};
 
-use crate::base_values::base_values;
+use crate::bases::base_values;
 use crate::lines::Lines;
 use crate::meeting::meet;
+use crate::order::order_of;
 use crate::pairs::pair_end;
 use crate::values::Values;
 use crate::walk::Walk;
@@ -95,14 +96,75 @@ fn visit_all(
     ensures below { OnOk result (StaysBelow problem.now values.old values.new) }
     ensures closed { OnOk result (IsClosed problem.now values.new) }
 {
+    let order = order_of(alloc, problem, index)?;
     let mut marks = vec![in alloc; true; problem.regions() as usize]?;
     let mut walk = Walk::new(alloc, problem.points() + problem.universals())?;
-    while sweep(problem, lines, index, values, &mut marks, &mut walk)? {}
+    while sweep(problem, lines, index, &order, values, &mut marks, &mut walk)? {}
     Ok(())
 }
 
-// Visits each marked region. Answers whether something was new.
+// Visits each marked region, in an order and then by number. Answers whether something was new.
 fn sweep(
+    problem: &Problem,
+    lines: &Lines,
+    index: &ConstraintIndex,
+    order: &[u32],
+    values: &mut Values,
+    marks: &mut Vec<bool>,
+    walk: &mut Walk,
+) -> Result<bool, Memory>
+    requires shaped { IsShaped problem.now values.old }
+    requires lines { lines.now ≡ problem.now.graph }
+    requires index { SameSet index.now problem.now.constraints }
+    requires order { AreRegions problem.now order.now }
+    requires walk { length walk.old.reached ≡ element_count lines.now }
+    requires width { length marks.old.items ≡ problem.now.regions }
+    requires tracked { IsTracked problem.now values.old marks.old.items }
+    ensures turns { IfOk result
+        (Turns problem.now values.old values.new marks.new.items) }
+    ensures walk { OnOk result (length walk.new.reached ≡ element_count lines.now) }
+    ensures clean { IfOk result (λ changed. changed ≡ false
+        → (r : ℕ) → r < problem.now.regions → flag marks.new.items r ≡ false) }
+{
+    let mut changed = sweep_backwards(problem, lines, index, order, values, marks, walk)?;
+    let new = sweep_all(problem, lines, index, values, marks, walk)?;
+    changed |= new;
+    Ok(changed)
+}
+
+// Visits each marked region of a list, the last one first. Answers whether something was new.
+fn sweep_backwards(
+    problem: &Problem,
+    lines: &Lines,
+    index: &ConstraintIndex,
+    order: &[u32],
+    values: &mut Values,
+    marks: &mut Vec<bool>,
+    walk: &mut Walk,
+) -> Result<bool, Memory>
+    requires shaped { IsShaped problem.now values.old }
+    requires lines { lines.now ≡ problem.now.graph }
+    requires index { SameSet index.now problem.now.constraints }
+    requires order { AreRegions problem.now order.now }
+    requires walk { length walk.old.reached ≡ element_count lines.now }
+    requires width { length marks.old.items ≡ problem.now.regions }
+    requires tracked { IsTracked problem.now values.old marks.old.items }
+    ensures turns { IfOk result
+        (Turns problem.now values.old values.new marks.new.items) }
+    ensures walk { OnOk result (length walk.new.reached ≡ element_count lines.now) }
+{
+    let mut changed = false;
+    let mut place = order.len();
+    while place > 0 {
+        place -= 1;
+        let new = turn(problem, lines, index, values, marks, walk, RegionId(order[place]))?;
+        changed |= new;
+    }
+    Ok(changed)
+}
+
+// Visits each marked region by number. Answers whether something was new.
+fn sweep_all(
     problem: &Problem,
     lines: &Lines,
     index: &ConstraintIndex,

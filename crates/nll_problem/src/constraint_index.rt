@@ -2,7 +2,7 @@
 
 ghost use Rattle.std.specs.Prelude.{◌≡◌, ◌↔◌, AllPairs, Contains, IfOk};
 ghost use Rattle.std.specs.List.Sorted.{IsPermutation, IsSorted};
-ghost use Rattle.nll_problem.specs.ConstraintIndex.{IsLower, constraint_cmp};
+ghost use Rattle.nll_problem.specs.ConstraintIndex.{IsLower, IsReadEarlier, constraint_cmp};
 ghost use Rattle.nll_problem.specs.Problem.{SameSet};
 ghost use Rattle.nll_problem.specs.declared.constraint.Constraint as spec;
 
@@ -46,6 +46,14 @@ impl ConstraintIndex {
         let mut constraints = Vec::from_slice(alloc, problem.constraints())?;
         sort(&mut constraints);
         Ok(ConstraintIndex { constraints })
+    }
+
+    /// All constraints, ascending by the region that they read, by `sup` and then by `at`, each once.
+    pub fn constraints(&self) -> &[Constraint]
+        ensures value { result.now ≡ self.now }
+        ensures ascending { AllPairs IsReadEarlier result.now }
+    {
+        self.constraints.as_slice()
     }
 
     /// The constraints that read a region, ascending by `sup` and those of one `sup` by `at`, each

@@ -23,6 +23,9 @@ pub enum Calls {
     Regions,
     /// Edges from 0 to each point below 2048, then from 1 to each of them, and so on.
     Edges,
+    /// Seven regions, then random edges, return points, base facts and constraints of nine points and
+    /// nine regions.
+    Random(u32),
     /// Constraints of the region 0 on 'static at each point below 4096, then of the region 1.
     Constraints,
 }
@@ -33,7 +36,31 @@ fn call_at(calls: Calls, place: u32) -> Option<Call> {
         Calls::Listed(calls) => calls.get(place as usize).copied(),
         Calls::Regions => Some(Call::Region),
         Calls::Edges => Some(Call::Next(place / 2048, place % 2048)),
+        Calls::Random(seed) => Some(random_call(seed, place)),
         Calls::Constraints => Some(Call::Holds(place / 4096, 0, place % 4096)),
+    }
+}
+
+// A number that looks random.
+fn mixed(seed: u32, place: u32) -> u32 {
+    let sum = seed.wrapping_mul(2_654_435_761) ^ place.wrapping_mul(2_246_822_519);
+    let once = (sum ^ (sum >> 15)).wrapping_mul(3_266_489_917);
+    (once ^ (once >> 13)).wrapping_mul(668_265_263) >> 4
+}
+
+// A random call of a problem of nine points and two universal regions.
+fn random_call(seed: u32, place: u32) -> Call {
+    let number = mixed(seed, place);
+    let (first, second, third) = (number / 8 % 9, number / 72 % 9, number / 648 % 9);
+    if place < 7 {
+        return Call::Region;
+    }
+    match number % 8 {
+        0 => Call::Next(first, second),
+        1 => Call::Next(first, (first + 1) % 9),
+        2 | 3 | 4 => Call::Base(first, second),
+        5 if third < 3 => Call::Ret(first),
+        _ => Call::Holds(first, second, third),
     }
 }
 
@@ -102,6 +129,16 @@ fn problem_of(
     let mut builder = ProblemBuilder::new(alloc, points, universals)?;
     let made = make_first(&mut builder, Calls::Listed(calls), 20);
     made.and(builder.finish())
+}
+
+/// What both solvers make of a random problem.
+pub fn solved_alike(alloc: Global, seed: u32) -> Result<String, BuildError> {
+    let mut builder = ProblemBuilder::new(alloc, 9, 2)?;
+    let made = make_first(&mut builder, Calls::Random(seed), 20 + seed % 60);
+    let problem = made.and(builder.finish())?;
+    let told = tell(alloc, &problem, Asked::BothSolvers);
+    drop(problem);
+    told
 }
 
 /// What the problem that calls make tells.

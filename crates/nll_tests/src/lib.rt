@@ -1,8 +1,13 @@
 //! Tests of sets, problems, solving and lines of texts, by their public calls alone.
-//! Expected values are found by hand from the definitions.
+//! Expected values are found by hand from the definitions. The plain solver, `rounds`, is a second
+//! body of `solve`'s contract.
 //!
-//! Reading order: `comparing`, `telling`, `calls`, then each module of tests.
+//! Reading order: `rounds`, `comparing`, `telling`, `calls`, then each module of tests.
 #![tactic(auto)]
+
+mod rounds;
+
+pub use rounds::solve_by_rounds;
 
 #[cfg(test)]
 mod building;

@@ -3,7 +3,7 @@ ghost use Rattle.std.specs.Prelude.{◌≡◌, length, OnOk};
 
 use super::comparing::compare;
 use super::telling::write_elements;
-use nll_core::{BitSet, BuildError, Element, ElementSet, Elements};
+use nll_core::{BitSet, BuildError, Element, ElementSet, Elements, Run, RunSet};
 use std::alloc::{AllocError, Global};
 
 // Puts elements in, those below the length, and writes of each whether it is new.
@@ -102,8 +102,10 @@ const TOLD: &[(u32, &[u32], &[u32], &str)] = &[
 #[test]
 fn sets_hold_what_was_put_in(rt: HostRuntime) {
     for (len, inserted, from, want) in TOLD {
-        let text = told::<BitSet>(rt.alloc(), *len, inserted, from);
-        compare(&rt, "a set", text, want);
+        let bits = told::<BitSet>(rt.alloc(), *len, inserted, from);
+        compare(&rt, "a set of bits", bits, want);
+        let runs = told::<RunSet>(rt.alloc(), *len, inserted, from);
+        compare(&rt, "a set of runs", runs, want);
     }
 }
 
@@ -123,4 +125,43 @@ fn last_alone(alloc: Global) -> Result<String, BuildError> {
 #[test]
 fn a_bit_set_gives_its_last_element(rt: HostRuntime) {
     compare(&rt, "the last element", last_alone(rt.alloc()), " 64");
+}
+
+// Puts elements below ten into a set of runs, and writes of each whether it is new and how many runs
+// there are then.
+fn write_runs(out: &mut String, set: &mut RunSet, elements: &[u32]) -> Result<(), BuildError>
+    requires { length set.old ≡ 10 }
+    ensures { OnOk result (length set.new ≡ 10) }
+{
+    for element in elements {
+        if *element < 10 {
+            let new = set.insert(Element(*element))?;
+            write!(out, "{new} {}|", set.runs())?;
+        }
+    }
+    Ok(())
+}
+
+// What a set of runs of elements below ten tells where elements are put in, then the elements from
+// 2 to 5, and where all are taken out.
+fn runs_told(alloc: Global, elements: &[u32]) -> Result<String, BuildError> {
+    let mut out = String::new(alloc);
+    let mut set = RunSet::empty(alloc, 10)?;
+    write_runs(&mut out, &mut set, elements)?;
+    write_elements(&mut out, set.iter())?;
+    let new = set.insert_run(Run { first: 2, last: 5 })?;
+    write!(out, "|{new} {:?} {:?}", set.as_runs(), set.run_from(1))?;
+    set.clear();
+    write!(out, "|{}", set.runs())?;
+    Ok(out)
+}
+
+// A set of runs has as few of them as make it up.
+#[test]
+fn a_set_of_runs_counts_them(rt: HostRuntime) {
+    let told = runs_told(rt.alloc(), &[5, 7, 6, 6, 9, 0]);
+    let want = "true 1|true 2|true 1|false 1|true 2|true 3| 0 5 6 7 9|true [Run { first: 0, \
+         last: 0 }, Run { first: 2, last: 7 }, Run { first: 9, last: 9 }] Some(Run { first: 2, \
+         last: 7 })|0";
+    compare(&rt, "runs", told, want);
 }

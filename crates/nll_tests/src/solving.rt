@@ -1,6 +1,6 @@
 //! Worked problems, with their least values and their faults.
 use super::calls::Call::{Base, Holds, Next, Outlives, Region, Ret};
-use super::calls::{Call, told};
+use super::calls::{Call, solved_alike, told};
 use super::comparing::compare;
 use super::telling::Asked;
 use nll_core::{Element, RegionId};
@@ -196,8 +196,18 @@ fn solves_problems(rt: HostRuntime) {
     for row in ROWS {
         let values = told(rt.alloc(), row.numbers, row.calls, Asked::Values);
         compare(&rt, row.says, values, row.values);
+        let both = told(rt.alloc(), row.numbers, row.calls, Asked::BothSolvers);
+        compare(&rt, row.says, both, "same");
         let faults = told(rt.alloc(), row.numbers, row.calls, Asked::Faults);
         compare(&rt, row.says, faults, row.faults);
+    }
+}
+
+// Both solvers give random problems the same values.
+#[test]
+fn solves_random_problems_alike(rt: HostRuntime) {
+    for seed in 0..2_000 {
+        compare(&rt, "a random problem", solved_alike(rt.alloc(), seed), "same");
     }
 }
 

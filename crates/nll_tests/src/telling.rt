@@ -6,6 +6,7 @@ use nll_core::{
     BuildError, Constraint, Element, ElementSet, Elements, Graph, Problem, RegionId, Values,
     faults, solve,
 };
+use crate::rounds::solve_by_rounds;
 use nll_problem::ConstraintIndex;
 use std::alloc::{AllocError, Global};
 
@@ -18,6 +19,8 @@ pub enum Asked {
     Readers,
     /// Its least values.
     Values,
+    /// Whether both solvers give it the same values.
+    BothSolvers,
     /// The faults of its least values.
     Faults,
     /// What values of it that hold nothing answer where an element is put into a region's.
@@ -30,6 +33,7 @@ pub fn tell(alloc: Global, problem: &Problem, asked: Asked) -> Result<String, Bu
         Asked::Facts => Ok(facts_of(alloc, problem)?),
         Asked::Readers => readers_of(alloc, problem),
         Asked::Values => values_of(alloc, problem),
+        Asked::BothSolvers => solvers_of(alloc, problem),
         Asked::Faults => faults_of(alloc, problem),
         Asked::Inserted(region, element) => inserted(alloc, problem, region, element),
     }
@@ -150,6 +154,24 @@ fn values_of(alloc: Global, problem: &Problem) -> Result<String, BuildError> {
     let shown = values_shown(alloc, problem, &values);
     drop(values);
     Ok(shown?)
+}
+
+// The least values of a problem, as the plain solver gives them.
+fn plain_values_of(alloc: Global, problem: &Problem) -> Result<String, BuildError> {
+    let values = solve_by_rounds(alloc, problem)?;
+    let shown = values_shown(alloc, problem, &values);
+    drop(values);
+    Ok(shown?)
+}
+
+// The least values of a problem as both solvers give them, or that they are the same.
+fn solvers_of(alloc: Global, problem: &Problem) -> Result<String, BuildError> {
+    let quick = values_of(alloc, problem)?;
+    let plain = plain_values_of(alloc, problem)?;
+    if quick.as_str() == plain.as_str() {
+        return Ok(String::from_str(alloc, "same")?);
+    }
+    Ok(format!(in alloc; "{quick} and {plain}")?)
 }
 
 // Pairs of regions.

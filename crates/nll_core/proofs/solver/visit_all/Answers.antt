@@ -1,6 +1,6 @@
 use Rattle.std.proofs.Common.{◌≡◌, ◌∙◌, ◌+◌, ℕ, Bool, List, true, length, replicate, sym, subst, ap, arith}
 use Rattle.std.proofs.lemmas.List.{length-replicate}
-use Rattle.nll_core.specs.Worklist.{IsTracked}
+use Rattle.nll_core.specs.Worklist.{IsTracked, AreRegions}
 use Rattle.nll_core.proofs.WorklistLemmas.{closed_clean, tracked_first}
 use Rattle.nll_core.proofs.solver.visit_all.Goals as goal
 use Rattle.nll_core.proofs.solver.visit_all.Goals.{In_ok-marks}
@@ -23,3 +23,6 @@ loop-walk-init c =
 
 pub returns-clause-closed : goal.returns-clause-closed
 returns-clause-closed c = closed_clean c.args.problem.now c.regions.ensures.sound c.sweep.new.values c.sweep.new.marks.items c.in_ok-sweep.ensures.turns.tracked (c.in_ok-sweep.ensures.clean c.if-branch.false)
+
+pub sweep-requires-clause-order : goal.sweep-requires-clause-order
+sweep-requires-clause-order c = subst (AreRegions c.args.problem.now) (sym c.deref.ensures.value) c.in_ok-order.ensures

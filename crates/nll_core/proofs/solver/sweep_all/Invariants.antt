@@ -1,7 +1,7 @@
 use Rattle.std.proofs.Common.{◌≡◌, length}
 use Rattle.nll_problem.specs.Graph.{element_count}
 use Rattle.nll_core.proofs.WorklistLemmas.{Sweeping}
-use Rattle.nll_core.proofs.solver.sweep.Given as goal
+use Rattle.nll_core.proofs.solver.sweep_all.Given as goal
 
 abbrev pub invariant-loop-region : goal.invariant-loop-region
 invariant-loop-region l = record {

@@ -1,7 +1,7 @@
 use Rattle.std.proofs.Common.{◌+◌, ◌<◌, length, arith}
 use Rattle.nll_core.specs.Values.{set_of}
 use Rattle.nll_core.proofs.SolverLemmas.{filling_first, filling_more}
-use Rattle.nll_core.proofs.base_values.insert_universals.Goals as goal
+use Rattle.nll_core.proofs.bases.insert_universals.Goals as goal
 
 pub loop-number-init : goal.loop-number-init
 loop-number-init c = filling_first _ _

@@ -2,7 +2,7 @@ use Rattle.nll_core.specs.Values.{IsHeld}
 use Rattle.std.proofs.Common.{subst}
 use Rattle.nll_core.proofs.GrowingLemmas.{nothing_held}
 use Rattle.nll_core.proofs.SolverLemmas.{base_exact}
-use Rattle.nll_core.proofs.base_values.base_values.Goals as goal
+use Rattle.nll_core.proofs.bases.base_values.Goals as goal
 
 pub returns-clause-exact : goal.returns-clause-exact
 returns-clause-exact c = base_exact c.args.problem.now c.in_ok-values.values c.insert_universals.new.values c.insert_bases.new.values

@@ -2,8 +2,8 @@ use Rattle.std.proofs.Common.{◌≡◌, ℕ, List, subst, ◌<◌, Contains, ge
 use Rattle.std.proofs.lemmas.List.{get_or_default}
 use Rattle.nll_core.specs.Values.{set_of}
 use Rattle.nll_core.proofs.SolverLemmas.{listing_first, listing_more}
-use Rattle.nll_core.proofs.base_values.insert_bases.Goals as goal
-use Rattle.nll_core.proofs.base_values.insert_bases.Goals.{After-base-item}
+use Rattle.nll_core.proofs.bases.insert_bases.Goals as goal
+use Rattle.nll_core.proofs.bases.insert_bases.Goals.{After-base-item}
 
 -- the fact of a turn is a base fact of the problem
 listed : (c : After-base-item) → Contains {X = ℕ × ℕ} c.args.problem.now.bases (c.base-item.result.0, c.base-item.result.1)

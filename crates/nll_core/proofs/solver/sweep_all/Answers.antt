@@ -1,5 +1,5 @@
 use Rattle.nll_core.proofs.WorklistLemmas.{sweeping_more}
-use Rattle.nll_core.proofs.solver.sweep.Goals as goal
+use Rattle.nll_core.proofs.solver.sweep_all.Goals as goal
 
 pub loop-region-preserved : goal.loop-region-preserved
 loop-region-preserved c = record {

@@ -1,0 +1,248 @@
+//! The least values by the algorithm that `nllc` has: values are runs of elements, and a region
+//! whose value grew is visited. For each region that its constraints fill, the walks from their
+//! points are made anew, a stretch of a line of points at a time; no walk is kept.
+
+use crate::problem::{Constraint, Problem};
+use crate::solve::order_of;
+
+/// The elements from the first to the last.
+#[derive(Clone, Copy)]
+pub struct Run {
+    pub first: u32,
+    pub last: u32,
+}
+
+/// A set of elements as ascending runs, no two of which touch.
+#[derive(Clone, Default)]
+pub struct Runs(pub Vec<Run>);
+
+impl Runs {
+    /// The place of the first run that ends at `least` or later.
+    #[inline]
+    fn ends_from(&self, least: u32) -> usize {
+        let runs = &self.0;
+        let len = runs.len();
+        if len == 0 || runs[len - 1].last < least {
+            return len;
+        }
+        if len == 1 || runs[len - 2].last < least {
+            return len - 1;
+        }
+        runs.partition_point(|run| run.last < least)
+    }
+
+    #[inline]
+    fn run_from(&self, e: u32) -> Option<Run> {
+        self.0.get(self.ends_from(e)).copied()
+    }
+
+    pub fn has(&self, e: u32) -> bool {
+        self.run_from(e).is_some_and(|run| run.first <= e)
+    }
+
+    /// The elements in ascending order.
+    pub fn iter(&self) -> impl Iterator<Item = u32> + '_ {
+        self.0.iter().flat_map(|run| run.first..=run.last)
+    }
+
+    /// Puts a run in; true where an element of it is new.
+    #[inline]
+    fn insert(&mut self, run: Run) -> bool {
+        let from = self.ends_from(run.first.saturating_sub(1));
+        let runs = &mut self.0;
+        if from < runs.len() && runs[from].first <= run.first && run.last <= runs[from].last {
+            return false;
+        }
+        let mut to = from;
+        while to < runs.len() && runs[to].first <= run.last + 1 {
+            to += 1;
+            if to - from == 8 {
+                to += runs[to..].partition_point(|other| other.first <= run.last + 1);
+                break;
+            }
+        }
+        if from == to {
+            runs.insert(from, run);
+        } else {
+            let first = runs[from].first.min(run.first);
+            let last = runs[to - 1].last.max(run.last);
+            runs[from] = Run { first, last };
+            runs.drain(from + 1..to);
+        }
+        true
+    }
+}
+
+/// For each point the last point of its line, and where its other steps lead; the number of points
+/// stands for the ends.
+struct Lines {
+    ends: Vec<u32>,
+    starts: Vec<u32>,
+    jumps: Vec<u32>,
+}
+
+impl Lines {
+    fn of(problem: &Problem) -> Lines {
+        let points = problem.points;
+        let mut ends: Vec<u32> = (0..points).collect();
+        let mut starts = Vec::with_capacity(points as usize + 1);
+        let mut jumps = Vec::new();
+        starts.push(0);
+        for p in 0..points {
+            for &q in problem.successors.of(p) {
+                if q == p + 1 {
+                    ends[p as usize] = q;
+                } else {
+                    jumps.push(q);
+                }
+            }
+            if problem.returns[p as usize] {
+                jumps.push(points);
+            }
+            starts.push(jumps.len() as u32);
+        }
+        for p in (0..points as usize).rev() {
+            if ends[p] as usize != p {
+                ends[p] = ends[p + 1];
+            }
+        }
+        Lines { ends, starts, jumps }
+    }
+
+    #[inline]
+    fn jumps(&self, run: Run) -> &[u32] {
+        &self.jumps[self.starts[run.first as usize] as usize..self.starts[run.last as usize + 1] as usize]
+    }
+}
+
+/// What a walk has reached, and the stretches that it has still to follow.
+#[derive(Default)]
+struct Walk {
+    reached: Runs,
+    todo: Vec<Run>,
+}
+
+impl Walk {
+    /// Enters the stretch from a point on, where it is new.
+    #[inline]
+    fn enter(&mut self, lines: &Lines, sub: &Runs, point: u32) {
+        let Some(inside) = sub.run_from(point).filter(|run| run.first <= point) else {
+            return;
+        };
+        let most = lines.ends[point as usize].min(inside.last);
+        let last = match self.reached.run_from(point) {
+            Some(next) if next.first <= point => return,
+            Some(next) => most.min(next.first - 1),
+            None => most,
+        };
+        let run = Run { first: point, last };
+        self.reached.insert(run);
+        self.todo.push(run);
+    }
+
+    /// Reaches what walks inside a set reach from the points of constraints, which ascend.
+    fn reach(&mut self, lines: &Lines, sub: &Runs, pair: &[Constraint]) {
+        let points = lines.ends.len() as u32;
+        self.reached.0.clear();
+        let mut place = 0;
+        while place < pair.len() {
+            let point = pair[place].at;
+            let Some(run) = sub.run_from(point) else {
+                break;
+            };
+            let mut next = run.first;
+            if run.first <= point {
+                self.enter(lines, sub, point);
+                next = lines.ends[point as usize].min(run.last) + 1;
+            }
+            place += 1;
+            if place < pair.len() && pair[place].at < next {
+                place += pair[place..].partition_point(|constraint| constraint.at < next);
+            }
+        }
+        let mut returned = false;
+        while let Some(run) = self.todo.pop() {
+            for &target in lines.jumps(run) {
+                if target < points {
+                    self.enter(lines, sub, target);
+                } else {
+                    returned = true;
+                }
+            }
+        }
+        if returned {
+            for run in &sub.0[sub.ends_from(points)..] {
+                self.reached.insert(Run { first: run.first.max(points), last: run.last });
+            }
+        }
+    }
+}
+
+/// The constraints by sub-region, then by super-region, then by point, and where those of each
+/// sub-region begin.
+fn index_of(problem: &Problem) -> (Vec<Constraint>, Vec<u32>) {
+    let mut constraints = problem.constraints.clone();
+    let key = |c: &Constraint| (c.sub, c.sup, c.at);
+    if !constraints.is_sorted_by_key(key) {
+        constraints.sort_unstable_by_key(key);
+    }
+    let mut starts = vec![0; problem.regions() as usize + 1];
+    for constraint in &constraints {
+        starts[constraint.sub as usize + 1] += 1;
+    }
+    for region in 1..starts.len() {
+        starts[region] += starts[region - 1];
+    }
+    (constraints, starts)
+}
+
+/// The values of just the base elements.
+fn base_values(problem: &Problem) -> Vec<Runs> {
+    let mut values = vec![Runs::default(); problem.regions() as usize];
+    for region in 0..problem.universals {
+        let value = &mut values[region as usize];
+        value.insert(Run { first: 0, last: problem.points - 1 });
+        let end = problem.points + region;
+        value.insert(Run { first: end, last: end });
+    }
+    for (region, points) in problem.bases.iter().enumerate() {
+        for &p in points {
+            values[region].insert(Run { first: p, last: p });
+        }
+    }
+    values
+}
+
+/// The values of all regions in region order.
+pub fn solve(problem: &Problem) -> Vec<Runs> {
+    let lines = Lines::of(problem);
+    let mut values = base_values(problem);
+    let order = order_of(problem);
+    let (constraints, starts) = index_of(problem);
+    let mut marks = vec![true; values.len()];
+    let mut walk = Walk::default();
+    let mut again = true;
+    while again {
+        again = false;
+        for &sub in &order {
+            if !std::mem::take(&mut marks[sub as usize]) {
+                continue;
+            }
+            let read = starts[sub as usize] as usize..starts[sub as usize + 1] as usize;
+            for pair in constraints[read].chunk_by(|a, b| a.sup == b.sup) {
+                let sup = pair[0].sup;
+                if sup == sub {
+                    continue;
+                }
+                walk.reach(&lines, &values[sub as usize], pair);
+                let mut new = false;
+                for &run in &walk.reached.0 {
+                    new |= values[sup as usize].insert(run);
+                }
+                marks[sup as usize] |= new;
+                again |= new;
+            }
+        }
+    }
+    values
+}

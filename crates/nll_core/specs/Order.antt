@@ -1,0 +1,21 @@
+-- A descent through regions that gives an order of them: that it keeps to regions, and no more.
+-- Source: project's choice. Private contracts alone cite this file.
+use Rattle.std.specs.Prelude.{◌≡◌, ℕ, ◌+◌, ◌<◌, Bool, List, length, Contains}
+use Rattle.nll_problem.specs.declared.constraint.Constraint.{Constraint}
+
+-- each number of the list is below the count
+abbrev pub AreBelow : ℕ → List ℕ → Type 0
+AreBelow count xs = (x : ℕ) → Contains xs x → x < count
+
+-- the constraints are of regions below the count
+abbrev pub AreOfRegions : ℕ → List Constraint → Type 0
+AreOfRegions count constraints =
+    (c : Constraint) → Contains constraints c → (c.sub < count) × (c.sup < count)
+
+-- A descent among so many regions has a place and a mark for each, and its lists are of regions.
+pub record IsDescent (count : ℕ) (next : List ℕ) (seen : List Bool) (path left : List ℕ)
+    : Type 0 where
+  pub next_sized : length next ≡ count + 1
+  pub seen_sized : length seen ≡ count
+  pub path_within : AreBelow count path
+  pub left_within : AreBelow count left

@@ -1,0 +1,150 @@
+//! In which order regions are visited.
+//!
+//! Only time hangs on it, so the contracts say that the order is of regions and no more.
+
+ghost use Rattle.std.specs.Prelude.{◌≡◌, ◌<◌, ◌+◌, length, IfOk, OnOk};
+ghost use Rattle.nll_problem.specs.Problem.{SameSet};
+ghost use Rattle.nll_core.specs.Order.{AreOfRegions, IsDescent};
+ghost use Rattle.nll_core.specs.Worklist.{AreRegions};
+
+use nll_problem::{Constraint, ConstraintIndex, Problem};
+use nll_sets::Memory;
+use std::alloc::Global;
+
+// A descent from regions to those that are filled from them.
+#[derive(Drop)]
+struct Descent {
+    // The place of the constraint that each region follows next.
+    next: Vec<usize>,
+    seen: Vec<bool>,
+    // The regions from which the descent has still to go on.
+    path: Vec<u32>,
+    // The regions that it has left.
+    left: Vec<u32>,
+}
+
+/// The regions in the order in which a descent leaves them: backwards, a region that is read stands
+/// before those that are filled from it, save in circles.
+pub fn order_of(
+    alloc: Global,
+    problem: &Problem,
+    index: &ConstraintIndex,
+) -> Result<Vec<u32>, Memory>
+    requires { SameSet index.now problem.now.constraints }
+    ensures { IfOk result (λ order. AreRegions problem.now order.items) }
+{
+    let regions = problem.regions();
+    let starts = starts_of(alloc, index.constraints(), regions)?;
+    let mut descent = descent_of(alloc, starts.as_slice(), regions)?;
+    for root in 0..regions {
+        descend(index.constraints(), starts.as_slice(), &mut descent, regions, root)?;
+    }
+    Ok(descent.left)
+}
+
+// Where the constraints that read each region begin, and where the last ones end.
+fn starts_of(
+    alloc: Global,
+    constraints: &[Constraint],
+    regions: u32,
+) -> Result<Vec<usize>, Memory>
+    requires { AreOfRegions regions constraints.now }
+    ensures { IfOk result (λ starts. length starts.items ≡ regions + 1) }
+{
+    let mut starts = vec![in alloc; 0usize; regions as usize + 1]?;
+    for place in 0..constraints.len() {
+        let sub = constraints[place].sub;
+        starts[sub.0 as usize + 1] = place + 1;
+    }
+    for region in 0..regions as usize {
+        starts[region + 1] = starts[region].max(starts[region + 1]);
+    }
+    Ok(starts)
+}
+
+// A descent that has seen nothing.
+fn descent_of(alloc: Global, starts: &[usize], regions: u32) -> Result<Descent, Memory>
+    requires { length starts.now ≡ regions + 1 }
+    ensures { IfOk result (λ d.
+        IsDescent regions d.next.items d.seen.items d.path.items d.left.items) }
+{
+    let next = Vec::from_slice(alloc, starts)?;
+    let seen = vec![in alloc; false; regions as usize]?;
+    Ok(Descent {
+        next,
+        seen,
+        path: Vec::new(alloc),
+        left: Vec::new(alloc),
+    })
+}
+
+// Goes from a region, if it wasn't seen, to all that are filled by way of it.
+fn descend(
+    constraints: &[Constraint],
+    starts: &[usize],
+    descent: &mut Descent,
+    regions: u32,
+    root: u32,
+) -> Result<(), Memory>
+    requires root { root < regions }
+    requires starts { length starts.now ≡ regions + 1 }
+    requires constraints { AreOfRegions regions constraints.now }
+    requires descent { IsDescent regions descent.old.next.items descent.old.seen.items
+        descent.old.path.items descent.old.left.items }
+    ensures { OnOk result (IsDescent regions descent.new.next.items descent.new.seen.items
+        descent.new.path.items descent.new.left.items) }
+{
+    enter(descent, regions, root)?;
+    // Each step follows a constraint or leaves a region.
+    for _ in 0..constraints.len().saturating_add(starts.len()) {
+        let Some(region) = descent.path.pop() else {
+            return Ok(());
+        };
+        step(constraints, starts, descent, regions, region)?;
+    }
+    Ok(())
+}
+
+// Follows the next constraint that reads a region or, where there is none, leaves the region.
+fn step(
+    constraints: &[Constraint],
+    starts: &[usize],
+    descent: &mut Descent,
+    regions: u32,
+    region: u32,
+) -> Result<(), Memory>
+    requires region { region < regions }
+    requires starts { length starts.now ≡ regions + 1 }
+    requires constraints { AreOfRegions regions constraints.now }
+    requires descent { IsDescent regions descent.old.next.items descent.old.seen.items
+        descent.old.path.items descent.old.left.items }
+    ensures { OnOk result (IsDescent regions descent.new.next.items descent.new.seen.items
+        descent.new.path.items descent.new.left.items) }
+{
+    let at = region as usize;
+    let place = descent.next[at];
+    if place >= starts[at + 1] || place >= constraints.len() {
+        descent.left.push(region)?;
+        return Ok(());
+    }
+    descent.next[at] = place + 1;
+    descent.path.push(region)?;
+    let sup = constraints[place].sup;
+    enter(descent, regions, sup.0)
+}
+
+// Goes on to a region, if it wasn't seen.
+fn enter(descent: &mut Descent, regions: u32, region: u32) -> Result<(), Memory>
+    requires region { region < regions }
+    requires descent { IsDescent regions descent.old.next.items descent.old.seen.items
+        descent.old.path.items descent.old.left.items }
+    ensures { OnOk result (IsDescent regions descent.new.next.items descent.new.seen.items
+        descent.new.path.items descent.new.left.items) }
+{
+    if descent.seen[region as usize] {
+        return Ok(());
+    }
+    descent.seen[region as usize] = true;
+    descent.path.push(region)?;
+    Ok(())
+}
