@@ -70,6 +70,8 @@ class Folding(unittest.TestCase):
                          "# point 4: line 2: StorageLive(_4) (bb0[4])")
         self.assertEqual([row.points for row in rows(facts, range(5))], [[0, 1], [2], [3], [4]])
         self.assertEqual(rows(facts, range(5))[0].text, "StorageLive(_1), StorageDead(_2)")
+        many = facts_of(6, *(f"# point {p}: line 1: nop (bb0[{p}])" for p in range(6)))
+        self.assertEqual([row.points for row in rows(many, range(6))], [[0, 1, 2, 3], [4, 5]])
 
 
 class Layers(unittest.TestCase):

@@ -74,6 +74,8 @@ class Sentences(unittest.TestCase):
         self.assertEqual(plain(words.reason(few, Constraint(0, 0, 4))),
                          "After `x0` (line 5) or `x1` (line 6), ")
         many = facts_of(5, *remarks, *edges)
+        step = chains.Step(Constraint(0, 0, 4), [4])
+        self.assertEqual((words.arising(few, [step]), words.arising(many, [step])), ([5, 6], []))
         self.assertEqual(plain(words.reason(many, Constraint(0, 0, 4))),
                          "By one of the 4 statements before point 4, ")
 
@@ -115,6 +117,10 @@ class Windows(unittest.TestCase):
         self.assertEqual(source.window(self.LINES, [8]), (3, 9))
         self.assertEqual(source.window(self.LINES, [5, 8, 9]), (3, 9))
         self.assertEqual(source.window(self.LINES, [11]), (11, 11))
+
+    def test_an_end_that_is_far_away(self):
+        self.assertEqual(source.window(["fn f() {", "    g();"] + ["    h();"] * 60 + ["}"], [2]),
+                         (1, 2))
 
     def test_no_function_above(self):
         self.assertEqual(source.window(["a", "b", "c"], [2]), (2, 2))
