@@ -7,7 +7,8 @@ ghost use Rattle.clap.specs.Words.{app_of, found_of, kind_of, rows_of, rule_of};
 ghost use Rattle.clap.specs.Words.{new_app, subcommand_rows_of, with_rule, with_subcommand};
 ghost use Rattle.clap.specs.declared.builder.Command.TheViews.{out-Command};
 ghost use Rattle.nll_command_line.specs.Grammar.{IsHelpKind, IsLineError, bare_program, file_rule};
-ghost use Rattle.nll_command_line.specs.Grammar.{line_of_found, line_of_matches, program, task_named};
+ghost use Rattle.nll_command_line.specs.Grammar.{line_of_found, line_of_matches, program};
+ghost use Rattle.nll_command_line.specs.Grammar.{task_named};
 
 use crate::error::LineError;
 use crate::task::{Line, Task};

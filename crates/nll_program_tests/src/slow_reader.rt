@@ -143,33 +143,21 @@ fn with_name<'a>(word: &str, name: &'a str) -> Option<Fact<'a>> {
     }
 }
 
-// The line of a word and one more.
-fn with_one<'a>(word: &str, argument: Token<'a>) -> Option<Fact<'a>> {
-    match argument {
-        Token::Word(n) => with_number(word, number(n)?),
-        Token::Name(a) => with_name(word, a),
-        Token::Nothing => None,
-    }
-}
-
-// The line of a word and two more.
-fn with_two<'a>(word: &str, first: Token<'a>, second: Token<'a>) -> Option<Fact<'a>> {
-    match (first, second) {
-        (Token::Word(n), Token::Word(m)) if word == "next" => {
-            Some(Fact::Next(number(n)?, number(m)?))
-        }
-        (Token::Name(a), Token::Name(b)) if word == "outlives" => Some(Fact::Outlives(a, b)),
-        (Token::Name(a), Token::Word(n)) if word == "base" => Some(Fact::Base(a, number(n)?)),
-        _ => None,
-    }
-}
-
 // The line that a word and what stands behind it are.
 fn fact_of<'a>(word: &str, arguments: [Token<'a>; 4]) -> Option<Fact<'a>> {
     match arguments {
         [Token::Nothing, ..] if word == "end" => Some(Fact::End),
-        [first, Token::Nothing, ..] => with_one(word, first),
-        [first, second, Token::Nothing, _] => with_two(word, first, second),
+        [Token::Word(n), Token::Nothing, ..] => with_number(word, number(n)?),
+        [Token::Name(a), Token::Nothing, ..] => with_name(word, a),
+        [Token::Word(n), Token::Word(m), Token::Nothing, _] if word == "next" => {
+            Some(Fact::Next(number(n)?, number(m)?))
+        }
+        [Token::Name(a), Token::Name(b), Token::Nothing, _] if word == "outlives" => {
+            Some(Fact::Outlives(a, b))
+        }
+        [Token::Name(a), Token::Word(n), Token::Nothing, _] if word == "base" => {
+            Some(Fact::Base(a, number(n)?))
+        }
         [
             Token::Name(a),
             Token::Name(b),
