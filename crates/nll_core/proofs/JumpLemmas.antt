@@ -41,7 +41,8 @@ pushes_more kind larger old now x grown p =
         λ (k, l, m, is). (grown t).1 (⊎_elim
             (λ here. inr (sym is ∙ (ap (λ i. get_or (now ++ x ∷ []) i 0) here ∙ last)))
             (λ other. let within : k < length now = omega (arith, m, len, other) in inl ((p.each t).1 (k, l, within, sym (get_or_append_left now (x ∷ []) 0 k within) ∙ is)))
-            (cases_eq k (length now))));
+            (cases_eq k (length now))),
+      );
     }
 
 -- ---- the successors of a point, one after another
@@ -55,18 +56,21 @@ among_first_none list skipped t ((k, l, is), other) = omega (arith, l)
 
 pub among_first_more : (list : List ℕ) (skipped count x : ℕ) → get_or list count 0 ≡ x → x ≢ skipped → (t : ℕ) → AmongFirst list skipped (count + 1) t ↔ (AmongFirst list skipped count t ⊎ (t ≡ x))
 among_first_more list skipped count x here other t = (
-    λ ((k, l, is), apart). ⊎_elim (λ same. inr (sym is ∙ (ap (λ i. get_or list i 0) same ∙ here))) (λ before. inl ((k, omega (arith, l, before), is), apart)) (cases_eq k count),
-    ⊎_elim (λ ((k, l, is), apart). ((k, omega (arith, l), is), apart)) (λ same. ((count, omega arith, here ∙ sym same), λ e. other (sym same ∙ e))))
+  λ ((k, l, is), apart). ⊎_elim (λ same. inr (sym is ∙ (ap (λ i. get_or list i 0) same ∙ here))) (λ before. inl ((k, omega (arith, l, before), is), apart)) (cases_eq k count),
+  ⊎_elim (λ ((k, l, is), apart). ((k, omega (arith, l), is), apart)) (λ same. ((count, omega arith, here ∙ sym same), λ e. other (sym same ∙ e))),
+)
 
 pub among_first_skip : (list : List ℕ) (skipped count : ℕ) → get_or list count 0 ≡ skipped → (t : ℕ) → AmongFirst list skipped (count + 1) t ↔ AmongFirst list skipped count t
 among_first_skip list skipped count here t = (
-    λ ((k, l, is), apart). ⊎_elim (λ same. absurd (apart (sym is ∙ (ap (λ i. get_or list i 0) same ∙ here)))) (λ before. ((k, omega (arith, l, before), is), apart)) (cases_eq k count),
-    λ ((k, l, is), apart). ((k, omega (arith, l), is), apart))
+  λ ((k, l, is), apart). ⊎_elim (λ same. absurd (apart (sym is ∙ (ap (λ i. get_or list i 0) same ∙ here)))) (λ before. ((k, omega (arith, l, before), is), apart)) (cases_eq k count),
+  λ ((k, l, is), apart). ((k, omega (arith, l), is), apart),
+)
 
 pub among_all : (list : List ℕ) (skipped count : ℕ) → length list ≤ count → count ≤ length list → (t : ℕ) → (Contains list t × (t ≢ skipped)) ↔ AmongFirst list skipped count t
 among_all list skipped count all within t = (
-    λ (h, other). ((h.0, omega (arith, h.1, all), get_or_default list h.0 0 t h.1 ∙ h.2), other),
-    λ ((k, l, is), other). let below : k < length list = omega (arith, l, within) in ((k, below, get_or_default list k t 0 below ∙ is), other))
+  λ (h, other). ((h.0, omega (arith, h.1, all), get_or_default list h.0 0 t h.1 ∙ h.2), other),
+  λ ((k, l, is), other). let below : k < length list = omega (arith, l, within) in ((k, below, get_or_default list k t 0 below ∙ is), other),
+)
 
 -- ---- the jumps of points, one point after another
 
@@ -94,13 +98,15 @@ module _ (g : Graph) (count : ℕ) (starts targets more : List ℕ) (j : AreJump
   -- what stands in the part before stays
   stays : (from to t : ℕ) → to ≤ length targets → StandsIn targets from to t ↔ StandsIn more from to t
   stays from to t within = (
-      λ (k, l, m, is). (k, l, m, p.front k (omega (arith, m, within)) ∙ is),
-      λ (k, l, m, is). (k, l, m, sym (p.front k (omega (arith, m, within))) ∙ is))
+    λ (k, l, m, is). (k, l, m, p.front k (omega (arith, m, within)) ∙ is),
+    λ (k, l, m, is). (k, l, m, sym (p.front k (omega (arith, m, within))) ∙ is),
+  )
 
   moved : (x t a b : ℕ) → a ≡ get_or ends x 0 → b ≡ get_or ends (x + 1) 0 → StandsIn more a b t ↔ StandsIn more (get_or ends x 0) (get_or ends (x + 1) 0) t
   moved x t a b e f = (
-      λ (k, l, m, is). (k, omega (arith, l, e), omega (arith, m, f), is),
-      λ (k, l, m, is). (k, omega (arith, l, e), omega (arith, m, f), is))
+    λ (k, l, m, is). (k, omega (arith, l, e), omega (arith, m, f), is),
+    λ (k, l, m, is). (k, omega (arith, l, e), omega (arith, m, f), is),
+  )
 
   pub jumps_more : AreJumps g (count + 1) ends more
   jumps_more = record {
@@ -115,17 +121,17 @@ module _ (g : Graph) (count : ℕ) (starts targets more : List ℕ) (j : AreJump
     last = at_end (count + 1) refl;
     each = λ x t h. ⊎_elim
         (λ own.
-            let a : length targets ≡ get_or ends x 0 = sym (before x (omega (arith, own)) ∙ (ap (λ i. get_or starts i 0) own ∙ j.last)) in
-            let b : length more ≡ get_or ends (x + 1) 0 = sym (at_end (x + 1) (omega (arith, own))) in
-            let same = moved x t (length targets) (length more) a b in
-            (λ jump. same.0 ((p.each t).0 (subst (λ y. IsJump g y t) own jump)), λ s. subst (λ y. IsJump g y t) (sym own) ((p.each t).1 (same.1 s))))
+        let a : length targets ≡ get_or ends x 0 = sym (before x (omega (arith, own)) ∙ (ap (λ i. get_or starts i 0) own ∙ j.last)) in
+        let b : length more ≡ get_or ends (x + 1) 0 = sym (at_end (x + 1) (omega (arith, own))) in
+        let same = moved x t (length targets) (length more) a b in
+        (λ jump. same.0 ((p.each t).0 (subst (λ y. IsJump g y t) own jump)), λ s. subst (λ y. IsJump g y t) (sym own) ((p.each t).1 (same.1 s))))
         (λ other.
-            let within : x < count = omega (arith, h, other) in
-            let a = sym (before x (omega (arith, within))) in
-            let b = sym (before (x + 1) (omega (arith, within))) in
-            let same = moved x t (get_or starts x 0) (get_or starts (x + 1) 0) a b in
-            let kept = stays (get_or starts x 0) (get_or starts (x + 1) 0) t (start_below (x + 1) (omega (arith, within))) in
-            (λ jump. same.0 (kept.0 ((j.each x t within).0 jump)), λ s. (j.each x t within).1 (kept.1 (same.1 s))))
+        let within : x < count = omega (arith, h, other) in
+        let a = sym (before x (omega (arith, within))) in
+        let b = sym (before (x + 1) (omega (arith, within))) in
+        let same = moved x t (get_or starts x 0) (get_or starts (x + 1) 0) a b in
+        let kept = stays (get_or starts x 0) (get_or starts (x + 1) 0) t (start_below (x + 1) (omega (arith, within))) in
+        (λ jump. same.0 (kept.0 ((j.each x t within).0 jump)), λ s. (j.each x t within).1 (kept.1 (same.1 s))))
         (cases_eq x count);
   }
 
@@ -158,22 +164,23 @@ module _ (g : Graph) (count : ℕ) (starts targets : List ℕ) (j : AreJumps g c
 
     pub part_jumps : (t : ℕ) → Contains (slice_range targets from to) t ↔ ((x : ℕ) × ((first ≤ x) × (x ≤ last)) × IsJump g x t)
     part_jumps t = (
-        λ (k, l, is).
-            let within : k < to - from = omega (arith, l, part_length) in
-            let n : ℕ = last + 1 - first in
-            let end : first + n ≡ last + 1 = omega (arith, proper) in
-            let w = owner first n (from + k) (omega (arith, from_is)) (omega (arith, within, to_is, ap (λ i. get_or starts i 0) end)) in
-            let here : get_or targets (from + k) 0 ≡ t = get_or_default targets (from + k) 0 t (omega (arith, within, part_within)) ∙ (sym (part_at k t within) ∙ is) in
-            (w.0, (w.1, omega (arith, w.2, end)), (j.each w.0 t (omega (arith, w.2, end, point))).1 (from + k, w.3, w.4, here)),
-        λ (x, (low, high), jump).
-            let s = (j.each x t (omega (arith, high, point))).0 jump in
-            let above : from ≤ s.0 = omega (arith, from_is, s.1, j.ordered first x low (omega (arith, high, point))) in
-            let below : s.0 < to = omega (arith, to_is, s.2, j.ordered (x + 1) (last + 1) (omega (arith, high)) (omega (arith, point))) in
-            let k : ℕ = s.0 - from in
-            let at : from + k ≡ s.0 = omega (arith, above) in
-            let within : k < to - from = omega (arith, at, below) in
-            let in_list : s.0 < length targets = omega (arith, below, part_within) in
-            (k, omega (arith, within, part_length), part_at k t within ∙ (ap (λ i. get_or targets i t) at ∙ (get_or_default targets s.0 t 0 in_list ∙ s.3))))
+      λ (k, l, is).
+          let within : k < to - from = omega (arith, l, part_length) in
+          let n : ℕ = last + 1 - first in
+          let end : first + n ≡ last + 1 = omega (arith, proper) in
+          let w = owner first n (from + k) (omega (arith, from_is)) (omega (arith, within, to_is, ap (λ i. get_or starts i 0) end)) in
+          let here : get_or targets (from + k) 0 ≡ t = get_or_default targets (from + k) 0 t (omega (arith, within, part_within)) ∙ (sym (part_at k t within) ∙ is) in
+          (w.0, (w.1, omega (arith, w.2, end)), (j.each w.0 t (omega (arith, w.2, end, point))).1 (from + k, w.3, w.4, here)),
+      λ (x, (low, high), jump).
+          let s = (j.each x t (omega (arith, high, point))).0 jump in
+          let above : from ≤ s.0 = omega (arith, from_is, s.1, j.ordered first x low (omega (arith, high, point))) in
+          let below : s.0 < to = omega (arith, to_is, s.2, j.ordered (x + 1) (last + 1) (omega (arith, high)) (omega (arith, point))) in
+          let k : ℕ = s.0 - from in
+          let at : from + k ≡ s.0 = omega (arith, above) in
+          let within : k < to - from = omega (arith, at, below) in
+          let in_list : s.0 < length targets = omega (arith, below, part_within) in
+          (k, omega (arith, within, part_length), part_at k t within ∙ (ap (λ i. get_or targets i t) at ∙ (get_or_default targets s.0 t 0 in_list ∙ s.3))),
+    )
 
 -- ---- the jumps of one point
 
@@ -181,11 +188,13 @@ module _ (g : Graph) (p : ℕ) (next : List ℕ) (each : (q : ℕ) → Contains 
   -- where no step leads back from the point, they are its successors but one
   pub jumps_others : (old new : List ℕ) → (IsReturn g p → ⊥) → Pushes (λ t. Contains next t × (t ≢ p + 1)) old new → Pushes (IsJump g p) old new
   jumps_others old new none = pushes_same _ (IsJump g p) old new (λ t. (
-      ⊎_elim (λ (step, other). ((each t).1 step, other)) (λ back. absurd (none back.0)),
-      λ (listed, other). inl ((each t).0 listed, other)))
+    ⊎_elim (λ (step, other). ((each t).1 step, other)) (λ back. absurd (none back.0)),
+    λ (listed, other). inl ((each t).0 listed, other),
+  ))
 
   -- else the ends too
   pub jumps_return : (old now : List ℕ) (points : ℕ) → points ≡ g.points → IsReturn g p → Pushes (λ t. Contains next t × (t ≢ p + 1)) old now → Pushes (IsJump g p) old (now ++ points ∷ [])
   jumps_return old now points is returns = pushes_more _ (IsJump g p) old now points (λ t. (
-      ⊎_elim (λ (step, other). inl ((each t).1 step, other)) (λ back. inr (back.1 ∙ sym is)),
-      ⊎_elim (λ (listed, other). inl ((each t).0 listed, other)) (λ same. inr (returns, same ∙ is))))
+    ⊎_elim (λ (step, other). inl ((each t).1 step, other)) (λ back. inr (back.1 ∙ sym is)),
+    ⊎_elim (λ (listed, other). inl ((each t).0 listed, other)) (λ same. inr (returns, same ∙ is)),
+  ))

@@ -12,10 +12,10 @@ use Rattle.nll_core.proofs.WalkingLemmas.{missing_less}
 tells_row : (values : List (List Bool)) (region : ℕ) (old row : List Bool) (run : Run) (changed : Bool) → region < length values → old ≡ get_or values region [] → Fills old row run
     → (changed ≡ false → row ≡ old) → (changed ≡ true → (x : ℕ) × IsWithin run x × (flag old x ≡ false)) → Tells changed values (set values region row)
 tells_row values region old row run changed within is f same fresh = record {
-    same = λ e. ap (set values region) (same e ∙ is) ∙ set-get_or values region [];
-    fewer = λ e. let w = fresh e in
-        omega (arith, missing_less old row w.0 f.width f.kept w.2 (f.filled w.0 w.1.0 w.1.1), sum_by-set missing values region row [] within, ap missing is);
-  }
+  same = λ e. ap (set values region) (same e ∙ is) ∙ set-get_or values region [];
+  fewer = λ e. let w = fresh e in
+      omega (arith, missing_less old row w.0 f.width f.kept w.2 (f.filled w.0 w.1.0 w.1.1), sum_by-set missing values region row [] within, ap missing is);
+}
 
 pub tells_filled : (values : List (List Bool)) (region : ℕ) (old row : List Bool) (run : Run) {E : Type 0} (r : Result Bool E) → region < length values → old ≡ get_or values region [] → OnOk r (Fills old row run)
     → IfOk r (λ new. new ≡ false → row ≡ old) → IfOk r (λ new. new ≡ true → (x : ℕ) × IsWithin run x × (flag old x ≡ false)) → IfOk r (λ new. Tells new values (set values region row))

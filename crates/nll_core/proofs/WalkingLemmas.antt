@@ -107,7 +107,9 @@ module _ (sub : List Bool) where
 
   pub filling_end : (from : ℕ) (old now : List Bool) (to : ℕ) → Filling from old now to → ((x : ℕ) → to ≤ x → flag sub x ≡ false) → FillsFrom from sub old now
   filling_end from old now to f none = record {
-    width = f.width; kept = f.kept; cause = f.cause;
+    width = f.width;
+    kept = f.kept;
+    cause = f.cause;
     filled = λ x a s. ⊎_elim (λ before. f.filled x a before s) (λ past. absurd (false≢true (sym (none x past) ∙ s))) (cases_lt x to);
   }
 
@@ -202,14 +204,14 @@ module _ (g : Graph) (sub : List Bool) where
   pub following_end : (run : Run) (targets : List ℕ) (old now : List Bool) (before then : List Run) (ends : Bool) (count t : ℕ) → t ≡ get_or targets count 0 → count < length targets → g.points ≤ t
       → Following run targets old now before then ends count → Following run targets old now before then true (count + 1)
   following_end run targets old now before then ends count t is within past f = record {
-        grows = f.grows;
-        covers = λ k h q s. ⊎_elim
-            (λ here. absurd (omega (arith, ap (λ i. get_or targets i 0) here, is, past, q)))
-            (λ other. f.covers k (omega (arith, h, other)) q s)
-            (cases_eq k count);
-        ends_found = λ h. (count, omega arith, within, omega (arith, is, past));
-        ends_seen = λ k h q. refl;
-      }
+    grows = f.grows;
+    covers = λ k h q s. ⊎_elim
+        (λ here. absurd (omega (arith, ap (λ i. get_or targets i 0) here, is, past, q)))
+        (λ other. f.covers k (omega (arith, h, other)) q s)
+        (cases_eq k count);
+    ends_found = λ h. (count, omega arith, within, omega (arith, is, past));
+    ends_seen = λ k h q. refl;
+  }
 
   -- a target that is no point stands for the ends
   pub jump_to_ends : IsSound g → (x t : ℕ) → g.points ≤ t → IsJump g x t → IsJump g x g.points
@@ -261,16 +263,20 @@ module _ (g : Graph) (sub : List Bool) where
         ends_from = λ h. ⊎_elim (λ e. let w = s.ends_from e in (w.0, p.kept w.0 w.1, w.2)) (λ e. let w = tells.0 e in (w.0, p.kept w.0 (of_run w.0 w.1), w.2)) (either ends found h);
       }
     where
-    led : (x y t : ℕ) → IsLedTo g sub start y → IsJump g y t → t < g.points → Reaches g (IsIn sub) t x → IsLedTo g sub start x
-    led x y t from (inl next) point way = (from.0, from.1, append from.0 t x (reaches_more g (IsIn sub) from.0 y t from.2 (inl next.0) (reaches_starts g (IsIn sub) t x way)) way)
-      where
-      append : (a b c : ℕ) → Reaches g (IsIn sub) a b → Reaches g (IsIn sub) b c → Reaches g (IsIn sub) a c
-      append a b c p q = reaches_carries g (IsIn sub) b (Reaches g (IsIn sub) a) (λ u v h step within. reaches_more g (IsIn sub) a u v h step within) c p q
-    led x y t from (inr back) point way = absurd (omega (arith, back.1, point))
+      led : (x y t : ℕ) → IsLedTo g sub start y → IsJump g y t → t < g.points → Reaches g (IsIn sub) t x → IsLedTo g sub start x
+      led x y t from (inl next) point way = (from.0, from.1, append from.0 t x (reaches_more g (IsIn sub) from.0 y t from.2 (inl next.0) (reaches_starts g (IsIn sub) t x way)) way)
+        where
+          append : (a b c : ℕ) → Reaches g (IsIn sub) a b → Reaches g (IsIn sub) b c → Reaches g (IsIn sub) a c
+          append a b c p q = reaches_carries g (IsIn sub) b (Reaches g (IsIn sub) a) (λ u v h step within. reaches_more g (IsIn sub) a u v h step within) c p q
+      led x y t from (inr back) point way = absurd (omega (arith, back.1, point))
 
   pub spread_end : (start now : List Bool) (todo : List Run) (ends : Bool) → ((x : ℕ) → IsInRuns todo x → ⊥) → Spreading start now todo ends → IsSpread g sub start now ends
   spread_end start now todo ends none s = record {
-    width = s.width; kept = s.kept; sound = s.sound; closed = s.closed; ends_from = s.ends_from;
+    width = s.width;
+    kept = s.kept;
+    sound = s.sound;
+    closed = s.closed;
+    ends_from = s.ends_from;
     followed = λ x h. ⊎_elim (λ i. absurd (none x i)) (λ d. d.0) (s.pending x h);
     ends_to = λ x h jump. ⊎_elim (λ i. absurd (none x i)) (λ d. d.1 jump) (s.pending x h);
   }
@@ -355,17 +361,19 @@ module _ (g : Graph) (sub : List Bool) where
     -- else the ends in `sub` come to it
     pub reached_ends : (all : List Bool) → ends ≡ true → length sub ≡ element_count g → FillsFrom g.points sub new all → AreLedFrom g sub pair all
     reached_ends all some wide f x = (
-        λ h. ⊎_elim
-            (led x)
-            (λ (past, in_sub). let w = s.ends_from some in from_return w.0 x w.1 w.2 (past, omega (arith, flag_within sub x in_sub, wide)) in_sub)
-            (f.cause x h),
-        λ h. ⊎_elim (f.kept x) (λ e. f.filled x e.0.0 (reaches_inside g (IsIn sub) h.0.at x h.2)) (complete x h))
+      λ h. ⊎_elim
+          (led x)
+          (λ (past, in_sub). let w = s.ends_from some in from_return w.0 x w.1 w.2 (past, omega (arith, flag_within sub x in_sub, wide)) in_sub)
+          (f.cause x h),
+      λ h. ⊎_elim (f.kept x) (λ e. f.filled x e.0.0 (reaches_inside g (IsIn sub) h.0.at x h.2)) (complete x h),
+    )
 
   module _ (pair : List Constraint) (old middle : List Bool) (list : List Run) (nothing : (x : ℕ) → flag old x ≡ false) (p : Grows g sub (IsLedFrom g sub pair) old middle [] list) where
     pub start_listed : (x : ℕ) → IsInRuns list x ↔ IsIn middle x
     start_listed x = (
       λ i. ⊎_elim (λ (k, l, a, b). absurd (omega (arith, l))) (λ h. h) (p.listed x i),
-      λ h. ⊎_elim (λ o. absurd (false≢true (sym (nothing x) ∙ o))) (λ i. i) (p.pending x h))
+      λ h. ⊎_elim (λ o. absurd (false≢true (sym (nothing x) ∙ o))) (λ i. i) (p.pending x h),
+    )
 
     pub start_inside : (x : ℕ) → IsIn middle x → IsIn sub x
     start_inside x h = ⊎_elim (λ o. absurd (false≢true (sym (nothing x) ∙ o))) (λ from. reaches_inside g (IsIn sub) from.0.at x from.2) (p.cause x h)

@@ -88,9 +88,9 @@ module _ (q : Problem) where
       below_pair = λ assignment sat under r e h. ⊎_elim
           (under r e)
           (λ (is, (c, listed, way)).
-              let own = of_pair c listed in
-              let inside : (x : ℕ) → IsIn (set_of old sub) x → IsTrue (assignment c.sub x) = λ x k. subst (λ b. IsTrue (assignment b x)) (sym own.1) (under sub x k) in
-              subst (λ x. IsTrue (assignment x e)) (own.2 ∙ sym is) (sat.each c own.0 e (reaches_weaker q.graph (IsIn (set_of old sub)) c.at _ inside e way)))
+          let own = of_pair c listed in
+          let inside : (x : ℕ) → IsIn (set_of old sub) x → IsTrue (assignment c.sub x) = λ x k. subst (λ b. IsTrue (assignment b x)) (sym own.1) (under sub x k) in
+          subst (λ x. IsTrue (assignment x e)) (own.2 ∙ sym is) (sat.each c own.0 e (reaches_weaker q.graph (IsIn (set_of old sub)) c.at _ inside e way)))
           (g.cause r e h)
 
       pub visits_pair : Visits q sub old new before after changed
@@ -173,7 +173,8 @@ module _ (q : Problem) where
   pub cleared_turn : (sub : ℕ) (marks after : List Bool) → sub < length marks → after ≡ set marks sub false → IsCleared marks after sub
   cleared_turn sub marks after within same = (
     ap (λ fs. flag fs sub) same ∙ get_or-set_same marks sub false false within,
-    λ r other. ap (λ fs. flag fs r) same ∙ get_or-set_other marks sub r false false other)
+    λ r other. ap (λ fs. flag fs r) same ∙ get_or-set_other marks sub r false false other,
+  )
 
   -- ---- a sweep
 

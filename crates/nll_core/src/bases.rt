@@ -46,10 +46,13 @@ fn insert_points(values: &mut Values, region: RegionId, points: u32) -> Result<(
         (Gains (λ r e. (r ≡ region) × (e < points)) values.old values.new) }
     ensures covers { OnOk result ((e : ℕ) → e < points → IsHeld values.new region e) }
 {
-    values.insert_run(region, Run {
-        first: 0,
-        last: points - 1,
-    })?;
+    values.insert_run(
+        region,
+        Run {
+            first: 0,
+            last: points - 1,
+        },
+    )?;
     Ok(())
 }
 

@@ -1,4 +1,4 @@
-//! The lines of a graph: the points that follow each other by number, and the steps that leave them.
+//! The lines of a graph: points that follow each other by number, and the steps that leave them.
 
 ghost use Rattle.std.specs.Prelude.{◌≡◌, ◌↔◌, ◌≤◌, ◌<◌, ℕ, Contains, IfOk};
 ghost use Rattle.nll_problem.specs.Graph.{IsSound};
@@ -36,7 +36,7 @@ impl<'a> Model for Lines<'a> {
     ghost invariant = { λ lines.
         AreLineEnds lines.graph.now lines.ends.items
         × AreJumps lines.graph.now lines.graph.now.points
-            lines.jumps.starts.items lines.jumps.targets.items };
+        lines.jumps.starts.items lines.jumps.targets.items };
 }
 
 impl<'a> Lines<'a> {

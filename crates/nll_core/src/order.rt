@@ -37,17 +37,19 @@ pub fn order_of(
     let starts = starts_of(alloc, index.constraints(), regions)?;
     let mut descent = descent_of(alloc, starts.as_slice(), regions)?;
     for root in 0..regions {
-        descend(index.constraints(), starts.as_slice(), &mut descent, regions, root)?;
+        descend(
+            index.constraints(),
+            starts.as_slice(),
+            &mut descent,
+            regions,
+            root,
+        )?;
     }
     Ok(descent.left)
 }
 
 // Where the constraints that read each region begin, and where the last ones end.
-fn starts_of(
-    alloc: Global,
-    constraints: &[Constraint],
-    regions: u32,
-) -> Result<Vec<usize>, Memory>
+fn starts_of(alloc: Global, constraints: &[Constraint], regions: u32) -> Result<Vec<usize>, Memory>
     requires { AreOfRegions regions constraints.now }
     ensures { IfOk result (λ starts. length starts.items ≡ regions + 1) }
 {

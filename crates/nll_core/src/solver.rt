@@ -157,7 +157,15 @@ fn sweep_backwards(
     let mut place = order.len();
     while place > 0 {
         place -= 1;
-        let new = turn(problem, lines, index, values, marks, walk, RegionId(order[place]))?;
+        let new = turn(
+            problem,
+            lines,
+            index,
+            values,
+            marks,
+            walk,
+            RegionId(order[place]),
+        )?;
         changed |= new;
     }
     Ok(changed)

@@ -55,8 +55,8 @@ pub fn enter(
     Ok(())
 }
 
-// Enters the targets of the jumps from the points of a run. Answers whether one of these is a return
-// point.
+// Enters the targets of the jumps from the points of a run. Answers whether one of these is a
+// return point.
 fn follow(
     lines: &Lines,
     sub: &RunSet,

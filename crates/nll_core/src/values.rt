@@ -62,7 +62,7 @@ impl Values {
         self.sets[region.0 as usize].insert(element)
     }
 
-    // Puts the elements of a run into the value of a region, and answers whether one of them is new.
+    // Puts the elements of a run into the value of a region, and answers whether one is new.
     pub(crate) fn insert_run(&mut self, region: RegionId, run: Run) -> Result<bool, Memory>
         requires region { region < length self.old }
         requires proper { run.first ≤ run.last }

@@ -15,8 +15,8 @@ use nll_problem::Constraint;
 use nll_sets::{ElementSet, Memory, Run, RunSet};
 use std::alloc::Global;
 
-/// What a walk has reached, and the stretches that it has still to follow. One serves all walks of a
-/// solver, so that its memory is taken once.
+/// What a walk has reached, and the stretches that it has still to follow. One serves all walks of
+/// a solver, so that its memory is taken once.
 #[derive(Drop)]
 pub struct Walk {
     pub reached: RunSet,
@@ -36,12 +36,7 @@ impl Walk {
     }
 
     /// Reaches what walks inside a set reach from the points of constraints, and nothing else.
-    pub fn reach(
-        &mut self,
-        lines: &Lines,
-        sub: &RunSet,
-        pair: &[Constraint],
-    ) -> Result<(), Memory>
+    pub fn reach(&mut self, lines: &Lines, sub: &RunSet, pair: &[Constraint]) -> Result<(), Memory>
         requires sub_width { length sub.now ≡ element_count lines.now }
         requires width { length self.old.reached ≡ element_count lines.now }
         requires points { AreAtPoints lines.now pair.now }

@@ -48,7 +48,7 @@ impl ConstraintIndex {
         Ok(ConstraintIndex { constraints })
     }
 
-    /// All constraints, ascending by the region that they read, by `sup` and then by `at`, each once.
+    /// All constraints, each once, ascending by the region that they read, by `sup` and by `at`.
     pub fn constraints(&self) -> &[Constraint]
         ensures value { result.now ≡ self.now }
         ensures ascending { AllPairs IsReadEarlier result.now }

@@ -1,8 +1,8 @@
 //! Sets of the elements of a problem: points of a graph, and ends of universal regions.
 //! It knows no graph and no problem.
 //!
-//! Reading order: `element`, `element_set`, `bit_set`, `run`, `run_list`, `run_set`, `elements`. The
-//! definitions are in specs/.
+//! Reading order: `element`, `element_set`, `bit_set`, `run`, `run_list`, `run_set`, `elements`.
+//! The definitions are in specs/.
 #![tactic(auto)]
 
 mod bit_set;

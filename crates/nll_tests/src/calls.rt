@@ -23,8 +23,8 @@ pub enum Calls {
     Regions,
     /// Edges from 0 to each point below 2048, then from 1 to each of them, and so on.
     Edges,
-    /// Seven regions, then random edges, return points, base facts and constraints of nine points and
-    /// nine regions.
+    /// Seven regions, then random edges, return points, base facts and constraints of nine points
+    /// and nine regions.
     Random(u32),
     /// Constraints of the region 0 on 'static at each point below 4096, then of the region 1.
     Constraints,

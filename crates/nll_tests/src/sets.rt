@@ -127,8 +127,8 @@ fn a_bit_set_gives_its_last_element(rt: HostRuntime) {
     compare(&rt, "the last element", last_alone(rt.alloc()), " 64");
 }
 
-// Puts elements below ten into a set of runs, and writes of each whether it is new and how many runs
-// there are then.
+// Puts elements below ten into a set of runs, and writes of each whether it is new and how many
+// runs there are then.
 fn write_runs(out: &mut String, set: &mut RunSet, elements: &[u32]) -> Result<(), BuildError>
     requires { length set.old ≡ 10 }
     ensures { OnOk result (length set.new ≡ 10) }

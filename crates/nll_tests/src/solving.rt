@@ -207,7 +207,12 @@ fn solves_problems(rt: HostRuntime) {
 #[test]
 fn solves_random_problems_alike(rt: HostRuntime) {
     for seed in 0..2_000 {
-        compare(&rt, "a random problem", solved_alike(rt.alloc(), seed), "same");
+        compare(
+            &rt,
+            "a random problem",
+            solved_alike(rt.alloc(), seed),
+            "same",
+        );
     }
 }
 

@@ -2,11 +2,11 @@
 ghost use Rattle.std.specs.Prelude.{◌<◌, length};
 ghost use Rattle.nll_core.specs.Values.{IsShaped, set_of};
 
+use crate::rounds::solve_by_rounds;
 use nll_core::{
     BuildError, Constraint, Element, ElementSet, Elements, Graph, Problem, RegionId, Values,
     faults, solve,
 };
-use crate::rounds::solve_by_rounds;
 use nll_problem::ConstraintIndex;
 use std::alloc::{AllocError, Global};
 

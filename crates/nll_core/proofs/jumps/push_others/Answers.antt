@@ -8,10 +8,11 @@ loop-successor-init c = pushes_none _ _ (among_first_none c.args.successors.now 
 
 pub loop-successor-preserved : goal.loop-successor-preserved
 loop-successor-preserved c = elim c.if-successor-point.branch [
-    then-successor-point+in_ok-push w ↦ rw w.targets-is (rw w.in_ok-push.ensures.items
-        (pushes_more (AmongFirst c.args.successors.now (c.args.point + 1) c.loop-successor.successor-index) _ _ _ _ (among_first_more c.args.successors.now (c.args.point + 1) c.loop-successor.successor-index _ refl w.if-successor-point.true) c.loop-successor.invariant))
+  | then-successor-point+in_ok-push w ↦ rw w.targets-is (rw w.in_ok-push.ensures.items
+      (pushes_more (AmongFirst c.args.successors.now (c.args.point + 1) c.loop-successor.successor-index) _ _ _ _ (among_first_more c.args.successors.now (c.args.point + 1) c.loop-successor.successor-index _ refl w.if-successor-point.true) c.loop-successor.invariant))
   | else-successor-point w ↦ rw w.targets-is
-        (pushes_same (AmongFirst c.args.successors.now (c.args.point + 1) c.loop-successor.successor-index) _ _ _ (among_first_skip c.args.successors.now (c.args.point + 1) c.loop-successor.successor-index w.if-successor-point.false) c.loop-successor.invariant) ]
+      (pushes_same (AmongFirst c.args.successors.now (c.args.point + 1) c.loop-successor.successor-index) _ _ _ (among_first_skip c.args.successors.now (c.args.point + 1) c.loop-successor.successor-index w.if-successor-point.false) c.loop-successor.invariant)
+]
 
 pub returns : goal.returns
 returns c = pushes_same (AmongFirst c.args.successors.now (c.args.point + 1) c.loop-successor.successor-index) _ _ _

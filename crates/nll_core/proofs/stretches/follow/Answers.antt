@@ -10,11 +10,12 @@ enter-requires-clause-widths c = omega (arith, c.loop-target.invariant.grows.wid
 
 pub loop-target-preserved : goal.loop-target-preserved
 loop-target-preserved c = elim c.if-target-points.branch [
-    then-target-points+in_ok-enter w ↦ rw w.reached-is (rw w.todo-is (rw w.ends-is (
-        following_more _ _ c.args.run c.jumps-target-items.result.now _ _ _ _ _ _ _ c.loop-target.target-index _ refl c.loop-target-test.true (omega (arith, w.if-target-points.true, c.points-points.ensures.value)) (λ x h. (c.jumps-target-items.ensures x).0 h)
-        (contains_from _ _ c.loop-target.target-index c.loop-target-test.true refl) c.loop-target.invariant w.in_ok-enter.ensures.grows w.in_ok-enter.ensures.covers)))
+  | then-target-points+in_ok-enter w ↦ rw w.reached-is (rw w.todo-is (rw w.ends-is (
+      following_more _ _ c.args.run c.jumps-target-items.result.now _ _ _ _ _ _ _ c.loop-target.target-index _ refl c.loop-target-test.true (omega (arith, w.if-target-points.true, c.points-points.ensures.value)) (λ x h. (c.jumps-target-items.ensures x).0 h)
+      (contains_from _ _ c.loop-target.target-index c.loop-target-test.true refl) c.loop-target.invariant w.in_ok-enter.ensures.grows w.in_ok-enter.ensures.covers)))
   | else-target-points w ↦ rw w.reached-is (rw w.todo-is (rw w.ends-is (
-        following_end _ _ c.args.run c.jumps-target-items.result.now _ _ _ _ _ c.loop-target.target-index _ refl c.loop-target-test.true (omega (arith, w.if-target-points.false, c.points-points.ensures.value)) c.loop-target.invariant))) ]
+      following_end _ _ c.args.run c.jumps-target-items.result.now _ _ _ _ _ c.loop-target.target-index _ refl c.loop-target-test.true (omega (arith, w.if-target-points.false, c.points-points.ensures.value)) c.loop-target.invariant)))
+]
 
 pub returns-clause-covers : goal.returns-clause-covers
 returns-clause-covers c = λ x within t jump point in_sub.
@@ -23,11 +24,11 @@ returns-clause-covers c = λ x within t jump point in_sub.
 
 pub returns-clause-ends : goal.returns-clause-ends
 returns-clause-ends c = (
-    λ e. let w = c.loop-target.invariant.ends_found e in
-    let t = get_or c.jumps-target-items.result.now w.0 0 in
-    let from = (c.jumps-target-items.ensures t).0 (contains_from _ t w.0 w.2 refl) in
-    (from.0, from.1, jump_to_ends _ c.args.sub.now c.points-points.ensures.sound from.0 t w.3 from.2),
-    λ jump.
-    let there = (c.jumps-target-items.ensures c.args.lines.now.points).1 jump in
-    covers_contained (λ t. c.args.lines.now.points ≤ t → c.loop-target.ends ≡ true) c.jumps-target-items.result.now (λ k l. c.loop-target.invariant.ends_seen k (omega (arith, l, c.loop-target-test.false))) _ there (omega arith),
-    )
+  λ e. let w = c.loop-target.invariant.ends_found e in
+      let t = get_or c.jumps-target-items.result.now w.0 0 in
+      let from = (c.jumps-target-items.ensures t).0 (contains_from _ t w.0 w.2 refl) in
+      (from.0, from.1, jump_to_ends _ c.args.sub.now c.points-points.ensures.sound from.0 t w.3 from.2),
+  λ jump.
+      let there = (c.jumps-target-items.ensures c.args.lines.now.points).1 jump in
+      covers_contained (λ t. c.args.lines.now.points ≤ t → c.loop-target.ends ≡ true) c.jumps-target-items.result.now (λ k l. c.loop-target.invariant.ends_seen k (omega (arith, l, c.loop-target-test.false))) _ there (omega arith),
+)

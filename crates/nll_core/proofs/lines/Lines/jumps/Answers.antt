@@ -18,6 +18,6 @@ returns c =
     let from_is = c.index-from.ensures ∙ get_or_default starts first c.index-from.result.now 0 (omega (arith, point, c.requires.proper, j.sized)) in
     let to_is = c.index-to.ensures ∙ get_or_default starts (last + 1) c.index-to.result.now 0 (omega (arith, point, j.sized)) in
     λ t.
-        let part = part_jumps g g.points starts targets j first last c.index-from.result.now c.index-to.result.now c.requires.proper point from_is to_is t in
-        subst (λ (x : Graph). Contains (slice_range c.deref.result.now c.index-from.result.now c.index-to.result.now) t ↔ ((y : ℕ) × IsWithin c.args.run y × IsJump x y t)) c.self.view_is
-        (subst (λ (items : List ℕ). Contains (slice_range items c.index-from.result.now c.index-to.result.now) t ↔ ((y : ℕ) × IsWithin c.args.run y × IsJump g y t)) (sym c.deref.ensures.value) part)
+    let part = part_jumps g g.points starts targets j first last c.index-from.result.now c.index-to.result.now c.requires.proper point from_is to_is t in
+    subst (λ (x : Graph). Contains (slice_range c.deref.result.now c.index-from.result.now c.index-to.result.now) t ↔ ((y : ℕ) × IsWithin c.args.run y × IsJump x y t)) c.self.view_is
+    (subst (λ (items : List ℕ). Contains (slice_range items c.index-from.result.now c.index-to.result.now) t ↔ ((y : ℕ) × IsWithin c.args.run y × IsJump g y t)) (sym c.deref.ensures.value) part)
