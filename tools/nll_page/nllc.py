@@ -46,6 +46,7 @@ def find():
 def run(text):
     """Runs `values` and `check` on the text, side by side."""
     program = find()
+    make_ready(program)
     with tempfile.TemporaryDirectory(prefix="nll-page.") as folder:
         copy = os.path.join(folder, "text.facts")
         with open(copy, "wb") as file:
@@ -61,6 +62,13 @@ def run(text):
         check.judge((0, 1))
         return Report(values.text("out"), fault_lines(check.text("out")), shown(program),
                       standing(program, values))
+
+
+def make_ready(program):
+    """Has `nllc.sh` compile now, with its word of how long, what it would compile for both runs."""
+    if os.path.basename(program) == "nllc.sh":
+        subprocess.run([program, "--help"], stdin=subprocess.DEVNULL, stdout=subprocess.DEVNULL,
+                       stderr=None if sys.stderr.isatty() else subprocess.DEVNULL, check=False)
 
 
 class Run:
