@@ -107,9 +107,9 @@ def check(facts, values, region, universal, steps):
     """Raises WrongValues unless each step is one of the text and its elements are in the values."""
     end = facts.end_of(universal)
     holder = universal
-    stated = set(facts.constraints)
     for number, (constraint, points) in enumerate(steps, 1):
-        right = (constraint in stated and constraint.sub == holder and points[0] == constraint.at
+        right = (constraint in facts.stated and constraint.sub == holder
+                 and points[0] == constraint.at
                  and all(q in facts.successors[p] for p, q in zip(points, points[1:]))
                  and points[-1] in facts.returns
                  and all(values.has(constraint.sub, e) for e in [*points, end])

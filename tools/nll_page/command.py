@@ -158,9 +158,10 @@ def tell_faults(content):
     """Each fault for a terminal: a line for it, and one for each step of its chain."""
     facts = content.facts
     for fault in content.faults:
-        lines = words.arising(facts, fault.steps)
+        line = words.entry(facts, fault.steps)
         path = content.source.path if content.source else facts.remarks.source
-        where = "".join(f"{path}:{line}: " if path else f"line {line}: " for line in lines[:1])
+        place = f"{path}:{line}: " if path else f"line {line}: "
+        where = place if line is not None else ""
         tell(f"{where}{words.plain(words.fault_head(facts, fault.sup, fault.sub))}")
         tell(f"    {words.plain([words.end(facts, fault.sub), ' comes'])}")
         for step in fault.steps:

@@ -56,6 +56,11 @@ class Facts:
         return grouped((c.at, (c.sup, c.sub)) for c in self.constraints)
 
     @cached_property
+    def stated(self):
+        """The constraints as a set."""
+        return frozenset(self.constraints)
+
+    @cached_property
     def spread(self):
         """For each pair of regions with constraints the number of their points."""
         return Counter((c.sup, c.sub) for c in self.constraints)

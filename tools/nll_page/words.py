@@ -57,12 +57,20 @@ def spans(elements):
 MOST_ORIGINS = 3    # of more statements none is named
 
 
-def origins(facts, at):
-    """The points whose statements may ask for a constraint at this point: those before it."""
+def origins(facts, constraint):
+    """The points whose statements may ask for the constraint.
+
+    What a statement asks stands at each point after it. So these are the points before the
+    constraint's, behind all of which it stands.
+    """
+    sup, sub, at = constraint
     spot = facts.remarks.point(at).spot()
     if spot and spot[2] == "mid":
         return [at]
-    return sorted(facts.predecessors[at]) or [at]
+    before = sorted(facts.predecessors[at])
+    asking = [p for p in before
+              if all((sup, sub, q) in facts.stated for q in facts.successors[p])]
+    return asking or before or [at]
 
 
 def statement(facts, point):
@@ -78,11 +86,17 @@ def statement(facts, point):
 
 def arising(facts, steps):
     """The lines of the source at which the constraints of a chain arise, ascending, each once."""
-    found = [origins(facts, step.constraint.at) for step in steps
+    found = [origins(facts, step.constraint) for step in steps
              if not is_everywhere(facts, step.constraint)]
     points = [p for several in found if len(several) <= MOST_ORIGINS for p in several]
     lines = {facts.remarks.point(p).line for p in points}
     return sorted(line for line in lines if line is not None)
+
+
+def entry(facts, steps):
+    """The line at which the fault's own region comes into the chain, or the next that is known."""
+    found = [arising(facts, [step]) for step in reversed(steps)]
+    return next((lines[0] for lines in found if lines), None)
 
 
 def beginning(facts, universal):
@@ -131,7 +145,7 @@ def reason(facts, constraint):
     if is_everywhere(facts, constraint):
         return ["At every point ", tick(facts, constraint.sup), " must outlive ",
                 tick(facts, constraint.sub), ": "]
-    points = origins(facts, constraint.at)
+    points = origins(facts, constraint)
     if not any(any(facts.remarks.point(p)) for p in points):
         return []
     if len(points) > MOST_ORIGINS:

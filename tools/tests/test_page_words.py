@@ -45,6 +45,8 @@ class Sentences(unittest.TestCase):
 
     def test_the_lines(self):
         self.assertEqual(words.arising(self.facts, self.steps), [7, 9])
+        self.assertEqual(words.entry(self.facts, self.steps), 7)
+        self.assertEqual(words.entry(self.facts, self.steps[:1]), 9)
 
     def test_a_step_without_remarks(self):
         facts = facts_of(2, "universal 'a", "region 'x", "next 0 1", "return 1",
@@ -87,8 +89,14 @@ class Sentences(unittest.TestCase):
 
     def test_a_point_in_the_middle_of_a_statement(self):
         facts = facts_of(3, "next 0 1", "next 1 2", "# point 1: line 2: x = y (bb0[0], mid)")
-        self.assertEqual((words.origins(facts, 1), words.origins(facts, 2),
-                          words.origins(facts, 0)), ([1], [1], [0]))
+        origins = [words.origins(facts, Constraint(0, 0, at)) for at in range(3)]
+        self.assertEqual(origins, [[0], [1], [1]])
+
+    def test_a_statement_asks_at_each_point_after_it(self):
+        facts = facts_of(5, "region 'x", "region 'y", "next 0 1", "next 0 4", "next 2 3", "next 2 4",
+                         "constraint 'x 'y 1", "constraint 'x 'y 4")
+        self.assertEqual(words.origins(facts, Constraint(1, 2, 4)), [0])
+        self.assertEqual(words.origins(facts, Constraint(2, 1, 4)), [0, 2])
 
     def test_walks(self):
         self.assertEqual(words.walk_text([3]), "3")
