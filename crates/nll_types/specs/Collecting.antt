@@ -1,6 +1,7 @@
 -- What the parts of a search for drop regions add.
 -- Source: project's choice.
-use Rattle.std.specs.Prelude.{◌≡◌, ◌⊎◌, ℕ, suc, Bool, IsTrue, List, [], ◌∷◌, Contains, slice_get, Some}
+use Rattle.std.specs.Prelude.{◌≡◌, ◌⊎◌, ℕ, suc, Bool, IsTrue, List, [], ◌∷◌, Contains, slice_get}
+use Rattle.std.specs.Prelude.{Some}
 use Rattle.nll_types.specs.Types.{TypeTrees, HasRegion}
 use Rattle.nll_types.specs.Structs.{region_in, argument}
 use Rattle.nll_types.specs.DropRegions.{IsKept}
@@ -15,7 +16,8 @@ IsPutRegion qs rs ts r = (k : ℕ) × (q : ℕ) × (slice_get qs k ≡ Some q) �
 -- r is what a region of the sources becomes where qs are put in and then rs
 abbrev pub IsSourceRegion : List Source → List ℕ → List ℕ → TypeTrees → ℕ → Type 0
 IsSourceRegion sources qs rs ts r =
-    (k : ℕ) × (q : ℕ) × (slice_get sources k ≡ Some (Region q)) × (region_in rs (region_in qs q) ≡ r)
+    (k : ℕ) × (q : ℕ) × (slice_get sources k ≡ Some (Region q))
+    × (region_in rs (region_in qs q) ≡ r)
 
 -- r is the argument for a region parameter that isn't marked
 abbrev pub IsKeptRegion : List Parameter → List ℕ → TypeTrees → ℕ → Type 0
@@ -27,7 +29,8 @@ IsInKept parameters rs ts r = (k : ℕ) × IsKept parameters k × HasRegion (arg
 
 -- the regions of argument k of a struct with these sources are wanted
 abbrev pub WantsWritten : List Source → Bool → Bool → ℕ → Type 0
-WantsWritten sources written dropped k = IsTrue written ⊎ (IsTrue dropped × Contains sources (AnyOf k))
+WantsWritten sources written dropped k =
+    IsTrue written ⊎ (IsTrue dropped × Contains sources (AnyOf k))
 
 -- the drop regions of argument k of a struct with these sources are wanted
 abbrev pub WantsDropped : List Source → Bool → ℕ → Type 0

@@ -9,7 +9,12 @@ use Rattle.nll_types.specs.declared.structs.Declaration.{Declaration}
 
 -- the struct that a declaration says
 abbrev pub declared : Declaration → Struct
-declared d = record { regions = d.regions.items; types = d.types.items; has_drop = d.has_drop; fields = trees d.fields.items }
+declared d = record {
+  regions = d.regions.items;
+  types = d.types.items;
+  has_drop = d.has_drop;
+  fields = trees d.fields.items;
+}
 
 -- the structs that declarations say, in their order
 abbrev pub structs_of : List Declaration → List Struct

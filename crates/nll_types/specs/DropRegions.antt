@@ -5,17 +5,20 @@ use Rattle.nll_types.specs.Types.{TypeTree, TypeTrees, tuple, named, type_at, Ha
 use Rattle.nll_types.specs.Structs.{Struct, struct_at, field_type}
 use Rattle.nll_types.specs.declared.parameter.Parameter.{Parameter}
 
--- the argument for the parameter of this place must hold where the struct's own drop runs: the parameter isn't marked `?`
+-- the argument for the parameter of this place must hold where the struct's own drop runs: the
+-- parameter isn't marked `?`
 abbrev pub IsKept : List Parameter → ℕ → Type 0
 IsKept parameters k = (p : Parameter) × (slice_get parameters k ≡ Some p) × (p.may_dangle ≡ false)
 
--- r must hold where the struct's own drop runs: it stands in an argument whose parameter isn't marked
+-- r must hold where the struct's own drop runs: it stands in an argument whose parameter isn't
+-- marked
 abbrev pub IsOwnDropRegion : Struct → List ℕ → TypeTrees → ℕ → Type 0
 IsOwnDropRegion d rs ts r = (d.has_drop ≡ true)
     × (((k : ℕ) × (slice_get rs k ≡ Some r) × IsKept d.regions k)
     ⊎ ((k : ℕ) × (t : TypeTree) × (type_at ts k ≡ Some t) × IsKept d.types k × HasRegion t r))
 
--- with a value of the first type one of the second is dropped: a part of a tuple, or a field of a struct
+-- with a value of the first type one of the second is dropped: a part of a tuple, or a field of a
+-- struct
 abbrev pub Drops : List Struct → TypeTree → TypeTree → Type 0
 Drops structs (tuple ts) u = (k : ℕ) × (type_at ts k ≡ Some u)
 Drops structs (named s rs ts) u = (k : ℕ) × (field_type structs s rs ts k ≡ Some u)

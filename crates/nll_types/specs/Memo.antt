@@ -9,6 +9,8 @@ use Rattle.nll_types.specs.declared.memo.FieldUse.{FieldUse}
 use Rattle.nll_types.specs.declared.place.Projection.TheVariants.{Field}
 
 -- Each number that is remembered of a part or field is that of its shape.
-pub record AreRemembered (structs : List Struct) (ns : List Node) (fields : List (FieldUse × ℕ)) : Type 0 where
-  pub each : (use' : FieldUse) (v : ℕ) → Contains fields (use', v) → (use'.shape < length ns) × (v < length ns)
+pub record AreRemembered (structs : List Struct) (ns : List Node) (fields : List (FieldUse × ℕ))
+    : Type 0 where
+  pub each : (use' : FieldUse) (v : ℕ) → Contains fields (use', v)
+      → (use'.shape < length ns) × (v < length ns)
       × (Some (shape_in ns v) ≡ behind_shape structs (Field use'.place) (shape_in ns use'.shape))

@@ -1,6 +1,8 @@
 -- Places, and their types.
--- Source: RFC 2094, "Reborrow constraints" (places and dereferences); the forms are project's choice.
-use Rattle.std.specs.Prelude.{◌≡◌, ◌<◌, ◌≤◌, ℕ, List, [], ◌∷◌, length, drop, Option, Some, None, slice_get, option_and_then}
+-- Source: RFC 2094, "Reborrow constraints" (places and dereferences); the forms are project's
+-- choice.
+use Rattle.std.specs.Prelude.{◌≡◌, ◌<◌, ◌≤◌, ℕ, List, [], ◌∷◌, length, drop, Option, Some, None}
+use Rattle.std.specs.Prelude.{slice_get, option_and_then}
 use Rattle.nll_types.specs.Types.{TypeTree, reference, tuple, named, type_at}
 use Rattle.nll_types.specs.Structs.{Struct, field_type}
 use Rattle.nll_types.specs.declared.place.Place.{Place}
@@ -27,14 +29,17 @@ behind_all structs (p ∷ ps) t = option_and_then (behind_all structs ps) (behin
 
 -- the type of a place over variables of these types, where it has one
 abbrev pub type_of : List Struct → List TypeTree → PlacePath → Option TypeTree
-type_of structs variables p = option_and_then (behind_all structs p.projections) (slice_get variables p.variable)
+type_of structs variables p =
+    option_and_then (behind_all structs p.projections) (slice_get variables p.variable)
 
 -- a place of the code as a path
 abbrev pub path_of : Place → PlacePath
 path_of p = record { variable = p.variable; projections = p.projections.items }
 
--- From the type t, the projections from one place of the list to another lead to the type u, and they are some if any are left.
-pub record LeadsOn (structs : List Struct) (ps : List Projection) (from : ℕ) (t : TypeTree) (to : ℕ) (u : TypeTree) : Type 0 where
+-- From the type t, the projections from one place of the list to another lead to the type u, and
+-- they are some if any are left.
+pub record LeadsOn (structs : List Struct) (ps : List Projection) (from : ℕ) (t : TypeTree) (to : ℕ)
+    (u : TypeTree) : Type 0 where
   pub onward : from ≤ to
   pub goes_on : from < length ps → from < to
   pub within : from ≤ length ps → to ≤ length ps

@@ -1,7 +1,9 @@
 -- Types with their regions forgotten: two types may stand for each other where they have one shape.
--- Source: RFC 2094, "Subtyping" (it relates types that differ in their regions alone); the forms are project's choice.
+-- Source: RFC 2094, "Subtyping" (it relates types that differ in their regions alone); the forms
+-- are project's choice.
 use Rattle.std.specs.Prelude.{ℕ, zero, suc, ◌+◌, Bool, List, length, Option, Some, None, option_map}
-use Rattle.nll_types.specs.Types.{TypeTree, TypeTrees, int, parameter, reference, tuple, named, none, more}
+use Rattle.nll_types.specs.Types.{TypeTree, TypeTrees, int, parameter, reference, tuple, named}
+use Rattle.nll_types.specs.Types.{none, more}
 use Rattle.nll_types.specs.Structs.{Struct, struct_at}
 use Rattle.nll_types.specs.declared.place.Projection.{Projection}
 use Rattle.nll_types.specs.declared.place.Projection.TheVariants.{Deref, Field}
@@ -68,7 +70,8 @@ abbrev mutual
 
   pub put_in_shapes : ShapeList → ShapeList → ShapeList
   put_in_shapes types no_shape = no_shape
-  put_in_shapes types (more_shapes t ts) = more_shapes (put_in_shape types t) (put_in_shapes types ts)
+  put_in_shapes types (more_shapes t ts) =
+      more_shapes (put_in_shape types t) (put_in_shapes types ts)
 
 -- the shape behind one projection
 abbrev pub behind_shape : List Struct → Projection → Shape → Option Shape

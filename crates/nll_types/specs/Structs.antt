@@ -1,12 +1,16 @@
 -- Struct declarations, and the types of a struct's fields with its arguments put in.
--- Source: RFC 2094, "Subtyping" (variance of parameters) and "Drop" (parameters that may dangle); the forms are project's choice.
-use Rattle.std.specs.Prelude.{◌≡◌, ◌<◌, ◌+◌, ℕ, zero, suc, Bool, false, List, [], map, length, slice_index_or}
+-- Source: RFC 2094, "Subtyping" (variance of parameters) and "Drop" (parameters that may dangle);
+-- the forms are project's choice.
+use Rattle.std.specs.Prelude.{◌≡◌, ◌<◌, ◌+◌, ℕ, zero, suc, Bool, false, List, [], map, length}
+use Rattle.std.specs.Prelude.{slice_index_or}
 use Rattle.std.specs.Prelude.{Option, option_map, All, take}
-use Rattle.nll_types.specs.Types.{TypeTree, TypeTrees, int, parameter, reference, tuple, named, none, more, type_at, type_count}
+use Rattle.nll_types.specs.Types.{TypeTree, TypeTrees, int, parameter, reference, tuple, named}
+use Rattle.nll_types.specs.Types.{none, more, type_at, type_count}
 use Rattle.nll_types.specs.declared.parameter.Parameter.{Parameter}
 
--- A struct: its region parameters and its type parameters, each in the order of the declaration, whether it has a drop of its
--- own, and the types of its fields. In a field's type the region 0 is 'static and k + 1 the region parameter k.
+-- A struct: its region parameters and its type parameters, each in the order of the declaration,
+-- whether it has a drop of its own, and the types of its fields. In a field's type the region 0 is
+-- 'static and k + 1 the region parameter k.
 pub record Struct : Type 0 where
   pub regions : List Parameter
   pub types : List Parameter
@@ -37,9 +41,11 @@ abbrev mutual
   pub put_in : List ℕ → TypeTrees → TypeTree → TypeTree
   put_in regions types int = int
   put_in regions types (parameter k) = argument types k
-  put_in regions types (reference r m t) = reference (region_in regions r) m (put_in regions types t)
+  put_in regions types (reference r m t) =
+      reference (region_in regions r) m (put_in regions types t)
   put_in regions types (tuple ts) = tuple (put_in_all regions types ts)
-  put_in regions types (named s rs ts) = named s (map (region_in regions) rs) (put_in_all regions types ts)
+  put_in regions types (named s rs ts) =
+      named s (map (region_in regions) rs) (put_in_all regions types ts)
 
   pub put_in_all : List ℕ → TypeTrees → TypeTrees → TypeTrees
   put_in_all regions types none = none
@@ -49,13 +55,15 @@ abbrev mutual
 abbrev pub field_type : List Struct → ℕ → List ℕ → TypeTrees → ℕ → Option TypeTree
 field_type structs s rs ts k = option_map (put_in rs ts) (type_at (struct_at structs s).fields k)
 
--- The type keeps to what is declared: its regions and type parameters have numbers below these, and each struct that it names
--- is one of these and takes as many region arguments and type arguments as it has parameters.
+-- The type keeps to what is declared: its regions and type parameters have numbers below these, and
+-- each struct that it names is one of these and takes as many region arguments and type arguments
+-- as it has parameters.
 abbrev mutual
   pub IsWellFormed : List Struct → ℕ → ℕ → TypeTree → Type 0
   IsWellFormed structs regions parameters int = Unit {0}
   IsWellFormed structs regions parameters (parameter k) = k < parameters
-  IsWellFormed structs regions parameters (reference r m t) = (r < regions) × IsWellFormed structs regions parameters t
+  IsWellFormed structs regions parameters (reference r m t) =
+      (r < regions) × IsWellFormed structs regions parameters t
   IsWellFormed structs regions parameters (tuple ts) = AreWellFormed structs regions parameters ts
   IsWellFormed structs regions parameters (named s rs ts) = (s < length structs)
       × (length rs ≡ length (struct_at structs s).regions)
@@ -74,4 +82,5 @@ HasGoodFields earlier d = AreWellFormed earlier (length d.regions + 1) (length d
 
 -- each struct's fields keep to the structs that were declared before it
 abbrev pub AreInOrder : List Struct → Type 0
-AreInOrder structs = (s : ℕ) → s < length structs → HasGoodFields (take s structs) (struct_at structs s)
+AreInOrder structs =
+    (s : ℕ) → s < length structs → HasGoodFields (take s structs) (struct_at structs s)

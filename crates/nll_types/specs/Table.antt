@@ -3,7 +3,8 @@
 use Rattle.std.specs.Prelude.{◌≡◌, ℕ, ◌<◌, ◌≤◌, List, [], ◌∷◌, ◌++◌, length, slice_index_or}
 use Rattle.std.specs.Prelude.{slice_index, min, sum_by, ◌+◌}
 use Rattle.nll_problem.specs.Limits.{most_nodes}
-use Rattle.nll_types.specs.Shapes.{Shape, ShapeList, int_shape, parameter_shape, reference_shape, tuple_shape, named_shape}
+use Rattle.nll_types.specs.Shapes.{Shape, ShapeList, int_shape, parameter_shape, reference_shape}
+use Rattle.nll_types.specs.Shapes.{tuple_shape, named_shape}
 use Rattle.nll_types.specs.Shapes.{no_shape, more_shapes, shape_nodes}
 use Rattle.nll_types.specs.declared.node.Node.{Node}
 use Rattle.nll_types.specs.declared.node.Node.TheVariants as nodes
@@ -63,21 +64,26 @@ IsTable ns = (i : ℕ) → i < length ns → IsOver i (slice_index_or ns i nodes
 abbrev pub HasOneNumber : List Node → Type 0
 HasOneNumber ns = (i j : ℕ) → i < length ns → j < length ns → shape_in ns i ≡ shape_in ns j → i ≡ j
 
--- The parts of each node come before it, each shape has one number, and beside each stands how many nodes the shape has,
--- counted up to one more than a type may have.
+-- The parts of each node come before it, each shape has one number, and beside each stands how many
+-- nodes the shape has, counted up to one more than a type may have.
 pub record IsShapeTable (ns : List Node) (sizes : List ℕ) : Type 0 where
   pub table : IsTable ns
   pub one : HasOneNumber ns
   pub counted : length sizes ≡ length ns
-  pub measured : (i : ℕ) → i < length ns → slice_index sizes i ≡ min (most_nodes + 1) (shape_nodes (shape_in ns i))
+  pub measured : (i : ℕ) → i < length ns
+      → slice_index sizes i ≡ min (most_nodes + 1) (shape_nodes (shape_in ns i))
 
--- how many nodes the shape of a node has over parts of these sizes, counted up to one more than a type may have
+-- how many nodes the shape of a node has over parts of these sizes, counted up to one more than a
+-- type may have
 abbrev pub size_over : List ℕ → Node → ℕ
 size_over counts nodes.Int = 1
 size_over counts (nodes.Parameter i) = 1
-size_over counts (nodes.Reference m t) = min (most_nodes + 1) (min (most_nodes + 1) (slice_index counts t) + 1)
-size_over counts (nodes.Tuple ts) = min (most_nodes + 1) (sum_by (λ p. slice_index counts p) ts.items + 1)
-size_over counts (nodes.Named s n ts) = min (most_nodes + 1) (sum_by (λ p. slice_index counts p) ts.items + 1)
+size_over counts (nodes.Reference m t) =
+    min (most_nodes + 1) (min (most_nodes + 1) (slice_index counts t) + 1)
+size_over counts (nodes.Tuple ts) =
+    min (most_nodes + 1) (sum_by (λ p. slice_index counts p) ts.items + 1)
+size_over counts (nodes.Named s n ts) =
+    min (most_nodes + 1) (sum_by (λ p. slice_index counts p) ts.items + 1)
 
 -- the numbers are below this
 abbrev pub AreBelow : ℕ → List ℕ → Type 0

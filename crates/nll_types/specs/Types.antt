@@ -1,9 +1,11 @@
 -- Types as trees, with their regions.
--- Source: RFC 2094, "Subtyping" and "Reborrow constraints" speak of such types; the forms are project's choice.
+-- Source: RFC 2094, "Subtyping" and "Reborrow constraints" speak of such types; the forms are
+-- project's choice.
 use Rattle.std.specs.Prelude.{◌≡◌, ◌⊎◌, ℕ, zero, suc, ◌+◌, Bool, List, Option, Some, None, Contains}
 
 mutual
-  -- Regions and structs go by their numbers. A type parameter stands in the fields of a struct alone.
+  -- Regions and structs go by their numbers. A type parameter stands in the fields of a struct
+  -- alone.
   pub data TypeTree : Type 0 where
     int : TypeTree
     parameter : ℕ → TypeTree
@@ -27,7 +29,8 @@ abbrev pub type_count : TypeTrees → ℕ
 type_count none = 0
 type_count (more t ts) = type_count ts + 1
 
--- How many nodes a type has: each `int`, reference, tuple, struct and type parameter is one, regions are none.
+-- How many nodes a type has: each `int`, reference, tuple, struct and type parameter is one,
+-- regions are none.
 abbrev mutual
   pub nodes : TypeTree → ℕ
   nodes int = 1

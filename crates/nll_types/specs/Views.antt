@@ -1,6 +1,7 @@
 -- A type of the code as a tree: what it says, without where it lies in memory.
 use Rattle.std.specs.Prelude.{List, [], ◌∷◌, map}
-use Rattle.nll_types.specs.Types.{TypeTree, TypeTrees, int, parameter, reference, tuple, named, none, more}
+use Rattle.nll_types.specs.Types.{TypeTree, TypeTrees, int, parameter, reference, tuple, named}
+use Rattle.nll_types.specs.Types.{none, more}
 use Rattle.nll_types.specs.declared.ty.Ty.{Ty}
 use Rattle.nll_types.specs.declared.ty.Ty.TheOpen.{Ty-F, Int, Parameter, Reference, Tuple, Named}
 use Rattle.nll_types.specs.declared.ty.Ty.TheFolds.{fold-Ty}

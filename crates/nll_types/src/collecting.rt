@@ -7,7 +7,8 @@ ghost use Rattle.nll_types.specs.declared.source.Source.TheVariants.{Region as r
 ghost use Rattle.nll_types.specs.Views.{tree, trees};
 ghost use Rattle.nll_types.specs.Declarations.{structs_of};
 ghost use Rattle.nll_types.specs.Sources.{AddsSources, IsWantedOf, IsWantedOfOne};
-ghost use Rattle.nll_types.specs.Collecting.{IsPutRegion, IsSourceRegion, WantsWritten, WantsDropped};
+ghost use Rattle.nll_types.specs.Collecting.{IsPutRegion, IsSourceRegion, WantsWritten};
+ghost use Rattle.nll_types.specs.Collecting.{WantsDropped};
 
 use crate::putting::region_in;
 use crate::source::{Source, add, add_where, has};
@@ -126,7 +127,8 @@ pub(crate) fn collect(
     ensures { OnOk result ((later : List Struct) (regions parameters : ℕ)
         → IsWellFormed (structs_of structs.now) regions parameters (tree ty.now)
         → AddsSources (structs_of structs.now ++ later)
-        (IsWantedOf (structs_of structs.now ++ later) (IsTrue written) (IsTrue dropped) (tree ty.now))
+        (IsWantedOf (structs_of structs.now ++ later) (IsTrue written) (IsTrue dropped)
+        (tree ty.now))
         out.old.keys out.new.keys) }
 {
     match ty {

@@ -92,8 +92,8 @@ pub(crate) fn sources_of(
 ) -> Result<IndexSet<Source>, Memory>
     requires fields { HasGoodFields (structs_of structs.now) (declared declaration.now) }
     requires few { length declaration.now.regions.items < 2 ^ 32 - 1 }
-    ensures { IfOk result (λ s. AreSourcesOf (structs_of structs.now ++ declared declaration.now ∷ [])
-        (length structs.now) s.keys) }
+    ensures { IfOk result (λ s. AreSourcesOf
+        (structs_of structs.now ++ declared declaration.now ∷ []) (length structs.now) s.keys) }
 {
     let mut out = IndexSet::new(alloc);
     match collect_declaration(structs, declaration, &mut out) {

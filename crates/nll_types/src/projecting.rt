@@ -5,7 +5,8 @@ ghost use Rattle.nll_types.specs.Structs.{Struct, struct_at};
 ghost use Rattle.nll_types.specs.Declarations.{structs_of};
 ghost use Rattle.nll_types.specs.Shapes.{shapes_of, shape_at, put_in_shape, behind_shape};
 ghost use Rattle.nll_types.specs.Table.{Extends, AreBelow, shape_in, shapes_in, all_at};
-ghost use Rattle.nll_types.specs.declared.place.Projection.TheVariants.{Deref as deref, Field as field};
+ghost use Rattle.nll_types.specs.declared.place.Projection.TheVariants.{Deref as deref};
+ghost use Rattle.nll_types.specs.declared.place.Projection.TheVariants.{Field as field};
 
 use crate::node::Node;
 use crate::shapes::Shapes;

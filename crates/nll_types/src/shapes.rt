@@ -71,7 +71,8 @@ fn intern(nodes: &mut IndexSet<Node>, node: Node) -> Result<(usize, bool), Memor
     ensures ok { IfOk result (λ r. nodes.new.keys
         ≡ (if r.1 then nodes.old.keys ++ node ∷ [] else nodes.old.keys)) }
     ensures within { IfOk result (λ r. r.0 < length nodes.new.keys) }
-    ensures at { IfOk result (λ r. shape_in nodes.new.keys r.0 ≡ shape_over (shapes_in nodes.old.keys) node) }
+    ensures at { IfOk result (λ r. shape_in nodes.new.keys r.0
+        ≡ shape_over (shapes_in nodes.old.keys) node) }
     ensures one { OnOk result (HasOneNumber nodes.new.keys) }
     ensures err { OnErr result (nodes.new.keys ≡ nodes.old.keys) }
 {

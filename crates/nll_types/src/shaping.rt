@@ -17,7 +17,8 @@ fn argument_number(shapes: &Shapes, arguments: &[usize], number: usize) -> Optio
     ensures within { IfSome result (λ i. i < length shapes.now) }
     ensures found { IfSome result (λ i. (number < length arguments.now)
         × (i ≡ slice_index arguments.now number)) }
-    ensures none { IfNone result (AreBelow (length shapes.now) arguments.now → length arguments.now ≤ number) }
+    ensures none { IfNone result
+        (AreBelow (length shapes.now) arguments.now → length arguments.now ≤ number) }
 {
     if number >= arguments.len() {
         return None;
@@ -34,7 +35,8 @@ fn argument_number(shapes: &Shapes, arguments: &[usize], number: usize) -> Optio
 fn argument(shapes: &mut Shapes, arguments: &[usize], number: usize) -> Result<usize, Memory>
     ensures extends { Extends shapes.old shapes.new }
     ensures within { IfOk result (λ i. i < length shapes.new) }
-    ensures at { IfOk result (λ i. AreBelow (length shapes.old) arguments.now → shape_in shapes.new i
+    ensures at { IfOk result (λ i. AreBelow (length shapes.old) arguments.now
+        → shape_in shapes.new i
         ≡ argument_shape (all_at (shapes_in shapes.old) arguments.now) number) }
 {
     match argument_number(shapes, arguments, number) {
@@ -60,7 +62,8 @@ pub(crate) fn shape(
 ) -> Result<usize, Memory>
     ensures extends { Extends shapes.old shapes.new }
     ensures within { IfOk result (λ i. i < length shapes.new) }
-    ensures at { IfOk result (λ i. AreBelow (length shapes.old) arguments.now → shape_in shapes.new i
+    ensures at { IfOk result (λ i. AreBelow (length shapes.old) arguments.now
+        → shape_in shapes.new i
         ≡ put_in_shape (all_at (shapes_in shapes.old) arguments.now) (shape_of (tree ty.now))) }
 {
     match ty {

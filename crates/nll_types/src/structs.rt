@@ -87,7 +87,8 @@ impl Structs {
     pub fn field(&self, number: usize, place: usize) -> Option<&Ty>
         ensures { MatchOption result
             (type_at (struct_at (structs_of self.now) number).fields place ≡ None)
-            (λ t. type_at (struct_at (structs_of self.now) number).fields place ≡ Some (tree t.now)) }
+            (λ t. type_at (struct_at (structs_of self.now) number).fields place
+            ≡ Some (tree t.now)) }
     {
         if number >= self.entries.len() {
             return None;

@@ -44,7 +44,8 @@ impl Model for TypeTable {
 
     ghost view = { λ table. record { structs = table.structs; shapes = table.shapes } };
 
-    ghost invariant = { λ table. AreRemembered (structs_of table.structs) table.shapes table.fields.entries };
+    ghost invariant = { λ table.
+        AreRemembered (structs_of table.structs) table.shapes table.fields.entries };
 }
 
 impl TypeTable {
