@@ -10,3 +10,4 @@ pub mod Tables
 pub mod Sources
 pub mod Declarations
 pub mod Collecting
+pub mod Operands

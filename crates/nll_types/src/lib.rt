@@ -9,6 +9,7 @@ mod laws;
 mod limits;
 mod memo;
 mod node;
+mod operand;
 mod parameter;
 mod place;
 mod placing;
@@ -28,6 +29,7 @@ pub use laws::{
 };
 pub use limits::MAX_NODES;
 pub use node::Node;
+pub use operand::Operand;
 pub use parameter::{Parameter, Sign};
 pub use place::{Place, Projection};
 pub use placing::{field_type, place_type};

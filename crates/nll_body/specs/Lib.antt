@@ -1,0 +1,6 @@
+pub mod Naming
+pub mod Statements
+pub mod MirSaid
+pub mod MirFaults
+pub mod Bodies
+pub mod MirText

@@ -1,0 +1,3 @@
+pub mod Statements
+pub mod MirForms
+pub mod Lines

@@ -1,0 +1,2 @@
+pub mod WrittenTypes
+pub mod TypeTexts
