@@ -10,7 +10,6 @@ use Rattle.nll_type_grammar.specs.WrittenTypes.{Name}
 use Rattle.nll_mir_grammar.specs.Statements.{Statement, is_terminator, return}
 use Rattle.nll_body.specs.Statements.{targets}
 use Rattle.nll_body.specs.MirSaid.{Said}
-use Rattle.nll_body.specs.MirFaults.{structs_of}
 
 -- A body: its regions' names, 'static first and the universal ones before the others, the pairs of
 -- universal regions of which the first is known to outlive the second, its structs, the types of
@@ -30,7 +29,7 @@ body_said s = record {
   names = s.names;
   universals = s.universals;
   outlives = s.outlives;
-  structs = structs_of s;
+  structs = s.structs;
   variables = s.variables;
   starts = s.starts;
   points = s.points;

@@ -1,9 +1,9 @@
 -- What is wrong with a further line of a MIR text.
 -- Source: project's choice; docs/FORMATS.md says the same in words.
 use Rattle.std.specs.Prelude.{ℕ, ◌+◌, Bool, true, false, not, ◌&&◌, ◌||◌, ◌==◌, nat_lt, nat_le}
-use Rattle.std.specs.Prelude.{if◌then◌else◌, List, [], ◌∷◌, ◌++◌, length, map, all, any, find, find, sum_by}
+use Rattle.std.specs.Prelude.{if◌then◌else◌, List, [], ◌∷◌, ◌++◌, length, map, find, sum_by}
 use Rattle.std.specs.Prelude.{Option, Some, None, is_some}
-use Rattle.std.specs.List.{flat_map}
+use Rattle.std.specs.List.{flat_map, list_all, list_any}
 use Rattle.indexmap.specs.IndexSet.{insert_all}
 use Rattle.nll_problem.specs.Limits.{most_points, most_edges, most_universals, most_regions}
 use Rattle.nll_problem.specs.Limits.{most_variables, most_structs}
@@ -16,9 +16,9 @@ use Rattle.nll_reading.specs.declared.error.TextKind.TheVariants.{Syntax, Unknow
 use Rattle.nll_reading.specs.declared.error.TextKind.TheVariants.{Shape, TypeSize, Limit}
 use Rattle.nll_types.specs.Types.{TypeTree, TypeTrees, int, reference, tuple, named, none, more}
 use Rattle.nll_types.specs.Structs.{Struct, struct_at, put_in_all}
-use Rattle.nll_types.specs.Places.{PlacePath, type_of}
+use Rattle.nll_types.specs.Places.{PlacePath, type_of, small_prefixes}
 use Rattle.nll_types.specs.Operands.{Operand, operand_type}
-use Rattle.nll_types.specs.Shapes.{same_shape, is_small, are_small, small_prefixes}
+use Rattle.nll_types.specs.Shapes.{same_shape, is_small}
 use Rattle.nll_type_grammar.specs.WrittenTypes.{Name, WrittenType, WrittenTypes}
 use Rattle.nll_mir_grammar.specs.Statements.{Statement, assign, borrow, make, read, live, dead, nop}
 use Rattle.nll_mir_grammar.specs.Statements.{goto, switch, drop, call, return, stop}
@@ -26,15 +26,11 @@ use Rattle.nll_mir_grammar.specs.Statements.{is_terminator}
 use Rattle.nll_mir_grammar.specs.MirForms.{WrittenParameter}
 use Rattle.nll_mir_grammar.specs.MirForms.{Form, universal, outlives, further, struct_line}
 use Rattle.nll_mir_grammar.specs.MirForms.{variable, blocks, block, at_point, end}
-use Rattle.nll_body.specs.Naming.{is_among, struct_names, is_known, are_known, has_arguments}
-use Rattle.nll_body.specs.Naming.{have_arguments, meant, all_meant}
+use Rattle.nll_naming.specs.Naming.{is_among, is_known, are_known, has_arguments}
+use Rattle.nll_naming.specs.Naming.{have_arguments, meant, all_meant}
 use Rattle.nll_body.specs.Statements.{target_of, sources_of, targets, operands_of}
 use Rattle.nll_body.specs.MirSaid.{Said, body_scope, field_scope, regions_in, types_in, group}
 use Rattle.nll_body.specs.MirSaid.{statement_meant}
-
--- the structs, without their names
-abbrev pub structs_of : Said → List Struct
-structs_of s = map (λ d. d.says) s.structs
 
 -- ---- order
 
@@ -62,14 +58,14 @@ has_repeats (x ∷ xs) = is_among xs x || has_repeats xs
 -- is 'static, or a type parameter's that is a struct's.
 abbrev pub redeclares : Said → Name → List WrittenParameter → Bool
 redeclares s n ps =
-    is_among (struct_names s.structs) n
+    is_among s.struct_names n
     || has_repeats (field_scope s ps).regions
     || has_repeats (field_scope s ps).parameters
-    || any (is_among (n ∷ struct_names s.structs)) (field_scope s ps).parameters
+    || list_any (is_among (n ∷ s.struct_names)) (field_scope s ps).parameters
 
 -- the variables are declared
 abbrev pub are_declared : Said → List ℕ → Bool
-are_declared s xs = all (λ x. nat_lt x (length s.variables)) xs
+are_declared s xs = list_all (λ x. nat_lt x (length s.variables)) xs
 
 -- the written types in a statement
 abbrev pub types_written : {R T : Type 0} → Statement R T → List T
@@ -94,14 +90,14 @@ variables_written i = map (λ p. p.variable) (target_of i ++ sources_of i)
 abbrev pub knows : Said → Statement Name WrittenType → Bool
 knows s i =
     are_declared s (variables_written i)
-    && all (is_among s.names) (regions_written i)
-    && all (is_known (body_scope s)) (types_written i)
+    && list_all (is_among s.names) (regions_written i)
+    && list_all (is_known (body_scope s)) (types_written i)
 
 -- ---- blocks
 
 -- each target is one of the blocks
 abbrev pub has_targets : {R T : Type 0} → Said → Statement R T → Bool
-has_targets s i = all (λ b. nat_lt b s.blocks) (targets i)
+has_targets s i = list_all (λ b. nat_lt b s.blocks) (targets i)
 
 -- how many edges leave the point where the statement or terminator stands
 abbrev pub edges_from : {R T : Type 0} → Statement R T → ℕ
@@ -124,6 +120,11 @@ abbrev pub parts_of_type : List Struct → TypeTree → Option TypeTrees
 parts_of_type structs (tuple ts) = Some ts
 parts_of_type structs (named n rs ts) = Some (put_in_all rs ts (struct_at structs n).fields)
 parts_of_type structs _ = None
+
+-- each type has no more nodes than a type may have
+abbrev pub are_small : TypeTrees → Bool
+are_small none = true
+are_small (more t ts) = is_small t && are_small ts
 
 -- there is one operand for each type, and they agree
 abbrev pub all_agree : List (Option TypeTree) → TypeTrees → Bool
@@ -156,7 +157,7 @@ module _ (structs : List Struct) (variables : List TypeTree) where
   types_agree (read p) = is_some (place_type p)
   types_agree (switch op bs) = agree (operand_type structs variables op) (Some int)
   types_agree (call p args t wheres b unwind) =
-      all (λ a. agree (operand_type structs variables a.0) (Some a.1)) args
+      list_all (λ a. agree (operand_type structs variables a.0) (Some a.1)) args
       && agree (Some t) (place_type p)
   types_agree _ = true
 
@@ -169,8 +170,8 @@ module _ (structs : List Struct) (variables : List TypeTree) where
   -- most as many nodes as a type may have.
   abbrev pub types_are_small : Statement ℕ TypeTree → Bool
   types_are_small i =
-      all is_small (types_written i)
-      && all (small_prefixes structs variables) (target_of i ++ sources_of i)
+      list_all is_small (types_written i)
+      && list_all (small_prefixes structs variables) (target_of i ++ sources_of i)
       && small_parts (parts_made i) where
     small_parts : Option TypeTrees → Bool
     small_parts None = true
@@ -179,8 +180,8 @@ module _ (structs : List Struct) (variables : List TypeTree) where
 -- the statement's types agree, and those that are written have arguments of the right kinds
 abbrev pub shapes_fit : Said → Statement Name WrittenType → Bool
 shapes_fit s i =
-    all (has_arguments (body_scope s)) (types_written i)
-    && types_agree (structs_of s) s.variables (statement_meant s i)
+    list_all (has_arguments (body_scope s)) (types_written i)
+    && types_agree s.structs s.variables (statement_meant s i)
 
 -- ---- faults
 
@@ -214,7 +215,7 @@ has_fault s (at_point i) Unknown = not (knows s i)
 has_fault s (at_point i) Range = not (has_targets s i)
 has_fault s (at_point i) Shape = not (shapes_fit s i)
 has_fault s (at_point i) TypeSize =
-    not (types_are_small (structs_of s) s.variables (statement_meant s i))
+    not (types_are_small s.structs s.variables (statement_meant s i))
 has_fault s (at_point i) (Limit Points) = nat_le most_points (length s.points)
 has_fault s (at_point i) (Limit Edges) = nat_lt most_edges (edge_count s.points + edges_from i)
 has_fault s end Range = nat_lt (length s.starts) s.blocks

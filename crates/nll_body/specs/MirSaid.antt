@@ -15,7 +15,7 @@ use Rattle.nll_mir_grammar.specs.Statements.{Statement, is_terminator, map_state
 use Rattle.nll_mir_grammar.specs.MirForms.{WrittenParameter, region_parameter, type_parameter}
 use Rattle.nll_mir_grammar.specs.MirForms.{Form, universal, outlives, further, struct_line}
 use Rattle.nll_mir_grammar.specs.MirForms.{variable, blocks, block, at_point, end}
-use Rattle.nll_body.specs.Naming.{NamedStruct, Scope, meant, all_meant}
+use Rattle.nll_naming.specs.Naming.{Scope, meant, all_meant}
 
 -- ---- the parameters of a struct
 
@@ -52,7 +52,11 @@ pub record Said : Type 0 where
   pub universals : ℕ
   -- of each pair of regions the first is known to outlive the second; each pair once
   pub outlives : List (ℕ × ℕ)
-  pub structs : List NamedStruct
+  -- the structs' names, for each whether each of its parameters is one of a region, and what each
+  -- declares
+  pub struct_names : List Name
+  pub kinds : List (List Bool)
+  pub structs : List Struct
   -- the types of the variables
   pub variables : List TypeTree
   -- how many blocks there are to be, and the first point of each that is there
@@ -70,6 +74,8 @@ nothing_said = record {
   names = codes "static" ∷ [];
   universals = 1;
   outlives = [];
+  struct_names = [];
+  kinds = [];
   structs = [];
   variables = [];
   blocks = 0;
@@ -80,7 +86,8 @@ nothing_said = record {
 
 -- what names mean in the types of variables and of statements
 abbrev pub body_scope : Said → Scope
-body_scope s = record { regions = s.names; parameters = []; structs = s.structs }
+body_scope s =
+    record { regions = s.names; parameters = []; structs = s.struct_names; kinds = s.kinds }
 
 -- what names mean in the fields of a struct with these parameters: 'static, the struct's own
 -- parameters, and the structs that were declared before
@@ -88,20 +95,17 @@ abbrev pub field_scope : Said → List WrittenParameter → Scope
 field_scope s ps = record {
   regions = codes "static" ∷ map (λ p. p.0) (regions_in ps);
   parameters = map (λ p. p.0) (types_in ps);
-  structs = s.structs;
+  structs = s.struct_names;
+  kinds = s.kinds;
 }
 
 -- the struct that a line declares
-abbrev pub declared : Said → Name → List WrittenParameter → Bool → WrittenTypes → NamedStruct
-declared s n ps has_drop fields = record {
-  name = n;
-  kinds = map is_region ps;
-  says = record {
-    regions = map (λ p. p.1) (regions_in ps);
-    types = map (λ p. p.1) (types_in ps);
-    has_drop = has_drop;
-    fields = all_meant (field_scope s ps) fields;
-  };
+abbrev pub declared : Said → List WrittenParameter → Bool → WrittenTypes → Struct
+declared s ps has_drop fields = record {
+  regions = map (λ p. p.1) (regions_in ps);
+  types = map (λ p. p.1) (types_in ps);
+  has_drop = has_drop;
+  fields = all_meant (field_scope s ps) fields;
 }
 
 -- a statement with its regions and types as they are meant
@@ -129,8 +133,12 @@ says s (outlives a b) = record s {
   outlives = insert_all same_pair s.outlives ((number_of s.names a, number_of s.names b) ∷ []);
 }
 says s (further x) = record s { reached = 3; names = s.names ++ x ∷ [] }
-says s (struct_line n ps has_drop fields) =
-    record s { reached = 4; structs = s.structs ++ declared s n ps has_drop fields ∷ [] }
+says s (struct_line n ps has_drop fields) = record s {
+  reached = 4;
+  struct_names = s.struct_names ++ n ∷ [];
+  kinds = s.kinds ++ map is_region ps ∷ [];
+  structs = s.structs ++ declared s ps has_drop fields ∷ [];
+}
 says s (variable x t) =
     record s { reached = 5; variables = s.variables ++ meant (body_scope s) t ∷ [] }
 says s (blocks n) = record s { reached = 6; blocks = n }

@@ -1,6 +1,7 @@
 //! Types as they are written.
 
 ghost use Rattle.std.specs.Prelude.{◌≡◌};
+ghost use Rattle.nll_type_grammar.specs.TypeTexts.{AreNodes};
 
 use std::marker::Model;
 
@@ -49,7 +50,8 @@ impl<'a> Model for TypeText<'a> {
 impl<'a> TypeText<'a> {
     /// The nodes: parts before what they are parts of, and the type itself last.
     pub fn nodes(&self) -> &[TypeNode<'a>]
-        ensures { result.now ≡ self.now }
+        ensures value { result.now ≡ self.now }
+        ensures sound { AreNodes self.now }
     {
         self.nodes.as_slice()
     }

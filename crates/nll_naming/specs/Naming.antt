@@ -1,41 +1,26 @@
 -- What the names in written types mean, and whether they and the arguments are right.
 -- Source: project's choice; docs/FORMATS.md says the same in words.
-use Rattle.std.specs.Prelude.{ℕ, zero, suc, Bool, true, false, ◌&&◌, ◌||◌, nat_lt, if◌then◌else◌}
-use Rattle.std.specs.Prelude.{List, [], ◌∷◌, ◌++◌, length, map, slice_index_or, codes}
-use Rattle.std.specs.List.{filter_map}
+use Rattle.std.specs.Prelude.{ℕ, Bool, true, false, ◌&&◌, ◌||◌, nat_lt, if◌then◌else◌, List, []}
+use Rattle.std.specs.Prelude.{◌∷◌, length, slice_index_or}
 use Rattle.nll_reading.specs.Names.{number_of}
 use Rattle.nll_types.specs.Types.{TypeTree, TypeTrees, int, parameter, reference, tuple, named}
 use Rattle.nll_types.specs.Types.{none, more}
-use Rattle.nll_types.specs.Structs.{Struct}
 use Rattle.nll_type_grammar.specs.WrittenTypes.{Name, WrittenType, WrittenTypes, Arguments}
 use Rattle.nll_type_grammar.specs.WrittenTypes.{no_argument, region_argument, type_argument}
 use Rattle.nll_type_grammar.specs.WrittenTypes as written
 
--- A struct that a line declares: its name, for each of its parameters in order whether it is one of
--- a region, and what it says.
-pub record NamedStruct : Type 0 where
-  pub name : Name
-  pub kinds : List Bool
-  pub says : Struct
-
--- What names stand for where a type is written: regions and type parameters by their places in
--- these rows, structs by the order of their declarations.
+-- What names stand for where a type is written: regions, type parameters and structs by their
+-- places in these rows. Beside the structs stand the kinds of the arguments that each takes, in
+-- order: whether one is a region.
 pub record Scope : Type 0 where
   pub regions : List Name
   pub parameters : List Name
-  pub structs : List NamedStruct
+  pub structs : List Name
+  pub kinds : List (List Bool)
 
 -- the name is one of these
 abbrev pub is_among : List Name → Name → Bool
 is_among names x = nat_lt (number_of names x) (length names)
-
--- the names of structs
-abbrev pub struct_names : List NamedStruct → List Name
-struct_names structs = map (λ s. s.name) structs
-
--- the number of the struct of a name
-abbrev pub struct_number : Scope → Name → ℕ
-struct_number s n = number_of (struct_names s.structs) n
 
 -- The type that a written type means. A name that is a type parameter's means that parameter, and
 -- any other a struct.
@@ -46,7 +31,7 @@ abbrev mutual
   meant s (written.tuple ts) = tuple (all_meant s ts)
   meant s (written.named n args) =
       if is_among s.parameters n then parameter (number_of s.parameters n)
-      else named (struct_number s n) (regions_meant s args) (types_meant s args)
+      else named (number_of s.structs n) (regions_meant s args) (types_meant s args)
 
   pub all_meant : Scope → WrittenTypes → TypeTrees
   all_meant s written.none = none
@@ -71,7 +56,7 @@ abbrev mutual
   is_known s (written.reference r m t) = is_among s.regions r && is_known s t
   is_known s (written.tuple ts) = are_known s ts
   is_known s (written.named n args) =
-      (is_among s.parameters n || is_among (struct_names s.structs) n) && arguments_are_known s args
+      (is_among s.parameters n || is_among s.structs n) && arguments_are_known s args
 
   pub are_known : Scope → WrittenTypes → Bool
   are_known s written.none = true
@@ -88,12 +73,11 @@ kinds_of no_argument = []
 kinds_of (region_argument r args) = true ∷ kinds_of args
 kinds_of (type_argument t args) = false ∷ kinds_of args
 
--- the kinds of arguments that a name takes: none for a type parameter, and for a struct the kinds
--- of its parameters in their order
+-- the kinds of arguments that a name takes: a type parameter takes none
 abbrev pub kinds_taken : Scope → Name → List Bool
 kinds_taken s n =
     if is_among s.parameters n then []
-    else slice_index_or (map (λ d. d.kinds) s.structs) (struct_number s n) []
+    else slice_index_or s.kinds (number_of s.structs n) []
 
 -- the two rows of kinds are one
 abbrev pub same_kinds : List Bool → List Bool → Bool

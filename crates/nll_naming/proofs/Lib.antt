@@ -1,0 +1,2 @@
+pub mod JudgingLemmas
+pub mod NodeLemmas
