@@ -1,6 +1,7 @@
 //! Types as they are written.
 
 ghost use Rattle.std.specs.Prelude.{◌≡◌};
+ghost use Rattle.nll_type_grammar.specs.TypeTexts.{AreNodes};
 
 use std::marker::Model;
 
@@ -52,5 +53,13 @@ impl<'a> TypeText<'a> {
         ensures { result.now ≡ self.now }
     {
         self.nodes.as_slice()
+    }
+
+    // The type of these nodes.
+    pub(crate) fn of(nodes: Vec<TypeNode<'a>>) -> TypeText<'a>
+        requires { AreNodes nodes.items }
+        ensures { result ≡ nodes.entry.items }
+    {
+        TypeText { nodes }
     }
 }

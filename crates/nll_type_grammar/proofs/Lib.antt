@@ -1,0 +1,4 @@
+pub mod TokenLemmas
+pub mod StepLemmas
+pub mod NodeLemmas
+pub mod FurtherLemmas

@@ -1,0 +1,1 @@
+use Rattle.nll_type_grammar.proofs.opens.step.Goals as goal
