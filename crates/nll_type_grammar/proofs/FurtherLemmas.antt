@@ -1,12 +1,13 @@
 -- Steps that the code takes: tokens, nodes and frames together.
-use Rattle.std.proofs.Common.{◌≡◌, ℕ, ◌+◌, ◌-◌, ◌*◌, ◌<◌, ◌≤◌, Bool, List, [], ◌∷◌, ◌++◌, length, map, drop, refl, sym, ap, ◌∙◌, subst, arith}
+use Rattle.std.proofs.Common.{◌≡◌, ℕ, ◌+◌, ◌-◌, ◌<◌, ◌≤◌, Bool, List, [], ◌∷◌, ◌++◌, length, drop, refl, sym, ap, ◌∙◌, subst, arith}
 use Rattle.std.specs.Borrow.{Bor}
+use Rattle.std.specs.Prelude.{Option, Some, None, MatchOption}
 use Rattle.std.proofs.lemmas.List.{length-append}
-use Rattle.nll_text.specs.Tokens.{Token, word, region, sign, views}
+use Rattle.nll_text.specs.Tokens.{Token, region, views}
 use Rattle.nll_text.specs.declared.token.Token.{Token as InLine}
-use Rattle.nll_type_grammar.specs.WrittenTypes.{Name, WrittenType, WrittenTypes, Arguments, reference, tuple, named, none, more, no_argument, region_argument, type_argument}
+use Rattle.nll_type_grammar.specs.WrittenTypes.{Name, WrittenType, Arguments, int, reference, none, more, no_argument, region_argument, type_argument}
 use Rattle.nll_type_grammar.specs.TypeTexts.{at, all_at, arguments_at, type_over, types_from, written, types_among, parts_of}
-use Rattle.nll_type_grammar.specs.OpenTypes.{Frame, behind, parts, arguments, joined, joined_arguments, Steps, IsStuck, Finishes, frame_over, frames_of, numbers_of, AreBelow, AreOpen, AreParted, AreRead, GoesFurther, pending}
+use Rattle.nll_type_grammar.specs.OpenTypes.{Frame, behind, parts, arguments, joined, joined_arguments, Steps, IsStuck, frame_over, frames_of, numbers_of, AreBelow, AreRead, GoesFurther, pending}
 use Rattle.nll_type_grammar.specs.declared.opens.State.{State}
 use Rattle.nll_type_grammar.specs.declared.opens.State.TheVariants.{Want, WantArgument, Have, Inside}
 use Rattle.nll_type_grammar.specs.declared.opens.Open.{Open}
@@ -148,6 +149,33 @@ further_region tokens ns os old new o p n args args' q r is e f is_old is_new nu
       some = λ x. cc;
     }
 
+-- no arguments are open
+pub stuck_argument_frame : (tokens : List InLine) (rest : List Token) (ns : List TypeNode) (os old : List Open) (o : Open) (q : Name) → ((n : Name) (args : Arguments) → frame_over (types_from [] ns) o ≡ arguments n args → ⊥) → views tokens ≡ region q ∷ rest → old ≡ os ++ o ∷ [] → IsStuck WantArgument (frames_of ns old) (written ns) (views tokens)
+stuck_argument_frame tokens rest ns os old o q other is e =
+    stuck_frame WantArgument (written ns) (views tokens) ns os old o e
+      (subst (λ (z : List Token). IsStuck WantArgument (frame_over (types_from [] ns) o ∷ frames_of ns os) (written ns) z) (sym is)
+        (stuck_region (frame_over (types_from [] ns) o ∷ frames_of ns os) (written ns) q rest (λ n args gs h. other n args (let g : frame_over (types_from [] ns) o ≡ arguments n args = cc in g))))
+
+pub stuck_argument_none : (tokens : List InLine) (rest : List Token) (ns : List TypeNode) (old : List Open) (q : Name) → views tokens ≡ region q ∷ rest → old ≡ [] → IsStuck WantArgument (frames_of ns old) (written ns) (views tokens)
+stuck_argument_none tokens rest ns old q is e =
+    subst (λ (z : List Open). IsStuck WantArgument (frames_of ns z) (written ns) (views tokens)) (sym e)
+      (subst (λ (z : List Token). IsStuck WantArgument [] (written ns) z) (sym is)
+        (stuck_region [] (written ns) q rest (λ n args gs h. cc)))
+
+pub further_complete : (s' : State) (tokens : List InLine) (ns ns' : List TypeNode) (os os' : List Open) → ((ts : List Token) → Steps Have (frames_of ns os) (written ns) ts s' (frames_of ns' os') (written ns') ts) → AreRead ns' os' → length os' + pending s' ≤ length os → 0 < length ns' → GoesFurther Have ns os tokens s' ns' os' 0
+further_complete s' tokens ns ns' os os' same r few some = record {
+  within = omega arith;
+  falls = omega arith;
+  same = same (views tokens);
+  read = r;
+  some = λ h. some;
+}
+
+-- what is so for all lists of nodes is so for one
+pub at_nodes : (told : Option (State × ℕ)) (tokens : List InLine) (ns : List TypeNode) (old new : List Open) → AreRead ns old → MatchOption told ((ns : List TypeNode) → IsStuck WantArgument (frames_of ns old) (written ns) (views tokens)) (λ p. (ns : List TypeNode) → AreRead ns old → GoesFurther WantArgument ns old tokens p.0 ns new p.1) → MatchOption told (IsStuck WantArgument (frames_of ns old) (written ns) (views tokens)) (λ p. GoesFurther WantArgument ns old tokens p.0 ns new p.1)
+at_nodes None tokens ns old new r m = m ns
+at_nodes (Some p) tokens ns old new r m = m ns r
+
 -- ---- the loop
 
 pub steps_then : (s s' s'' : State) (fs fs' fs'' : List Frame) (t t' t'' : WrittenType) (ts ts' ts'' : List Token) → Steps s fs t ts s' fs' t' ts' → Steps s' fs' t' ts' s'' fs'' t'' ts'' → Steps s fs t ts s'' fs'' t'' ts''
@@ -159,3 +187,6 @@ first_read ns os e f = rw (e, f) (record { parted = λ i h. absurd (omega arith)
 
 pub first_steps : (ns : List TypeNode) (os : List Open) (t : WrittenType) (ts : List Token) → ns ≡ [] → os ≡ [] → Steps Want [] t ts Want (frames_of ns os) (written ns) ts
 first_steps ns os t ts e f = rw (e, f) (record { there = λ whole rest f. f; back = λ whole rest f. f })
+
+pub at_end : (s : State) (ns : List TypeNode) (os : List Open) (ts at_ts : List Token) → s ≡ Have → os ≡ [] → Steps Want [] int ts s (frames_of ns os) (written ns) at_ts → Steps Want [] int ts Have [] (written ns) at_ts
+at_end s ns os ts at_ts e k same = subst (λ z. Steps Want [] int ts z [] (written ns) at_ts) e (subst (λ (z : List Open). Steps Want [] int ts s (frames_of ns z) (written ns) at_ts) k same)

@@ -2,3 +2,4 @@ pub mod TokenLemmas
 pub mod StepLemmas
 pub mod NodeLemmas
 pub mod FurtherLemmas
+pub mod OneTree

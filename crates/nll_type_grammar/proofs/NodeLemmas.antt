@@ -1,18 +1,17 @@
 -- Nodes and frames: one more, or one less.
-use Rattle.std.proofs.Common.{◌≡◌, ℕ, zero, suc, ◌+◌, ◌-◌, ◌<◌, ◌≤◌, Bool, List, [], ◌∷◌, ◌++◌, length, get_or, map, reverse, refl, sym, ap, ◌∙◌, subst, arith, ⊎_elim, inl, inr, ◌⊎◌}
+use Rattle.std.proofs.Common.{◌≡◌, ℕ, ◌+◌, ◌-◌, ◌<◌, ◌≤◌, List, [], ◌∷◌, ◌++◌, length, get_or, map, reverse, refl, sym, ap, ◌∙◌, subst, arith, ⊎_elim}
 use Rattle.std.specs.Prelude.{All, slice_index_or}
 use Rattle.std.specs.Borrow.{Bor}
-use Rattle.std.specs.List.{AllByRecursion}
 use Rattle.std.proofs.Math.Seq.{get_or-append_seam}
 use Rattle.std.proofs.lemmas.List.{get_or_append_left, length-append, map_push, reverse-append}
 use Rattle.std.proofs.lemmas.Bool.{cases_lt}
-use Rattle.std.proofs.lemmas.List.Elements.{All-from_recursion, recursion_from_All}
+use Rattle.std.proofs.lemmas.List.Elements.{All-from_recursion}
 use Rattle.nll_text.specs.Tokens.{Token}
-use Rattle.nll_type_grammar.specs.WrittenTypes.{WrittenType, WrittenTypes, Arguments, int, reference, tuple, named, none, more, no_argument, region_argument, type_argument}
+use Rattle.nll_type_grammar.specs.WrittenTypes.{WrittenType, int, none, more, no_argument, region_argument, type_argument}
 use Rattle.nll_type_grammar.specs.TypeTexts.{at, all_at, arguments_at, type_over, types_from, written, types_among, parts_of}
-use Rattle.nll_type_grammar.specs.OpenTypes.{Frame, behind, parts, arguments, joined, joined_arguments, Steps, frame_over, frames_of, numbers_of, AreBelow, AreOpen, AreParted, AreRead}
+use Rattle.nll_type_grammar.specs.OpenTypes.{Frame, parts, arguments, joined, joined_arguments, Steps, frame_over, frames_of, numbers_of, AreBelow, AreOpen, AreParted, AreRead}
 use Rattle.nll_type_grammar.specs.declared.opens.State.{State}
-use Rattle.nll_type_grammar.specs.declared.opens.State.TheVariants.{Want, WantArgument, Have, Inside}
+use Rattle.nll_type_grammar.specs.declared.opens.State.TheVariants.{Have}
 use Rattle.nll_type_grammar.specs.declared.opens.Open.{Open}
 use Rattle.nll_type_grammar.specs.declared.opens.Open.TheVariants as opens
 use Rattle.nll_type_grammar.specs.declared.type_text.TypeNode.{TypeNode}

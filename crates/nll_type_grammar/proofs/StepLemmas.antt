@@ -1,5 +1,5 @@
 -- Steps through a type.
-use Rattle.std.proofs.Common.{◌≡◌, ℕ, Bool, true, false, List, [], ◌∷◌, ◌++◌, refl, sym, ap, ◌∙◌, subst, append_assoc, ⊎_elim, inl, inr, ◌⊎◌}
+use Rattle.std.proofs.Common.{◌≡◌, ℕ, Bool, true, false, List, [], ◌∷◌, ◌++◌, refl, sym, ap, ◌∙◌, subst, append_assoc, ⊎_elim, inl, inr}
 use Rattle.std.specs.Prelude.{codes}
 use Rattle.std.specs.Borrow.{Bor}
 use Rattle.nll_text.specs.Tokens.{Token, word, region, sign}
@@ -8,9 +8,8 @@ use Rattle.nll_type_grammar.specs.Reading.{HasNoType, IsTypeIn}
 use Rattle.nll_type_grammar.specs.OpenTypes.{Frame, behind, parts, arguments, joined, joined_arguments, Closes, GoesInside, Reads, GoesOn, GoesOnWithRegion, Finishes, Steps, IsStuck, IsNoFront, Begins}
 use Rattle.nll_type_grammar.specs.declared.opens.State.{State}
 use Rattle.nll_type_grammar.specs.declared.opens.State.TheVariants.{Want, WantArgument, Have, Inside}
-use Rattle.nll_type_grammar.specs.declared.fronts.Front.{Front}
 use Rattle.nll_type_grammar.specs.declared.fronts.Front.TheVariants as fronts
-use Rattle.nll_type_grammar.proofs.TokenLemmas.{int_no_name, mut_no_name, bytes_apart, apart, no_mut, no_closing, no_name_of}
+use Rattle.nll_type_grammar.proofs.TokenLemmas.{int_no_name, apart, no_mut, no_closing, no_name_of}
 
 -- ---- one thing more behind others
 

@@ -1,9 +1,9 @@
 -- Tokens that are apart, and with which tokens types begin.
-use Rattle.std.proofs.Common.{◌≡◌, ℕ, Bool, true, false, eqb, List, [], ◌∷◌, ◌++◌, refl, sym, ap, ◌∙◌, subst}
+use Rattle.std.proofs.Common.{◌≡◌, ℕ, true, false, eqb, List, ◌∷◌, ◌++◌, refl, sym, ap, ◌∙◌, subst}
 use Rattle.std.specs.Prelude.{codes}
 use Rattle.std.proofs.lemmas.Bool.{eq-eqb, false≢true}
-use Rattle.nll_text.specs.Tokens.{Token, word, region, sign, arrow}
-use Rattle.nll_type_grammar.specs.WrittenTypes.{Name, WrittenType, WrittenTypes, Arguments, int, reference, tuple, named, none, more, no_argument, region_argument, type_argument, is_capital, spelled, HasNames}
+use Rattle.nll_text.specs.Tokens.{Token, word, region, sign}
+use Rattle.nll_type_grammar.specs.WrittenTypes.{Name, WrittenType, int, reference, tuple, named, is_capital, spelled, HasNames}
 
 -- the first byte of a word, or 0
 first_byte : Token → ℕ

@@ -132,7 +132,9 @@ fn want_argument<'a>(
             opened.push(Open::Arguments(name, arguments))?;
             Ok(Some((State::Inside, 1)))
         }
-        _ => Ok(None),
+        Some(Open::Behind(..)) => Ok(None),
+        Some(Open::Tuple(_)) => Ok(None),
+        None => Ok(None),
     }
 }
 

@@ -1,8 +1,7 @@
-use Rattle.std.proofs.Common.{◌≡◌, ◌∷◌, ◌++◌, List, [], subst, sym, ap, ◌∙◌}
-use Rattle.nll_type_grammar.specs.OpenTypes.{Begins, AreBelow, arguments, parts}
-use Rattle.nll_type_grammar.specs.WrittenTypes.{named, tuple}
-use Rattle.nll_type_grammar.specs.TypeTexts.{all_at, arguments_at, types_among, written}
-use Rattle.nll_type_grammar.proofs.NodeLemmas.{to_node, to_frame, read_push_node, read_push_open}
+use Rattle.std.proofs.Common.{subst}
+use Rattle.nll_type_grammar.specs.OpenTypes.{Begins}
+use Rattle.nll_type_grammar.specs.TypeTexts.{written}
+use Rattle.nll_type_grammar.proofs.NodeLemmas.{to_node, to_frame, read_push_node}
 use Rattle.nll_type_grammar.proofs.StepLemmas.{front_int, front_unit, front_tuple, front_reference, front_generic, front_name}
 use Rattle.nll_type_grammar.proofs.opens.begin.Goals as goal
 

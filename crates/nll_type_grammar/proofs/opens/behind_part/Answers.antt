@@ -1,4 +1,4 @@
-use Rattle.std.proofs.Common.{◌≡◌, ◌++◌, ◌∷◌, [], refl, arith}
+use Rattle.std.proofs.Common.{◌++◌, ◌∷◌, [], refl, arith}
 use Rattle.nll_text.specs.Tokens.{sign, views}
 use Rattle.nll_type_grammar.specs.TypeTexts.{written, all_at, types_from}
 use Rattle.nll_type_grammar.specs.OpenTypes.{frames_of}

@@ -1,9 +1,6 @@
-use Rattle.std.proofs.Common.{◌≡◌, ◌-◌, [], ap, sym, ◌∙◌, refl, length, rules}
-use Rattle.std.specs.Prelude.{vec_len}
+use Rattle.std.proofs.Common.{[], ap, refl, rules}
 use Rattle.nll_type_grammar.specs.TypeTexts.{types_from}
 use Rattle.nll_type_grammar.specs.OpenTypes.{frame_over, numbers_of}
-use Rattle.nll_type_grammar.specs.declared.opens.Open.TheVariants as opens
-use Rattle.nll_type_grammar.specs.declared.type_text.TypeNode.TheVariants as nodes
 use Rattle.nll_type_grammar.proofs.FurtherLemmas.{complete_behind, complete_behind_read, complete_tuple, complete_tuple_read, complete_argument, complete_argument_read}
 use Rattle.nll_type_grammar.proofs.opens.complete.Goals as goal
 
