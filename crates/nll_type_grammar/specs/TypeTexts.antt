@@ -1,7 +1,7 @@
 -- A written type as the code keeps it: a row of nodes, in which parts come before what they are
 -- parts of, and the type itself comes last.
 -- Source: project's choice.
-use Rattle.std.specs.Prelude.{◌≡◌, ℕ, ◌-◌, ◌<◌, List, [], ◌∷◌, ◌++◌, length, slice_index_or}
+use Rattle.std.specs.Prelude.{ℕ, ◌-◌, ◌<◌, List, [], ◌∷◌, ◌++◌, length, slice_index_or}
 use Rattle.std.specs.Prelude.{All}
 use Rattle.nll_type_grammar.specs.WrittenTypes.{WrittenType, WrittenTypes, Arguments, int, reference}
 use Rattle.nll_type_grammar.specs.WrittenTypes.{tuple, named, none, more}

@@ -55,4 +55,12 @@ impl<'a> TypeText<'a> {
     {
         self.nodes.as_slice()
     }
+
+    // The type of these nodes.
+    pub(crate) fn of(nodes: Vec<TypeNode<'a>>) -> TypeText<'a>
+        requires { AreNodes nodes.items }
+        ensures { result ≡ nodes.entry.items }
+    {
+        TypeText { nodes }
+    }
 }
