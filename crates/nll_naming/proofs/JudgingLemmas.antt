@@ -1,6 +1,5 @@
 -- What is judged of types, judged of their parts.
-use Rattle.std.proofs.Common.{◌≡◌, ◌⊎◌, ℕ, zero, suc, ◌+◌, ◌-◌, ◌<◌, ◌≤◌, Bool, true, false, ◌&&◌, List, [], ◌∷◌, ◌++◌, length, get_or, map, refl, sym, ap, ◌∙◌, arith, subst}
-use Rattle.std.specs.Prelude.{slice_index}
+use Rattle.std.proofs.Common.{◌≡◌, ℕ, zero, suc, ◌+◌, ◌-◌, ◌<◌, ◌≤◌, Bool, true, false, ◌&&◌, List, [], ◌∷◌, ◌++◌, length, get_or, map, refl, sym, ap, ◌∙◌, arith, subst}
 use Rattle.std.proofs.Common.{⊎_elim}
 use Rattle.std.proofs.Math.Seq.{get_or-append_seam}
 use Rattle.std.proofs.lemmas.List.{get_or_append_left, get_or_default, length-append}
@@ -20,8 +19,8 @@ use Rattle.nll_type_grammar.specs.TypeTexts.{at, all_at, arguments_at, types_amo
 use Rattle.nll_type_grammar.specs.declared.type_text.TypeNode.{TypeNode}
 use Rattle.nll_type_grammar.specs.declared.type_text.Argument.{Argument}
 use Rattle.nll_type_grammar.specs.declared.type_text.Argument.TheVariants as arguments
-use Rattle.nll_naming.specs.Naming.{Scope, is_among, meant, all_meant, regions_meant, types_meant, is_known, are_known, arguments_are_known, has_arguments, have_arguments, arguments_have_arguments, kinds_of, same_kinds}
-use Rattle.nll_naming.specs.Judging.{IsJudged, AreJudged, judged_at, region_is_known, is_region, region_numbers, HaveShapes}
+use Rattle.nll_naming.specs.Naming.{Scope, is_among, all_meant, regions_meant, types_meant, are_known, arguments_are_known, have_arguments, arguments_have_arguments, kinds_of, same_kinds}
+use Rattle.nll_naming.specs.Judging.{IsJudged, AreJudged, judged_at, region_is_known, is_region, HaveShapes}
 use Rattle.nll_naming.specs.declared.judged.Judged.{Judged}
 
 rest_below : (n i : ℕ) (is : List ℕ) → AreBelow n (i ∷ is) → AreBelow n is

@@ -1,2 +1,3 @@
 pub mod JudgingLemmas
+pub mod MeaningLemmas
 pub mod NodeLemmas

@@ -24,7 +24,7 @@ use nll_types::{Node, TypeTable};
 use std::alloc::Global;
 
 // The number of a name, and whether it is among the names.
-fn find(names: &Names, name: &[u8]) -> (usize, bool)
+pub(crate) fn find(names: &Names, name: &[u8]) -> (usize, bool)
     ensures number { result.0 ≡ number_among names.now name.now }
     ensures known { result.1 ≡ is_among names.now name.now }
 {

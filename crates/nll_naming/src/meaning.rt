@@ -11,7 +11,7 @@ ghost use Rattle.nll_naming.specs.Naming as naming;
 ghost use Rattle.nll_naming.specs.Naming.{all_meant, regions_meant, types_meant};
 ghost use Rattle.nll_naming.specs.Judging.{scope_of, region_numbers, HasRoom};
 
-use crate::judging::types_among;
+use crate::judging::{find, types_among};
 use crate::scope::Scope;
 use nll_problem::RegionId;
 use nll_reading::Names;
@@ -19,16 +19,6 @@ use nll_sets::Memory;
 use nll_type_grammar::{Argument, TypeNode, TypeText};
 use nll_types::Ty;
 use std::alloc::Global;
-
-// The number of a name, or how many names there are.
-fn number_of(names: &Names, name: &[u8]) -> usize
-    ensures { result ≡ number_among names.now name.now }
-{
-    match names.number_of(name) {
-        Some(number) => number,
-        None => names.len(),
-    }
-}
 
 // The number of a region.
 fn region(names: &Names, name: &[u8]) -> RegionId
@@ -95,13 +85,15 @@ fn node_meant(
             Ok(Ty::Tuple(parts))
         }
         TypeNode::Named(name, arguments) => {
-            if let Some(number) = scope.parameters.number_of(name) {
-                return Ok(Ty::Parameter(number));
+            let (parameter, is_parameter) = find(scope.parameters, name);
+            if is_parameter {
+                return Ok(Ty::Parameter(parameter));
             }
             let types = types_among(alloc, arguments.as_slice())?;
             let types = parts_meant(alloc, scope, nodes, number, types.as_slice())?;
             let regions = regions(alloc, scope.regions, arguments.as_slice())?;
-            Ok(Ty::Named(number_of(scope.structs, name), regions, types))
+            let (number, _) = find(scope.structs, name);
+            Ok(Ty::Named(number, regions, types))
         }
     }
 }

@@ -1,4 +1,4 @@
-use Rattle.std.proofs.Common.{length, map, arith}
+use Rattle.std.proofs.Common.{map, arith}
 use Rattle.nll_naming.specs.Judging.{is_region}
 use Rattle.nll_naming.proofs.JudgingLemmas.{kinds_differ, length_kinds}
 use Rattle.nll_naming.proofs.judging.are_of.Goals as goal

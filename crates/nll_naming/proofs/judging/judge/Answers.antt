@@ -1,9 +1,8 @@
-use Rattle.std.proofs.Common.{◌≡◌, ◌<◌, ◌≤◌, ◌-◌, [], length, take, arith, subst, ap}
+use Rattle.std.proofs.Common.{◌≡◌, ◌<◌, ◌≤◌, ◌-◌, [], length, take, arith, ap}
 use Rattle.std.proofs.Math.Seq.{take-length}
-use Rattle.nll_types.specs.Table.{AreBelow}
 use Rattle.nll_types.proofs.ShapingLemmas.{extends_then}
-use Rattle.nll_type_grammar.specs.TypeTexts.{AreNodes, parts_of, types_from}
-use Rattle.nll_naming.specs.Judging.{scope_of, AreJudged}
+use Rattle.nll_type_grammar.specs.TypeTexts.{AreNodes, types_from}
+use Rattle.nll_naming.specs.Judging.{scope_of}
 use Rattle.nll_naming.proofs.JudgingLemmas.{judged_push, judged_here}
 use Rattle.nll_naming.proofs.NodeLemmas.{parts_at, one_more, count_taken}
 use Rattle.nll_naming.proofs.judging.judge.Goals as goal

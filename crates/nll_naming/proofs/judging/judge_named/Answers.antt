@@ -1,10 +1,7 @@
-use Rattle.std.proofs.Common.{◌≡◌, length, map, arith, ap, sym, ◌∙◌, List, ℕ, ◌&&◌, []}
-use Rattle.nll_types.specs.Table.{AreBelow, shape_in}
-use Rattle.nll_types.specs.Shapes.{parameter_shape}
-use Rattle.nll_reading.specs.Names.{number_of}
+use Rattle.std.proofs.Common.{◌≡◌, length, map, arith, ap, []}
 use Rattle.nll_type_grammar.specs.TypeTexts.{types_among}
 use Rattle.nll_naming.specs.Naming.{same_kinds}
-use Rattle.nll_naming.specs.Judging.{scope_of, is_region, judged_at}
+use Rattle.nll_naming.specs.Judging.{scope_of, is_region}
 use Rattle.nll_naming.proofs.JudgingLemmas.{judged_parameter, judged_struct, types_count, shapes_below, none_empty}
 use Rattle.nll_naming.proofs.judging.judge_named.Goals as goal
 

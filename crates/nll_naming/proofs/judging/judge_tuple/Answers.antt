@@ -1,4 +1,3 @@
-use Rattle.std.proofs.Common.{length}
 use Rattle.nll_naming.specs.Judging.{scope_of}
 use Rattle.nll_naming.proofs.JudgingLemmas.{judged_tuple, shapes_below}
 use Rattle.nll_naming.proofs.judging.judge_tuple.Goals as goal

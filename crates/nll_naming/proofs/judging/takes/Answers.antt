@@ -1,4 +1,4 @@
-use Rattle.std.proofs.Common.{arith, sym, ◌∙◌, length}
+use Rattle.std.proofs.Common.{arith, sym, ◌∙◌}
 use Rattle.nll_naming.proofs.JudgingLemmas.{takes_none, none_empty}
 use Rattle.nll_naming.proofs.judging.takes.Goals as goal
 
