@@ -7,8 +7,8 @@ use Rattle.nll_reading.specs.Labels.{Labels, blocks}
 use Rattle.nll_types.specs.Types.{TypeTree}
 use Rattle.nll_types.specs.Structs.{Struct}
 use Rattle.nll_type_grammar.specs.WrittenTypes.{Name}
-use Rattle.nll_mir_grammar.specs.Statements.{Statement, is_terminator, return}
-use Rattle.nll_body.specs.Statements.{targets}
+use Rattle.nll_statements.specs.Statements.{Statement, is_terminator, return}
+use Rattle.nll_statements.specs.Effects.{targets}
 use Rattle.nll_body.specs.MirSaid.{Said}
 
 -- A body: its regions' names, 'static first and the universal ones before the others, the pairs of

@@ -1,4 +1,3 @@
-pub mod Statements
 pub mod MirSaid
 pub mod MirFaults
 pub mod Bodies

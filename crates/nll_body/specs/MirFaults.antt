@@ -20,15 +20,15 @@ use Rattle.nll_types.specs.Places.{PlacePath, type_of, small_prefixes}
 use Rattle.nll_types.specs.Operands.{Operand, operand_type}
 use Rattle.nll_types.specs.Shapes.{same_shape, is_small}
 use Rattle.nll_type_grammar.specs.WrittenTypes.{Name, WrittenType, WrittenTypes}
-use Rattle.nll_mir_grammar.specs.Statements.{Statement, assign, borrow, make, read, live, dead, nop}
-use Rattle.nll_mir_grammar.specs.Statements.{goto, switch, drop, call, return, stop}
-use Rattle.nll_mir_grammar.specs.Statements.{is_terminator}
+use Rattle.nll_statements.specs.Statements.{Statement, assign, borrow, make, read, live, dead, nop}
+use Rattle.nll_statements.specs.Statements.{goto, switch, drop, call, return, stop}
+use Rattle.nll_statements.specs.Statements.{is_terminator}
 use Rattle.nll_mir_grammar.specs.MirForms.{WrittenParameter}
 use Rattle.nll_mir_grammar.specs.MirForms.{Form, universal, outlives, further, struct_line}
 use Rattle.nll_mir_grammar.specs.MirForms.{variable, blocks, block, at_point, end}
 use Rattle.nll_naming.specs.Naming.{is_among, is_known, are_known, has_arguments}
 use Rattle.nll_naming.specs.Naming.{have_arguments, meant, all_meant}
-use Rattle.nll_body.specs.Statements.{target_of, sources_of, targets, operands_of}
+use Rattle.nll_statements.specs.Effects.{target_of, sources_of, targets, operands_of}
 use Rattle.nll_body.specs.MirSaid.{Said, body_scope, field_scope, regions_in, types_in, group}
 use Rattle.nll_body.specs.MirSaid.{statement_meant}
 

@@ -2,12 +2,10 @@
 #![tactic(auto)]
 
 mod line;
-mod statement;
 
 ghost use Rattle.nll_mir_grammar.specs.Lines.{form_of};
 
 pub use line::{Line, ParameterText, StructText};
-pub use statement::{Call, Make, Statement};
 
 pub fn nothing<'a>(line: &Line<'a>)
     ensures { form_of line.now ≡ form_of line.now }

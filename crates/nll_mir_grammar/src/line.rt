@@ -1,6 +1,6 @@
 //! A line of a MIR text.
 
-use crate::statement::Statement;
+use nll_statements::Statement;
 use nll_type_grammar::TypeText;
 use nll_types::Parameter;
 

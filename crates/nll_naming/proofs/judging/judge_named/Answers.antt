@@ -22,10 +22,10 @@ returns-then-is_parameter-clause-judged c = λ ts judged.
     let at = c.in_ok-shape.ensures.at in
     let none : c.is_empty.result ≡ same_kinds (map is_region c.args.arguments.now) [] = none_empty c.args.arguments.now c.is_empty.result c.is_empty.ensures in
     judged_parameter (scope_of c.args.scope.now) c.args.table.now.shapes c.add.new.self.shapes ts c.args.done.now judged c.args.name.now c.args.arguments.now c.requires.parts _ c.in_ok-shape.ensures.within
-        (cc)
-        (cc)
-        (cc)
-        (cc)
+    (cc)
+    (cc)
+    (cc)
+    (cc)
 
 pub add-requires-2 : goal.add-requires-2
 add-requires-2 c =
@@ -54,7 +54,7 @@ returns-clause-judged c = λ ts judged.
     let count : length c.in_ok-types.types.items ≡ length (types_among c.args.arguments.now) = ap length among in
     let fewer = c.len.ensures in
     judged_struct (scope_of c.args.scope.now) c.args.table.now.shapes c.add-2.new.self.shapes ts c.args.done.now judged c.args.name.now c.args.arguments.now c.requires.parts _ c.in_ok-shape-2.ensures.within
-        (cc)
-        (cc)
-        (cc)
-        (cc)
+    (cc)
+    (cc)
+    (cc)
+    (cc)

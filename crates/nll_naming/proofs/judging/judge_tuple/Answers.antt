@@ -14,6 +14,6 @@ returns-clause-judged c = λ ts judged.
     let known = c.all_known.ensures in
     let fits = c.all_fit.ensures in
     judged_tuple (scope_of c.args.scope.now) c.args.table.now.shapes c.add.new.self.shapes ts c.args.done.now judged c.args.parts.now c.requires.parts _ c.in_ok-shape.ensures.within
-        (cc)
-        (cc)
-        (cc)
+    (cc)
+    (cc)
+    (cc)

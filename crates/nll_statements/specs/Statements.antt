@@ -1,7 +1,7 @@
 -- What stands at a point of a body: a statement or a terminator.
 -- Source: RFC 2094 speaks of MIR; the forms are project's choice, and docs/FORMATS.md says the same
 -- in words.
-use Rattle.std.specs.Prelude.{ℕ, Bool, true, false, List, Option, map, option_map}
+use Rattle.std.specs.Prelude.{ℕ, Bool, true, false, List, Option, map}
 use Rattle.nll_types.specs.Places.{PlacePath}
 use Rattle.nll_types.specs.Operands.{Operand}
 
