@@ -26,4 +26,3 @@ statement_of (kept.Call c) =
     c.value.result c.value.wheres.items c.value.target c.value.unwind
 statement_of kept.Return = return
 statement_of kept.Stop = stop
-

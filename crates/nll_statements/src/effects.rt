@@ -173,7 +173,7 @@ fn push_arguments<T>(arguments: &[(Operand, T)], used: &mut Vec<u32>) -> Result<
 fn push_projected(place: Option<&Place>, used: &mut Vec<u32>) -> Result<(), Memory>
     ensures { OnOk result (MatchOption place.entry (used.new.items ≡ used.old.items)
         (λ p. used.new.items ≡ used.old.items
-            ++ map (λ q. q.variable) (filter is_projected (path_of p.now ∷ [])))) }
+        ++ map (λ q. q.variable) (filter is_projected (path_of p.now ∷ [])))) }
 {
     if let Some(place) = place {
         if !place.projections.is_empty() {
