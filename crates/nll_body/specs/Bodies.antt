@@ -6,34 +6,20 @@ use Rattle.nll_problem.specs.Graph.{Graph, IsNext, IsReturn}
 use Rattle.nll_reading.specs.Labels.{Labels, blocks}
 use Rattle.nll_types.specs.Types.{TypeTree}
 use Rattle.nll_types.specs.Structs.{Struct}
-use Rattle.nll_type_grammar.specs.WrittenTypes.{Name}
 use Rattle.nll_statements.specs.Statements.{Statement, is_terminator, return}
 use Rattle.nll_statements.specs.Effects.{targets}
-use Rattle.nll_body.specs.MirSaid.{Said}
 
 -- A body: its regions' names, 'static first and the universal ones before the others, the pairs of
 -- universal regions of which the first is known to outlive the second, its structs, the types of
 -- its variables, the first point of each block, and what stands at each point.
 pub record BodyText : Type 0 where
-  pub names : List Name
+  pub names : List (List ℕ)
   pub universals : ℕ
   pub outlives : List (ℕ × ℕ)
   pub structs : List Struct
   pub variables : List TypeTree
   pub starts : List ℕ
   pub points : List (Statement ℕ TypeTree)
-
--- the body that lines say
-abbrev pub body_said : Said → BodyText
-body_said s = record {
-  names = s.names;
-  universals = s.universals;
-  outlives = s.outlives;
-  structs = s.structs;
-  variables = s.variables;
-  starts = s.starts;
-  points = s.points;
-}
 
 -- this statement or terminator stands at p
 abbrev pub StandsAt : BodyText → ℕ → Statement ℕ TypeTree → Type 0

@@ -1,4 +1,1 @@
-pub mod MirSaid
-pub mod MirFaults
 pub mod Bodies
-pub mod MirText

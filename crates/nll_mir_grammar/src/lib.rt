@@ -3,6 +3,7 @@
 
 mod line;
 
+ghost use Rattle.std.specs.Prelude.{◌≡◌};
 ghost use Rattle.nll_mir_grammar.specs.Lines.{form_of};
 
 pub use line::{Line, ParameterText, StructText};

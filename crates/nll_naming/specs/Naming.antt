@@ -64,7 +64,8 @@ abbrev mutual
 
   pub arguments_are_known : Scope → Arguments → Bool
   arguments_are_known s no_argument = true
-  arguments_are_known s (region_argument r args) = is_among s.regions r && arguments_are_known s args
+  arguments_are_known s (region_argument r args) =
+      is_among s.regions r && arguments_are_known s args
   arguments_are_known s (type_argument t args) = is_known s t && arguments_are_known s args
 
 -- for each argument whether it is a region

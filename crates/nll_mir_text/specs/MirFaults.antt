@@ -29,8 +29,8 @@ use Rattle.nll_mir_grammar.specs.MirForms.{variable, blocks, block, at_point, en
 use Rattle.nll_naming.specs.Naming.{is_among, is_known, are_known, has_arguments}
 use Rattle.nll_naming.specs.Naming.{have_arguments, meant, all_meant}
 use Rattle.nll_statements.specs.Effects.{target_of, sources_of, targets, operands_of}
-use Rattle.nll_body.specs.MirSaid.{Said, body_scope, field_scope, regions_in, types_in, group}
-use Rattle.nll_body.specs.MirSaid.{statement_meant}
+use Rattle.nll_mir_text.specs.MirSaid.{Said, body_scope, field_scope, regions_in, types_in, group}
+use Rattle.nll_mir_text.specs.MirSaid.{statement_meant}
 
 -- ---- order
 

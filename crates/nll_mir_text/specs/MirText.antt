@@ -3,9 +3,9 @@
 use Rattle.std.specs.Prelude.{◌≡◌, ℕ, List, codes, Contains}
 use Rattle.nll_reading.specs.Text.{Format, IsText}
 use Rattle.nll_mir_grammar.specs.MirForms.{Form, HasForm, end}
-use Rattle.nll_body.specs.MirSaid.{Said, said}
-use Rattle.nll_body.specs.MirFaults.{first_fault}
-use Rattle.nll_body.specs.Bodies.{BodyText, body_said}
+use Rattle.nll_mir_text.specs.MirSaid.{Said, said}
+use Rattle.nll_mir_text.specs.MirFaults.{first_fault}
+use Rattle.nll_body.specs.Bodies.{BodyText}
 
 -- MIR texts, version 1: the last line that a text needs is an `end` line
 abbrev pub mir : Format
@@ -18,6 +18,18 @@ mir = record {
   said = said;
   first_fault = first_fault;
   HasEnded = λ forms. Contains forms end;
+}
+
+-- the body that lines say
+abbrev pub body_said : Said → BodyText
+body_said s = record {
+  names = s.names;
+  universals = s.universals;
+  outlives = s.outlives;
+  structs = s.structs;
+  variables = s.variables;
+  starts = s.starts;
+  points = s.points;
 }
 
 -- The text fits and means this body.
