@@ -18,7 +18,8 @@ use Rattle.nll_type_grammar.specs.declared.type_text.TypeNode.TheVariants as nod
 use Rattle.nll_type_grammar.specs.declared.fronts.Front.{Front}
 use Rattle.nll_type_grammar.specs.declared.fronts.Front.TheVariants as fronts
 use Rattle.nll_type_grammar.specs.declared.opens.State.{State}
-use Rattle.nll_type_grammar.specs.declared.opens.State.TheVariants.{Want, WantArgument, Have, Inside}
+use Rattle.nll_type_grammar.specs.declared.opens.State.TheVariants.{Want, WantArgument, Have}
+use Rattle.nll_type_grammar.specs.declared.opens.State.TheVariants.{Inside}
 use Rattle.nll_type_grammar.specs.declared.opens.Open.{Open}
 use Rattle.nll_type_grammar.specs.declared.opens.Open.TheVariants as opens
 

@@ -3,7 +3,8 @@
 -- Source: project's choice.
 use Rattle.std.specs.Prelude.{ℕ, ◌-◌, ◌<◌, List, [], ◌∷◌, ◌++◌, length, slice_index_or}
 use Rattle.std.specs.Prelude.{All}
-use Rattle.nll_type_grammar.specs.WrittenTypes.{WrittenType, WrittenTypes, Arguments, int, reference}
+use Rattle.nll_type_grammar.specs.WrittenTypes.{WrittenType, WrittenTypes, Arguments}
+use Rattle.nll_type_grammar.specs.WrittenTypes.{int, reference}
 use Rattle.nll_type_grammar.specs.WrittenTypes.{tuple, named, none, more}
 use Rattle.nll_type_grammar.specs.WrittenTypes.{no_argument, region_argument, type_argument}
 use Rattle.nll_type_grammar.specs.declared.type_text.TypeNode.{TypeNode}

@@ -1,7 +1,7 @@
 //! What of a type is begun and not complete, and one step through a type.
 
-ghost use Rattle.std.specs.Prelude.{◌≡◌, ◌∷◌, [], ◌++◌, ◌<◌, ◌+◌, ◌≤◌, ℕ, true, false, List, length};
-ghost use Rattle.std.specs.Prelude.{drop, MatchOption, IfOk, OnOk};
+ghost use Rattle.std.specs.Prelude.{◌≡◌, ◌∷◌, [], ◌++◌, ◌<◌, ◌+◌, ◌≤◌, List, length};
+ghost use Rattle.std.specs.Prelude.{MatchOption, IfOk, OnOk};
 ghost use Rattle.nll_text.specs.Tokens as lex;
 ghost use Rattle.nll_text.specs.Tokens.{views};
 ghost use Rattle.nll_type_grammar.specs.TypeTexts.{written};
@@ -49,11 +49,14 @@ pub fn begin<'a>(
     requires { AreRead nodes.old.items opened.old.items }
     ensures same {
         IfOk result (λ s. (ts rest : List lex.Token) → Begins front.entry ts rest →
-            Steps State.Want (frames_of nodes.old.items opened.old.items) (written nodes.old.items) ts
+            Steps State.Want
+                (frames_of nodes.old.items opened.old.items) (written nodes.old.items) ts
                 s (frames_of nodes.new.items opened.new.items) (written nodes.new.items) rest)
     }
     ensures read { OnOk result (AreRead nodes.new.items opened.new.items) }
-    ensures few { IfOk result (λ s. length opened.new.items + pending s ≤ length opened.old.items + 2) }
+    ensures few {
+        IfOk result (λ s. length opened.new.items + pending s ≤ length opened.old.items + 2)
+    }
     ensures some { IfOk result (λ s. s ≡ State.Have → 0 < length nodes.new.items) }
 {
     match front {
@@ -148,7 +151,8 @@ fn complete<'a>(
     requires inside { 0 < length opened.old.items }
     ensures same {
         IfOk result (λ s. (ts : List lex.Token) →
-            Steps State.Have (frames_of nodes.old.items opened.old.items) (written nodes.old.items) ts
+            Steps State.Have
+                (frames_of nodes.old.items opened.old.items) (written nodes.old.items) ts
                 s (frames_of nodes.new.items opened.new.items) (written nodes.new.items) ts)
     }
     ensures read { OnOk result (AreRead nodes.new.items opened.new.items) }
