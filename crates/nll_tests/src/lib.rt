@@ -31,3 +31,5 @@ mod solving;
 mod telling;
 #[cfg(test)]
 mod tokens;
+#[cfg(test)]
+mod types;

@@ -1,0 +1,2 @@
+pub mod MirForms
+pub mod Lines

@@ -1,0 +1,3 @@
+pub mod MirSaid
+pub mod MirFaults
+pub mod MirText

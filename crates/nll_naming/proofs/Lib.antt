@@ -1,0 +1,3 @@
+pub mod JudgingLemmas
+pub mod MeaningLemmas
+pub mod NodeLemmas

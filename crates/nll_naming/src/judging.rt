@@ -1,0 +1,306 @@
+//! Judging a written type, node by node, with no recursion: it may be as large as its text.
+
+ghost use Rattle.std.specs.Prelude.{◌≡◌, ◌<◌, ◌&&◌, List, [], length, map, slice_index, IfOk};
+ghost use Rattle.std.specs.Prelude.{slice_index_or};
+ghost use Rattle.std.specs.List.{list_all};
+ghost use Rattle.nll_reading.specs.Names.{number_of as number_among};
+ghost use Rattle.nll_types.specs.Table.{Extends, AreBelow};
+ghost use Rattle.nll_type_grammar.specs.WrittenTypes.{WrittenType, tuple, named};
+ghost use Rattle.nll_type_grammar.specs.TypeTexts as texts;
+ghost use Rattle.nll_type_grammar.specs.TypeTexts.{all_at, arguments_at, parts_of};
+ghost use Rattle.nll_type_grammar.specs.TypeTexts.{type_over, written};
+ghost use Rattle.nll_naming.specs.Naming as naming;
+ghost use Rattle.nll_naming.specs.Naming.{is_among};
+ghost use Rattle.nll_naming.specs.Judging.{IsJudged, AreJudged, scope_of, region_is_known};
+ghost use Rattle.nll_naming.specs.Judging.{HaveShapes};
+ghost use Rattle.nll_naming.specs.Judging.{is_region as region_kind, judged_at};
+
+use crate::judged::Judged;
+use crate::scope::Scope;
+use nll_reading::Names;
+use nll_sets::Memory;
+use nll_type_grammar::{Argument, TypeNode, TypeText};
+use nll_types::{Node, TypeTable};
+use std::alloc::Global;
+
+// The number of a name, and whether it is among the names.
+pub(crate) fn find(names: &Names, name: &[u8]) -> (usize, bool)
+    ensures number { result.0 ≡ number_among names.now name.now }
+    ensures known { result.1 ≡ is_among names.now name.now }
+{
+    match names.number_of(name) {
+        Some(number) => (number, true),
+        None => (names.len(), false),
+    }
+}
+
+// The numbers of the types among arguments.
+pub(crate) fn types_among(alloc: Global, arguments: &[Argument<'_>]) -> Result<Vec<usize>, Memory>
+    ensures { IfOk result (λ v. v.items ≡ texts.types_among arguments.now) }
+{
+    let mut types = Vec::new(alloc);
+    for argument in arguments {
+        if let Argument::Type(number) = *argument {
+            types.push(number)?;
+        }
+    }
+    Ok(types)
+}
+
+// Whether an argument is right where it is a region: its name is known.
+fn region_known(names: &Names, argument: &Argument<'_>) -> bool
+    ensures { result ≡ region_is_known names.now argument.now }
+{
+    match argument {
+        Argument::Region(name) => {
+            let (_, known) = find(names, name);
+            known
+        }
+        Argument::Type(_) => true,
+    }
+}
+
+// Whether the names of all regions among arguments are known.
+fn regions_known(names: &Names, arguments: &[Argument<'_>]) -> bool
+    ensures { result ≡ list_all (region_is_known names.now) arguments.now }
+{
+    for argument in arguments {
+        if !region_known(names, argument) {
+            return false;
+        }
+    }
+    true
+}
+
+// Whether an argument is a region.
+fn is_region(argument: &Argument<'_>) -> bool
+    ensures { result ≡ region_kind argument.now }
+{
+    match argument {
+        Argument::Region(_) => true,
+        Argument::Type(_) => false,
+    }
+}
+
+// Whether arguments are of these kinds.
+fn are_of(arguments: &[Argument<'_>], kinds: &[bool]) -> bool
+    ensures { result ≡ naming.same_kinds (map region_kind arguments.now) kinds.now }
+{
+    if arguments.len() != kinds.len() {
+        return false;
+    }
+    for number in 0..arguments.len() {
+        if is_region(&arguments[number]) != kinds[number] {
+            return false;
+        }
+    }
+    true
+}
+
+// Whether all of these are known.
+fn all_known(done: &[Judged], parts: &[usize]) -> bool
+    requires { AreBelow (length done.now) parts.now }
+    ensures { result ≡ list_all (λ k. (judged_at done.now k).known) parts.now }
+{
+    for part in parts {
+        if !done[*part].known {
+            return false;
+        }
+    }
+    true
+}
+
+// Whether all of these have the arguments that they take.
+fn all_fit(done: &[Judged], parts: &[usize]) -> bool
+    requires { AreBelow (length done.now) parts.now }
+    ensures { result ≡ list_all (λ k. (judged_at done.now k).fits) parts.now }
+{
+    for part in parts {
+        if !done[*part].fits {
+            return false;
+        }
+    }
+    true
+}
+
+// The numbers of the shapes of these.
+fn shapes_of(alloc: Global, done: &[Judged], parts: &[usize]) -> Result<Vec<usize>, Memory>
+    requires { AreBelow (length done.now) parts.now }
+    ensures { IfOk result (λ v. v.items ≡ map (λ k. (judged_at done.now k).shape) parts.now) }
+{
+    let mut shapes = Vec::with_capacity(alloc, parts.len())?;
+    for part in parts {
+        shapes.push(done[*part].shape)?;
+    }
+    Ok(shapes)
+}
+
+// Whether both hold.
+fn both(one: bool, other: bool) -> bool
+    ensures { result ≡ one && other }
+{
+    one && other
+}
+
+// Whether the names of all regions among arguments are known, and all types of them.
+fn arguments_known(
+    names: &Names,
+    arguments: &[Argument<'_>],
+    types: &[usize],
+    done: &[Judged],
+) -> bool
+    requires { AreBelow (length done.now) types.now }
+    ensures { result ≡ list_all (region_is_known names.now) arguments.now
+        && list_all (λ k. (judged_at done.now k).known) types.now }
+{
+    let types = all_known(done, types);
+    both(regions_known(names, arguments), types)
+}
+
+// Judges a name with arguments, over what is judged of their types.
+fn judge_named(
+    alloc: Global,
+    scope: &Scope<'_>,
+    table: &mut TypeTable,
+    name: &[u8],
+    arguments: &[Argument<'_>],
+    done: &[Judged],
+) -> Result<Judged, Memory>
+    requires parts { AreBelow (length done.now) (texts.types_among arguments.now) }
+    requires shapes { HaveShapes table.old.shapes done.now }
+    ensures structs { table.new.structs ≡ table.old.structs }
+    ensures extends { Extends table.old.shapes table.new.shapes }
+    ensures judged { IfOk result (λ j. (ts : List WrittenType)
+        → AreJudged (scope_of scope.now) table.old.shapes ts done.now
+        → IsJudged (scope_of scope.now) table.new.shapes
+        (named name.now (arguments_at ts arguments.now)) j) }
+{
+    let types = types_among(alloc, arguments)?;
+    let known = arguments_known(scope.regions, arguments, types.as_slice(), done);
+    let fits = all_fit(done, types.as_slice());
+    let (number, is_parameter) = find(scope.parameters, name);
+    if is_parameter {
+        let shape = table.add(Node::Parameter(number))?;
+        return Ok(Judged {
+            known,
+            fits: both(arguments.is_empty(), fits),
+            shape,
+        });
+    }
+    let regions = arguments.len() - types.len();
+    let shapes = shapes_of(alloc, done, types.as_slice())?;
+    let (number, is_struct) = find(scope.structs, name);
+    let shape = table.add(Node::Named(number, regions, shapes))?;
+    Ok(Judged {
+        known: both(is_struct, known),
+        fits: both(takes(scope, number, arguments), fits),
+        shape,
+    })
+}
+
+// Whether a struct takes arguments of these kinds.
+fn takes(scope: &Scope<'_>, number: usize, arguments: &[Argument<'_>]) -> bool
+    ensures { result ≡ naming.same_kinds (map region_kind arguments.now)
+        (slice_index_or (scope_of scope.now).kinds number []) }
+{
+    if number < scope.kinds.len() {
+        are_of(arguments, scope.kinds[number].as_slice())
+    } else {
+        arguments.is_empty()
+    }
+}
+
+// Judges a tuple over what is judged of its parts.
+fn judge_tuple(
+    alloc: Global,
+    scope: &Scope<'_>,
+    table: &mut TypeTable,
+    parts: &[usize],
+    done: &[Judged],
+) -> Result<Judged, Memory>
+    requires parts { AreBelow (length done.now) parts.now }
+    requires shapes { HaveShapes table.old.shapes done.now }
+    ensures structs { table.new.structs ≡ table.old.structs }
+    ensures extends { Extends table.old.shapes table.new.shapes }
+    ensures judged { IfOk result (λ j. (ts : List WrittenType)
+        → AreJudged (scope_of scope.now) table.old.shapes ts done.now
+        → IsJudged (scope_of scope.now) table.new.shapes (tuple (all_at ts parts.now)) j) }
+{
+    let shapes = shapes_of(alloc, done, parts)?;
+    let shape = table.add(Node::Tuple(shapes))?;
+    Ok(Judged {
+        known: all_known(done, parts),
+        fits: all_fit(done, parts),
+        shape,
+    })
+}
+
+// Judges a node over what is judged of its parts.
+fn judge_node(
+    alloc: Global,
+    scope: &Scope<'_>,
+    table: &mut TypeTable,
+    node: &TypeNode<'_>,
+    done: &[Judged],
+) -> Result<Judged, Memory>
+    requires parts { AreBelow (length done.now) (parts_of node.now) }
+    requires shapes { HaveShapes table.old.shapes done.now }
+    ensures structs { table.new.structs ≡ table.old.structs }
+    ensures extends { Extends table.old.shapes table.new.shapes }
+    ensures judged { IfOk result (λ j. (ts : List WrittenType)
+        → AreJudged (scope_of scope.now) table.old.shapes ts done.now
+        → IsJudged (scope_of scope.now) table.new.shapes (type_over ts node.now) j) }
+{
+    match node {
+        TypeNode::Int => {
+            let shape = table.add(Node::Int)?;
+            Ok(Judged {
+                known: true,
+                fits: true,
+                shape,
+            })
+        }
+        TypeNode::Reference(region, mutable, part) => {
+            let (_, known) = find(scope.regions, region);
+            let part = done[*part];
+            let shape = table.add(Node::Reference(*mutable, part.shape))?;
+            Ok(Judged {
+                known: known && part.known,
+                fits: part.fits,
+                shape,
+            })
+        }
+        TypeNode::Tuple(parts) => {
+            let tuple = judge_tuple(alloc, scope, table, parts.as_slice(), done)?;
+            Ok(tuple)
+        }
+        TypeNode::Named(name, arguments) => {
+            let named = judge_named(alloc, scope, table, name, arguments.as_slice(), done)?;
+            Ok(named)
+        }
+    }
+}
+
+/// Judges a written type, and puts its shape into the table.
+///
+/// # Cost
+/// Linear in the type (not proved).
+pub fn judge(
+    alloc: Global,
+    scope: &Scope<'_>,
+    table: &mut TypeTable,
+    text: &TypeText<'_>,
+) -> Result<Judged, Memory>
+    ensures structs { table.new.structs ≡ table.old.structs }
+    ensures extends { Extends table.old.shapes table.new.shapes }
+    ensures judged { IfOk result
+        (IsJudged (scope_of scope.now) table.new.shapes (written text.now)) }
+{
+    let nodes = text.nodes();
+    let mut done: Vec<Judged> = Vec::with_capacity(alloc, nodes.len())?;
+    for node in nodes {
+        let judged = judge_node(alloc, scope, table, node, done.as_slice())?;
+        done.push(judged)?;
+    }
+    Ok(done[nodes.len() - 1])
+}

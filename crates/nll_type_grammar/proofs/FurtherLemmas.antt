@@ -1,0 +1,192 @@
+-- Steps that the code takes: tokens, nodes and frames together.
+use Rattle.std.proofs.Common.{◌≡◌, ℕ, ◌+◌, ◌-◌, ◌<◌, ◌≤◌, Bool, List, [], ◌∷◌, ◌++◌, length, drop, refl, sym, ap, ◌∙◌, subst, arith}
+use Rattle.std.specs.Borrow.{Bor}
+use Rattle.std.specs.Prelude.{Option, Some, None, MatchOption}
+use Rattle.std.proofs.lemmas.List.{length-append}
+use Rattle.nll_text.specs.Tokens.{Token, region, views}
+use Rattle.nll_text.specs.declared.token.Token.{Token as InLine}
+use Rattle.nll_type_grammar.specs.WrittenTypes.{Name, WrittenType, Arguments, int, reference, none, more, no_argument, region_argument, type_argument}
+use Rattle.nll_type_grammar.specs.TypeTexts.{at, all_at, arguments_at, type_over, types_from, written, types_among, parts_of}
+use Rattle.nll_type_grammar.specs.OpenTypes.{Frame, behind, parts, arguments, joined, joined_arguments, Steps, IsStuck, frame_over, frames_of, numbers_of, AreBelow, AreRead, GoesFurther, pending}
+use Rattle.nll_type_grammar.specs.declared.opens.State.{State}
+use Rattle.nll_type_grammar.specs.declared.opens.State.TheVariants.{Want, WantArgument, Have, Inside}
+use Rattle.nll_type_grammar.specs.declared.opens.Open.{Open}
+use Rattle.nll_type_grammar.specs.declared.type_text.TypeNode.{TypeNode}
+use Rattle.nll_type_grammar.specs.declared.type_text.Argument.{Argument}
+use Rattle.nll_type_grammar.specs.declared.type_text.Argument.TheVariants as argument
+use Rattle.nll_type_grammar.proofs.NodeLemmas.{to_node, to_frame, read_push_node, read_push_open, read_pop, frames_push_open, all_at_push, type_at_push, region_at_push, below_push, among_push_type, among_push_region}
+use Rattle.nll_type_grammar.proofs.StepLemmas.{step_behind, step_part, step_type_argument, step_region, step_no_region, stuck_region}
+
+length_views : (tokens : List InLine) → length (views tokens) ≡ length tokens
+length_views [] = refl
+length_views (x ∷ xs) = (let e = length_views xs in omega arith)
+
+pub one_within : (tokens : List InLine) (t : Token) → views tokens ≡ t ∷ views (drop 1 tokens) → 1 ≤ length tokens
+one_within tokens t e = (let l : length (views tokens) ≡ 1 + length (views (drop 1 tokens)) = ap length e ∙ omega arith in omega (arith, l, length_views tokens))
+
+pub two_within : (tokens : List InLine) (t u : Token) → views tokens ≡ t ∷ u ∷ views (drop 2 tokens) → 2 ≤ length tokens
+two_within tokens t u e = (let l : length (views tokens) ≡ 2 + length (views (drop 2 tokens)) = ap length e ∙ omega arith in omega (arith, l, length_views tokens))
+
+pub three_within : (tokens : List InLine) (t u v : Token) → views tokens ≡ t ∷ u ∷ v ∷ views (drop 3 tokens) → 3 ≤ length tokens
+three_within tokens t u v e = (let l : length (views tokens) ≡ 3 + length (views (drop 3 tokens)) = ap length e ∙ omega arith in omega (arith, l, length_views tokens))
+
+-- from the innermost frame
+pub from_frame : (s s' : State) (t : WrittenType) (ts rest : List Token) (ns : List TypeNode) (os old : List Open) (o : Open) (fs' : List Frame) (t' : WrittenType) → old ≡ os ++ o ∷ [] → Steps s (frame_over (types_from [] ns) o ∷ frames_of ns os) t ts s' fs' t' rest → Steps s (frames_of ns old) t ts s' fs' t' rest
+from_frame s s' t ts rest ns os old o fs' t' e step = subst (λ (z : List Frame). Steps s z t ts s' fs' t' rest) (sym (ap (frames_of ns) e ∙ frames_push_open ns os o)) step
+
+pub stuck_frame : (s : State) (t : WrittenType) (ts : List Token) (ns : List TypeNode) (os old : List Open) (o : Open) → old ≡ os ++ o ∷ [] → IsStuck s (frame_over (types_from [] ns) o ∷ frames_of ns os) t ts → IsStuck s (frames_of ns old) t ts
+stuck_frame s t ts ns os old o e stuck = subst (λ (z : List Frame). IsStuck s z t ts) (sym (ap (frames_of ns) e ∙ frames_push_open ns os o)) stuck
+
+-- a comma: the innermost frame goes on
+pub further_again : (s' : State) (tokens : List InLine) (c : Token) (ns : List TypeNode) (os os' : List Open) (o : Open) → (s' ≡ Have → ⊥) → pending s' < 2 → AreRead ns (os ++ o ∷ []) → os' ≡ os ++ o ∷ [] → views tokens ≡ c ∷ views (drop 1 tokens) → ((fs : List Frame) (t u : WrittenType) (after : List Token) → Steps Inside (frame_over (types_from [] ns) o ∷ fs) t (c ∷ after) s' (frame_over (types_from [] ns) o ∷ fs) u after) → GoesFurther Inside ns (os ++ o ∷ []) tokens s' ns os' 1
+further_again s' tokens c ns os os' o other few r e is step = record {
+  within = one_within tokens c is;
+  falls = (let l : length os' ≡ length (os ++ o ∷ []) = ap length e in omega arith);
+  same = from_frame Inside s' (written ns) (views tokens) (views (drop 1 tokens)) ns os (os ++ o ∷ []) o (frames_of ns os') (written ns) refl
+      (to_frame Inside s' (frame_over (types_from [] ns) o ∷ frames_of ns os) (written ns) (written ns) (views tokens) (views (drop 1 tokens)) ns os os' o e
+        (subst (λ (z : List Token). Steps Inside (frame_over (types_from [] ns) o ∷ frames_of ns os) (written ns) z s' (frame_over (types_from [] ns) o ∷ frames_of ns os) (written ns) (views (drop 1 tokens))) (sym is)
+          (step (frames_of ns os) (written ns) (written ns) (views (drop 1 tokens)))));
+  read = subst (AreRead ns) (sym e) r;
+  some = λ h. absurd (other h);
+}
+
+-- a closing sign: the innermost frame is complete
+pub further_close : (tokens : List InLine) (c : Token) (ns ns' : List TypeNode) (n : TypeNode) (os : List Open) (o : Open) → AreRead ns (os ++ o ∷ []) → ns' ≡ ns ++ n ∷ [] → parts_of n ≡ numbers_of o → views tokens ≡ c ∷ views (drop 1 tokens) → ((fs : List Frame) (t : WrittenType) (after : List Token) → Steps Inside (frame_over (types_from [] ns) o ∷ fs) t (c ∷ after) Have fs (type_over (types_from [] ns) n) after) → GoesFurther Inside ns (os ++ o ∷ []) tokens Have ns' os 1
+further_close tokens c ns ns' n os o r e same_parts is step =
+    let p = read_pop ns os (os ++ o ∷ []) o r refl in
+    record {
+      within = one_within tokens c is;
+      falls = omega (arith, length-append os (o ∷ []));
+      same = from_frame Inside Have (written ns) (views tokens) (views (drop 1 tokens)) ns os (os ++ o ∷ []) o (frames_of ns' os) (written ns') refl
+          (to_node Inside (frame_over (types_from [] ns) o ∷ frames_of ns os) (written ns) (views tokens) (views (drop 1 tokens)) ns ns' n os p.0 e
+            (subst (λ (z : List Token). Steps Inside (frame_over (types_from [] ns) o ∷ frames_of ns os) (written ns) z Have (frames_of ns os) (type_over (types_from [] ns) n) (views (drop 1 tokens))) (sym is)
+              (step (frames_of ns os) (written ns) (views (drop 1 tokens)))));
+      read = read_push_node ns ns' n os p.0 (subst (AreBelow (length ns)) (sym same_parts) p.1) e;
+      some = λ _. (let l : length ns' ≡ length ns + 1 = ap length e ∙ length-append ns (n ∷ []) in omega arith);
+    }
+
+-- ---- a complete type
+
+-- it is what a reference points to
+pub complete_behind : (ts : List Token) (ns ns' : List TypeNode) (n : TypeNode) (os old : List Open) (o : Open) (q : Name) (m : Bool) (last : ℕ) → AreRead ns old → old ≡ os ++ o ∷ [] → ns' ≡ ns ++ n ∷ [] → frame_over (types_from [] ns) o ≡ behind q m → type_over (types_from [] ns) n ≡ reference q m (at (types_from [] ns) last) → last ≡ length ns - 1 → Steps Have (frames_of ns old) (written ns) ts Have (frames_of ns' os) (written ns') ts
+complete_behind ts ns ns' n os old o q m last r e f is_frame is_type is_last =
+    let p = read_pop ns os old o r e in
+    let same : reference q m (written ns) ≡ type_over (types_from [] ns) n = sym (is_type ∙ ap (λ (k : ℕ). reference q m (at (types_from [] ns) k)) is_last) in
+    from_frame Have Have (written ns) ts ts ns os old o (frames_of ns' os) (written ns') e
+      (to_node Have (frame_over (types_from [] ns) o ∷ frames_of ns os) (written ns) ts ts ns ns' n os p.0 f
+        (subst (λ (z : Frame). Steps Have (z ∷ frames_of ns os) (written ns) ts Have (frames_of ns os) (type_over (types_from [] ns) n) ts) (sym is_frame)
+          (subst (λ (z : WrittenType). Steps Have (behind q m ∷ frames_of ns os) (written ns) ts Have (frames_of ns os) z ts) same
+            (step_behind (frames_of ns os) q m (written ns) ts))))
+
+pub complete_behind_read : (ns ns' : List TypeNode) (n : TypeNode) (os old : List Open) (o : Open) (last : ℕ) → AreRead ns old → old ≡ os ++ o ∷ [] → ns' ≡ ns ++ n ∷ [] → parts_of n ≡ last ∷ [] → last ≡ length ns - 1 → 0 < length ns → AreRead ns' os
+complete_behind_read ns ns' n os old o last r e f is_part is_last some =
+    let p = read_pop ns os old o r e in
+    read_push_node ns ns' n os p.0 (subst (AreBelow (length ns)) (sym is_part) ((let l : last < length ns = omega arith in l), tt)) f
+
+-- it is a part of a tuple
+pub complete_tuple : (ts : List Token) (ns : List TypeNode) (os old new : List Open) (o p : Open) (is is' : List ℕ) (last : ℕ) → old ≡ os ++ o ∷ [] → new ≡ os ++ p ∷ [] → frame_over (types_from [] ns) o ≡ parts (all_at (types_from [] ns) is) → frame_over (types_from [] ns) p ≡ parts (all_at (types_from [] ns) is') → is' ≡ is ++ last ∷ [] → last ≡ length ns - 1 → Steps Have (frames_of ns old) (written ns) ts Inside (frames_of ns new) (written ns) ts
+complete_tuple ts ns os old new o p is is' last e f is_old is_new grown is_last =
+    let known = types_from [] ns in
+    let g : frame_over known p ≡ parts (joined (all_at known is) (more (written ns) none)) =
+        is_new ∙ ap (λ (z : List ℕ). parts (all_at known z)) grown ∙ ap parts (all_at_push known is last) ∙ ap (λ (k : ℕ). parts (joined (all_at known is) (more (at known k) none))) is_last in
+    from_frame Have Inside (written ns) ts ts ns os old o (frames_of ns new) (written ns) e
+      (to_frame Have Inside (frame_over known o ∷ frames_of ns os) (written ns) (written ns) ts ts ns os new p f
+        (subst (λ (z : Frame). Steps Have (z ∷ frames_of ns os) (written ns) ts Inside (frame_over known p ∷ frames_of ns os) (written ns) ts) (sym is_old)
+          (subst (λ (z : Frame). Steps Have (parts (all_at known is) ∷ frames_of ns os) (written ns) ts Inside (z ∷ frames_of ns os) (written ns) ts) (sym g)
+            (step_part (frames_of ns os) (all_at known is) (written ns) (written ns) ts))))
+
+pub complete_tuple_read : (ns : List TypeNode) (os old new : List Open) (o p : Open) (is is' : List ℕ) (last : ℕ) → AreRead ns old → old ≡ os ++ o ∷ [] → new ≡ os ++ p ∷ [] → numbers_of o ≡ is → numbers_of p ≡ is' → is' ≡ is ++ last ∷ [] → last ≡ length ns - 1 → 0 < length ns → AreRead ns new
+complete_tuple_read ns os old new o p is is' last r e f is_old is_new grown is_last some =
+    let h = read_pop ns os old o r e in
+    let l : last < length ns = omega arith in
+    read_push_open ns os new p h.0 (subst (AreBelow (length ns)) (sym (is_new ∙ grown)) (below_push (length ns) is last (subst (AreBelow (length ns)) is_old h.1) l)) f
+
+-- it is an argument
+pub complete_argument : (ts : List Token) (ns : List TypeNode) (os old new : List Open) (o p : Open) (n : Name) (args args' : List Argument) (last : ℕ) → old ≡ os ++ o ∷ [] → new ≡ os ++ p ∷ [] → frame_over (types_from [] ns) o ≡ arguments n (arguments_at (types_from [] ns) args) → frame_over (types_from [] ns) p ≡ arguments n (arguments_at (types_from [] ns) args') → args' ≡ args ++ argument.Type last ∷ [] → last ≡ length ns - 1 → Steps Have (frames_of ns old) (written ns) ts Inside (frames_of ns new) (written ns) ts
+complete_argument ts ns os old new o p n args args' last e f is_old is_new grown is_last =
+    let known = types_from [] ns in
+    let g : frame_over known p ≡ arguments n (joined_arguments (arguments_at known args) (type_argument (written ns) no_argument)) =
+        is_new ∙ ap (λ (z : List Argument). arguments n (arguments_at known z)) grown ∙ ap (arguments n) (type_at_push known args last) ∙ ap (λ (k : ℕ). arguments n (joined_arguments (arguments_at known args) (type_argument (at known k) no_argument))) is_last in
+    from_frame Have Inside (written ns) ts ts ns os old o (frames_of ns new) (written ns) e
+      (to_frame Have Inside (frame_over known o ∷ frames_of ns os) (written ns) (written ns) ts ts ns os new p f
+        (subst (λ (z : Frame). Steps Have (z ∷ frames_of ns os) (written ns) ts Inside (frame_over known p ∷ frames_of ns os) (written ns) ts) (sym is_old)
+          (subst (λ (z : Frame). Steps Have (arguments n (arguments_at known args) ∷ frames_of ns os) (written ns) ts Inside (z ∷ frames_of ns os) (written ns) ts) (sym g)
+            (step_type_argument (frames_of ns os) n (arguments_at known args) (written ns) (written ns) ts))))
+
+pub complete_argument_read : (ns : List TypeNode) (os old new : List Open) (o p : Open) (args args' : List Argument) (last : ℕ) → AreRead ns old → old ≡ os ++ o ∷ [] → new ≡ os ++ p ∷ [] → numbers_of o ≡ types_among args → numbers_of p ≡ types_among args' → args' ≡ args ++ argument.Type last ∷ [] → last ≡ length ns - 1 → 0 < length ns → AreRead ns new
+complete_argument_read ns os old new o p args args' last r e f is_old is_new grown is_last some =
+    let h = read_pop ns os old o r e in
+    let l : last < length ns = omega arith in
+    read_push_open ns os new p h.0 (subst (AreBelow (length ns)) (sym (is_new ∙ ap types_among grown)) (among_push_type (length ns) args last (subst (AreBelow (length ns)) is_old h.1) l)) f
+
+-- ---- an argument comes
+
+pub further_no_region : (tokens : List InLine) (ns : List TypeNode) (os : List Open) → ((q : Name) (rest : List Token) → views tokens ≡ region q ∷ rest → ⊥) → AreRead ns os → GoesFurther WantArgument ns os tokens Want ns os 0
+further_no_region tokens ns os other r = record {
+  within = omega arith;
+  falls = omega arith;
+  same = step_no_region (frames_of ns os) (written ns) (written ns) (views tokens) other;
+  read = r;
+  some = λ h. cc;
+}
+
+pub further_region : (tokens : List InLine) (ns : List TypeNode) (os old new : List Open) (o p : Open) (n : Name) (args args' : List Argument) (q : Bor (List ℕ)) → AreRead ns old → views tokens ≡ region q.now ∷ views (drop 1 tokens) → old ≡ os ++ o ∷ [] → new ≡ os ++ p ∷ [] → frame_over (types_from [] ns) o ≡ arguments n (arguments_at (types_from [] ns) args) → frame_over (types_from [] ns) p ≡ arguments n (arguments_at (types_from [] ns) args') → numbers_of o ≡ types_among args → numbers_of p ≡ types_among args' → args' ≡ args ++ argument.Region q ∷ [] → GoesFurther WantArgument ns old tokens Inside ns new 1
+further_region tokens ns os old new o p n args args' q r is e f is_old is_new numbers numbers' grown =
+    let known = types_from [] ns in
+    let g : frame_over known p ≡ arguments n (joined_arguments (arguments_at known args) (region_argument q.now no_argument)) =
+        is_new ∙ ap (λ (z : List Argument). arguments n (arguments_at known z)) grown ∙ ap (arguments n) (region_at_push known args q) in
+    let h = read_pop ns os old o r e in
+    record {
+      within = one_within tokens (region q.now) is;
+      falls = (let a : length old ≡ length os + 1 = ap length e ∙ length-append os (o ∷ []) in let b : length new ≡ length os + 1 = ap length f ∙ length-append os (p ∷ []) in omega arith);
+      same = from_frame WantArgument Inside (written ns) (views tokens) (views (drop 1 tokens)) ns os old o (frames_of ns new) (written ns) e
+          (to_frame WantArgument Inside (frame_over known o ∷ frames_of ns os) (written ns) (written ns) (views tokens) (views (drop 1 tokens)) ns os new p f
+            (subst (λ (z : List Token). Steps WantArgument (frame_over known o ∷ frames_of ns os) (written ns) z Inside (frame_over known p ∷ frames_of ns os) (written ns) (views (drop 1 tokens))) (sym is)
+              (subst (λ (z : Frame). Steps WantArgument (z ∷ frames_of ns os) (written ns) (region q.now ∷ views (drop 1 tokens)) Inside (frame_over known p ∷ frames_of ns os) (written ns) (views (drop 1 tokens))) (sym is_old)
+                (subst (λ (z : Frame). Steps WantArgument (arguments n (arguments_at known args) ∷ frames_of ns os) (written ns) (region q.now ∷ views (drop 1 tokens)) Inside (z ∷ frames_of ns os) (written ns) (views (drop 1 tokens))) (sym g)
+                  (step_region (frames_of ns os) n (arguments_at known args) (written ns) (written ns) q.now (views (drop 1 tokens)))))));
+      read = read_push_open ns os new p h.0 (subst (AreBelow (length ns)) (sym (numbers' ∙ ap types_among grown)) (among_push_region (length ns) args q (subst (AreBelow (length ns)) numbers h.1))) f;
+      some = λ x. cc;
+    }
+
+-- no arguments are open
+pub stuck_argument_frame : (tokens : List InLine) (rest : List Token) (ns : List TypeNode) (os old : List Open) (o : Open) (q : Name) → ((n : Name) (args : Arguments) → frame_over (types_from [] ns) o ≡ arguments n args → ⊥) → views tokens ≡ region q ∷ rest → old ≡ os ++ o ∷ [] → IsStuck WantArgument (frames_of ns old) (written ns) (views tokens)
+stuck_argument_frame tokens rest ns os old o q other is e =
+    stuck_frame WantArgument (written ns) (views tokens) ns os old o e
+      (subst (λ (z : List Token). IsStuck WantArgument (frame_over (types_from [] ns) o ∷ frames_of ns os) (written ns) z) (sym is)
+        (stuck_region (frame_over (types_from [] ns) o ∷ frames_of ns os) (written ns) q rest (λ n args gs h. other n args (let g : frame_over (types_from [] ns) o ≡ arguments n args = cc in g))))
+
+pub stuck_argument_none : (tokens : List InLine) (rest : List Token) (ns : List TypeNode) (old : List Open) (q : Name) → views tokens ≡ region q ∷ rest → old ≡ [] → IsStuck WantArgument (frames_of ns old) (written ns) (views tokens)
+stuck_argument_none tokens rest ns old q is e =
+    subst (λ (z : List Open). IsStuck WantArgument (frames_of ns z) (written ns) (views tokens)) (sym e)
+      (subst (λ (z : List Token). IsStuck WantArgument [] (written ns) z) (sym is)
+        (stuck_region [] (written ns) q rest (λ n args gs h. cc)))
+
+pub further_complete : (s' : State) (tokens : List InLine) (ns ns' : List TypeNode) (os os' : List Open) → ((ts : List Token) → Steps Have (frames_of ns os) (written ns) ts s' (frames_of ns' os') (written ns') ts) → AreRead ns' os' → length os' + pending s' ≤ length os → 0 < length ns' → GoesFurther Have ns os tokens s' ns' os' 0
+further_complete s' tokens ns ns' os os' same r few some = record {
+  within = omega arith;
+  falls = omega arith;
+  same = same (views tokens);
+  read = r;
+  some = λ h. some;
+}
+
+-- what is so for all lists of nodes is so for one
+pub at_nodes : (told : Option (State × ℕ)) (tokens : List InLine) (ns : List TypeNode) (old new : List Open) → AreRead ns old → MatchOption told ((ns : List TypeNode) → IsStuck WantArgument (frames_of ns old) (written ns) (views tokens)) (λ p. (ns : List TypeNode) → AreRead ns old → GoesFurther WantArgument ns old tokens p.0 ns new p.1) → MatchOption told (IsStuck WantArgument (frames_of ns old) (written ns) (views tokens)) (λ p. GoesFurther WantArgument ns old tokens p.0 ns new p.1)
+at_nodes None tokens ns old new r m = m ns
+at_nodes (Some p) tokens ns old new r m = m ns r
+
+-- ---- the loop
+
+pub steps_then : (s s' s'' : State) (fs fs' fs'' : List Frame) (t t' t'' : WrittenType) (ts ts' ts'' : List Token) → Steps s fs t ts s' fs' t' ts' → Steps s' fs' t' ts' s'' fs'' t'' ts'' → Steps s fs t ts s'' fs'' t'' ts''
+steps_then s s' s'' fs fs' fs'' t t' t'' ts ts' ts'' a b = record { there = λ whole rest f. b.there whole rest (a.there whole rest f); back = λ whole rest f. a.back whole rest (b.back whole rest f) }
+
+-- nothing is read yet
+pub first_read : (ns : List TypeNode) (os : List Open) → ns ≡ [] → os ≡ [] → AreRead ns os
+first_read ns os e f = rw (e, f) (record { parted = λ i h. absurd (omega arith); frames = tt })
+
+pub first_steps : (ns : List TypeNode) (os : List Open) (t : WrittenType) (ts : List Token) → ns ≡ [] → os ≡ [] → Steps Want [] t ts Want (frames_of ns os) (written ns) ts
+first_steps ns os t ts e f = rw (e, f) (record { there = λ whole rest f. f; back = λ whole rest f. f })
+
+pub at_end : (s : State) (ns : List TypeNode) (os : List Open) (ts at_ts : List Token) → s ≡ Have → os ≡ [] → Steps Want [] int ts s (frames_of ns os) (written ns) at_ts → Steps Want [] int ts Have [] (written ns) at_ts
+at_end s ns os ts at_ts e k same = subst (λ z. Steps Want [] int ts z [] (written ns) at_ts) e (subst (λ (z : List Open). Steps Want [] int ts s (frames_of ns z) (written ns) at_ts) k same)

@@ -1,0 +1,5 @@
+pub mod TokenLemmas
+pub mod StepLemmas
+pub mod NodeLemmas
+pub mod FurtherLemmas
+pub mod OneTree

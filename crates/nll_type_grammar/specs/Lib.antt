@@ -1,0 +1,4 @@
+pub mod WrittenTypes
+pub mod TypeTexts
+pub mod Reading
+pub mod OpenTypes

@@ -1,0 +1,13 @@
+//! The grammar of types, as they are written in MIR texts.
+#![tactic(auto)]
+
+mod fronts;
+mod laws;
+mod opens;
+mod reading;
+mod type_text;
+
+pub use fronts::is_capital;
+pub use laws::{a_type_has_tokens, one_type_at_most};
+pub use reading::type_at;
+pub use type_text::{Argument, TypeNode, TypeText};

@@ -1,0 +1,307 @@
+//! What of a type is begun and not complete, and one step through a type.
+
+ghost use Rattle.std.specs.Prelude.{◌≡◌, ◌∷◌, [], ◌++◌, ◌<◌, ◌+◌, ◌≤◌, List, length};
+ghost use Rattle.std.specs.Prelude.{MatchOption, IfOk, OnOk};
+ghost use Rattle.nll_text.specs.Tokens as lex;
+ghost use Rattle.nll_text.specs.Tokens.{views};
+ghost use Rattle.nll_type_grammar.specs.TypeTexts.{written};
+ghost use Rattle.nll_type_grammar.specs.declared.type_text.TypeNode.{TypeNode as node};
+ghost use Rattle.nll_type_grammar.specs.OpenTypes.{Begins, Steps, IsStuck, AreRead, GoesFurther};
+ghost use Rattle.nll_type_grammar.specs.OpenTypes.{frames_of, pending};
+
+use crate::fronts::{Front, front_at, is_sign, region_at};
+use crate::type_text::{Argument, TypeNode};
+use nll_sets::Memory;
+use nll_text::Token;
+use std::alloc::Global;
+
+/// What is begun and not complete; parts go by the numbers of their nodes.
+#[derive(Drop)]
+pub enum Open<'a> {
+    /// A reference: its region's name and whether it is `mut`.
+    Behind(&'a [u8], bool),
+    /// A tuple, with the parts read so far.
+    Tuple(Vec<usize>),
+    /// A name, and the arguments read so far.
+    Arguments(&'a [u8], Vec<Argument<'a>>),
+}
+
+/// What may come next in a type.
+#[derive(Clone, Copy, PartialEq, Eq)]
+pub enum State {
+    /// A type.
+    Want,
+    /// A type or a region.
+    WantArgument,
+    /// The last node is a complete type.
+    Have,
+    /// What follows a part or an argument of the innermost thing that is open.
+    Inside,
+}
+
+/// Goes on behind the beginning of a type.
+pub fn begin<'a>(
+    alloc: Global,
+    front: Front<'a>,
+    nodes: &mut Vec<TypeNode<'a>>,
+    opened: &mut Vec<Open<'a>>,
+) -> Result<State, Memory>
+    requires { AreRead nodes.old.items opened.old.items }
+    ensures same {
+        IfOk result (λ s. (ts rest : List lex.Token) → Begins front.entry ts rest →
+            Steps State.Want
+                (frames_of nodes.old.items opened.old.items) (written nodes.old.items) ts
+                s (frames_of nodes.new.items opened.new.items) (written nodes.new.items) rest)
+    }
+    ensures read { OnOk result (AreRead nodes.new.items opened.new.items) }
+    ensures few {
+        IfOk result (λ s. length opened.new.items + pending s ≤ length opened.old.items + 2)
+    }
+    ensures some { IfOk result (λ s. s ≡ State.Have → 0 < length nodes.new.items) }
+{
+    match front {
+        Front::Int => {
+            nodes.push(TypeNode::Int)?;
+            Ok(State::Have)
+        }
+        Front::Unit => {
+            nodes.push(TypeNode::Tuple(Vec::new(alloc)))?;
+            Ok(State::Have)
+        }
+        Front::Tuple => {
+            opened.push(Open::Tuple(Vec::new(alloc)))?;
+            Ok(State::Want)
+        }
+        Front::Reference(region, is_mut) => {
+            opened.push(Open::Behind(region, is_mut))?;
+            Ok(State::Want)
+        }
+        Front::Generic(name) => {
+            opened.push(Open::Arguments(name, Vec::new(alloc)))?;
+            Ok(State::WantArgument)
+        }
+        Front::Name(name) => {
+            nodes.push(TypeNode::Named(name, Vec::new(alloc)))?;
+            Ok(State::Have)
+        }
+    }
+}
+
+// One step where a type comes next: what may come then, and how many tokens it takes.
+fn want<'a>(
+    alloc: Global,
+    tokens: &[Token<'a>],
+    nodes: &mut Vec<TypeNode<'a>>,
+    opened: &mut Vec<Open<'a>>,
+) -> Result<Option<(State, usize)>, Memory>
+    requires { AreRead nodes.old.items opened.old.items }
+    ensures {
+        IfOk result (λ o. MatchOption o
+            (IsStuck State.Want (frames_of nodes.old.items opened.old.items)
+                (written nodes.old.items) (views tokens.now))
+            (λ p. GoesFurther State.Want nodes.old.items opened.old.items tokens.now
+                p.0 nodes.new.items opened.new.items p.1))
+    }
+{
+    match front_at(tokens) {
+        Some((front, count)) => {
+            let state = begin(alloc, front, nodes, opened)?;
+            Ok(Some((state, count)))
+        }
+        None => Ok(None),
+    }
+}
+
+// One step where a type or a region comes next.
+fn want_argument<'a>(
+    tokens: &[Token<'a>],
+    opened: &mut Vec<Open<'a>>,
+) -> Result<Option<(State, usize)>, Memory>
+    ensures {
+        IfOk result (λ o. MatchOption o
+            ((ns : List node) → IsStuck State.WantArgument (frames_of ns opened.old.items)
+                (written ns) (views tokens.now))
+            (λ p. (ns : List node) → AreRead ns opened.old.items →
+                GoesFurther State.WantArgument ns opened.old.items tokens.now
+                    p.0 ns opened.new.items p.1))
+    }
+{
+    let Some(region) = region_at(tokens) else {
+        return Ok(Some((State::Want, 0)));
+    };
+    match opened.pop() {
+        Some(Open::Arguments(name, mut arguments)) => {
+            arguments.push(Argument::Region(region))?;
+            opened.push(Open::Arguments(name, arguments))?;
+            Ok(Some((State::Inside, 1)))
+        }
+        Some(Open::Behind(..)) => Ok(None),
+        Some(Open::Tuple(_)) => Ok(None),
+        None => Ok(None),
+    }
+}
+
+// One step behind a complete type, which becomes a part of the innermost thing that is open.
+fn complete<'a>(
+    nodes: &mut Vec<TypeNode<'a>>,
+    opened: &mut Vec<Open<'a>>,
+) -> Result<State, Memory>
+    requires read { AreRead nodes.old.items opened.old.items }
+    requires some { 0 < length nodes.old.items }
+    requires inside { 0 < length opened.old.items }
+    ensures same {
+        IfOk result (λ s. (ts : List lex.Token) →
+            Steps State.Have
+                (frames_of nodes.old.items opened.old.items) (written nodes.old.items) ts
+                s (frames_of nodes.new.items opened.new.items) (written nodes.new.items) ts)
+    }
+    ensures read { OnOk result (AreRead nodes.new.items opened.new.items) }
+    ensures few { IfOk result (λ s. length opened.new.items + pending s ≤ length opened.old.items) }
+    ensures some { OnOk result (0 < length nodes.new.items) }
+{
+    let last = nodes.len() - 1;
+    match opened.pop() {
+        Some(Open::Behind(region, is_mut)) => {
+            nodes.push(TypeNode::Reference(region, is_mut, last))?;
+            Ok(State::Have)
+        }
+        Some(Open::Tuple(mut parts)) => {
+            parts.push(last)?;
+            opened.push(Open::Tuple(parts))?;
+            Ok(State::Inside)
+        }
+        Some(Open::Arguments(name, mut arguments)) => {
+            arguments.push(Argument::Type(last))?;
+            opened.push(Open::Arguments(name, arguments))?;
+            Ok(State::Inside)
+        }
+        None => Ok(State::Have),
+    }
+}
+
+// One step behind a part of a tuple.
+fn behind_part<'a>(
+    tokens: &[Token<'a>],
+    parts: Vec<usize>,
+    nodes: &mut Vec<TypeNode<'a>>,
+    opened: &mut Vec<Open<'a>>,
+) -> Result<Option<(State, usize)>, Memory>
+    requires { AreRead nodes.old.items (opened.old.items ++ Open.Tuple parts ∷ []) }
+    ensures {
+        IfOk result (λ o. MatchOption o
+            (IsStuck State.Inside
+                (frames_of nodes.old.items (opened.old.items ++ Open.Tuple parts ∷ []))
+                (written nodes.old.items) (views tokens.now))
+            (λ p. GoesFurther State.Inside nodes.old.items
+                (opened.old.items ++ Open.Tuple parts ∷ []) tokens.now
+                p.0 nodes.new.items opened.new.items p.1))
+    }
+{
+    if is_sign(tokens, b',') {
+        opened.push(Open::Tuple(parts))?;
+        return Ok(Some((State::Want, 1)));
+    }
+    if is_sign(tokens, b')') {
+        nodes.push(TypeNode::Tuple(parts))?;
+        return Ok(Some((State::Have, 1)));
+    }
+    Ok(None)
+}
+
+// One step behind an argument of a name.
+fn behind_argument<'a>(
+    tokens: &[Token<'a>],
+    name: &'a [u8],
+    arguments: Vec<Argument<'a>>,
+    nodes: &mut Vec<TypeNode<'a>>,
+    opened: &mut Vec<Open<'a>>,
+) -> Result<Option<(State, usize)>, Memory>
+    requires { AreRead nodes.old.items (opened.old.items ++ Open.Arguments name arguments ∷ []) }
+    ensures {
+        IfOk result (λ o. MatchOption o
+            (IsStuck State.Inside
+                (frames_of nodes.old.items
+                    (opened.old.items ++ Open.Arguments name.entry arguments.entry ∷ []))
+                (written nodes.old.items) (views tokens.now))
+            (λ p. GoesFurther State.Inside nodes.old.items
+                (opened.old.items ++ Open.Arguments name.entry arguments.entry ∷ []) tokens.now
+                p.0 nodes.new.items opened.new.items p.1))
+    }
+{
+    if is_sign(tokens, b',') {
+        opened.push(Open::Arguments(name, arguments))?;
+        return Ok(Some((State::WantArgument, 1)));
+    }
+    if is_sign(tokens, b'>') {
+        nodes.push(TypeNode::Named(name, arguments))?;
+        return Ok(Some((State::Have, 1)));
+    }
+    Ok(None)
+}
+
+// One step behind a part or an argument of the innermost thing that is open.
+fn inside<'a>(
+    tokens: &[Token<'a>],
+    nodes: &mut Vec<TypeNode<'a>>,
+    opened: &mut Vec<Open<'a>>,
+) -> Result<Option<(State, usize)>, Memory>
+    requires { AreRead nodes.old.items opened.old.items }
+    ensures {
+        IfOk result (λ o. MatchOption o
+            (IsStuck State.Inside (frames_of nodes.old.items opened.old.items)
+                (written nodes.old.items) (views tokens.now))
+            (λ p. GoesFurther State.Inside nodes.old.items opened.old.items tokens.now
+                p.0 nodes.new.items opened.new.items p.1))
+    }
+{
+    match opened.pop() {
+        Some(Open::Tuple(parts)) => {
+            let told = behind_part(tokens, parts, nodes, opened)?;
+            Ok(told)
+        }
+        Some(Open::Arguments(name, arguments)) => {
+            let told = behind_argument(tokens, name, arguments, nodes, opened)?;
+            Ok(told)
+        }
+        _ => Ok(None),
+    }
+}
+
+/// One step: what may come then, and how many tokens it takes.
+pub fn step<'a>(
+    alloc: Global,
+    tokens: &[Token<'a>],
+    state: State,
+    nodes: &mut Vec<TypeNode<'a>>,
+    opened: &mut Vec<Open<'a>>,
+) -> Result<Option<(State, usize)>, Memory>
+    requires read { AreRead nodes.old.items opened.old.items }
+    requires some { state ≡ State.Have → 0 < length nodes.old.items }
+    requires inside { state ≡ State.Have → 0 < length opened.old.items }
+    ensures {
+        IfOk result (λ o. MatchOption o
+            (IsStuck state (frames_of nodes.old.items opened.old.items)
+                (written nodes.old.items) (views tokens.now))
+            (λ p. GoesFurther state nodes.old.items opened.old.items tokens.now
+                p.0 nodes.new.items opened.new.items p.1))
+    }
+{
+    match state {
+        State::Want => {
+            let told = want(alloc, tokens, nodes, opened)?;
+            Ok(told)
+        }
+        State::WantArgument => {
+            let told = want_argument(tokens, opened)?;
+            Ok(told)
+        }
+        State::Have => {
+            let next = complete(nodes, opened)?;
+            Ok(Some((next, 0)))
+        }
+        State::Inside => {
+            let told = inside(tokens, nodes, opened)?;
+            Ok(told)
+        }
+    }
+}

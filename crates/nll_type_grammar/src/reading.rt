@@ -1,0 +1,83 @@
+//! The type in front of tokens.
+
+ghost use Rattle.std.specs.Prelude.{◌≡◌, [], ◌≤◌, length, drop, MatchOption, IfOk, IfSome};
+ghost use Rattle.nll_text.specs.Tokens.{views};
+ghost use Rattle.nll_type_grammar.specs.TypeTexts.{written, AreNodes};
+ghost use Rattle.nll_type_grammar.specs.Reading.{HasNoType, IsTypeIn};
+
+use crate::fronts::is_sign;
+use crate::opens::{Open, State, step};
+use crate::type_text::{TypeNode, TypeText};
+use nll_sets::Memory;
+use nll_text::Token;
+use std::alloc::Global;
+
+// Reads the nodes of the type in front, with a list of what is open.
+fn read_nodes<'a>(
+    alloc: Global,
+    tokens: &[Token<'a>],
+    nodes: &mut Vec<TypeNode<'a>>,
+    opened: &mut Vec<Open<'a>>,
+) -> Result<Option<usize>, Memory>
+    requires nodes { nodes.old.items ≡ [] }
+    requires opened { opened.old.items ≡ [] }
+    ensures within { IfOk result (λ o. IfSome o (λ n. n ≤ length tokens.now)) }
+    ensures nodes { IfOk result (λ o. IfSome o (λ _. AreNodes nodes.new.items)) }
+    ensures reads {
+        IfOk result (λ o. MatchOption o (HasNoType (views tokens.now))
+            (λ n. IsTypeIn (views tokens.now) (written nodes.new.items)
+                (views (drop n tokens.now))))
+    }
+{
+    let mut state = State::Want;
+    let mut at = 0;
+    while state != State::Have || !opened.is_empty() {
+        let Some((next, count)) = step(alloc, &tokens[at..], state, nodes, opened)? else {
+            return Ok(None);
+        };
+        state = next;
+        at += count;
+    }
+    if is_sign(&tokens[at..], b'<') {
+        return Ok(None);
+    }
+    Ok(Some(at))
+}
+
+// Reads the nodes of the type in front.
+fn nodes_at<'a>(
+    alloc: Global,
+    tokens: &[Token<'a>],
+    nodes: &mut Vec<TypeNode<'a>>,
+) -> Result<Option<usize>, Memory>
+    requires { nodes.old.items ≡ [] }
+    ensures within { IfOk result (λ o. IfSome o (λ n. n ≤ length tokens.now)) }
+    ensures nodes { IfOk result (λ o. IfSome o (λ _. AreNodes nodes.new.items)) }
+    ensures reads {
+        IfOk result (λ o. MatchOption o (HasNoType (views tokens.now))
+            (λ n. IsTypeIn (views tokens.now) (written nodes.new.items)
+                (views (drop n tokens.now))))
+    }
+{
+    let mut opened = Vec::new(alloc);
+    read_nodes(alloc, tokens, nodes, &mut opened)
+}
+
+/// The type in front of the tokens behind which no `<` stands, and how many tokens it has.
+pub fn type_at<'a>(
+    alloc: Global,
+    tokens: &[Token<'a>],
+) -> Result<Option<(TypeText<'a>, usize)>, Memory>
+    ensures within { IfOk result (λ o. IfSome o (λ p. p.1 ≤ length tokens.now)) }
+    ensures reads {
+        IfOk result (λ o. MatchOption o (HasNoType (views tokens.now))
+            (λ p. IsTypeIn (views tokens.now) (written p.0) (views (drop p.1 tokens.now))))
+    }
+{
+    let mut nodes = Vec::new(alloc);
+    match nodes_at(alloc, tokens, &mut nodes) {
+        Ok(Some(count)) => Ok(Some((TypeText::of(nodes), count))),
+        Ok(None) => Ok(None),
+        Err(memory) => Err(memory),
+    }
+}

@@ -1,0 +1,15 @@
+pub mod SourceSetLemmas
+pub mod PutLemmas
+pub mod DropLemmas
+pub mod ViewLemmas
+pub mod PuttingLemmas
+pub mod WellFormedLemmas
+pub mod DeclareLemmas
+pub mod FoundLemmas
+pub mod ShapeLemmas
+pub mod TableLemmas
+pub mod OneNumberLemmas
+pub mod ShapingLemmas
+pub mod ProjectLemmas
+pub mod PlaceLemmas
+pub mod MemoLemmas

@@ -1,0 +1,14 @@
+use Rattle.std.proofs.Common.{◌++◌, ◌∷◌, [], subst, ℕ}
+use Rattle.std.proofs.lemmas.List.{length-map}
+use Rattle.nll_types.specs.Declarations.{declared, structs_of}
+use Rattle.nll_types.specs.Sources.{AreSourcesOf}
+use Rattle.nll_types.proofs.DeclareLemmas.{sources_declared}
+use Rattle.nll_types.proofs.declaring.collect_declaration.Goals as goal
+
+pub returns : goal.returns
+returns c =
+    let first = rw c.requires.empty at c.in_ok-collect_own.ensures in
+    let second = rw c.as_slice.ensures.value at c.in_ok-collect_parts.ensures in
+    subst (λ (n : ℕ). AreSourcesOf (structs_of c.args.structs.now ++ declared c.args.declaration.now ∷ []) n c.collect_parts.new.out.keys)
+    (length-map c.args.structs.now declared)
+    (sources_declared (structs_of c.args.structs.now) (declared c.args.declaration.now) _ _ first (λ later. second later _ _ c.requires.fields))

@@ -1,0 +1,16 @@
+use Rattle.std.proofs.Common.{◌≡◌, ◌++◌, ◌∷◌, []}
+use Rattle.nll_types.proofs.TableLemmas.{kept_push, extends_push}
+use Rattle.nll_types.proofs.shapes.Shapes.add.Goals as goal
+
+keys : (c : goal.After-push_reserved) → c.intern.new.nodes.keys ≡ c.self.inside.nodes.keys ++ c.args.node ∷ []
+keys c = rw c.if-new.true at c.in_ok-place.ensures.ok
+
+pub invariant_of-self-then-new : goal.invariant_of-self-then-new
+invariant_of-self-then-new c =
+    let over = rw (← c.self.view_is) at c.requires in
+    let kept = kept_push _ _ c.args.node c.self.invariant (rw (keys c) at c.in_ok-place.ensures.one) over in
+    let size = c.size_over-size.ensures in
+    rw (keys c, c.push_reserved.ensures.items, c.in_ok-reserve.ensures.items, size, c.as_slice.ensures.value) kept
+
+pub returns-then-new-clause-extends : goal.returns-then-new-clause-extends
+returns-then-new-clause-extends c = rw (← c.self.view_is, keys c) (extends_push _ c.args.node)

@@ -1,0 +1,13 @@
+pub mod Types
+pub mod Shapes
+pub mod Structs
+pub mod Places
+pub mod DropRegions
+pub mod Views
+pub mod Table
+pub mod Memo
+pub mod Tables
+pub mod Sources
+pub mod Declarations
+pub mod Collecting
+pub mod Operands

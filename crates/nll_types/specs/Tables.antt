@@ -1,0 +1,10 @@
+-- The structs and the shapes of a body.
+-- Source: project's choice.
+use Rattle.std.specs.Prelude.{List}
+use Rattle.nll_types.specs.declared.node.Node.{Node}
+use Rattle.nll_types.specs.declared.structs.Declaration.{Declaration}
+
+-- The structs that are declared, and the shapes that have numbers.
+pub record Tables : Type 0 where
+  pub structs : List Declaration
+  pub shapes : List Node

@@ -1,0 +1,66 @@
+//! Parts and fields whose shapes were made before.
+
+ghost use Rattle.std.specs.Prelude.{◌≡◌, ◌<◌, length, IfOk, IfSome, IfNone, Contains, None};
+ghost use Rattle.std.specs.Prelude.{option_map};
+ghost use Rattle.indexmap.specs.IndexMap.{get};
+ghost use Rattle.nll_types.specs.Declarations.{structs_of};
+ghost use Rattle.nll_types.specs.Memo.{AreRemembered};
+ghost use Rattle.nll_types.specs.Shapes.{behind_shape};
+ghost use Rattle.nll_types.specs.Table.{Extends, shape_in};
+ghost use Rattle.nll_types.specs.declared.place.Projection.TheVariants.{Field as field};
+ghost use Rattle.nll_types.specs.contracts.memo.FieldUsePartialEq.TheImpl as derived;
+
+use crate::projecting::part;
+use crate::shapes::Shapes;
+use crate::structs::Structs;
+use indexmap::IndexMap;
+use nll_sets::Memory;
+use std::alloc::Global;
+
+/// A part or field of a shape.
+#[derive(Clone, Copy, PartialEq, Eq, Hash)]
+pub(crate) struct FieldUse {
+    pub(crate) shape: usize,
+    pub(crate) place: usize,
+}
+
+// What is remembered of a part or field.
+fn remembered(fields: &IndexMap<FieldUse, usize>, sought: FieldUse) -> Option<usize>
+    ensures found { IfSome result (λ v. Contains fields.now.entries (sought, v)) }
+    ensures none { IfNone result (get derived.eq-value.it fields.now sought ≡ None) }
+{
+    fields.get(&sought).copied()
+}
+
+/// The part of a tuple or the field of a struct, made at most once for each shape and place.
+pub(crate) fn part_once(
+    alloc: Global,
+    structs: &Structs,
+    shapes: &mut Shapes,
+    fields: &mut IndexMap<FieldUse, usize>,
+    number: usize,
+    place: usize,
+) -> Result<Option<usize>, Memory>
+    requires within { number < length shapes.old }
+    requires memo { AreRemembered (structs_of structs.now) shapes.old fields.old.entries }
+    ensures memo { AreRemembered (structs_of structs.now) shapes.new fields.new.entries }
+    ensures extends { Extends shapes.old shapes.new }
+    ensures within { IfOk result (λ o. IfSome o (λ i. i < length shapes.new)) }
+    ensures at { IfOk result (λ o. option_map (shape_in shapes.new) o
+        ≡ behind_shape (structs_of structs.now) (field place) (shape_in shapes.old number)) }
+{
+    let sought = FieldUse {
+        shape: number,
+        place,
+    };
+    if let Some(made) = remembered(fields, sought) {
+        return Ok(Some(made));
+    }
+    match part(alloc, structs, shapes, number, place)? {
+        Some(made) => {
+            fields.insert(sought, made)?;
+            Ok(Some(made))
+        }
+        None => Ok(None),
+    }
+}

@@ -1,0 +1,21 @@
+//! The parameters of a struct.
+
+/// How a region inside an argument relates to the same region inside the whole type.
+///
+/// # Source
+/// RFC 2094, "Subtyping".
+#[derive(Clone, Copy, Debug, PartialEq, Eq)]
+pub enum Sign {
+    /// Written `+`: the type with the longer region may stand for the one with the shorter.
+    Covariant,
+    /// Written `=`: neither may stand for the other.
+    Invariant,
+}
+
+/// A region parameter or a type parameter of a struct.
+#[derive(Clone, Copy, Debug, PartialEq, Eq)]
+pub struct Parameter {
+    pub sign: Sign,
+    /// Marked `?`: the struct's own drop doesn't need the argument to hold.
+    pub may_dangle: bool,
+}

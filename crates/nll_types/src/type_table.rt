@@ -1,0 +1,159 @@
+//! The structs and the shapes of a body, while it is read.
+
+ghost use Rattle.std.specs.Prelude.{◌≡◌, ◌<◌, ◌-◌, ◌^◌, ◌++◌, ◌∷◌, [], length, option_map};
+ghost use Rattle.std.specs.Prelude.{IfOk, IfSome, OnOk, OnErr};
+ghost use Rattle.nll_types.specs.Declarations.{declared, structs_of};
+ghost use Rattle.nll_types.specs.Shapes.{shape_of, put_in_shape, behind_shape};
+ghost use Rattle.nll_types.specs.Structs.{HasGoodFields};
+ghost use Rattle.nll_types.specs.Table.{IsOver, Extends, AreBelow, all_at};
+ghost use Rattle.nll_types.specs.Table.{shape_in, shape_over, shapes_in};
+ghost use Rattle.nll_types.specs.Views.{tree};
+
+use crate::memo::{FieldUse, part_once};
+use crate::node::Node;
+use crate::place::Projection;
+use crate::projecting::target;
+use crate::shapes::Shapes;
+use crate::shaping::shape;
+use crate::structs::{Declaration, Structs};
+use crate::ty::Ty;
+use indexmap::IndexMap;
+use nll_sets::Memory;
+use std::alloc::Global;
+use std::marker::Model;
+
+/// The structs that are declared and the shapes of types. The shape of a field of a struct is made
+/// once for each list of arguments, however often it is asked for.
+#[derive(Drop)]
+pub struct TypeTable {
+    structs: Structs,
+    shapes: Shapes,
+    fields: IndexMap<FieldUse, usize>,
+}
+
+impl Model for TypeTable {
+    ghost use Rattle.std.specs.Coded.{codes};
+    ghost use Rattle.nll_types.specs.contracts.ty.Ty as types;
+    ghost use Rattle.nll_types.specs.Declarations.{structs_of};
+    ghost use Rattle.nll_types.specs.Memo.{AreRemembered};
+    ghost use Rattle.nll_types.specs.Tables.{Tables};
+
+    ghost Value = { Tables };
+
+    ghost coded = { Prim.hlevel (codes, types.the_row.coded) };
+
+    ghost view = { λ table. record { structs = table.structs; shapes = table.shapes } };
+
+    ghost invariant = { λ table.
+        AreRemembered (structs_of table.structs) table.shapes table.fields.entries };
+}
+
+impl TypeTable {
+    /// No struct and no shape.
+    pub fn new(alloc: Global) -> TypeTable
+        ensures structs { result.structs ≡ [] }
+        ensures shapes { result.shapes ≡ [] }
+    {
+        TypeTable {
+            structs: Structs::new(alloc),
+            shapes: Shapes::new(alloc),
+            fields: IndexMap::new(alloc),
+        }
+    }
+
+    /// The structs.
+    pub fn structs(&self) -> &Structs
+        ensures { result.now ≡ self.now.structs }
+    {
+        &self.structs
+    }
+
+    /// The shapes.
+    pub fn shapes(&self) -> &Shapes
+        ensures { result.now ≡ self.now.shapes }
+    {
+        &self.shapes
+    }
+
+    /// Declares the next struct.
+    pub fn declare(&mut self, alloc: Global, declaration: Declaration) -> Result<(), Memory>
+        requires fields { HasGoodFields (structs_of self.old.structs) (declared declaration) }
+        requires few { length declaration.regions.items < 2 ^ 32 - 1 }
+        ensures ok { OnOk result (self.new.structs ≡ self.old.structs ++ declaration ∷ []) }
+        ensures err { OnErr result (self.new.structs ≡ self.old.structs) }
+        ensures shapes { self.new.shapes ≡ self.old.shapes }
+    {
+        self.fields.clear();
+        self.structs.declare(alloc, declaration)?;
+        Ok(())
+    }
+
+    /// The number of the shape that a node makes of earlier ones.
+    pub fn add(&mut self, node: Node) -> Result<usize, Memory>
+        requires { IsOver (length self.old.shapes) node }
+        ensures structs { self.new.structs ≡ self.old.structs }
+        ensures extends { Extends self.old.shapes self.new.shapes }
+        ensures within { IfOk result (λ i. i < length self.new.shapes) }
+        ensures at { IfOk result (λ i. shape_in self.new.shapes i
+            ≡ shape_over (shapes_in self.old.shapes) node) }
+    {
+        let number = self.shapes.add(node)?;
+        Ok(number)
+    }
+
+    /// The number of the shape of a type with the shapes of these arguments put in.
+    pub fn shape(&mut self, alloc: Global, ty: &Ty, arguments: &[usize]) -> Result<usize, Memory>
+        ensures structs { self.new.structs ≡ self.old.structs }
+        ensures extends { Extends self.old.shapes self.new.shapes }
+        ensures within { IfOk result (λ i. i < length self.new.shapes) }
+        ensures at { IfOk result (λ i. AreBelow (length self.old.shapes) arguments.now
+            → shape_in self.new.shapes i
+            ≡ put_in_shape (all_at (shapes_in self.old.shapes) arguments.now)
+            (shape_of (tree ty.now))) }
+    {
+        let number = shape(alloc, &mut self.shapes, ty, arguments)?;
+        Ok(number)
+    }
+
+    /// The shape behind one projection, where there is one.
+    ///
+    /// # Cost
+    /// That of a look-up after the first time (not proved).
+    pub fn behind(
+        &mut self,
+        alloc: Global,
+        projection: Projection,
+        number: usize,
+    ) -> Result<Option<usize>, Memory>
+        requires { number < length self.old.shapes }
+        ensures structs { self.new.structs ≡ self.old.structs }
+        ensures extends { Extends self.old.shapes self.new.shapes }
+        ensures within { IfOk result (λ o. IfSome o (λ i. i < length self.new.shapes)) }
+        ensures at { IfOk result (λ o. option_map (shape_in self.new.shapes) o
+            ≡ behind_shape (structs_of self.old.structs) projection
+            (shape_in self.old.shapes number)) }
+    {
+        match projection {
+            Projection::Deref => Ok(target(&self.shapes, number)),
+            Projection::Field(place) => {
+                let (structs, place) = (&self.structs, place as usize);
+                let made = part_once(
+                    alloc,
+                    structs,
+                    &mut self.shapes,
+                    &mut self.fields,
+                    number,
+                    place,
+                )?;
+                Ok(made)
+            }
+        }
+    }
+
+    /// The structs alone, once the body is read.
+    pub fn into_structs(self) -> Structs
+        ensures { result ≡ self.structs }
+    {
+        self.structs
+    }
+}
