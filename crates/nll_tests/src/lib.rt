@@ -17,6 +17,8 @@ mod headers;
 #[cfg(test)]
 mod lines;
 #[cfg(test)]
+mod making;
+#[cfg(test)]
 mod messages;
 #[cfg(test)]
 mod sets;
@@ -26,3 +28,5 @@ mod solving;
 mod telling;
 #[cfg(test)]
 mod tokens;
+#[cfg(test)]
+mod types;

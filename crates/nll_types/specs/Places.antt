@@ -1,10 +1,11 @@
 -- Places, and their types.
 -- Source: RFC 2094, "Reborrow constraints" (places and dereferences); the forms are project's
 -- choice.
-use Rattle.std.specs.Prelude.{◌≡◌, ◌<◌, ◌≤◌, ℕ, List, [], ◌∷◌, length, drop, Option, Some, None}
-use Rattle.std.specs.Prelude.{slice_get, option_and_then}
-use Rattle.nll_types.specs.Types.{TypeTree, reference, tuple, named, type_at}
-use Rattle.nll_types.specs.Structs.{Struct, field_type}
+use Rattle.std.specs.Prelude.{◌≡◌, ◌<◌, ◌≤◌, ℕ, Bool, true, ◌&&◌, List, [], ◌∷◌, length, drop}
+use Rattle.std.specs.Prelude.{Option, Some, None, slice_get, option_map, option_and_then, unwrap_or}
+use Rattle.nll_types.specs.Types.{TypeTree, reference, tuple, named, type_at, type_count}
+use Rattle.nll_types.specs.Structs.{Struct, struct_at, field_type}
+use Rattle.nll_types.specs.Shapes.{is_small}
 use Rattle.nll_types.specs.declared.place.Place.{Place}
 use Rattle.nll_types.specs.declared.place.Projection.{Projection}
 use Rattle.nll_types.specs.declared.place.Projection.TheVariants.{Deref, Field}
@@ -31,6 +32,25 @@ behind_all structs (p ∷ ps) t = option_and_then (behind_all structs ps) (behin
 abbrev pub type_of : List Struct → List TypeTree → PlacePath → Option TypeTree
 type_of structs variables p =
     option_and_then (behind_all structs p.projections) (slice_get variables p.variable)
+
+-- how many parts a tuple has, or how many fields a struct; other types have neither
+abbrev pub part_count : List Struct → TypeTree → Option ℕ
+part_count structs (tuple ts) = Some (type_count ts)
+part_count structs (named s rs ts) = Some (type_count (struct_at structs s).fields)
+part_count structs _ = None
+
+-- whether the type is small and so is each type behind the first projections, as far as there are
+-- such types
+abbrev pub small_behind : List Struct → List Projection → TypeTree → Bool
+small_behind structs [] t = is_small t
+small_behind structs (p ∷ ps) t =
+    is_small t && unwrap_or (option_map (small_behind structs ps) (behind structs p t)) true
+
+-- whether the types of all prefixes of a place are small, as far as they have types: that of the
+-- variable, the type behind the first projection, and so on, up to that of the place
+abbrev pub small_prefixes : List Struct → List TypeTree → PlacePath → Bool
+small_prefixes structs variables p =
+    unwrap_or (option_map (small_behind structs p.projections) (slice_get variables p.variable)) true
 
 -- a place of the code as a path
 abbrev pub path_of : Place → PlacePath

@@ -1,9 +1,12 @@
 -- Types with their regions forgotten: two types may stand for each other where they have one shape.
 -- Source: RFC 2094, "Subtyping" (it relates types that differ in their regions alone); the forms
 -- are project's choice.
-use Rattle.std.specs.Prelude.{ℕ, zero, suc, ◌+◌, Bool, List, length, Option, Some, None, option_map}
+use Rattle.std.specs.Prelude.{ℕ, zero, suc, ◌+◌, Bool, false, true, ◌==◌, ◌&&◌, nat_le, List, length}
+use Rattle.std.specs.Prelude.{Option, Some, None, option_map}
+use Rattle.std.specs.Bool.{beq}
+use Rattle.nll_problem.specs.Limits.{most_nodes}
 use Rattle.nll_types.specs.Types.{TypeTree, TypeTrees, int, parameter, reference, tuple, named}
-use Rattle.nll_types.specs.Types.{none, more}
+use Rattle.nll_types.specs.Types.{none, more, nodes}
 use Rattle.nll_types.specs.Structs.{Struct, struct_at}
 use Rattle.nll_types.specs.declared.place.Projection.{Projection}
 use Rattle.nll_types.specs.declared.place.Projection.TheVariants.{Deref, Field}
@@ -81,3 +84,27 @@ behind_shape structs (Field k) (tuple_shape ts) = shape_at ts k
 behind_shape structs (Field k) (named_shape s n ts) =
     option_map (put_in_shape ts) (shape_at (shapes_of (struct_at structs s).fields) k)
 behind_shape structs (Field k) _ = None
+
+-- whether two types have one shape: they are the same where regions are forgotten
+abbrev mutual
+  pub same_shape : TypeTree → TypeTree → Bool
+  same_shape int int = true
+  same_shape (parameter j) (parameter k) = j == k
+  same_shape (reference q m t) (reference r n u) = beq m n && same_shape t u
+  same_shape (tuple ts) (tuple us) = same_shapes ts us
+  same_shape (named s qs ts) (named n rs us) =
+      (s == n) && ((length qs == length rs) && same_shapes ts us)
+  same_shape _ _ = false
+
+  pub same_shapes : TypeTrees → TypeTrees → Bool
+  same_shapes none none = true
+  same_shapes (more t ts) (more u us) = same_shape t u && same_shapes ts us
+  same_shapes _ _ = false
+
+-- whether a type has no more nodes than a type may have
+abbrev pub is_small : TypeTree → Bool
+is_small t = nat_le (nodes t) most_nodes
+
+-- whether a shape has no more nodes than a type may have
+abbrev pub is_small_shape : Shape → Bool
+is_small_shape s = nat_le (shape_nodes s) most_nodes
