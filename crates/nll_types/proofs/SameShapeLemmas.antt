@@ -1,12 +1,12 @@
 -- Types of one shape, as `same_shape` tells them.
-use Rattle.std.proofs.Common.{◌≡◌, ℕ, Bool, true, false, List, length, refl, ap, ◌↔◌}
+use Rattle.std.proofs.Common.{◌≡◌, Bool, true, false, length, refl, ap, ◌↔◌}
 use Rattle.std.specs.Prelude.{◌==◌, ◌&&◌, IsTrue}
 use Rattle.std.specs.Bool.{beq}
 use Rattle.std.specs.Cmp.Derive.{both_true}
 use Rattle.std.proofs.lemmas.Bool.{eqb-true, eq-eqb}
 use Rattle.nll_problem.proofs.FactLemmas.{and_true}
 use Rattle.nll_types.specs.Types.{TypeTree, TypeTrees, int, parameter, reference, tuple, named, none, more}
-use Rattle.nll_types.specs.Shapes.{Shape, ShapeList, reference_shape, tuple_shape, parameter_shape, shape_of, shapes_of, same_shape, same_shapes}
+use Rattle.nll_types.specs.Shapes.{tuple_shape, parameter_shape, shape_of, shapes_of, same_shape, same_shapes}
 
 flags : (a b : Bool) → beq a b ≡ true → a ≡ b
 flags true true h = refl

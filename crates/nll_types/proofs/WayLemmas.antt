@@ -1,8 +1,10 @@
 -- The shapes of the types behind projections, and whether they are small, one step after another.
-use Rattle.std.proofs.Common.{◌≡◌, ℕ, suc, ◌+◌, ◌<◌, Bool, true, List, [], ◌∷◌, length, drop, get_or, refl, sym, ap, ◌∙◌, arith, Option, Some, None}
+use Rattle.std.proofs.Common.{◌≡◌, ℕ, suc, ◌+◌, ◌<◌, ◌≤◌, Bool, true, false, List, [], ◌∷◌, length, drop, get_or, refl, sym, ap, ◌∙◌, arith, Option, Some, None}
 use Rattle.std.specs.Prelude.{◌&&◌, option_map, option_and_then, unwrap_or, nat_le}
 use Rattle.std.proofs.Math.Seq.{drop-cons}
-use Rattle.nll_types.specs.Types.{TypeTree, TypeTrees, none, more, type_count}
+use Rattle.std.proofs.lemmas.List.{drop_all}
+use Rattle.nll_problem.specs.Limits.{most_nodes}
+use Rattle.nll_types.specs.Types.{TypeTree}
 use Rattle.nll_types.specs.Structs.{Struct}
 use Rattle.nll_types.specs.Places.{behind, behind_all, small_behind}
 use Rattle.nll_types.specs.Shapes.{Shape, shape_of, behind_shape, is_small, is_small_shape}
@@ -23,29 +25,34 @@ small_shapes structs [] s = is_small_shape s
 small_shapes structs (p ∷ ps) s = is_small_shape s && unwrap_or (option_map (small_shapes structs ps) (behind_shape structs p s)) true
 
 small_agrees : (t : TypeTree) → is_small t ≡ is_small_shape (shape_of t)
-small_agrees t = ap (λ (n : ℕ). nat_le n _) (same_nodes t)
+small_agrees t = ap (λ (n : ℕ). nat_le n most_nodes) (same_nodes t)
 
-mutual
-  -- what is told of types is told of their shapes
-  pub behind_all_agrees : (structs : List Struct) (ps : List Projection) (t : TypeTree) → option_map shape_of (behind_all structs ps t) ≡ behind_shapes structs ps (shape_of t)
-  behind_all_agrees structs [] t = refl
-  behind_all_agrees structs (p ∷ ps) t = rest_agrees structs ps (behind structs p t) ∙ ap (option_and_then (behind_shapes structs ps)) (behind_agrees structs p t)
+rest_agrees : (structs : List Struct) (ps : List Projection) (o : Option TypeTree)
+    → ((t : TypeTree) → option_map shape_of (behind_all structs ps t) ≡ behind_shapes structs ps (shape_of t))
+    → option_map shape_of (option_and_then (behind_all structs ps) o) ≡ option_and_then (behind_shapes structs ps) (option_map shape_of o)
+rest_agrees structs ps None on = refl
+rest_agrees structs ps (Some t) on = on t
 
-  rest_agrees : (structs : List Struct) (ps : List Projection) (o : Option TypeTree) → option_map shape_of (option_and_then (behind_all structs ps) o) ≡ option_and_then (behind_shapes structs ps) (option_map shape_of o)
-  rest_agrees structs ps None = refl
-  rest_agrees structs ps (Some t) = behind_all_agrees structs ps t
+-- what is told of types is told of their shapes
+behind_all_agrees : (structs : List Struct) (ps : List Projection) (t : TypeTree) → option_map shape_of (behind_all structs ps t) ≡ behind_shapes structs ps (shape_of t)
+behind_all_agrees structs [] t = refl
+behind_all_agrees structs (p ∷ ps) t =
+    rest_agrees structs ps (behind structs p t) (λ u. behind_all_agrees structs ps u)
+    ∙ ap (option_and_then (behind_shapes structs ps)) (behind_agrees structs p t)
 
-mutual
-  pub small_behind_agrees : (structs : List Struct) (ps : List Projection) (t : TypeTree) → small_behind structs ps t ≡ small_shapes structs ps (shape_of t)
-  small_behind_agrees structs [] t = small_agrees t
-  small_behind_agrees structs (p ∷ ps) t =
-      let here = small_agrees t in
-      let there = small_rest_agrees structs ps (behind structs p t) ∙ ap (λ (o : Option Shape). unwrap_or (option_map (small_shapes structs ps) o) true) (behind_agrees structs p t) in
-      cc
+small_rest_agrees : (structs : List Struct) (ps : List Projection) (o : Option TypeTree)
+    → ((t : TypeTree) → small_behind structs ps t ≡ small_shapes structs ps (shape_of t))
+    → unwrap_or (option_map (small_behind structs ps) o) true ≡ unwrap_or (option_map (small_shapes structs ps) (option_map shape_of o)) true
+small_rest_agrees structs ps None on = refl
+small_rest_agrees structs ps (Some t) on = on t
 
-  small_rest_agrees : (structs : List Struct) (ps : List Projection) (o : Option TypeTree) → unwrap_or (option_map (small_behind structs ps) o) true ≡ unwrap_or (option_map (small_shapes structs ps) (option_map shape_of o)) true
-  small_rest_agrees structs ps None = refl
-  small_rest_agrees structs ps (Some t) = small_behind_agrees structs ps t
+small_behind_agrees : (structs : List Struct) (ps : List Projection) (t : TypeTree) → small_behind structs ps t ≡ small_shapes structs ps (shape_of t)
+small_behind_agrees structs [] t = small_agrees t
+small_behind_agrees structs (p ∷ ps) t =
+    let here = small_agrees t in
+    let there = small_rest_agrees structs ps (behind structs p t) (λ u. small_behind_agrees structs ps u)
+    ∙ ap (λ (o : Option Shape). unwrap_or (option_map (small_shapes structs ps) o) true) (behind_agrees structs p t) in
+    ap (λ (b : Bool). b && unwrap_or (option_map (small_behind structs ps) (behind structs p t)) true) here ∙ ap (λ (b : Bool). is_small_shape (shape_of t) && b) there
 
 -- ---- the way that is gone
 
@@ -97,21 +104,23 @@ way_on structs first now next ps n from number m p small l is way e within to = 
 }
 
 -- no type is behind the next projection
-pub way_ends : (structs : List Struct) (first now : List Node) (ps : List Projection) (n from number : ℕ) (p : Projection) (small : Bool) (t : TypeTree)
-    → n < length ps → p ≡ get_or ps n p → IsOnWay structs first now ps n from number small → None ≡ behind_shape structs p (shape_in now number)
+pub way_ends : (structs : List Struct) (first now : List Node) (ps : List Projection) (n from number : ℕ) (d : Projection) (small : Bool) (t : TypeTree)
+    → n < length ps → IsOnWay structs first now ps n from number small → None ≡ behind_shape structs (get_or ps n d) (shape_in now number)
     → shape_of t ≡ shape_in first from → None ≡ option_map shape_of (behind_all structs ps t)
-way_ends structs first now ps n from number p small t l is way none e =
-    sym (behind_all_agrees structs ps t ∙ ap (behind_shapes structs ps) e ∙ way.same ∙ step_shapes structs ps n p (shape_in now number) None l is none)
+way_ends structs first now ps n from number d small t l way ends e =
+    sym (behind_all_agrees structs ps t ∙ ap (behind_shapes structs ps) e ∙ way.same
+    ∙ ap (λ (z : List Projection). behind_shapes structs z (shape_in now number)) (drop-cons ps n d l)
+    ∙ ap (option_and_then (behind_shapes structs (drop (suc n) ps))) (sym ends))
 
 -- all projections are taken
 pub way_at : (structs : List Struct) (first now : List Node) (ps : List Projection) (n from number : ℕ) (small : Bool) (t : TypeTree)
-    → drop n ps ≡ [] → IsOnWay structs first now ps n from number small → shape_of t ≡ shape_in first from
+    → length ps ≤ n → IsOnWay structs first now ps n from number small → shape_of t ≡ shape_in first from
     → Some (shape_in now number) ≡ option_map shape_of (behind_all structs ps t)
-way_at structs first now ps n from number small t all way e =
-    sym (behind_all_agrees structs ps t ∙ ap (behind_shapes structs ps) e ∙ way.same ∙ ap (λ (z : List Projection). behind_shapes structs z (shape_in now number)) all)
+way_at structs first now ps n from number small t past way e =
+    sym (behind_all_agrees structs ps t ∙ ap (behind_shapes structs ps) e ∙ way.same ∙ ap (λ (z : List Projection). behind_shapes structs z (shape_in now number)) (drop_all n ps past))
 
 pub way_small : (structs : List Struct) (first now : List Node) (ps : List Projection) (n from number : ℕ) (small : Bool) (t : TypeTree)
-    → drop n ps ≡ [] → IsOnWay structs first now ps n from number small → shape_of t ≡ shape_in first from
+    → length ps ≤ n → IsOnWay structs first now ps n from number small → shape_of t ≡ shape_in first from
     → (small && is_small_shape (shape_in now number)) ≡ small_behind structs ps t
-way_small structs first now ps n from number small t all way e =
-    sym (small_behind_agrees structs ps t ∙ ap (small_shapes structs ps) e ∙ way.told ∙ ap (λ (z : List Projection). small && small_shapes structs z (shape_in now number)) all)
+way_small structs first now ps n from number small t past way e =
+    sym (small_behind_agrees structs ps t ∙ ap (small_shapes structs ps) e ∙ way.told ∙ ap (λ (z : List Projection). small && small_shapes structs z (shape_in now number)) (drop_all n ps past))

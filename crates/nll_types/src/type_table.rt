@@ -178,14 +178,14 @@ impl TypeTable {
         let mut small = true;
         for projection in projections {
             let here = self.shapes.is_small(number);
-            small = small && here;
+            small = small & here;
             match self.behind(alloc, *projection, number)? {
                 Some(next) => number = next,
                 None => return Ok(None),
             }
         }
         let here = self.shapes.is_small(number);
-        Ok(Some((number, small && here)))
+        Ok(Some((number, small & here)))
     }
 
     /// How many parts a type of this shape has, if it is a tuple, or fields, if it is a struct.
