@@ -23,8 +23,18 @@ const STRUCTS: &[Written<'static>] = &[
     (&[true], &[], true, &[Int]),
     (&[], &[true], true, &[Parameter(0)]),
     (&[], &[false], true, &[]),
-    (&[false], &[false], false, &[Parameter(0), Reference(1, true), Named(0, &[1], 0)]),
-    (&[], &[false], false, &[Named(0, &[0], 0), Parameter(0), Parameter(0), Tuple(2)]),
+    (
+        &[false],
+        &[false],
+        false,
+        &[Parameter(0), Reference(1, true), Named(0, &[1], 0)],
+    ),
+    (
+        &[],
+        &[false],
+        false,
+        &[Named(0, &[0], 0), Parameter(0), Parameter(0), Tuple(2)],
+    ),
 ];
 
 // Writes regions.
@@ -171,11 +181,7 @@ fn told_over(
 }
 
 // What is told of the last type that steps make, and of a place in it.
-fn told(
-    alloc: Global,
-    steps: &[Step],
-    projections: &[Projection],
-) -> Result<String, BuildError> {
+fn told(alloc: Global, steps: &[Step], projections: &[Projection]) -> Result<String, BuildError> {
     let mut table = TypeTable::new(alloc);
     let told = told_over(alloc, &mut table, STRUCTS, steps, projections);
     drop(table);
@@ -298,12 +304,7 @@ fn is_copied(
 }
 
 // Whether a type in which no parameter stands has its shape with arguments put in.
-fn is_put(
-    alloc: Global,
-    table: &mut TypeTable,
-    number: usize,
-    ty: &Ty,
-) -> Result<bool, BuildError>
+fn is_put(alloc: Global, table: &mut TypeTable, number: usize, ty: &Ty) -> Result<bool, BuildError>
     requires { number < length table.old.shapes }
 {
     let put = put_in(alloc, ty, &[RegionId(2)], &[])?;
@@ -342,11 +343,7 @@ fn write_deep(
 }
 
 // What is told of types over a table.
-fn deep_over(
-    alloc: Global,
-    table: &mut TypeTable,
-    types: &[Ty],
-) -> Result<String, BuildError> {
+fn deep_over(alloc: Global, table: &mut TypeTable, types: &[Ty]) -> Result<String, BuildError> {
     let mut out = String::new(alloc);
     for ty in types {
         write_deep(alloc, &mut out, table, ty)?;
@@ -368,9 +365,19 @@ fn deep(alloc: Global, depth: usize) -> Result<String, BuildError> {
 #[test]
 fn deep_types_are_told(rt: HostRuntime) {
     let deepest = deep(rt.alloc(), 4_095);
-    compare(&rt, "the deepest", deepest, "size 4096 small true copy true put true");
+    compare(
+        &rt,
+        "the deepest",
+        deepest,
+        "size 4096 small true copy true put true",
+    );
     let deeper = deep(rt.alloc(), 4_096);
-    compare(&rt, "too deep", deeper, "size 4097 small false copy true put true");
+    compare(
+        &rt,
+        "too deep",
+        deeper,
+        "size 4097 small false copy true put true",
+    );
 }
 
 // Declares a struct with a drop of its own and so many further ones, each of which has for its
@@ -421,11 +428,7 @@ fn doubled(
 }
 
 // What is told of the last of so many structs that double.
-fn doubled_over(
-    alloc: Global,
-    table: &mut TypeTable,
-    more: usize,
-) -> Result<String, BuildError> {
+fn doubled_over(alloc: Global, table: &mut TypeTable, more: usize) -> Result<String, BuildError> {
     declare_doubling(alloc, table, more)?;
     let ty = last_doubling(alloc, more)?;
     let told = doubled(alloc, table, &ty, more + 1);
@@ -454,5 +457,10 @@ fn doubling_structs_are_told(rt: HostRuntime) {
     let few = doubling(rt.alloc(), 2);
     compare(&rt, "two", few, "size 11 of 7 shapes, 3 drop 3");
     let many = doubling(rt.alloc(), 1_000);
-    compare(&rt, "a thousand", many, "size 4097 of 2003 shapes, 3 drop 3");
+    compare(
+        &rt,
+        "a thousand",
+        many,
+        "size 4097 of 2003 shapes, 3 drop 3",
+    );
 }
