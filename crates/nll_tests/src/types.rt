@@ -46,6 +46,7 @@ fn write_regions(out: &mut String, regions: &[RegionId]) -> Result<(), AllocErro
 }
 
 // Writes some types, one after another.
+#[cycle(writing)]
 fn write_types(out: &mut String, types: &[Ty]) -> Result<(), AllocError> {
     for ty in types {
         out.push(' ')?;
@@ -55,6 +56,7 @@ fn write_types(out: &mut String, types: &[Ty]) -> Result<(), AllocError> {
 }
 
 // Writes a type.
+#[cycle(writing)]
 fn write_type(out: &mut String, ty: &Ty) -> Result<(), AllocError> {
     match ty {
         Ty::Int => out.push_str("int"),
@@ -115,7 +117,7 @@ fn write_place(
     types: &[Ty],
     projections: &[Projection],
 ) -> Result<(), BuildError> {
-    let variable = types.len().saturating_sub(1) as u32;
+    let variable = types.len().saturating_sub(1).min(100) as u32;
     let projections = Vec::from_slice(alloc, projections)?;
     let place = Place {
         variable,
@@ -275,61 +277,86 @@ fn types_are_told(rt: HostRuntime) {
     }
 }
 
-// Whether two types have one shape, of which the first has a number.
-fn is_same(
+// Writes the type of a field of a struct with these arguments.
+fn write_field(
     alloc: Global,
-    table: &mut TypeTable,
-    number: usize,
-    other: &Ty,
-) -> Result<bool, BuildError>
-    requires { number < length table.old.shapes }
-{
+    out: &mut String,
+    structs: &Structs,
+    types: &[Ty],
+) -> Result<(), BuildError> {
+    match field_type(alloc, structs, 4, &[RegionId(6)], types, 0)? {
+        Some(ty) => write_type(out, &ty)?,
+        None => out.push_str("none")?,
+    }
+    Ok(())
+}
+
+// Writes what nodes that are added make: a reference to an `int`, and the `int` once more.
+fn write_added(out: &mut String, table: &mut TypeTable) -> Result<(), BuildError> {
+    let int = table.add(Node::Int)?;
+    let reference = table.add(Node::Reference(true, int))?;
+    let again = table.add(Node::Int)?;
+    let shapes = table.shapes();
+    let (same, other) = (shapes.is_same(int, again), shapes.is_same(reference, again));
+    write!(out, " same {same} other {other}")?;
+    Ok(())
+}
+
+// What is told of a field, and of nodes.
+fn added_over(alloc: Global, table: &mut TypeTable) -> Result<String, BuildError> {
+    let mut out = String::new(alloc);
+    declare_all(alloc, table, STRUCTS)?;
+    let types = types_of(alloc, &[Int])?;
+    let written = write_field(alloc, &mut out, table.structs(), types.as_slice());
+    drop(types);
+    written?;
+    write_added(&mut out, table)?;
+    Ok(out)
+}
+
+// What is told of a field, and of nodes.
+fn added(alloc: Global) -> Result<String, BuildError> {
+    let mut table = TypeTable::new(alloc);
+    let told = added_over(alloc, &mut table);
+    drop(table);
+    told
+}
+
+// A field has its declared type with the arguments put in, and a shape that is added twice is one.
+#[test]
+fn fields_and_nodes_are_told(rt: HostRuntime) {
+    compare(
+        &rt,
+        "a field",
+        added(rt.alloc()),
+        "&6 mut int same true other false",
+    );
+}
+
+// Whether two types have one shape.
+fn is_same(alloc: Global, table: &mut TypeTable, ty: &Ty, other: &Ty) -> Result<bool, BuildError> {
+    let number = table.shape(alloc, ty, &[])?;
     let other = table.shape(alloc, other, &[])?;
     Ok(table.shapes().is_same(number, other))
 }
 
 // Whether the copy of a type has its shape.
-fn is_copied(
-    alloc: Global,
-    table: &mut TypeTable,
-    number: usize,
-    ty: &Ty,
-) -> Result<bool, BuildError>
-    requires { number < length table.old.shapes }
-{
+fn is_copied(alloc: Global, table: &mut TypeTable, ty: &Ty) -> Result<bool, BuildError> {
     let copied = copy(alloc, ty)?;
-    let same = is_same(alloc, table, number, &copied);
+    let same = is_same(alloc, table, ty, &copied);
     drop(copied);
     same
 }
 
 // Whether a type in which no parameter stands has its shape with arguments put in.
-fn is_put(alloc: Global, table: &mut TypeTable, number: usize, ty: &Ty) -> Result<bool, BuildError>
-    requires { number < length table.old.shapes }
-{
+fn is_put(alloc: Global, table: &mut TypeTable, ty: &Ty) -> Result<bool, BuildError> {
     let put = put_in(alloc, ty, &[RegionId(2)], &[])?;
-    let same = is_same(alloc, table, number, &put);
+    let same = is_same(alloc, table, ty, &put);
     drop(put);
     same
 }
 
-// Writes whether a type, its copy and the type with arguments put in have one shape.
-fn write_same(
-    alloc: Global,
-    out: &mut String,
-    table: &mut TypeTable,
-    number: usize,
-    ty: &Ty,
-) -> Result<(), BuildError>
-    requires { number < length table.old.shapes }
-{
-    let copied = is_copied(alloc, table, number, ty)?;
-    let put = is_put(alloc, table, number, ty)?;
-    write!(out, " copy {copied} put {put}")?;
-    Ok(())
-}
-
-// Writes the size of a type.
+// Writes the size of a type, and whether its copy and the type with arguments put in have its shape.
 fn write_deep(
     alloc: Global,
     out: &mut String,
@@ -338,8 +365,10 @@ fn write_deep(
 ) -> Result<(), BuildError> {
     let number = table.shape(alloc, ty, &[])?;
     let (size, small) = (table.shapes().size(number), table.shapes().is_small(number));
-    write!(out, "size {size} small {small}")?;
-    write_same(alloc, out, table, number, ty)
+    let copied = is_copied(alloc, table, ty)?;
+    let put = is_put(alloc, table, ty)?;
+    write!(out, "size {size} small {small} copy {copied} put {put}")?;
+    Ok(())
 }
 
 // What is told of types over a table.
@@ -431,7 +460,7 @@ fn doubled(
 fn doubled_over(alloc: Global, table: &mut TypeTable, more: usize) -> Result<String, BuildError> {
     declare_doubling(alloc, table, more)?;
     let ty = last_doubling(alloc, more)?;
-    let told = doubled(alloc, table, &ty, more + 1);
+    let told = doubled(alloc, table, &ty, more.saturating_add(1));
     drop(ty);
     told
 }
