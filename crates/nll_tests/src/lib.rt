@@ -1,7 +1,7 @@
-//! Tests of sets, problems, solving and lines of texts, by their public calls alone.
+//! Tests of sets, problems, solving, types and lines of texts, by their public calls alone.
 //! Expected values are found by hand from the definitions.
 //!
-//! Reading order: `comparing`, `telling`, `calls`, then each module of tests.
+//! Reading order: `comparing`, `telling`, `calls`, `making`, then each module of tests.
 #![tactic(auto)]
 
 #[cfg(test)]
