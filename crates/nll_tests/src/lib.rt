@@ -1,8 +1,8 @@
-//! Tests of sets, problems, solving and lines of texts, by their public calls alone.
+//! Tests of sets, problems, solving, types and lines of texts, by their public calls alone.
 //! Expected values are found by hand from the definitions. The plain solver, `rounds`, is a second
 //! body of `solve`'s contract.
 //!
-//! Reading order: `rounds`, `comparing`, `telling`, `calls`, then each module of tests.
+//! Reading order: `rounds`, `comparing`, `telling`, `calls`, `making`, then each module of tests.
 #![tactic(auto)]
 
 mod rounds;
@@ -22,6 +22,8 @@ mod headers;
 #[cfg(test)]
 mod lines;
 #[cfg(test)]
+mod making;
+#[cfg(test)]
 mod messages;
 #[cfg(test)]
 mod sets;
@@ -33,3 +35,5 @@ mod telling;
 mod tokens;
 #[cfg(test)]
 mod types;
+#[cfg(test)]
+mod written_types;

@@ -13,3 +13,6 @@ pub mod ShapingLemmas
 pub mod ProjectLemmas
 pub mod PlaceLemmas
 pub mod MemoLemmas
+pub mod SameShapeLemmas
+pub mod WayLemmas
+pub mod KeepingLemmas

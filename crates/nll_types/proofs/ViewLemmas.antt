@@ -2,7 +2,7 @@
 use Rattle.std.proofs.Common.{◌≡◌, ℕ, zero, suc, Bool, List, [], ◌∷◌, refl, sym, ap, ◌∙◌, slice_get, ◌<◌, length, Some, arith}
 use Rattle.std.specs.Prelude.{option_map}
 use Rattle.std.specs.Global.{Vec, Box}
-use Rattle.nll_types.specs.Types.{TypeTree, int, parameter, reference, tuple, named, type_at}
+use Rattle.nll_types.specs.Types.{TypeTree, int, parameter, reference, tuple, named, type_at, type_count}
 use Rattle.nll_types.specs.Views.{tree, trees, layer}
 use Rattle.nll_types.specs.declared.ty.Ty.{Ty}
 use Rattle.nll_types.specs.declared.ty.Ty.TheOpen as layers
@@ -37,3 +37,8 @@ pub type_within : (ts : List Ty) (k : ℕ) (u : TypeTree) → type_at (trees ts)
 type_within [] k u e = absurd cc
 type_within (t ∷ ts) zero u e = omega arith
 type_within (t ∷ ts) (suc k) u e = (let l = type_within ts k u e in omega arith)
+
+-- a row has as many types as the list
+pub count_trees : (ts : List Ty) → type_count (trees ts) ≡ length ts
+count_trees [] = refl
+count_trees (t ∷ ts) = (let e = count_trees ts in omega arith)

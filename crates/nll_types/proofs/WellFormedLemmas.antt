@@ -1,10 +1,10 @@
 -- Types that keep to what is declared.
-use Rattle.std.proofs.Common.{◌≡◌, ℕ, zero, suc, ◌+◌, ◌<◌, ◌≤◌, List, [], ◌∷◌, length, map, take, get_or, Option, Some, None, sym, subst, ap, ◌∙◌, refl, arith}
+use Rattle.std.proofs.Common.{◌≡◌, ℕ, zero, suc, ◌+◌, ◌<◌, List, [], ◌∷◌, length, map, take, Option, Some, None, sym, subst, ap, ◌∙◌, refl, arith}
 use Rattle.std.specs.Prelude.{All, slice_get, option_map, option_and_then}
-use Rattle.std.proofs.lemmas.List.{length-map, get_or-take}
+use Rattle.std.proofs.lemmas.List.{length-map}
 use Rattle.std.proofs.lemmas.Option.{slice_get_within, get_or_from_slice_get}
 use Rattle.nll_types.specs.Types.{TypeTree, TypeTrees, int, parameter, reference, tuple, named, none, more, type_at, type_count}
-use Rattle.nll_types.specs.Structs.{Struct, no_struct, struct_at, region_in, argument, put_in, put_in_all, field_type, IsWellFormed, AreWellFormed, AreInOrder}
+use Rattle.nll_types.specs.Structs.{Struct, struct_at, region_in, argument, put_in, put_in_all, IsWellFormed, AreWellFormed, AreInOrder}
 use Rattle.nll_types.specs.Places.{PlacePath, behind, behind_all, type_of}
 use Rattle.nll_types.specs.declared.place.Projection.{Projection}
 use Rattle.nll_types.specs.declared.place.Projection.TheVariants.{Deref, Field}

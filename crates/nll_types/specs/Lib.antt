@@ -2,6 +2,7 @@ pub mod Types
 pub mod Shapes
 pub mod Structs
 pub mod Places
+pub mod Operands
 pub mod DropRegions
 pub mod Views
 pub mod Table

@@ -21,11 +21,12 @@ mod source;
 mod structs;
 mod ty;
 mod type_table;
+mod well_formed;
 
 pub use copying::copy;
 pub use laws::{
     arguments_of_types_and_shapes_agree, projections_of_types_and_shapes_agree,
-    types_are_as_large_as_shapes, types_of_places_are_well_formed,
+    same_shape_means_equal_shapes, types_are_as_large_as_shapes, types_of_places_are_well_formed,
 };
 pub use limits::MAX_NODES;
 pub use node::Node;
@@ -38,3 +39,4 @@ pub use shapes::Shapes;
 pub use structs::{Declaration, Structs};
 pub use ty::Ty;
 pub use type_table::TypeTable;
+pub use well_formed::{has_good_fields, is_well_formed};

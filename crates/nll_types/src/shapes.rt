@@ -3,7 +3,7 @@
 ghost use Rattle.std.specs.Prelude.{IsTrue, ◌↔◌, ◌≡◌, ◌<◌, ◌≤◌, ◌+◌, ◌++◌, ◌∷◌, [], length, min};
 ghost use Rattle.std.specs.Prelude.{IfOk, OnOk, OnErr, slice_index, ℕ, sum_by, if◌then◌else◌};
 ghost use Rattle.nll_problem.specs.Limits.{most_nodes};
-ghost use Rattle.nll_types.specs.Shapes.{shape_nodes};
+ghost use Rattle.nll_types.specs.Shapes.{shape_nodes, is_small_shape};
 ghost use Rattle.nll_types.specs.Table.{IsOver, Extends, IsTable, HasOneNumber};
 ghost use Rattle.nll_types.specs.Table.{shape_in, shape_over, shapes_in};
 ghost use Rattle.nll_types.specs.Table as spec;
@@ -113,6 +113,14 @@ impl Shapes {
         ensures { result ≡ min (most_nodes + 1) (shape_nodes (shape_in self.now shape)) }
     {
         self.sizes[shape]
+    }
+
+    /// Whether a shape has no more nodes than a type may have.
+    pub fn is_small(&self, shape: usize) -> bool
+        requires { shape < length self.now }
+        ensures { result ≡ is_small_shape (shape_in self.now shape) }
+    {
+        self.size(shape) <= MAX_NODES
     }
 
     /// Whether two numbers are of one shape.

@@ -4,7 +4,7 @@ ghost use Rattle.std.specs.Prelude.{◌≡◌, ◌≤◌, ◌<◌, ◌-◌, ◌^
 ghost use Rattle.std.specs.Prelude.{MatchOption, OnOk, OnErr, slice_get};
 ghost use Rattle.nll_types.specs.Declarations.{declared, structs_of};
 ghost use Rattle.nll_types.specs.Structs.{AreInOrder, HasGoodFields, struct_at};
-ghost use Rattle.nll_types.specs.Types.{type_at};
+ghost use Rattle.nll_types.specs.Types.{type_at, type_count};
 ghost use Rattle.nll_types.specs.Views.{tree};
 ghost use Rattle.nll_types.specs.Sources.{AreSourcesOf};
 
@@ -81,6 +81,17 @@ impl Structs {
         ensures { slice_get self.now number ≡ Some result.now }
     {
         &self.entries[number].declaration
+    }
+
+    /// How many fields a struct has; where there is no such struct, none.
+    pub fn field_count(&self, number: usize) -> usize
+        ensures { result ≡ type_count (struct_at (structs_of self.now) number).fields }
+    {
+        if number < self.entries.len() {
+            self.entries[number].declaration.fields.len()
+        } else {
+            0
+        }
     }
 
     /// The type of a field as it is declared, where there is such a struct and it has the field.

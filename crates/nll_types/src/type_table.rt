@@ -4,9 +4,11 @@ ghost use Rattle.std.specs.Prelude.{◌≡◌, ◌<◌, ◌-◌, ◌^◌, ◌++�
 ghost use Rattle.std.specs.Prelude.{IfOk, IfSome, OnOk, OnErr};
 ghost use Rattle.nll_types.specs.Declarations.{declared, structs_of};
 ghost use Rattle.nll_types.specs.Shapes.{shape_of, put_in_shape, behind_shape};
+ghost use Rattle.nll_types.specs.Places.{behind_all, part_count, small_behind};
 ghost use Rattle.nll_types.specs.Structs.{HasGoodFields};
 ghost use Rattle.nll_types.specs.Table.{IsOver, Extends, AreBelow, all_at};
 ghost use Rattle.nll_types.specs.Table.{shape_in, shape_over, shapes_in};
+ghost use Rattle.nll_types.specs.Types.{TypeTree};
 ghost use Rattle.nll_types.specs.Views.{tree};
 
 use crate::memo::{FieldUse, part_once};
@@ -147,6 +149,55 @@ impl TypeTable {
                 )?;
                 Ok(made)
             }
+        }
+    }
+
+    /// The shape of the type behind projections from a type of this shape, where there is one, and
+    /// whether each type on the way is small, the first and the last counted in.
+    ///
+    /// # Cost
+    /// That of a look-up for each projection after the first time (not proved).
+    pub fn place_shape(
+        &mut self,
+        alloc: Global,
+        from: usize,
+        projections: &[Projection],
+    ) -> Result<Option<(usize, bool)>, Memory>
+        requires { from < length self.old.shapes }
+        ensures structs { self.new.structs ≡ self.old.structs }
+        ensures extends { Extends self.old.shapes self.new.shapes }
+        ensures within { IfOk result (λ o. IfSome o (λ r. r.0 < length self.new.shapes)) }
+        ensures at { IfOk result (λ o. (t : TypeTree) → shape_of t ≡ shape_in self.old.shapes from
+            → option_map (λ r. shape_in self.new.shapes r.0) o
+            ≡ option_map shape_of (behind_all (structs_of self.old.structs) projections.now t)) }
+        ensures small { IfOk result (λ o. IfSome o (λ r. (t : TypeTree)
+            → shape_of t ≡ shape_in self.old.shapes from
+            → r.1 ≡ small_behind (structs_of self.old.structs) projections.now t)) }
+    {
+        let mut number = from;
+        let mut small = true;
+        for projection in projections {
+            let here = self.shapes.is_small(number);
+            small = small & here;
+            match self.behind(alloc, *projection, number)? {
+                Some(next) => number = next,
+                None => return Ok(None),
+            }
+        }
+        let here = self.shapes.is_small(number);
+        Ok(Some((number, small & here)))
+    }
+
+    /// How many parts a type of this shape has, if it is a tuple, or fields, if it is a struct.
+    pub fn parts(&self, number: usize) -> Option<usize>
+        requires { number < length self.now.shapes }
+        ensures { (t : TypeTree) → shape_of t ≡ shape_in self.now.shapes number
+            → result ≡ part_count (structs_of self.now.structs) t }
+    {
+        match self.shapes.node(number) {
+            Node::Tuple(parts) => Some(parts.len()),
+            Node::Named(named, _, _) => Some(self.structs.field_count(*named)),
+            Node::Int | Node::Parameter(_) | Node::Reference(_, _) => None,
         }
     }
 

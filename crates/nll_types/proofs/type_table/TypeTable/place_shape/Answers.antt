@@ -1,0 +1,24 @@
+use Rattle.std.proofs.Common.{◌≤◌, ◌∙◌, ap, length, arith}
+use Rattle.nll_types.specs.Shapes.{is_small_shape}
+use Rattle.nll_types.specs.Table.{shape_in}
+use Rattle.nll_types.specs.Tables.{Tables}
+use Rattle.nll_types.proofs.WayLemmas.{way_ends, way_at, way_small}
+use Rattle.nll_types.proofs.type_table.TypeTable.place_shape.Goals as goal
+
+pub returns-in-None-clause-at : goal.returns-in-None-clause-at
+returns-in-None-clause-at c = λ t e.
+    let on = c.loop-projection.invariant in
+    let ends = rw (c.in-None.is, on.0) at c.in_ok-next.ensures.at in
+    way_ends _ _ _ c.args.projections.now c.loop-projection.projection-index c.args.from c.loop-projection.number _ c.loop-projection.small t
+    c.loop-projection-test.true on.1 ends e
+
+pub returns-clause-at : goal.returns-clause-at
+returns-clause-at c = λ t e.
+    let past : length c.args.projections.now ≤ c.loop-projection.projection-index = omega arith in
+    way_at _ _ _ c.args.projections.now c.loop-projection.projection-index c.args.from c.loop-projection.number c.loop-projection.small t past c.loop-projection.invariant.1 e
+
+pub returns-clause-small : goal.returns-clause-small
+returns-clause-small c = λ t e.
+    let past : length c.args.projections.now ≤ c.loop-projection.projection-index = omega arith in
+    let told = c.is_small-here-2.ensures ∙ ap (λ (z : Tables). is_small_shape (shape_in z.shapes c.loop-projection.number)) c.self-2.view_is in
+    rw told (way_small _ _ _ c.args.projections.now c.loop-projection.projection-index c.args.from c.loop-projection.number c.loop-projection.small t past c.loop-projection.invariant.1 e)

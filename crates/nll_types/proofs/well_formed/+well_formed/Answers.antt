@@ -1,0 +1,51 @@
+use Rattle.std.proofs.Common.{◌≡◌, ◌∙◌, ap, refl, length, arith, rules}
+use Rattle.std.specs.Prelude.{vec_len}
+use Rattle.std.proofs.lemmas.Option.{slice_get_read}
+use Rattle.nll_types.specs.Views.{tree}
+use Rattle.nll_types.proofs.ViewLemmas.{tree_named}
+use Rattle.nll_types.proofs.KeepingLemmas.{good_all, good_one, good_more, named_takes, named_good}
+use Rattle.nll_types.proofs.well_formed.+well_formed.Goals as goal
+
+pub are_well_formed-returns-then-not-is_well_formed : goal.are_well_formed-returns-then-not-is_well_formed
+are_well_formed-returns-then-not-is_well_formed t c =
+    let item = slice_get_read c.args.types.now _ c.loop-ty.ty-index c.ty-item.result refl c.loop-ty-test.true c.ty-item.is in (
+      λ h. absurd cc,
+      λ w.
+          let one = c.is_well_formed.ensures.1 (good_one _ _ _ c.args.types.now c.loop-ty.ty-index c.ty-item.result w item) in
+          absurd (let f = c.if-not-is_well_formed.true in cc),
+    )
+
+pub are_well_formed-loop-ty-preserved : goal.are_well_formed-loop-ty-preserved
+are_well_formed-loop-ty-preserved t c =
+    let item = slice_get_read c.args.types.now _ c.loop-ty.ty-index c.ty-item.result refl c.loop-ty-test.true c.ty-item.is in
+    good_more _ _ _ c.args.types.now c.loop-ty.ty-index c.ty-item.result c.loop-ty.invariant item
+    (c.is_well_formed.ensures.0 (let f = c.if-not-is_well_formed.false in cc))
+
+pub are_well_formed-returns : goal.are_well_formed-returns
+are_well_formed-returns t c =
+    let whole : c.loop-ty.ty-index ≡ length c.args.types.now = omega arith in
+    (λ h. good_all _ _ _ c.args.types.now (rw whole at c.loop-ty.invariant), λ w. refl)
+
+pub is_well_formed-returns-then-not-takes : goal.is_well_formed-returns-then-not-takes
+is_well_formed-returns-then-not-takes t c =
+    let own : vec_len c.in-Named.own ≡ length c.in-Named.own.items = search rules in
+    let types : vec_len c.in-Named.types ≡ length c.in-Named.types.items = search rules in
+    let takes = rw (c.len.ensures, c.len-in-Named.ensures, own, types) at c.takes.ensures in (
+      λ h. absurd cc,
+      λ w.
+          let named = rw (ap tree c.in-Named.is ∙ tree_named _ _ _) at w in
+          let yes = takes.1 (named_takes c.args.structs.now _ _ c.in-Named.number c.in-Named.own.items c.in-Named.types.items named) in
+          absurd (let f = c.if-not-takes.true in cc),
+    )
+
+pub is_well_formed-returns-else-not-are_below : goal.is_well_formed-returns-else-not-are_below
+is_well_formed-returns-else-not-are_below t c =
+    let own : vec_len c.in-Named.own ≡ length c.in-Named.own.items = search rules in
+    let types : vec_len c.in-Named.types ≡ length c.in-Named.types.items = search rules in
+    let takes = rw (c.len.ensures, c.len-in-Named.ensures, own, types) at c.takes.ensures in
+    let yes = takes.0 (let f = c.if-not-takes.false in cc) in
+    let below = rw c.as_slice-in-Named.ensures.value at c.are_below.ensures in
+    let all = below.0 (let f = c.if-not-are_below.false in cc) in
+    let good = rw c.as_slice-in-Named-2.ensures.value at c.are_well_formed-good-in-Named.ensures in
+    rw (ap tree c.in-Named.is ∙ tree_named _ _ _)
+    (λ h. named_good c.args.structs.now _ _ c.in-Named.number c.in-Named.own.items c.in-Named.types.items yes all (good.0 h), λ w. good.1 w.4)
