@@ -1,2 +1,0 @@
-pub mod MirForms
-pub mod Lines

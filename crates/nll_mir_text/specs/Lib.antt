@@ -1,3 +1,0 @@
-pub mod MirSaid
-pub mod MirFaults
-pub mod MirText
