@@ -1,10 +1,8 @@
 -- Lists of jumps: how they grow, and which part of them is of the points of a run.
-use Rattle.std.proofs.Common.{◌≡◌, ◌≢◌, ◌⊎◌, ◌↔◌, ℕ, ◌+◌, ◌-◌, ◌<◌, ◌≤◌, List, [], ◌∷◌, ◌++◌, Contains, length, get_or, take, drop, slice_range, refl, sym, ap, ◌∙◌, subst, inl, inr, ⊎_elim, arith, zero, suc, length-append, length-take, length-drop, get_or-take, get_or-drop}
+use Rattle.std.proofs.Common.{◌≡◌, ◌≢◌, ◌⊎◌, ◌↔◌, ℕ, ◌+◌, ◌-◌, ◌<◌, ◌≤◌, List, [], ◌∷◌, ◌++◌, Contains, length, get_or, drop, slice_range, refl, sym, ap, ◌∙◌, subst, inl, inr, ⊎_elim, arith, zero, suc, length-append, length-take, length-drop, get_or-take, get_or-drop}
 use Rattle.std.proofs.lemmas.Bool.{cases_lt, cases_eq}
 use Rattle.std.proofs.lemmas.List.{get_or_append_left, get_or_at, get_or_default}
 use Rattle.nll_problem.specs.Graph.{Graph, IsNext, IsReturn}
-use Rattle.nll_sets.specs.Runs.{IsWithin}
-use Rattle.nll_sets.specs.declared.run.Run.{Run}
 use Rattle.nll_core.specs.Lines.{IsJump, StandsIn, AreJumps, Pushes}
 
 -- ---- what a list gets

@@ -1,8 +1,8 @@
 -- Lists of regions that grow and shrink at their end.
-use Rattle.std.proofs.Common.{◌≡◌, ℕ, ◌+◌, ◌<◌, Bool, List, [], ◌∷◌, ◌++◌, Contains, length, get_or, set, sym, subst, ⊎_elim, arith, length-append, ◌∙◌}
+use Rattle.std.proofs.Common.{ℕ, ◌<◌, List, [], ◌∷◌, ◌++◌, length, sym, subst, ⊎_elim, arith, length-append, ◌∙◌}
 use Rattle.std.proofs.lemmas.Bool.{cases_lt}
-use Rattle.std.proofs.lemmas.List.{get_or_append_left, get_or_at, get_or_default, length-set}
-use Rattle.nll_core.specs.Order.{AreBelow, IsDescent}
+use Rattle.std.proofs.lemmas.List.{get_or_append_left, get_or_at}
+use Rattle.nll_core.specs.Order.{AreBelow}
 
 pub below_none : (count : ℕ) → AreBelow count []
 below_none count x (k, l, is) = absurd (omega (arith, l))

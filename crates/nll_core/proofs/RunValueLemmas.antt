@@ -1,11 +1,11 @@
 -- A run in the value of a region.
-use Rattle.std.proofs.Common.{◌≡◌, ◌⊎◌, ℕ, ◌<◌, ◌≤◌, Bool, true, false, List, [], length, get_or, set, ap, ◌∙◌, arith, Result, Ok, Err, OnOk, IfOk}
+use Rattle.std.proofs.Common.{◌≡◌, ℕ, ◌<◌, Bool, true, false, List, [], length, get_or, set, ap, ◌∙◌, arith, Result, Ok, Err, OnOk, IfOk}
 use Rattle.std.proofs.lemmas.List.{set-get_or}
 use Rattle.std.proofs.lemmas.List.Sums.{sum_by-set}
 use Rattle.nll_sets.specs.ElementSet.{flag}
 use Rattle.nll_sets.specs.Runs.{Fills, IsWithin}
 use Rattle.nll_sets.specs.declared.run.Run.{Run}
-use Rattle.nll_core.specs.Growing.{Tells, missing_pairs}
+use Rattle.nll_core.specs.Growing.{Tells}
 use Rattle.nll_core.specs.Search.{missing}
 use Rattle.nll_core.proofs.WalkingLemmas.{missing_less}
 

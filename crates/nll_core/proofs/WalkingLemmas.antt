@@ -1,14 +1,14 @@
 -- A walk by stretches of lines: what it adds, step after step, and what it has reached at its end.
-use Rattle.std.proofs.Common.{◌≡◌, ◌≢◌, ◌⊎◌, ◌↔◌, ℕ, ◌+◌, ◌-◌, ◌<◌, ◌≤◌, Bool, true, false, not, cond, ◌||◌, List, [], ◌∷◌, ◌++◌, Contains, AllPairs, length, get_or, refl, sym, ap, ◌∙◌, subst, inl, inr, ⊎_elim, arith, zero, suc, length-append, rules}
+use Rattle.std.proofs.Common.{◌≡◌, ◌⊎◌, ◌↔◌, ℕ, ◌+◌, ◌-◌, ◌<◌, ◌≤◌, Bool, true, false, not, cond, ◌||◌, List, [], ◌∷◌, ◌++◌, Contains, length, get_or, refl, sym, ap, ◌∙◌, subst, inl, inr, ⊎_elim, arith, zero, suc, length-append}
 use Rattle.std.proofs.lemmas.Bool.{cases_lt, cases_eq, false≢true, true≢false}
-use Rattle.std.proofs.lemmas.List.{get_or_append_left, get_or_at, get_or_default, get_or_past}
+use Rattle.std.proofs.lemmas.List.{get_or_append_left, get_or_at, get_or_default}
 use Rattle.std.proofs.lemmas.List.Sums.{sum_by-cons}
 use Rattle.nll_sets.specs.ElementSet.{flag}
-use Rattle.nll_problem.specs.Graph.{Graph, element_count, IsNext, IsReturn, IsStep, IsSound, IsEnd}
+use Rattle.nll_problem.specs.Graph.{Graph, element_count, IsNext, IsStep, IsSound, IsEnd}
 use Rattle.nll_problem.specs.Walks.{Reaches}
 use Rattle.nll_core.specs.Search.{missing, IsIn}
-use Rattle.nll_sets.specs.Runs.{no_run, first_of, last_of, IsInRuns, IsWithin, Fills}
-use Rattle.nll_core.specs.Lines.{IsJump, IsLineEnd}
+use Rattle.nll_sets.specs.Runs.{no_run, IsInRuns, IsWithin, Fills}
+use Rattle.nll_core.specs.Lines.{IsJump}
 use Rattle.nll_core.specs.Walking.{IsLineClosed, IsStretch, Grows, IsJumpedTo, IsFollowed, AreOfPoints, IsLedTo, IsSpread, FillsFrom, constraint_at, no_constraint, PointsAscend, IsLedFrom, AreLedFrom}
 use Rattle.nll_sets.specs.declared.run.Run.{Run}
 use Rattle.nll_problem.specs.declared.constraint.Constraint.{Constraint}

@@ -1,6 +1,6 @@
 -- The lines of a graph: the points that follow each other by number, and the steps that leave them.
 -- Source: project's choice. Private contracts alone cite this file.
-use Rattle.std.specs.Prelude.{◌≡◌, ◌≢◌, ◌⊎◌, ◌↔◌, ℕ, ◌+◌, ◌≤◌, ◌<◌, List, length, Contains}
+use Rattle.std.specs.Prelude.{◌≡◌, ◌≢◌, ◌⊎◌, ◌↔◌, ℕ, ◌+◌, ◌≤◌, ◌<◌, List, length}
 use Rattle.std.specs.Prelude.{slice_index}
 use Rattle.nll_problem.specs.Graph.{Graph, IsNext, IsReturn}
 

@@ -25,17 +25,22 @@ pub fn ends_from(runs: &[Run], least: u32) -> usize
     if len == 1 || runs[len - 2].last < least {
         return len - 1;
     }
-    let mut low = 0;
-    let mut high = len - 1;
-    while low < high {
-        let middle = low + (high - low) / 2;
+    // As many turns for each answer, so that no branch has to be foretold.
+    let mut base = 0;
+    let mut size = len;
+    while size > 1 {
+        let half = size / 2;
+        let middle = base + half;
         if runs[middle].last < least {
-            low = middle + 1;
-        } else {
-            high = middle;
+            base = middle;
         }
+        size -= half;
     }
-    low
+    if runs[base].last < least {
+        base + 1
+    } else {
+        base
+    }
 }
 
 // The place of the first run, from one on, that begins past `most`.

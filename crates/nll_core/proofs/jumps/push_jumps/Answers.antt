@@ -1,4 +1,4 @@
-use Rattle.std.proofs.Common.{◌≡◌, ◌∙◌, sym}
+use Rattle.std.proofs.Common.{◌∙◌, sym}
 use Rattle.std.proofs.lemmas.Bool.{false≢true}
 use Rattle.nll_core.proofs.JumpLemmas.{jumps_others, jumps_return}
 use Rattle.nll_core.proofs.jumps.push_jumps.Goals as goal

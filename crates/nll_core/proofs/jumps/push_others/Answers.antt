@@ -1,4 +1,4 @@
-use Rattle.std.proofs.Common.{◌≡◌, ◌+◌, refl, sym, arith}
+use Rattle.std.proofs.Common.{◌+◌, refl}
 use Rattle.nll_core.proofs.JumpLemmas.{AmongFirst, pushes_none, pushes_more, pushes_same, among_first_none, among_first_more, among_first_skip, among_all}
 use Rattle.nll_core.proofs.jumps.push_others.Goals as goal
 use Rattle.nll_core.proofs.jumps.push_others.Goals.{then-successor-point+in_ok-push, else-successor-point}

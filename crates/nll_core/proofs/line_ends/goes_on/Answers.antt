@@ -1,4 +1,4 @@
-use Rattle.std.proofs.Common.{◌≡◌, ◌∙◌, sym}
+use Rattle.std.proofs.Common.{◌∙◌, sym}
 use Rattle.nll_problem.proofs.FactLemmas.{number_found_last}
 use Rattle.nll_core.proofs.line_ends.goes_on.Goals as goal
 

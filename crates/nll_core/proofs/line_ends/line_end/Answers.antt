@@ -1,4 +1,4 @@
-use Rattle.std.proofs.Common.{◌≡◌, ◌∙◌, ◌+◌, ℕ, true, false, sym, arith}
+use Rattle.std.proofs.Common.{◌∙◌, ◌+◌, sym, arith}
 use Rattle.std.proofs.lemmas.Bool.{false≢true}
 use Rattle.nll_core.proofs.LineLemmas.{line_end_here, line_end_next}
 use Rattle.nll_core.proofs.line_ends.line_end.Goals as goal

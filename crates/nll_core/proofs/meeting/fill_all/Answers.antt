@@ -1,6 +1,6 @@
-use Rattle.std.proofs.Common.{◌≡◌, ◌<◌, ◌≤◌, ℕ, List, get_or, length, refl, sym, subst, ap, arith}
+use Rattle.std.proofs.Common.{get_or, refl, arith}
 use Rattle.nll_sets.specs.Runs.{no_run}
-use Rattle.nll_core.proofs.WorklistLemmas.{filling_first, filling_more}
+use Rattle.nll_core.proofs.WorklistLemmas.{filling_more}
 use Rattle.nll_core.proofs.meeting.fill_all.Goals as goal
 
 pub loop-run-preserved : goal.loop-run-preserved

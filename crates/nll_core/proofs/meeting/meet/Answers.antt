@@ -1,4 +1,4 @@
-use Rattle.std.proofs.Common.{◌≡◌, ◌≢◌, ◌∙◌, ◌||◌, ℕ, ◌<◌, Bool, List, false, get_or, length, set, sym, subst, ap, arith}
+use Rattle.std.proofs.Common.{◌≡◌, ◌≢◌, ◌∙◌, ◌||◌, ℕ, ◌<◌, Bool, false, get_or, length, set, sym, subst, ap, arith}
 use Rattle.std.proofs.lemmas.List.{get_or_read}
 use Rattle.nll_core.specs.Worklist.{Visits}
 use Rattle.nll_core.proofs.WorklistLemmas.{visits_pair, met_pair, met_self, eqb_is, eqb_false}

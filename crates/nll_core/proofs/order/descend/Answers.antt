@@ -1,4 +1,4 @@
-use Rattle.std.proofs.Common.{◌≡◌, subst, sym}
+use Rattle.std.proofs.Common.{subst}
 use Rattle.nll_core.specs.Order.{AreBelow}
 use Rattle.nll_core.proofs.OrderLemmas.{below_last, below_fewer}
 use Rattle.nll_core.proofs.order.descend.Goals as goal

@@ -1,4 +1,4 @@
-use Rattle.std.proofs.Common.{◌≡◌, ◌∙◌, true, subst, sym}
+use Rattle.std.proofs.Common.{◌∙◌, true, subst, sym}
 use Rattle.std.proofs.lemmas.List.{length-set}
 use Rattle.nll_core.specs.Order.{AreBelow}
 use Rattle.nll_core.proofs.OrderLemmas.{below_more}

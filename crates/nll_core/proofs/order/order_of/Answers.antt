@@ -1,4 +1,4 @@
-use Rattle.std.proofs.Common.{◌≡◌, ◌<◌, List, Contains, subst, arith}
+use Rattle.std.proofs.Common.{List, Contains, subst, arith}
 use Rattle.nll_problem.specs.declared.constraint.Constraint.{Constraint}
 use Rattle.nll_core.proofs.order.order_of.Goals as goal
 

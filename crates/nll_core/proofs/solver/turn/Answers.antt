@@ -1,5 +1,5 @@
-use Rattle.std.proofs.Common.{◌≡◌, ℕ, set, false, ap, sym}
-use Rattle.nll_core.proofs.WorklistLemmas.{ok_turns, ok_cleared}
+use Rattle.std.proofs.Common.{ℕ, set, false, ap}
+use Rattle.nll_core.proofs.WorklistLemmas.{ok_turns}
 use Rattle.nll_core.proofs.solver.turn.Goals as goal
 
 pub returns-clause-turns : goal.returns-clause-turns

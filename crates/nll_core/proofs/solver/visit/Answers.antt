@@ -1,7 +1,6 @@
-use Rattle.std.proofs.Common.{◌≡◌, ◌∙◌, ◌<◌, ◌≤◌, ℕ, Contains, get_or, length, sym, ap, subst, arith}
+use Rattle.std.proofs.Common.{◌≡◌, ◌∙◌, ◌<◌, Contains, get_or, ap, subst, arith}
 use Rattle.std.proofs.lemmas.List.{get_or_default}
 use Rattle.nll_problem.specs.declared.constraint.Constraint.{Constraint}
-use Rattle.nll_core.specs.Growing.{IsMet}
 use Rattle.nll_core.specs.Walking.{no_constraint, constraint_at}
 use Rattle.nll_core.proofs.WalkingLemmas.{contained_at}
 use Rattle.nll_core.proofs.WorklistLemmas.{sups_ascend, part_of, part_ascends, in_part, visiting_more, visiting_end}

@@ -1,4 +1,4 @@
-use Rattle.std.proofs.Common.{◌≡◌, ◌∙◌, ◌+◌, ℕ, Bool, List, true, length, replicate, sym, subst, ap, arith}
+use Rattle.std.proofs.Common.{◌≡◌, ◌∙◌, ℕ, true, length, replicate, sym, subst, ap, arith}
 use Rattle.std.proofs.lemmas.List.{length-replicate}
 use Rattle.nll_core.specs.Worklist.{IsTracked, AreRegions}
 use Rattle.nll_core.proofs.WorklistLemmas.{closed_clean, tracked_first}

@@ -1,7 +1,7 @@
-use Rattle.std.proofs.Common.{◌≡◌, ℕ, ◌≤◌, ◌<◌, List, length, get_or, subst, sym, arith, true, Contains, refl, inl, inr, ⊎_elim}
+use Rattle.std.proofs.Common.{◌≡◌, ◌≤◌, ◌<◌, get_or, arith, true, refl}
 use Rattle.nll_core.proofs.SearchLemmas.{contains_from, covers_contained}
 use Rattle.nll_core.specs.Search.{IsIn}
-use Rattle.nll_core.proofs.WalkingLemmas.{Following, following_more, following_end, jump_to_ends}
+use Rattle.nll_core.proofs.WalkingLemmas.{following_more, following_end, jump_to_ends}
 use Rattle.nll_core.proofs.stretches.follow.Goals as goal
 use Rattle.nll_core.proofs.stretches.follow.Goals.{then-target-points+in_ok-enter, else-target-points}
 

@@ -1,4 +1,4 @@
-use Rattle.std.proofs.Common.{◌≡◌, ◌∙◌, List, [], ◌∷◌, ◌++◌, length, subst, sym, arith, ap}
+use Rattle.std.proofs.Common.{List, subst, arith}
 use Rattle.std.proofs.lemmas.Bool.{false≢true}
 use Rattle.nll_sets.specs.declared.run.Run.{Run}
 use Rattle.nll_core.proofs.WalkingLemmas.{Spreading, spreading_more, spread_end}

@@ -1,4 +1,4 @@
-use Rattle.std.proofs.Common.{◌≡◌, ℕ, ◌≤◌, ◌<◌, length, get_or, subst, sym, ap, arith}
+use Rattle.std.proofs.Common.{◌<◌, get_or, subst, sym, ap, arith}
 use Rattle.std.proofs.lemmas.List.{get_or_default}
 use Rattle.nll_core.specs.Search.{IsIn}
 use Rattle.nll_core.specs.Walking.{no_constraint}

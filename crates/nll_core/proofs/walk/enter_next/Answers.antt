@@ -1,4 +1,4 @@
-use Rattle.std.proofs.Common.{◌≡◌, ℕ, ◌≤◌, ◌<◌, arith}
+use Rattle.std.proofs.Common.{arith}
 use Rattle.nll_core.proofs.WalkingLemmas.{settled_entry}
 use Rattle.nll_core.proofs.walk.enter_next.Goals as goal
 

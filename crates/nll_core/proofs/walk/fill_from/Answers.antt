@@ -1,4 +1,4 @@
-use Rattle.std.proofs.Common.{◌≡◌, ℕ, ◌+◌, ◌≤◌, ◌<◌, length, refl, arith}
+use Rattle.std.proofs.Common.{◌<◌, length, refl, arith}
 use Rattle.nll_core.proofs.SearchLemmas.{flag_within}
 use Rattle.nll_core.proofs.WalkingLemmas.{filling_none, filling_more, filling_end}
 use Rattle.nll_core.proofs.walk.fill_from.Goals as goal

@@ -1,4 +1,4 @@
-use Rattle.std.proofs.Common.{◌≡◌, List, [], subst}
+use Rattle.std.proofs.Common.{List, [], subst}
 use Rattle.std.proofs.lemmas.Result.{on_ok_weaker}
 use Rattle.nll_core.specs.Walking.{Grows, IsLedFrom, FillsFrom}
 use Rattle.nll_sets.specs.declared.run.Run.{Run}

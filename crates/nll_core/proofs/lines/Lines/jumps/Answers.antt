@@ -1,4 +1,4 @@
-use Rattle.std.proofs.Common.{◌≡◌, ◌↔◌, ◌∙◌, ℕ, ◌+◌, ◌<◌, ◌≤◌, Contains, List, slice_range, get_or, length, subst, sym, arith}
+use Rattle.std.proofs.Common.{◌↔◌, ◌∙◌, ℕ, ◌+◌, ◌<◌, Contains, List, slice_range, subst, sym, arith}
 use Rattle.std.proofs.lemmas.List.{get_or_default}
 use Rattle.nll_problem.specs.Graph.{Graph}
 use Rattle.nll_sets.specs.Runs.{IsWithin}

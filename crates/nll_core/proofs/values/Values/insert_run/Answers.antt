@@ -1,4 +1,4 @@
-use Rattle.std.proofs.Common.{◌≡◌, ◌<◌, ℕ, Bool, List, [], length, get_or, set, IfOk, ap, subst, arith}
+use Rattle.std.proofs.Common.{◌<◌, Bool, List, [], length, set, IfOk, ap, subst, arith}
 use Rattle.std.proofs.lemmas.List.{get_or_read}
 use Rattle.nll_core.specs.Growing.{Tells}
 use Rattle.nll_core.proofs.RunValueLemmas.{tells_filled}
