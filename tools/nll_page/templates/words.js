@@ -21,10 +21,10 @@ function regionWords(region) {
   const points = its.holds.filter(([first]) => isPoint(first))
     .map(([first, last]) => [first, Math.min(last, data.points - 1)]);
   const ends = [...setOf("holds", region)].filter((element) => !isPoint(element));
-  part.append(line("holds", numbers(points.length ? spanWords(points) : "no point")));
+  part.append(line("holds", ...(points.length ? spanNodes(points) : [numbers("no point")])));
   if (ends.length) part.append(line("and", ...ends.map(elementChip)));
   if (its.base.length && region >= data.universals) {
-    part.append(line("live at", numbers(spanWords(its.base))));
+    part.append(line("live at", ...spanNodes(its.base)));
   }
   part.append(...constraintsOf(region, "must outlive", 0), ...constraintsOf(region, "outlived by", 1));
   return part;
@@ -133,6 +133,12 @@ function runs(points) {
 
 function spanWords(spans) {
   return spans.map(([first, last]) => (first === last ? `${first}` : `${first}–${last}`)).join(", ");
+}
+
+// The same as nodes: of many runs the first, and a button for the rest.
+function spanNodes(spans) {
+  const nodes = spans.map((span, at) => numbers(spanWords([span]) + (at < spans.length - 1 ? ", " : "")));
+  return some(nodes, 24);
 }
 
 // Nodes. Text goes in as text, never as markup.
