@@ -356,7 +356,8 @@ fn is_put(alloc: Global, table: &mut TypeTable, ty: &Ty) -> Result<bool, BuildEr
     same
 }
 
-// Writes the size of a type, and whether its copy and the type with arguments put in have its shape.
+// Writes the size of a type, and whether its copy and the type with arguments put in have its
+// shape.
 fn write_deep(
     alloc: Global,
     out: &mut String,

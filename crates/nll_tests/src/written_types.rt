@@ -3,7 +3,9 @@ use super::comparing::compare;
 use super::lines::write_part;
 use nll_core::BuildError;
 use nll_text::{Token, tokens_of};
-use nll_type_grammar::{Argument, TypeNode, a_type_has_tokens, is_capital, one_type_at_most, type_at};
+use nll_type_grammar::{
+    Argument, TypeNode, a_type_has_tokens, is_capital, one_type_at_most, type_at,
+};
 use std::alloc::{AllocError, Global};
 
 // Writes numbers of nodes.

@@ -11,4 +11,3 @@ pub mod Tables
 pub mod Sources
 pub mod Declarations
 pub mod Collecting
-pub mod Operands

@@ -50,7 +50,8 @@ small_behind structs (p ∷ ps) t =
 -- variable, the type behind the first projection, and so on, up to that of the place
 abbrev pub small_prefixes : List Struct → List TypeTree → PlacePath → Bool
 small_prefixes structs variables p =
-    unwrap_or (option_map (small_behind structs p.projections) (slice_get variables p.variable)) true
+    unwrap_or (option_map (small_behind structs p.projections) (slice_get variables p.variable))
+    true
 
 -- a place of the code as a path
 abbrev pub path_of : Place → PlacePath

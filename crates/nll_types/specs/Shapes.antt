@@ -1,7 +1,8 @@
 -- Types with their regions forgotten: two types may stand for each other where they have one shape.
 -- Source: RFC 2094, "Subtyping" (it relates types that differ in their regions alone); the forms
 -- are project's choice.
-use Rattle.std.specs.Prelude.{ℕ, zero, suc, ◌+◌, Bool, false, true, ◌==◌, ◌&&◌, nat_le, List, length}
+use Rattle.std.specs.Prelude.{ℕ, zero, suc, ◌+◌, Bool, false, true, ◌==◌, ◌&&◌, nat_le, List}
+use Rattle.std.specs.Prelude.{length}
 use Rattle.std.specs.Prelude.{Option, Some, None, option_map}
 use Rattle.std.specs.Bool.{beq}
 use Rattle.nll_problem.specs.Limits.{most_nodes}
