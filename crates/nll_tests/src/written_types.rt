@@ -97,7 +97,10 @@ const TYPES: &[(&str, &str)] = &[
     ("(int, (T), int)", "9: int|T|tuple 1|int|tuple 0 2 3|"),
     ("(int,)", "none"),
     ("(int", "none"),
-    ("(&'a W<'b, &'c int>, int)", "14: int|& c| 0|W| 'b| 1|& a| 2|int|tuple 3 4|"),
+    (
+        "(&'a W<'b, &'c int>, int)",
+        "14: int|& c| 0|W| 'b| 1|& a| 2|int|tuple 3 4|",
+    ),
 ];
 
 // The type in front is read, with its nodes in order.
@@ -114,5 +117,8 @@ fn types_are_read(rt: HostRuntime) {
 #[test]
 fn names_begin_with_capitals(rt: HostRuntime) {
     assert!(rt; is_capital(b"W") && is_capital(b"Zz9"), "of capitals");
-    assert!(rt; !is_capital(b"") && !is_capital(b"w") && !is_capital(b"_A"), "of others");
+    assert!(rt;
+        !is_capital(b"") && !is_capital(b"w") && !is_capital(b"_A"),
+        "of others"
+    );
 }

@@ -44,8 +44,8 @@ further_again s' tokens c ns os os' o other few r e is step = record {
   falls = (let l : length os' ≡ length (os ++ o ∷ []) = ap length e in omega arith);
   same = from_frame Inside s' (written ns) (views tokens) (views (drop 1 tokens)) ns os (os ++ o ∷ []) o (frames_of ns os') (written ns) refl
       (to_frame Inside s' (frame_over (types_from [] ns) o ∷ frames_of ns os) (written ns) (written ns) (views tokens) (views (drop 1 tokens)) ns os os' o e
-        (subst (λ (z : List Token). Steps Inside (frame_over (types_from [] ns) o ∷ frames_of ns os) (written ns) z s' (frame_over (types_from [] ns) o ∷ frames_of ns os) (written ns) (views (drop 1 tokens))) (sym is)
-          (step (frames_of ns os) (written ns) (written ns) (views (drop 1 tokens)))));
+      (subst (λ (z : List Token). Steps Inside (frame_over (types_from [] ns) o ∷ frames_of ns os) (written ns) z s' (frame_over (types_from [] ns) o ∷ frames_of ns os) (written ns) (views (drop 1 tokens))) (sym is)
+      (step (frames_of ns os) (written ns) (written ns) (views (drop 1 tokens)))));
   read = subst (AreRead ns) (sym e) r;
   some = λ h. absurd (other h);
 }
@@ -59,8 +59,8 @@ further_close tokens c ns ns' n os o r e same_parts is step =
       falls = omega (arith, length-append os (o ∷ []));
       same = from_frame Inside Have (written ns) (views tokens) (views (drop 1 tokens)) ns os (os ++ o ∷ []) o (frames_of ns' os) (written ns') refl
           (to_node Inside (frame_over (types_from [] ns) o ∷ frames_of ns os) (written ns) (views tokens) (views (drop 1 tokens)) ns ns' n os p.0 e
-            (subst (λ (z : List Token). Steps Inside (frame_over (types_from [] ns) o ∷ frames_of ns os) (written ns) z Have (frames_of ns os) (type_over (types_from [] ns) n) (views (drop 1 tokens))) (sym is)
-              (step (frames_of ns os) (written ns) (views (drop 1 tokens)))));
+          (subst (λ (z : List Token). Steps Inside (frame_over (types_from [] ns) o ∷ frames_of ns os) (written ns) z Have (frames_of ns os) (type_over (types_from [] ns) n) (views (drop 1 tokens))) (sym is)
+          (step (frames_of ns os) (written ns) (views (drop 1 tokens)))));
       read = read_push_node ns ns' n os p.0 (subst (AreBelow (length ns)) (sym same_parts) p.1) e;
       some = λ _. (let l : length ns' ≡ length ns + 1 = ap length e ∙ length-append ns (n ∷ []) in omega arith);
     }
@@ -73,10 +73,10 @@ complete_behind ts ns ns' n os old o q m last r e f is_frame is_type is_last =
     let p = read_pop ns os old o r e in
     let same : reference q m (written ns) ≡ type_over (types_from [] ns) n = sym (is_type ∙ ap (λ (k : ℕ). reference q m (at (types_from [] ns) k)) is_last) in
     from_frame Have Have (written ns) ts ts ns os old o (frames_of ns' os) (written ns') e
-      (to_node Have (frame_over (types_from [] ns) o ∷ frames_of ns os) (written ns) ts ts ns ns' n os p.0 f
-        (subst (λ (z : Frame). Steps Have (z ∷ frames_of ns os) (written ns) ts Have (frames_of ns os) (type_over (types_from [] ns) n) ts) (sym is_frame)
-          (subst (λ (z : WrittenType). Steps Have (behind q m ∷ frames_of ns os) (written ns) ts Have (frames_of ns os) z ts) same
-            (step_behind (frames_of ns os) q m (written ns) ts))))
+    (to_node Have (frame_over (types_from [] ns) o ∷ frames_of ns os) (written ns) ts ts ns ns' n os p.0 f
+    (subst (λ (z : Frame). Steps Have (z ∷ frames_of ns os) (written ns) ts Have (frames_of ns os) (type_over (types_from [] ns) n) ts) (sym is_frame)
+    (subst (λ (z : WrittenType). Steps Have (behind q m ∷ frames_of ns os) (written ns) ts Have (frames_of ns os) z ts) same
+    (step_behind (frames_of ns os) q m (written ns) ts))))
 
 pub complete_behind_read : (ns ns' : List TypeNode) (n : TypeNode) (os old : List Open) (o : Open) (last : ℕ) → AreRead ns old → old ≡ os ++ o ∷ [] → ns' ≡ ns ++ n ∷ [] → parts_of n ≡ last ∷ [] → last ≡ length ns - 1 → 0 < length ns → AreRead ns' os
 complete_behind_read ns ns' n os old o last r e f is_part is_last some =
@@ -88,12 +88,12 @@ pub complete_tuple : (ts : List Token) (ns : List TypeNode) (os old new : List O
 complete_tuple ts ns os old new o p is is' last e f is_old is_new grown is_last =
     let known = types_from [] ns in
     let g : frame_over known p ≡ parts (joined (all_at known is) (more (written ns) none)) =
-        is_new ∙ ap (λ (z : List ℕ). parts (all_at known z)) grown ∙ ap parts (all_at_push known is last) ∙ ap (λ (k : ℕ). parts (joined (all_at known is) (more (at known k) none))) is_last in
+    is_new ∙ ap (λ (z : List ℕ). parts (all_at known z)) grown ∙ ap parts (all_at_push known is last) ∙ ap (λ (k : ℕ). parts (joined (all_at known is) (more (at known k) none))) is_last in
     from_frame Have Inside (written ns) ts ts ns os old o (frames_of ns new) (written ns) e
-      (to_frame Have Inside (frame_over known o ∷ frames_of ns os) (written ns) (written ns) ts ts ns os new p f
-        (subst (λ (z : Frame). Steps Have (z ∷ frames_of ns os) (written ns) ts Inside (frame_over known p ∷ frames_of ns os) (written ns) ts) (sym is_old)
-          (subst (λ (z : Frame). Steps Have (parts (all_at known is) ∷ frames_of ns os) (written ns) ts Inside (z ∷ frames_of ns os) (written ns) ts) (sym g)
-            (step_part (frames_of ns os) (all_at known is) (written ns) (written ns) ts))))
+    (to_frame Have Inside (frame_over known o ∷ frames_of ns os) (written ns) (written ns) ts ts ns os new p f
+    (subst (λ (z : Frame). Steps Have (z ∷ frames_of ns os) (written ns) ts Inside (frame_over known p ∷ frames_of ns os) (written ns) ts) (sym is_old)
+    (subst (λ (z : Frame). Steps Have (parts (all_at known is) ∷ frames_of ns os) (written ns) ts Inside (z ∷ frames_of ns os) (written ns) ts) (sym g)
+    (step_part (frames_of ns os) (all_at known is) (written ns) (written ns) ts))))
 
 pub complete_tuple_read : (ns : List TypeNode) (os old new : List Open) (o p : Open) (is is' : List ℕ) (last : ℕ) → AreRead ns old → old ≡ os ++ o ∷ [] → new ≡ os ++ p ∷ [] → numbers_of o ≡ is → numbers_of p ≡ is' → is' ≡ is ++ last ∷ [] → last ≡ length ns - 1 → 0 < length ns → AreRead ns new
 complete_tuple_read ns os old new o p is is' last r e f is_old is_new grown is_last some =
@@ -106,12 +106,12 @@ pub complete_argument : (ts : List Token) (ns : List TypeNode) (os old new : Lis
 complete_argument ts ns os old new o p n args args' last e f is_old is_new grown is_last =
     let known = types_from [] ns in
     let g : frame_over known p ≡ arguments n (joined_arguments (arguments_at known args) (type_argument (written ns) no_argument)) =
-        is_new ∙ ap (λ (z : List Argument). arguments n (arguments_at known z)) grown ∙ ap (arguments n) (type_at_push known args last) ∙ ap (λ (k : ℕ). arguments n (joined_arguments (arguments_at known args) (type_argument (at known k) no_argument))) is_last in
+    is_new ∙ ap (λ (z : List Argument). arguments n (arguments_at known z)) grown ∙ ap (arguments n) (type_at_push known args last) ∙ ap (λ (k : ℕ). arguments n (joined_arguments (arguments_at known args) (type_argument (at known k) no_argument))) is_last in
     from_frame Have Inside (written ns) ts ts ns os old o (frames_of ns new) (written ns) e
-      (to_frame Have Inside (frame_over known o ∷ frames_of ns os) (written ns) (written ns) ts ts ns os new p f
-        (subst (λ (z : Frame). Steps Have (z ∷ frames_of ns os) (written ns) ts Inside (frame_over known p ∷ frames_of ns os) (written ns) ts) (sym is_old)
-          (subst (λ (z : Frame). Steps Have (arguments n (arguments_at known args) ∷ frames_of ns os) (written ns) ts Inside (z ∷ frames_of ns os) (written ns) ts) (sym g)
-            (step_type_argument (frames_of ns os) n (arguments_at known args) (written ns) (written ns) ts))))
+    (to_frame Have Inside (frame_over known o ∷ frames_of ns os) (written ns) (written ns) ts ts ns os new p f
+    (subst (λ (z : Frame). Steps Have (z ∷ frames_of ns os) (written ns) ts Inside (frame_over known p ∷ frames_of ns os) (written ns) ts) (sym is_old)
+    (subst (λ (z : Frame). Steps Have (arguments n (arguments_at known args) ∷ frames_of ns os) (written ns) ts Inside (z ∷ frames_of ns os) (written ns) ts) (sym g)
+    (step_type_argument (frames_of ns os) n (arguments_at known args) (written ns) (written ns) ts))))
 
 pub complete_argument_read : (ns : List TypeNode) (os old new : List Open) (o p : Open) (args args' : List Argument) (last : ℕ) → AreRead ns old → old ≡ os ++ o ∷ [] → new ≡ os ++ p ∷ [] → numbers_of o ≡ types_among args → numbers_of p ≡ types_among args' → args' ≡ args ++ argument.Type last ∷ [] → last ≡ length ns - 1 → 0 < length ns → AreRead ns new
 complete_argument_read ns os old new o p args args' last r e f is_old is_new grown is_last some =
@@ -134,17 +134,17 @@ pub further_region : (tokens : List InLine) (ns : List TypeNode) (os old new : L
 further_region tokens ns os old new o p n args args' q r is e f is_old is_new numbers numbers' grown =
     let known = types_from [] ns in
     let g : frame_over known p ≡ arguments n (joined_arguments (arguments_at known args) (region_argument q.now no_argument)) =
-        is_new ∙ ap (λ (z : List Argument). arguments n (arguments_at known z)) grown ∙ ap (arguments n) (region_at_push known args q) in
+    is_new ∙ ap (λ (z : List Argument). arguments n (arguments_at known z)) grown ∙ ap (arguments n) (region_at_push known args q) in
     let h = read_pop ns os old o r e in
     record {
       within = one_within tokens (region q.now) is;
       falls = (let a : length old ≡ length os + 1 = ap length e ∙ length-append os (o ∷ []) in let b : length new ≡ length os + 1 = ap length f ∙ length-append os (p ∷ []) in omega arith);
       same = from_frame WantArgument Inside (written ns) (views tokens) (views (drop 1 tokens)) ns os old o (frames_of ns new) (written ns) e
           (to_frame WantArgument Inside (frame_over known o ∷ frames_of ns os) (written ns) (written ns) (views tokens) (views (drop 1 tokens)) ns os new p f
-            (subst (λ (z : List Token). Steps WantArgument (frame_over known o ∷ frames_of ns os) (written ns) z Inside (frame_over known p ∷ frames_of ns os) (written ns) (views (drop 1 tokens))) (sym is)
-              (subst (λ (z : Frame). Steps WantArgument (z ∷ frames_of ns os) (written ns) (region q.now ∷ views (drop 1 tokens)) Inside (frame_over known p ∷ frames_of ns os) (written ns) (views (drop 1 tokens))) (sym is_old)
-                (subst (λ (z : Frame). Steps WantArgument (arguments n (arguments_at known args) ∷ frames_of ns os) (written ns) (region q.now ∷ views (drop 1 tokens)) Inside (z ∷ frames_of ns os) (written ns) (views (drop 1 tokens))) (sym g)
-                  (step_region (frames_of ns os) n (arguments_at known args) (written ns) (written ns) q.now (views (drop 1 tokens)))))));
+          (subst (λ (z : List Token). Steps WantArgument (frame_over known o ∷ frames_of ns os) (written ns) z Inside (frame_over known p ∷ frames_of ns os) (written ns) (views (drop 1 tokens))) (sym is)
+          (subst (λ (z : Frame). Steps WantArgument (z ∷ frames_of ns os) (written ns) (region q.now ∷ views (drop 1 tokens)) Inside (frame_over known p ∷ frames_of ns os) (written ns) (views (drop 1 tokens))) (sym is_old)
+          (subst (λ (z : Frame). Steps WantArgument (arguments n (arguments_at known args) ∷ frames_of ns os) (written ns) (region q.now ∷ views (drop 1 tokens)) Inside (z ∷ frames_of ns os) (written ns) (views (drop 1 tokens))) (sym g)
+          (step_region (frames_of ns os) n (arguments_at known args) (written ns) (written ns) q.now (views (drop 1 tokens)))))));
       read = read_push_open ns os new p h.0 (subst (AreBelow (length ns)) (sym (numbers' ∙ ap types_among grown)) (among_push_region (length ns) args q (subst (AreBelow (length ns)) numbers h.1))) f;
       some = λ x. cc;
     }
@@ -153,14 +153,14 @@ further_region tokens ns os old new o p n args args' q r is e f is_old is_new nu
 pub stuck_argument_frame : (tokens : List InLine) (rest : List Token) (ns : List TypeNode) (os old : List Open) (o : Open) (q : Name) → ((n : Name) (args : Arguments) → frame_over (types_from [] ns) o ≡ arguments n args → ⊥) → views tokens ≡ region q ∷ rest → old ≡ os ++ o ∷ [] → IsStuck WantArgument (frames_of ns old) (written ns) (views tokens)
 stuck_argument_frame tokens rest ns os old o q other is e =
     stuck_frame WantArgument (written ns) (views tokens) ns os old o e
-      (subst (λ (z : List Token). IsStuck WantArgument (frame_over (types_from [] ns) o ∷ frames_of ns os) (written ns) z) (sym is)
-        (stuck_region (frame_over (types_from [] ns) o ∷ frames_of ns os) (written ns) q rest (λ n args gs h. other n args (let g : frame_over (types_from [] ns) o ≡ arguments n args = cc in g))))
+    (subst (λ (z : List Token). IsStuck WantArgument (frame_over (types_from [] ns) o ∷ frames_of ns os) (written ns) z) (sym is)
+    (stuck_region (frame_over (types_from [] ns) o ∷ frames_of ns os) (written ns) q rest (λ n args gs h. other n args (let g : frame_over (types_from [] ns) o ≡ arguments n args = cc in g))))
 
 pub stuck_argument_none : (tokens : List InLine) (rest : List Token) (ns : List TypeNode) (old : List Open) (q : Name) → views tokens ≡ region q ∷ rest → old ≡ [] → IsStuck WantArgument (frames_of ns old) (written ns) (views tokens)
 stuck_argument_none tokens rest ns old q is e =
     subst (λ (z : List Open). IsStuck WantArgument (frames_of ns z) (written ns) (views tokens)) (sym e)
-      (subst (λ (z : List Token). IsStuck WantArgument [] (written ns) z) (sym is)
-        (stuck_region [] (written ns) q rest (λ n args gs h. cc)))
+    (subst (λ (z : List Token). IsStuck WantArgument [] (written ns) z) (sym is)
+    (stuck_region [] (written ns) q rest (λ n args gs h. cc)))
 
 pub further_complete : (s' : State) (tokens : List InLine) (ns ns' : List TypeNode) (os os' : List Open) → ((ts : List Token) → Steps Have (frames_of ns os) (written ns) ts s' (frames_of ns' os') (written ns') ts) → AreRead ns' os' → length os' + pending s' ≤ length os → 0 < length ns' → GoesFurther Have ns os tokens s' ns' os' 0
 further_complete s' tokens ns ns' os os' same r few some = record {

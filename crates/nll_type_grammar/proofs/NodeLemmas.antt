@@ -126,11 +126,12 @@ parted_push ns n before below i h = ⊎_elim old new (cases_lt i (length ns))
   where
     old : i < length ns → All (λ k. k < i) (parts_of (slice_index_or (ns ++ n ∷ []) i nodes.Int))
     old l = subst (λ (z : TypeNode). All (λ k. k < i) (parts_of z)) (sym (get_or_append_left ns (n ∷ []) nodes.Int i l)) (before i l)
+
     new : length ns ≤ i → All (λ k. k < i) (parts_of (slice_index_or (ns ++ n ∷ []) i nodes.Int))
     new l =
         let e : length ns ≡ i = omega (arith, length-append ns (n ∷ [])) in
         subst (λ (z : TypeNode). All (λ k. k < i) (parts_of z)) (sym (ap (λ (k : ℕ). get_or (ns ++ n ∷ []) k nodes.Int) (sym e) ∙ get_or-append_seam ns n [] nodes.Int))
-            (All-from_recursion (λ k. k < i) (parts_of n) (subst (λ (z : ℕ). AreBelow z (parts_of n)) e below))
+        (All-from_recursion (λ k. k < i) (parts_of n) (subst (λ (z : ℕ). AreBelow z (parts_of n)) e below))
 
 pub read_push_node : (ns ns' : List TypeNode) (n : TypeNode) (os : List Open) → AreRead ns os → AreBelow (length ns) (parts_of n) → ns' ≡ ns ++ n ∷ [] → AreRead ns' os
 read_push_node ns ns' n os r below e = subst (λ (z : List TypeNode). AreRead z os) (sym e) (record {
@@ -149,8 +150,8 @@ read_pop ns os os' o r e = (let h = open_pop (length ns) os o (subst (AreOpen (l
 pub to_node : (s : State) (fs : List Frame) (t : WrittenType) (ts rest : List Token) (ns ns' : List TypeNode) (n : TypeNode) (os : List Open) → AreRead ns os → ns' ≡ ns ++ n ∷ [] → Steps s fs t ts Have (frames_of ns os) (type_over (types_from [] ns) n) rest → Steps s fs t ts Have (frames_of ns' os) (written ns') rest
 to_node s fs t ts rest ns ns' n os r e step =
     subst (λ (z : List TypeNode). Steps s fs t ts Have (frames_of z os) (written z) rest) (sym e)
-        (subst (λ (z : List Frame). Steps s fs t ts Have z (written (ns ++ n ∷ [])) rest) (sym (frames_push_node ns n os r.frames))
-            (subst (λ (z : WrittenType). Steps s fs t ts Have (frames_of ns os) z rest) (sym (written_push ns n)) step))
+    (subst (λ (z : List Frame). Steps s fs t ts Have z (written (ns ++ n ∷ [])) rest) (sym (frames_push_node ns n os r.frames))
+    (subst (λ (z : WrittenType). Steps s fs t ts Have (frames_of ns os) z rest) (sym (written_push ns n)) step))
 
 pub to_frame : (s s' : State) (fs : List Frame) (t t' : WrittenType) (ts rest : List Token) (ns : List TypeNode) (os os' : List Open) (o : Open) → os' ≡ os ++ o ∷ [] → Steps s fs t ts s' (frame_over (types_from [] ns) o ∷ frames_of ns os) t' rest → Steps s fs t ts s' (frames_of ns os') t' rest
 to_frame s s' fs t t' ts rest ns os os' o e step =

@@ -231,6 +231,7 @@ step_close_part fs done t' after = record {
     joined_none : (done : WrittenTypes) → joined done none ≡ done
     joined_none none = refl
     joined_none (more t ts) = ap (more t) (joined_none ts)
+
     there : (whole : WrittenType) (rest : List Token) (us : WrittenTypes) (mid : List Token) → sign 41 ∷ after ≡ spelled_more_parts us ++ mid → Closes fs (tuple (joined done us)) mid whole rest → Closes fs (tuple done) after whole rest
     there whole rest none mid e c = (let h : mid ≡ after = cc in subst (λ z. Closes fs (tuple z) after whole rest) (joined_none done) (subst (λ m. Closes fs (tuple (joined done none)) m whole rest) h c))
     there whole rest (more t us) mid e c = absurd (let h : sign 41 ≡ sign 44 = cc in apart 41 44 refl h)
@@ -258,6 +259,7 @@ step_close_argument fs n done t' after = record {
     joined_none no_argument = refl
     joined_none (region_argument q ts) = ap (region_argument q) (joined_none ts)
     joined_none (type_argument t ts) = ap (type_argument t) (joined_none ts)
+
     there : (whole : WrittenType) (rest : List Token) (us : Arguments) (mid : List Token) → sign 62 ∷ after ≡ spelled_more_arguments us ++ mid → Closes fs (named n (joined_arguments done us)) mid whole rest → Closes fs (named n done) after whole rest
     there whole rest no_argument mid e c = (let h : mid ≡ after = cc in subst (λ z. Closes fs (named n z) after whole rest) (joined_none done) (subst (λ m. Closes fs (named n (joined_arguments done no_argument)) m whole rest) h c))
     there whole rest (region_argument q us) mid e c = absurd (let h : sign 62 ≡ sign 44 = cc in apart 62 44 refl h)

@@ -115,8 +115,8 @@ GoesOnWithRegion (parts _ ∷ frames) ts whole rest = ⊥
 GoesOnWithRegion (arguments n done ∷ frames) ts whole rest =
     (q : Name) × (mid : List Token) × (ts ≡ region q ∷ mid)
     × ((us : Arguments) × (other : List Token) × (mid ≡ spelled_more_arguments us ++ other)
-      × ArgumentsHaveNames us
-      × Closes frames (named n (joined_arguments done (region_argument q us))) other whole rest)
+    × ArgumentsHaveNames us
+    × Closes frames (named n (joined_arguments done (region_argument q us))) other whole rest)
 
 -- The tokens complete what is begun: the whole type comes out, and behind it the rest. Where a
 -- type is complete, it is `t`.

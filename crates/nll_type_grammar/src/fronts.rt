@@ -28,9 +28,8 @@ pub enum Front<'a> {
 /// Whether the sign stands in front.
 pub fn is_sign(tokens: &[Token<'_>], sign: u8) -> bool
     ensures yes { result ≡ true → views tokens.now ≡ lex.sign sign ∷ views (drop 1 tokens.now) }
-    ensures other {
-        result ≡ false → (rest : List lex.Token) → views tokens.now ≡ lex.sign sign ∷ rest → ⊥
-    }
+    ensures other { result ≡ false → (rest : List lex.Token)
+        → views tokens.now ≡ lex.sign sign ∷ rest → ⊥ }
 {
     match tokens {
         [Token::Sign(byte), ..] => *byte == sign,
@@ -40,11 +39,9 @@ pub fn is_sign(tokens: &[Token<'_>], sign: u8) -> bool
 
 /// The region in front.
 pub fn region_at<'a>(tokens: &[Token<'a>]) -> Option<&'a [u8]>
-    ensures {
-        MatchOption result
-            ((q : List ℕ) (rest : List lex.Token) → views tokens.now ≡ lex.region q ∷ rest → ⊥)
-            (λ q. views tokens.now ≡ lex.region q.now ∷ views (drop 1 tokens.now))
-    }
+    ensures { MatchOption result
+        ((q : List ℕ) (rest : List lex.Token) → views tokens.now ≡ lex.region q ∷ rest → ⊥)
+        (λ q. views tokens.now ≡ lex.region q.now ∷ views (drop 1 tokens.now)) }
 {
     match tokens {
         [Token::Region(name), ..] => Some(name),
@@ -54,13 +51,10 @@ pub fn region_at<'a>(tokens: &[Token<'a>]) -> Option<&'a [u8]>
 
 // Whether `int` stands in front.
 fn is_int(tokens: &[Token<'_>]) -> bool
-    ensures yes {
-        result ≡ true → views tokens.now ≡ lex.word (codes "int") ∷ views (drop 1 tokens.now)
-    }
-    ensures other {
-        result ≡ false →
-        (rest : List lex.Token) → views tokens.now ≡ lex.word (codes "int") ∷ rest → ⊥
-    }
+    ensures yes { result ≡ true
+        → views tokens.now ≡ lex.word (codes "int") ∷ views (drop 1 tokens.now) }
+    ensures other { result ≡ false →
+        (rest : List lex.Token) → views tokens.now ≡ lex.word (codes "int") ∷ rest → ⊥ }
 {
     match tokens {
         [Token::Word(b"int"), ..] => true,
@@ -70,14 +64,10 @@ fn is_int(tokens: &[Token<'_>]) -> bool
 
 // Whether `()` stands in front.
 fn is_unit(tokens: &[Token<'_>]) -> bool
-    ensures yes {
-        result ≡ true →
-        views tokens.now ≡ lex.sign 40 ∷ lex.sign 41 ∷ views (drop 2 tokens.now)
-    }
-    ensures other {
-        result ≡ false → (rest : List lex.Token) →
-        views tokens.now ≡ lex.sign 40 ∷ lex.sign 41 ∷ rest → ⊥
-    }
+    ensures yes { result ≡ true →
+        views tokens.now ≡ lex.sign 40 ∷ lex.sign 41 ∷ views (drop 2 tokens.now) }
+    ensures other { result ≡ false → (rest : List lex.Token) →
+        views tokens.now ≡ lex.sign 40 ∷ lex.sign 41 ∷ rest → ⊥ }
 {
     match tokens {
         [Token::Sign(b'('), Token::Sign(b')'), ..] => true,
@@ -87,30 +77,31 @@ fn is_unit(tokens: &[Token<'_>]) -> bool
 
 // The region in front of which stands `&`, and behind it `mut`.
 fn mut_reference_at<'a>(tokens: &[Token<'a>]) -> Option<&'a [u8]>
-    ensures {
-        MatchOption result
-            ((q : List ℕ) (rest : List lex.Token) →
-                views tokens.now
-                    ≡ lex.sign 38 ∷ lex.region q ∷ lex.word (codes "mut") ∷ rest → ⊥)
-            (λ q. views tokens.now
-                ≡ lex.sign 38 ∷ lex.region q.now ∷ lex.word (codes "mut")
-                    ∷ views (drop 3 tokens.now))
-    }
+    ensures { MatchOption result
+        ((q : List ℕ) (rest : List lex.Token) →
+        views tokens.now
+        ≡ lex.sign 38 ∷ lex.region q ∷ lex.word (codes "mut") ∷ rest → ⊥)
+        (λ q. views tokens.now
+        ≡ lex.sign 38 ∷ lex.region q.now ∷ lex.word (codes "mut")
+        ∷ views (drop 3 tokens.now)) }
 {
     match tokens {
-        [Token::Sign(b'&'), Token::Region(name), Token::Word(b"mut"), ..] => Some(name),
+        [
+            Token::Sign(b'&'),
+            Token::Region(name),
+            Token::Word(b"mut"),
+            ..
+        ] => Some(name),
         _ => None,
     }
 }
 
 // The region in front of which stands `&`.
 fn reference_at<'a>(tokens: &[Token<'a>]) -> Option<&'a [u8]>
-    ensures {
-        MatchOption result
-            ((q : List ℕ) (rest : List lex.Token) →
-                views tokens.now ≡ lex.sign 38 ∷ lex.region q ∷ rest → ⊥)
-            (λ q. views tokens.now ≡ lex.sign 38 ∷ lex.region q.now ∷ views (drop 2 tokens.now))
-    }
+    ensures { MatchOption result
+        ((q : List ℕ) (rest : List lex.Token) →
+        views tokens.now ≡ lex.sign 38 ∷ lex.region q ∷ rest → ⊥)
+        (λ q. views tokens.now ≡ lex.sign 38 ∷ lex.region q.now ∷ views (drop 2 tokens.now)) }
 {
     match tokens {
         [Token::Sign(b'&'), Token::Region(name), ..] => Some(name),
@@ -131,13 +122,11 @@ pub fn is_capital(word: &[u8]) -> bool
 
 // The name in front.
 fn name_at<'a>(tokens: &[Token<'a>]) -> Option<&'a [u8]>
-    ensures {
-        MatchOption result
-            ((s : List ℕ) (rest : List lex.Token) →
-                spec.is_capital s ≡ true → views tokens.now ≡ lex.word s ∷ rest → ⊥)
-            (λ s. (spec.is_capital s.now ≡ true)
-                × (views tokens.now ≡ lex.word s.now ∷ views (drop 1 tokens.now)))
-    }
+    ensures { MatchOption result
+        ((s : List ℕ) (rest : List lex.Token) →
+        spec.is_capital s ≡ true → views tokens.now ≡ lex.word s ∷ rest → ⊥)
+        (λ s. (spec.is_capital s.now ≡ true)
+        × (views tokens.now ≡ lex.word s.now ∷ views (drop 1 tokens.now))) }
 {
     match tokens {
         [Token::Word(word), ..] if is_capital(word) => Some(word),
@@ -147,15 +136,13 @@ fn name_at<'a>(tokens: &[Token<'a>]) -> Option<&'a [u8]>
 
 // The name in front, behind which stands `<`.
 fn generic_at<'a>(tokens: &[Token<'a>]) -> Option<&'a [u8]>
-    ensures {
-        MatchOption result
-            ((s : List ℕ) (rest : List lex.Token) →
-                spec.is_capital s ≡ true →
-                views tokens.now ≡ lex.word s ∷ lex.sign 60 ∷ rest → ⊥)
-            (λ s. (spec.is_capital s.now ≡ true)
-                × (views tokens.now
-                    ≡ lex.word s.now ∷ lex.sign 60 ∷ views (drop 2 tokens.now)))
-    }
+    ensures { MatchOption result
+        ((s : List ℕ) (rest : List lex.Token) →
+        spec.is_capital s ≡ true →
+        views tokens.now ≡ lex.word s ∷ lex.sign 60 ∷ rest → ⊥)
+        (λ s. (spec.is_capital s.now ≡ true)
+        × (views tokens.now
+        ≡ lex.word s.now ∷ lex.sign 60 ∷ views (drop 2 tokens.now))) }
 {
     match tokens {
         [Token::Word(word), Token::Sign(b'<'), ..] if is_capital(word) => Some(word),
@@ -165,9 +152,8 @@ fn generic_at<'a>(tokens: &[Token<'a>]) -> Option<&'a [u8]>
 
 /// How a type begins here, and how many tokens that takes.
 pub fn front_at<'a>(tokens: &[Token<'a>]) -> Option<(Front<'a>, usize)>
-    ensures {
-        MatchOption result (IsNoFront (views tokens.now)) (λ p. BeginsWithin p.0 p.1 tokens.now)
-    }
+    ensures { MatchOption result (IsNoFront (views tokens.now))
+        (λ p. BeginsWithin p.0 p.1 tokens.now) }
 {
     if is_int(tokens) {
         return Some((Front::Int, 1));

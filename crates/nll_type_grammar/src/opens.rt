@@ -47,16 +47,13 @@ pub fn begin<'a>(
     opened: &mut Vec<Open<'a>>,
 ) -> Result<State, Memory>
     requires { AreRead nodes.old.items opened.old.items }
-    ensures same {
-        IfOk result (λ s. (ts rest : List lex.Token) → Begins front.entry ts rest →
-            Steps State.Want
-                (frames_of nodes.old.items opened.old.items) (written nodes.old.items) ts
-                s (frames_of nodes.new.items opened.new.items) (written nodes.new.items) rest)
-    }
+    ensures same { IfOk result (λ s. (ts rest : List lex.Token) → Begins front.entry ts rest →
+        Steps State.Want
+        (frames_of nodes.old.items opened.old.items) (written nodes.old.items) ts
+        s (frames_of nodes.new.items opened.new.items) (written nodes.new.items) rest) }
     ensures read { OnOk result (AreRead nodes.new.items opened.new.items) }
-    ensures few {
-        IfOk result (λ s. length opened.new.items + pending s ≤ length opened.old.items + 2)
-    }
+    ensures few { IfOk result
+        (λ s. length opened.new.items + pending s ≤ length opened.old.items + 2) }
     ensures some { IfOk result (λ s. s ≡ State.Have → 0 < length nodes.new.items) }
 {
     match front {
@@ -95,13 +92,11 @@ fn want<'a>(
     opened: &mut Vec<Open<'a>>,
 ) -> Result<Option<(State, usize)>, Memory>
     requires { AreRead nodes.old.items opened.old.items }
-    ensures {
-        IfOk result (λ o. MatchOption o
-            (IsStuck State.Want (frames_of nodes.old.items opened.old.items)
-                (written nodes.old.items) (views tokens.now))
-            (λ p. GoesFurther State.Want nodes.old.items opened.old.items tokens.now
-                p.0 nodes.new.items opened.new.items p.1))
-    }
+    ensures { IfOk result (λ o. MatchOption o
+        (IsStuck State.Want (frames_of nodes.old.items opened.old.items)
+        (written nodes.old.items) (views tokens.now))
+        (λ p. GoesFurther State.Want nodes.old.items opened.old.items tokens.now
+        p.0 nodes.new.items opened.new.items p.1)) }
 {
     match front_at(tokens) {
         Some((front, count)) => {
@@ -117,14 +112,12 @@ fn want_argument<'a>(
     tokens: &[Token<'a>],
     opened: &mut Vec<Open<'a>>,
 ) -> Result<Option<(State, usize)>, Memory>
-    ensures {
-        IfOk result (λ o. MatchOption o
-            ((ns : List node) → IsStuck State.WantArgument (frames_of ns opened.old.items)
-                (written ns) (views tokens.now))
-            (λ p. (ns : List node) → AreRead ns opened.old.items →
-                GoesFurther State.WantArgument ns opened.old.items tokens.now
-                    p.0 ns opened.new.items p.1))
-    }
+    ensures { IfOk result (λ o. MatchOption o
+        ((ns : List node) → IsStuck State.WantArgument (frames_of ns opened.old.items)
+        (written ns) (views tokens.now))
+        (λ p. (ns : List node) → AreRead ns opened.old.items →
+        GoesFurther State.WantArgument ns opened.old.items tokens.now
+        p.0 ns opened.new.items p.1)) }
 {
     let Some(region) = region_at(tokens) else {
         return Ok(Some((State::Want, 0)));
@@ -142,19 +135,14 @@ fn want_argument<'a>(
 }
 
 // One step behind a complete type, which becomes a part of the innermost thing that is open.
-fn complete<'a>(
-    nodes: &mut Vec<TypeNode<'a>>,
-    opened: &mut Vec<Open<'a>>,
-) -> Result<State, Memory>
+fn complete<'a>(nodes: &mut Vec<TypeNode<'a>>, opened: &mut Vec<Open<'a>>) -> Result<State, Memory>
     requires read { AreRead nodes.old.items opened.old.items }
     requires some { 0 < length nodes.old.items }
     requires inside { 0 < length opened.old.items }
-    ensures same {
-        IfOk result (λ s. (ts : List lex.Token) →
-            Steps State.Have
-                (frames_of nodes.old.items opened.old.items) (written nodes.old.items) ts
-                s (frames_of nodes.new.items opened.new.items) (written nodes.new.items) ts)
-    }
+    ensures same { IfOk result (λ s. (ts : List lex.Token) →
+        Steps State.Have
+        (frames_of nodes.old.items opened.old.items) (written nodes.old.items) ts
+        s (frames_of nodes.new.items opened.new.items) (written nodes.new.items) ts) }
     ensures read { OnOk result (AreRead nodes.new.items opened.new.items) }
     ensures few { IfOk result (λ s. length opened.new.items + pending s ≤ length opened.old.items) }
     ensures some { OnOk result (0 < length nodes.new.items) }
@@ -187,15 +175,13 @@ fn behind_part<'a>(
     opened: &mut Vec<Open<'a>>,
 ) -> Result<Option<(State, usize)>, Memory>
     requires { AreRead nodes.old.items (opened.old.items ++ Open.Tuple parts ∷ []) }
-    ensures {
-        IfOk result (λ o. MatchOption o
-            (IsStuck State.Inside
-                (frames_of nodes.old.items (opened.old.items ++ Open.Tuple parts ∷ []))
-                (written nodes.old.items) (views tokens.now))
-            (λ p. GoesFurther State.Inside nodes.old.items
-                (opened.old.items ++ Open.Tuple parts ∷ []) tokens.now
-                p.0 nodes.new.items opened.new.items p.1))
-    }
+    ensures { IfOk result (λ o. MatchOption o
+        (IsStuck State.Inside
+        (frames_of nodes.old.items (opened.old.items ++ Open.Tuple parts ∷ []))
+        (written nodes.old.items) (views tokens.now))
+        (λ p. GoesFurther State.Inside nodes.old.items
+        (opened.old.items ++ Open.Tuple parts ∷ []) tokens.now
+        p.0 nodes.new.items opened.new.items p.1)) }
 {
     if is_sign(tokens, b',') {
         opened.push(Open::Tuple(parts))?;
@@ -217,16 +203,14 @@ fn behind_argument<'a>(
     opened: &mut Vec<Open<'a>>,
 ) -> Result<Option<(State, usize)>, Memory>
     requires { AreRead nodes.old.items (opened.old.items ++ Open.Arguments name arguments ∷ []) }
-    ensures {
-        IfOk result (λ o. MatchOption o
-            (IsStuck State.Inside
-                (frames_of nodes.old.items
-                    (opened.old.items ++ Open.Arguments name.entry arguments.entry ∷ []))
-                (written nodes.old.items) (views tokens.now))
-            (λ p. GoesFurther State.Inside nodes.old.items
-                (opened.old.items ++ Open.Arguments name.entry arguments.entry ∷ []) tokens.now
-                p.0 nodes.new.items opened.new.items p.1))
-    }
+    ensures { IfOk result (λ o. MatchOption o
+        (IsStuck State.Inside
+        (frames_of nodes.old.items
+        (opened.old.items ++ Open.Arguments name.entry arguments.entry ∷ []))
+        (written nodes.old.items) (views tokens.now))
+        (λ p. GoesFurther State.Inside nodes.old.items
+        (opened.old.items ++ Open.Arguments name.entry arguments.entry ∷ []) tokens.now
+        p.0 nodes.new.items opened.new.items p.1)) }
 {
     if is_sign(tokens, b',') {
         opened.push(Open::Arguments(name, arguments))?;
@@ -246,13 +230,11 @@ fn inside<'a>(
     opened: &mut Vec<Open<'a>>,
 ) -> Result<Option<(State, usize)>, Memory>
     requires { AreRead nodes.old.items opened.old.items }
-    ensures {
-        IfOk result (λ o. MatchOption o
-            (IsStuck State.Inside (frames_of nodes.old.items opened.old.items)
-                (written nodes.old.items) (views tokens.now))
-            (λ p. GoesFurther State.Inside nodes.old.items opened.old.items tokens.now
-                p.0 nodes.new.items opened.new.items p.1))
-    }
+    ensures { IfOk result (λ o. MatchOption o
+        (IsStuck State.Inside (frames_of nodes.old.items opened.old.items)
+        (written nodes.old.items) (views tokens.now))
+        (λ p. GoesFurther State.Inside nodes.old.items opened.old.items tokens.now
+        p.0 nodes.new.items opened.new.items p.1)) }
 {
     match opened.pop() {
         Some(Open::Tuple(parts)) => {
@@ -278,13 +260,11 @@ pub fn step<'a>(
     requires read { AreRead nodes.old.items opened.old.items }
     requires some { state ≡ State.Have → 0 < length nodes.old.items }
     requires inside { state ≡ State.Have → 0 < length opened.old.items }
-    ensures {
-        IfOk result (λ o. MatchOption o
-            (IsStuck state (frames_of nodes.old.items opened.old.items)
-                (written nodes.old.items) (views tokens.now))
-            (λ p. GoesFurther state nodes.old.items opened.old.items tokens.now
-                p.0 nodes.new.items opened.new.items p.1))
-    }
+    ensures { IfOk result (λ o. MatchOption o
+        (IsStuck state (frames_of nodes.old.items opened.old.items)
+        (written nodes.old.items) (views tokens.now))
+        (λ p. GoesFurther state nodes.old.items opened.old.items tokens.now
+        p.0 nodes.new.items opened.new.items p.1)) }
 {
     match state {
         State::Want => {

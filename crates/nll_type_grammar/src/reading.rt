@@ -23,11 +23,9 @@ fn read_nodes<'a>(
     requires opened { opened.old.items ≡ [] }
     ensures within { IfOk result (λ o. IfSome o (λ n. n ≤ length tokens.now)) }
     ensures nodes { IfOk result (λ o. IfSome o (λ _. AreNodes nodes.new.items)) }
-    ensures reads {
-        IfOk result (λ o. MatchOption o (HasNoType (views tokens.now))
-            (λ n. IsTypeIn (views tokens.now) (written nodes.new.items)
-                (views (drop n tokens.now))))
-    }
+    ensures reads { IfOk result (λ o. MatchOption o (HasNoType (views tokens.now))
+        (λ n. IsTypeIn (views tokens.now) (written nodes.new.items)
+        (views (drop n tokens.now)))) }
 {
     let mut state = State::Want;
     let mut at = 0;
@@ -53,11 +51,9 @@ fn nodes_at<'a>(
     requires { nodes.old.items ≡ [] }
     ensures within { IfOk result (λ o. IfSome o (λ n. n ≤ length tokens.now)) }
     ensures nodes { IfOk result (λ o. IfSome o (λ _. AreNodes nodes.new.items)) }
-    ensures reads {
-        IfOk result (λ o. MatchOption o (HasNoType (views tokens.now))
-            (λ n. IsTypeIn (views tokens.now) (written nodes.new.items)
-                (views (drop n tokens.now))))
-    }
+    ensures reads { IfOk result (λ o. MatchOption o (HasNoType (views tokens.now))
+        (λ n. IsTypeIn (views tokens.now) (written nodes.new.items)
+        (views (drop n tokens.now)))) }
 {
     let mut opened = Vec::new(alloc);
     read_nodes(alloc, tokens, nodes, &mut opened)
@@ -69,10 +65,8 @@ pub fn type_at<'a>(
     tokens: &[Token<'a>],
 ) -> Result<Option<(TypeText<'a>, usize)>, Memory>
     ensures within { IfOk result (λ o. IfSome o (λ p. p.1 ≤ length tokens.now)) }
-    ensures reads {
-        IfOk result (λ o. MatchOption o (HasNoType (views tokens.now))
-            (λ p. IsTypeIn (views tokens.now) (written p.0) (views (drop p.1 tokens.now))))
-    }
+    ensures reads { IfOk result (λ o. MatchOption o (HasNoType (views tokens.now))
+        (λ p. IsTypeIn (views tokens.now) (written p.0) (views (drop p.1 tokens.now)))) }
 {
     let mut nodes = Vec::new(alloc);
     match nodes_at(alloc, tokens, &mut nodes) {

@@ -12,7 +12,7 @@ use Rattle.nll_type_grammar.proofs.reading.read_nodes.Goals as goal
 pub returns-in_default-clause-reads : goal.returns-in_default-clause-reads
 returns-in_default-clause-reads c =
     none_here c.loop-opened.state (frames_of c.loop-opened.nodes.items c.loop-opened.opened.items) _ _ (written c.loop-opened.nodes.items) c.loop-opened.invariant.same
-      (rw (← take_rest c.args.tokens.now c.loop-opened.at) (rw c.in_default.is at c.in_ok-next.ensures))
+    (rw (← take_rest c.args.tokens.now c.loop-opened.at) (rw c.in_default.is at c.in_ok-next.ensures))
 
 pub returns-then-is_sign-clause-reads : goal.returns-then-is_sign-clause-reads
 returns-then-is_sign-clause-reads c =
