@@ -1,5 +1,0 @@
-pub mod EdgeLemmas
-pub mod PointLemmas
-pub mod GraphLemmas
-pub mod EffectLemmas
-pub mod KeptLemmas

@@ -1,4 +1,0 @@
-pub mod GrammarLemmas
-pub mod PartLemmas
-pub mod KindLemmas
-pub mod LineLemmas

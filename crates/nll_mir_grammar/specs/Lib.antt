@@ -1,5 +1,0 @@
-pub mod MirForms
-pub mod Lines
-pub mod Grammars
-pub mod Parts
-pub mod Kinds

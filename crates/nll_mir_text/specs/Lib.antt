@@ -1,4 +1,0 @@
-pub mod MirSaid
-pub mod MirFaults
-pub mod MirText
-pub mod MirReading
