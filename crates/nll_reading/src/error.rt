@@ -1,6 +1,7 @@
 //! Why a text is refused.
 
 use nll_problem::{BuildError, Kind};
+use nll_sets::Memory;
 use std::alloc::{AllocError, AllocFailed};
 use thiserror::Error;
 
@@ -71,6 +72,17 @@ impl<T: Drop> From<AllocFailed<T>> for TextKind {
     ghost from_gives = { λ _ kind. kind ≡ memory };
 
     fn from(_: AllocFailed<T>) -> TextKind {
+        TextKind::Memory
+    }
+}
+
+impl From<Memory> for TextKind {
+    ghost use Rattle.std.specs.Prelude.{◌≡◌};
+    ghost use Rattle.nll_reading.specs.declared.error.TextKind.TheVariants.{Memory as memory};
+
+    ghost from_gives = { λ _ kind. kind ≡ memory };
+
+    fn from(_: Memory) -> TextKind {
         TextKind::Memory
     }
 }

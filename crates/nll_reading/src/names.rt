@@ -37,6 +37,15 @@ impl Names {
         Ok(Names { set })
     }
 
+    /// No name.
+    pub fn empty(alloc: Global) -> Names
+        ensures { result ≡ [] }
+    {
+        Names {
+            set: IndexSet::new(alloc),
+        }
+    }
+
     /// How many names there are.
     pub fn len(&self) -> usize
         ensures { result ≡ length self.now }

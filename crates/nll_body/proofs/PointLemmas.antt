@@ -1,0 +1,133 @@
+-- What a point adds to the graph.
+use Rattle.std.proofs.Common.{◌≡◌, ◌⊎◌, ℕ, ◌+◌, Bool, true, false, List, [], ◌++◌, Contains, length, inl, inr, refl, sym, ap, ◌∙◌, subst, ⊎_elim, arith}
+use Rattle.std.proofs.lemmas.Bool.{false≢true}
+use Rattle.nll_problem.specs.Answers.{AddsFact}
+use Rattle.nll_problem.specs.Graph.{Graph, IsNext}
+use Rattle.nll_types.specs.Types.{TypeTree}
+use Rattle.nll_types.specs.Views.{tree}
+use Rattle.nll_types.specs.declared.ty.Ty.{Ty}
+use Rattle.nll_statements.specs.Statements.{Statement, is_terminator, map_statement, return, assign, borrow, make, read, live, dead, nop, goto, switch, drop, call, stop}
+use Rattle.nll_statements.specs.Effects.{targets}
+use Rattle.nll_statements.specs.Kept.{statement_of}
+use Rattle.nll_statements.specs.declared.statement.Statement.{Statement as Kept}
+use Rattle.nll_body.specs.Edges.{LeadsTo, LeavesTo, edges_from}
+use Rattle.nll_body.specs.Making.{AddsTargets, AddsEdges, AddsPoint}
+use Rattle.nll_body.specs.Views.{meant}
+use Rattle.nll_body.proofs.EdgeLemmas.{one_more, pair, pair_left, pair_right}
+
+-- other regions and types leave the end of a block as it is
+pub same_end : {R S T U : Type 0} (f : R → S) (g : T → U) (i : Statement R T) → is_terminator (map_statement f g i) ≡ is_terminator i
+same_end f g (assign p op) = refl
+same_end f g (borrow p r m q) = refl
+same_end f g (make p t ops) = refl
+same_end f g (read p) = refl
+same_end f g (live x) = refl
+same_end f g (dead x) = refl
+same_end f g nop = refl
+same_end f g (goto b) = refl
+same_end f g (switch op bs) = refl
+same_end f g (drop x b unwind) = refl
+same_end f g (call p args t wheres b unwind) = refl
+same_end f g return = refl
+same_end f g stop = refl
+
+-- and its targets
+pub same_targets : {R S T U : Type 0} (f : R → S) (g : T → U) (i : Statement R T) → targets (map_statement f g i) ≡ targets i
+same_targets f g (assign p op) = refl
+same_targets f g (borrow p r m q) = refl
+same_targets f g (make p t ops) = refl
+same_targets f g (read p) = refl
+same_targets f g (live x) = refl
+same_targets f g (dead x) = refl
+same_targets f g nop = refl
+same_targets f g (goto b) = refl
+same_targets f g (switch op bs) = refl
+same_targets f g (drop x b unwind) = refl
+same_targets f g (call p args t wheres b unwind) = refl
+same_targets f g return = refl
+same_targets f g stop = refl
+
+-- a statement has no targets
+pub no_targets : {R T : Type 0} (i : Statement R T) → is_terminator i ≡ false → targets i ≡ []
+no_targets (assign p op) h = refl
+no_targets (borrow p r m q) h = refl
+no_targets (make p t ops) h = refl
+no_targets (read p) h = refl
+no_targets (live x) h = refl
+no_targets (dead x) h = refl
+no_targets nop h = refl
+no_targets (goto b) h = absurd (false≢true (sym h))
+no_targets (switch op bs) h = absurd (false≢true (sym h))
+no_targets (drop x b unwind) h = absurd (false≢true (sym h))
+no_targets (call p args t wheres b unwind) h = absurd (false≢true (sym h))
+no_targets return h = refl
+no_targets stop h = refl
+
+nowhere : (starts : List ℕ) (q : ℕ) → LeadsTo starts [] q → ⊥
+nowhere starts q led = none_there led.1
+  where
+    none_there : Contains [] led.0 → ⊥
+    none_there h = absurd (omega (arith, h.1))
+
+-- the edge behind a statement
+pub statement_edge : (starts : List ℕ) (p : ℕ) (i : Statement ℕ TypeTree) (old new : Graph) → is_terminator i ≡ false → AddsFact old.edges new.edges (p, p + 1) → new ≡ record old { edges = new.edges } → AddsEdges starts p i old new
+statement_edge starts p i old new plain adds same = record {
+  others = same;
+  next = λ r q. (
+    λ h. ⊎_elim inl (λ is. inr (pair_left p (p + 1) r q is, inl (plain, sym (pair_right p (p + 1) r q is)))) ((adds.each (r, q)).0 h),
+    λ h. (adds.each (r, q)).1 (⊎_elim inl (λ leaves. inr (⊎_elim
+        (λ behind. pair p (p + 1) r q (sym leaves.0) (sym behind.1))
+        (λ led. absurd (nowhere starts q (subst (λ bs. LeadsTo starts bs q) (no_targets i plain) led)))
+        leaves.1)) h),
+  );
+  counted = rw plain (one_more old.edges new.edges (p, p + 1) adds);
+}
+
+-- the edges behind a terminator
+pub terminator_edges : (starts : List ℕ) (p : ℕ) (i : Statement ℕ TypeTree) (old new : Graph) → is_terminator i ≡ true → AddsTargets starts p (targets i) old new → AddsEdges starts p i old new
+terminator_edges starts p i old new ends adds = record {
+  others = adds.others;
+  next = λ r q. (
+    λ h. ⊎_elim inl (λ led. inr (led.0, inr led.1)) ((adds.next r q).0 h),
+    λ h. (adds.next r q).1 (⊎_elim inl (λ leaves. ⊎_elim
+        (λ behind. absurd (false≢true (sym behind.0 ∙ ends)))
+        (λ led. inr (leaves.0, led))
+        leaves.1) h),
+  );
+  counted = rw ends adds.counted;
+}
+
+-- a return point
+pub return_point : (starts : List ℕ) (p : ℕ) (i : Statement ℕ TypeTree) (old mid new : Graph) → AddsEdges starts p i old mid → i ≡ return → AddsFact mid.returns new.returns p → new ≡ record mid { returns = new.returns } → AddsPoint starts p i old new
+return_point starts p i old mid new adds is returned same =
+    let edges : new.edges ≡ mid.edges = ap (λ (g : Graph). g.edges) same in
+    let before : mid.returns ≡ old.returns = ap (λ (g : Graph). g.returns) adds.others in
+    record {
+      points = ap (λ (g : Graph). g.points) same ∙ ap (λ (g : Graph). g.points) adds.others;
+      universals = ap (λ (g : Graph). g.universals) same ∙ ap (λ (g : Graph). g.universals) adds.others;
+      next = λ r q. rw edges (adds.next r q);
+      returns = λ r. (
+        λ h. ⊎_elim (λ there. inl (subst (λ xs. Contains xs r) before there)) (λ here. inr (sym here, is)) ((returned.each r).0 h),
+        λ h. (returned.each r).1 (⊎_elim (λ there. inl (subst (λ xs. Contains xs r) (sym before) there)) (λ here. inr (sym here.0)) h),
+      );
+      counted = rw edges adds.counted;
+    }
+
+-- any other point
+pub other_point : (starts : List ℕ) (p : ℕ) (i : Statement ℕ TypeTree) (old new : Graph) → AddsEdges starts p i old new → (i ≡ return → ⊥) → AddsPoint starts p i old new
+other_point starts p i old new adds isnt =
+    let before : new.returns ≡ old.returns = ap (λ (g : Graph). g.returns) adds.others in
+    record {
+      points = ap (λ (g : Graph). g.points) adds.others;
+      universals = ap (λ (g : Graph). g.universals) adds.others;
+      next = adds.next;
+      returns = λ r. (
+        λ h. inl (subst (λ xs. Contains xs r) before h),
+        λ h. ⊎_elim (λ there. subst (λ xs. Contains xs r) (sym before) there) (λ here. absurd (isnt here.1)) h,
+      );
+      counted = adds.counted;
+    }
+
+-- the targets, put into an empty list
+pub targets_listed : (i : Kept ℕ Ty) (empty filled listed : List ℕ) → listed ≡ filled → filled ≡ empty ++ targets (statement_of i) → empty ≡ [] → listed ≡ targets (meant i)
+targets_listed i empty filled listed same put none = same ∙ put ∙ ap (λ (xs : List ℕ). xs ++ targets (statement_of i)) none ∙ sym (same_targets (λ r. r) tree (statement_of i))

@@ -1,0 +1,45 @@
+-- A body: what a MIR text means, its points and its graph.
+-- Source: RFC 2094 speaks of MIR; the numbering of points is project's choice.
+use Rattle.std.specs.Prelude.{◌≡◌, ◌⊎◌, ◌↔◌, ℕ, ◌+◌, false, true, List, map, length, Contains}
+use Rattle.std.specs.Prelude.{Some, slice_get}
+use Rattle.nll_problem.specs.Graph.{Graph, IsNext, IsReturn}
+use Rattle.nll_reading.specs.Labels.{Labels, blocks}
+use Rattle.nll_types.specs.Types.{TypeTree}
+use Rattle.nll_types.specs.Structs.{Struct}
+use Rattle.nll_statements.specs.Statements.{Statement, is_terminator, return}
+use Rattle.nll_statements.specs.Effects.{targets}
+
+-- A body: its regions' names, 'static first and the universal ones before the others, the pairs of
+-- universal regions of which the first is known to outlive the second, its structs, the types of
+-- its variables, the first point of each block, and what stands at each point.
+pub record BodyText : Type 0 where
+  pub names : List (List ℕ)
+  pub universals : ℕ
+  pub outlives : List (ℕ × ℕ)
+  pub structs : List Struct
+  pub variables : List TypeTree
+  pub starts : List ℕ
+  pub points : List (Statement ℕ TypeTree)
+
+-- this statement or terminator stands at p
+abbrev pub StandsAt : BodyText → ℕ → Statement ℕ TypeTree → Type 0
+StandsAt body p i = slice_get body.points p ≡ Some i
+
+-- q may come after p: the next point behind a statement, or the first point of a block to which a
+-- terminator goes on
+abbrev pub GoesOn : BodyText → ℕ → ℕ → Type 0
+GoesOn body p q =
+    (i : Statement ℕ TypeTree) × StandsAt body p i
+    × (((is_terminator i ≡ false) × (q ≡ p + 1))
+    ⊎ ((b : ℕ) × Contains (targets i) b × (slice_get body.starts b ≡ Some q)))
+
+-- The graph is the body's.
+pub record IsGraphOf (body : BodyText) (graph : Graph) : Type 0 where
+  pub points : graph.points ≡ length body.points
+  pub universals : graph.universals ≡ body.universals
+  pub next : (p q : ℕ) → IsNext graph p q ↔ GoesOn body p q
+  pub returns : (p : ℕ) → IsReturn graph p ↔ StandsAt body p return
+
+-- the body's labels: the names of its regions, and points by their blocks
+abbrev pub labels_of : BodyText → Labels
+labels_of body = record { names = body.names; points = blocks body.starts }

@@ -1,0 +1,37 @@
+-- What a body of the code keeps.
+-- Source: project's choice. Private contracts alone cite this file.
+use Rattle.std.specs.Prelude.{◌≡◌, ℕ, List, [], map}
+use Rattle.nll_problem.specs.Graph.{Graph}
+use Rattle.nll_reading.specs.Labels.{Labels, Points, numbers, blocks}
+use Rattle.nll_types.specs.Declarations.{structs_of}
+use Rattle.nll_types.specs.Views.{tree}
+use Rattle.nll_types.specs.declared.structs.Declaration.{Declaration}
+use Rattle.nll_types.specs.declared.ty.Ty.{Ty}
+use Rattle.nll_statements.specs.declared.statement.Statement.{Statement as Kept}
+use Rattle.nll_body.specs.Bodies.{BodyText, IsGraphOf, labels_of}
+use Rattle.nll_body.specs.Sound.{IsSound}
+use Rattle.nll_body.specs.Views.{meant}
+
+-- the first points of the blocks by which points are named
+abbrev pub starts_of : Points → List ℕ
+starts_of numbers = []
+starts_of (blocks starts) = starts
+
+-- the body that labels, a graph and these lists say
+abbrev pub kept_body : Labels → List (ℕ × ℕ) → List Declaration → List Ty → List (Kept ℕ Ty)
+    → Graph → BodyText
+kept_body labels outlives structs variables points graph = record {
+  names = labels.names;
+  universals = graph.universals;
+  outlives = outlives;
+  structs = structs_of structs;
+  variables = map tree variables;
+  starts = starts_of labels.points;
+  points = map meant points;
+}
+
+-- The labels and the graph are the body's, and the body is sound.
+pub record IsKept (body : BodyText) (labels : Labels) (graph : Graph) : Type 0 where
+  pub named : labels ≡ labels_of body
+  pub shown : IsGraphOf body graph
+  pub sound : IsSound body

@@ -1,0 +1,55 @@
+-- How the graph of a body comes about, one point after another.
+-- Source: project's choice. Private contracts alone cite this file.
+use Rattle.std.specs.Prelude.{◌≡◌, ◌⊎◌, ◌↔◌, ℕ, ◌+◌, ◌≤◌, ◌<◌, ◌==◌, List, [], length, take}
+use Rattle.std.specs.Prelude.{Some, slice_get, Contains}
+use Rattle.indexmap.specs.IndexSet.{insert_all}
+use Rattle.nll_problem.specs.Graph.{Graph, IsNext, IsReturn}
+use Rattle.nll_types.specs.Types.{TypeTree}
+use Rattle.nll_statements.specs.Statements.{Statement, return}
+use Rattle.nll_statements.specs.Effects.{targets}
+use Rattle.nll_body.specs.Edges.{LeadsTo, LeavesTo, edges_from, edge_count}
+
+-- The graph got the edges from p to the first points of these blocks.
+pub record AddsTargets (starts : List ℕ) (p : ℕ) (blocks : List ℕ) (old new : Graph) : Type 0 where
+  pub others : new ≡ record old { edges = new.edges }
+  pub next : (r q : ℕ) → IsNext new r q ↔ (IsNext old r q ⊎ ((r ≡ p) × LeadsTo starts blocks q))
+  pub counted :
+    length new.edges ≤ length old.edges + length (insert_all (λ b c. b == c) [] blocks)
+
+-- The graph got the edges that leave p, where this stands.
+pub record AddsEdges {R T : Type 0} (starts : List ℕ) (p : ℕ) (i : Statement R T) (old new : Graph)
+    : Type 0 where
+  pub others : new ≡ record old { edges = new.edges }
+  pub next : (r q : ℕ) → IsNext new r q ↔ (IsNext old r q ⊎ ((r ≡ p) × LeavesTo starts p i q))
+  pub counted : length new.edges ≤ length old.edges + edges_from i
+
+-- The graph got what the point p says, where this stands: the edges that leave it, and that it is a
+-- return point if it is one.
+pub record AddsPoint (starts : List ℕ) (p : ℕ) (i : Statement ℕ TypeTree) (old new : Graph)
+    : Type 0 where
+  pub points : new.points ≡ old.points
+  pub universals : new.universals ≡ old.universals
+  pub next : (r q : ℕ) → IsNext new r q ↔ (IsNext old r q ⊎ ((r ≡ p) × LeavesTo starts p i q))
+  pub returns : (r : ℕ) → IsReturn new r ↔ (IsReturn old r ⊎ ((r ≡ p) × (i ≡ return)))
+  pub counted : length new.edges ≤ length old.edges + edges_from i
+
+-- each target of these is one of so many blocks
+abbrev pub AreBlocks : ℕ → List (Statement ℕ TypeTree) → Type 0
+AreBlocks count stand = (p b : ℕ) (i : Statement ℕ TypeTree) → slice_get stand p ≡ Some i
+    → Contains (targets i) b → b < count
+
+-- each edge leads to one of the points where these stand
+abbrev pub AreEnds : List ℕ → List (Statement ℕ TypeTree) → Type 0
+AreEnds starts stand = (p q : ℕ) (i : Statement ℕ TypeTree) → slice_get stand p ≡ Some i
+    → LeavesTo starts p i q → q < length stand
+
+-- The graph has what the first n points say, where these stand, and so many universal regions.
+pub record HasPoints
+    (starts : List ℕ) (count : ℕ) (stand : List (Statement ℕ TypeTree)) (n : ℕ)
+    (graph : Graph) : Type 0 where
+  pub points : graph.points ≡ length stand
+  pub universals : graph.universals ≡ count
+  pub next : (p q : ℕ) → IsNext graph p q ↔ ((p < n) × (i : Statement ℕ TypeTree)
+      × (slice_get stand p ≡ Some i) × LeavesTo starts p i q)
+  pub returns : (p : ℕ) → IsReturn graph p ↔ ((p < n) × (slice_get stand p ≡ Some return))
+  pub counted : length graph.edges ≤ edge_count (take n stand)

@@ -1,0 +1,218 @@
+//! A body, with its graph and its labels.
+
+ghost use Rattle.std.specs.Prelude.{◌≡◌, ◌<◌, ◌++◌, length, IfErr, IfOk, OnOk, Some};
+ghost use Rattle.std.specs.Prelude.{ℕ, slice_get};
+ghost use Rattle.nll_types.specs.Declarations.{structs_of};
+ghost use Rattle.nll_types.specs.Places.{type_of, path_of};
+ghost use Rattle.nll_types.specs.Structs.{IsWellFormed};
+ghost use Rattle.nll_types.specs.Types.{TypeTree};
+ghost use Rattle.nll_types.specs.Views.{tree};
+ghost use Rattle.nll_statements.specs.Effects.{variables_used, defined, dropped};
+ghost use Rattle.nll_statements.specs.Statements.{Statement as standing};
+ghost use Rattle.nll_body.specs.Bodies.{IsGraphOf, StandsAt, labels_of};
+ghost use Rattle.nll_body.specs.Parts.{body_of};
+ghost use Rattle.nll_body.specs.Sound.{IsSound};
+ghost use Rattle.nll_body.specs.Views.{meant};
+
+use crate::edges::graph_of;
+use crate::parts::BodyParts;
+use crate::statement::Stmt;
+use nll_problem::{BuildError, Graph};
+use nll_reading::Labels;
+use nll_sets::Memory;
+use nll_types::{Place, Structs, Ty, place_type, types_of_places_are_well_formed};
+use std::alloc::Global;
+use std::marker::Model;
+
+/// A body. Points, variables and regions go by their numbers.
+#[derive(Drop)]
+pub struct Body {
+    labels: Labels,
+    outlives: Vec<(u32, u32)>,
+    structs: Structs,
+    variables: Vec<Ty>,
+    points: Vec<Stmt>,
+    graph: Graph,
+}
+
+impl Model for Body {
+    ghost use Rattle.std.specs.Coded.{codes};
+    ghost use Rattle.nll_body.specs.Bodies.{BodyText};
+    ghost use Rattle.nll_body.specs.Kept.{kept_body, IsKept};
+    ghost use Rattle.nll_body.specs.TypeCodes.{tree_code, trees_code};
+
+    ghost Value = { BodyText };
+
+    ghost coded = { Prim.hlevel (codes, tree_code, trees_code) };
+
+    ghost view = { λ b.
+        kept_body b.labels b.outlives.items b.structs b.variables.items b.points.items b.graph };
+
+    ghost invariant = { λ b. IsKept
+        (kept_body b.labels b.outlives.items b.structs b.variables.items b.points.items b.graph)
+        b.labels b.graph };
+}
+
+// The body of these parts, whose graph this is.
+fn assembled(parts: BodyParts, graph: Graph) -> Body
+    requires sound { IsSound (body_of parts) }
+    requires graph { IsGraphOf (body_of parts) graph }
+    ensures { result ≡ body_of parts }
+{
+    Body {
+        labels: Labels::with_blocks(parts.names, parts.starts),
+        outlives: parts.outlives,
+        structs: parts.structs,
+        variables: parts.variables,
+        points: parts.points,
+        graph,
+    }
+}
+
+impl Body {
+    /// The body of these parts.
+    ///
+    /// # Errors
+    /// `Memory` alone.
+    pub fn new(alloc: Global, parts: BodyParts) -> Result<Body, BuildError>
+        requires { IsSound (body_of parts) }
+        ensures ok { IfOk result (λ body. body ≡ body_of parts) }
+        ensures err { IfErr result (λ e. e ≡ BuildError.Memory) }
+    {
+        let starts = parts.starts.as_slice();
+        let told = graph_of(alloc, parts.universals, starts, parts.points.as_slice());
+        match told {
+            Ok(graph) => Ok(assembled(parts, graph)),
+            Err(error) => {
+                drop(parts);
+                Err(error)
+            }
+        }
+    }
+
+    /// The graph of its points.
+    pub fn graph(&self) -> &Graph
+        ensures { IsGraphOf self.now result.now }
+    {
+        &self.graph
+    }
+
+    /// The names of its regions and points.
+    pub fn labels(&self) -> &Labels
+        ensures { result.now ≡ labels_of self.now }
+    {
+        &self.labels
+    }
+
+    /// How many points there are; they are numbered from 0.
+    pub fn points(&self) -> u32
+        ensures value { result ≡ length self.now.points }
+        ensures sound { IsSound self.now }
+    {
+        self.graph.points()
+    }
+
+    /// How many regions are universal, `'static` included.
+    pub fn universals(&self) -> u32
+        ensures { result ≡ self.now.universals }
+    {
+        self.graph.universals()
+    }
+
+    /// How many regions there are, the universal ones included.
+    pub fn regions(&self) -> usize
+        ensures { result ≡ length self.now.names }
+    {
+        self.labels.regions()
+    }
+
+    /// How many variables there are.
+    pub fn variables(&self) -> usize
+        ensures { result ≡ length self.now.variables }
+    {
+        self.variables.len()
+    }
+
+    /// The pairs of universal regions of which the first is known to outlive the second.
+    pub fn outlives(&self) -> &[(u32, u32)]
+        ensures { result.now ≡ self.now.outlives }
+    {
+        self.outlives.as_slice()
+    }
+
+    /// The structs that its types name.
+    pub fn structs(&self) -> &Structs
+        ensures { structs_of result.now ≡ self.now.structs }
+    {
+        &self.structs
+    }
+
+    /// The statement or terminator at a point.
+    pub fn line_at(&self, point: u32) -> &Stmt
+        requires { point < length self.now.points }
+        ensures { StandsAt self.now point (meant result.now) }
+    {
+        &self.points[point as usize]
+    }
+
+    /// The type of a variable.
+    pub fn var_type(&self, variable: u32) -> &Ty
+        requires { variable < length self.now.variables }
+        ensures value { slice_get self.now.variables variable ≡ Some (tree result.now) }
+        ensures well_formed
+            { IsWellFormed self.now.structs (length self.now.names) 0 (tree result.now) }
+    {
+        &self.variables[variable as usize]
+    }
+
+    /// The type of a place that has one.
+    ///
+    /// # Errors
+    /// `Memory` alone.
+    pub fn place_type(&self, alloc: Global, place: &Place) -> Result<Ty, Memory>
+        requires { (t : TypeTree)
+            × (type_of self.now.structs self.now.variables (path_of place.now) ≡ Some t) }
+        ensures value { IfOk result (λ t.
+            type_of self.now.structs self.now.variables (path_of place.now) ≡ Some (tree t)) }
+        ensures well_formed { IfOk result (λ t.
+            IsWellFormed self.now.structs (length self.now.names) 0 (tree t)) }
+    {
+        types_of_places_are_well_formed();
+        match place_type(alloc, &self.structs, self.variables.as_slice(), place)? {
+            Some(ty) => Ok(ty),
+            None => unreachable!(),
+        }
+    }
+
+    /// Puts the variables that are used at a point behind the others.
+    ///
+    /// # Source
+    /// RFC 2094, "Liveness".
+    pub fn uses(&self, point: u32, used: &mut Vec<u32>) -> Result<(), Memory>
+        requires { point < length self.now.points }
+        ensures { OnOk result ((i : standing ℕ TypeTree) → StandsAt self.now point i
+            → used.new.items ≡ used.old.items ++ variables_used i) }
+    {
+        self.points[point as usize].uses(used)?;
+        Ok(())
+    }
+
+    /// The variable that is defined at a point.
+    ///
+    /// # Source
+    /// RFC 2094, "Liveness".
+    pub fn defines(&self, point: u32) -> Option<u32>
+        requires { point < length self.now.points }
+        ensures { (i : standing ℕ TypeTree) → StandsAt self.now point i → result ≡ defined i }
+    {
+        self.points[point as usize].defines()
+    }
+
+    /// The variable that is dropped at a point.
+    pub fn drops(&self, point: u32) -> Option<u32>
+        requires { point < length self.now.points }
+        ensures { (i : standing ℕ TypeTree) → StandsAt self.now point i → result ≡ dropped i }
+    {
+        self.points[point as usize].drops()
+    }
+}

@@ -1,0 +1,176 @@
+//! The graph of a body: the edges that leave its points, and its return points.
+
+ghost use Rattle.std.specs.Prelude.{◌≡◌, ◌↔◌, ◌<◌, ◌≤◌, ◌+◌, ◌==◌, ℕ, [], length, map};
+ghost use Rattle.std.specs.Prelude.{Contains, IfErr, IfOk, OnOk, IsTrue};
+ghost use Rattle.indexmap.specs.IndexSet.{insert_all};
+ghost use Rattle.nll_problem.specs.Answers.{AddsFact};
+ghost use Rattle.nll_problem.specs.Graph.{IsNext};
+ghost use Rattle.nll_problem.specs.GraphBuilding.{bare_graph};
+ghost use Rattle.nll_problem.specs.Limits.{most_points, most_edges, most_universals};
+ghost use Rattle.nll_statements.specs.Effects.{targets};
+ghost use Rattle.nll_statements.specs.Statements.{return};
+ghost use Rattle.nll_body.specs.Edges.{LeadsTo, LeavesTo, edges_from, edge_count};
+ghost use Rattle.nll_body.specs.Making.{AddsTargets, AddsEdges, AddsPoint};
+ghost use Rattle.nll_body.specs.Making.{AreBlocks, AreEnds, HasPoints};
+ghost use Rattle.nll_body.specs.Views.{meant};
+
+use crate::statement::Stmt;
+use nll_problem::{BuildError, Graph, GraphBuilder};
+use nll_statements::Statement;
+use std::alloc::Global;
+
+// Adds an edge for which there is room.
+fn add_edge(graph: &mut GraphBuilder, from: u32, to: u32) -> Result<(), BuildError>
+    requires from { from < graph.old.points }
+    requires to { to < graph.old.points }
+    requires room { (IsNext graph.old from to → ⊥) → length graph.old.edges < most_edges }
+    ensures ok { OnOk result (AddsFact graph.old.edges graph.new.edges (from, to)) }
+    ensures others { graph.new ≡ record graph.old { edges = graph.new.edges } }
+    ensures err { IfErr result (λ e. e ≡ BuildError.Memory) }
+{
+    graph.next(from, to)?;
+    Ok(())
+}
+
+// Adds the edges from a point to the first points of these blocks.
+fn add_targets(
+    graph: &mut GraphBuilder,
+    point: u32,
+    starts: &[u32],
+    blocks: &[u32],
+) -> Result<(), BuildError>
+    requires point { point < graph.old.points }
+    requires blocks { (b : ℕ) → Contains blocks.now b → b < length starts.now }
+    requires starts { (q : ℕ) → LeadsTo starts.now blocks.now q → q < graph.old.points }
+    requires room { length graph.old.edges + length (insert_all (λ b c. b == c) [] blocks.now)
+        ≤ most_edges }
+    ensures ok { OnOk result (AddsTargets starts.now point blocks.now graph.old graph.new) }
+    ensures err { IfErr result (λ e. e ≡ BuildError.Memory) }
+{
+    for block in blocks {
+        add_edge(graph, point, starts[*block as usize])?;
+    }
+    Ok(())
+}
+
+// Whether it ends the body's run.
+fn is_return(statement: &Stmt) -> bool
+    ensures { IsTrue result ↔ (meant statement.now ≡ return) }
+{
+    match statement {
+        Statement::Return => true,
+        _ => false,
+    }
+}
+
+// Adds the edges that leave a point. The list of blocks is for its own use.
+fn add_edges(
+    graph: &mut GraphBuilder,
+    point: u32,
+    statement: &Stmt,
+    starts: &[u32],
+    blocks: &mut Vec<u32>,
+) -> Result<(), BuildError>
+    requires few { graph.old.points ≤ most_points }
+    requires point { point < graph.old.points }
+    requires blocks { (b : ℕ) → Contains (targets (meant statement.now)) b
+        → b < length starts.now }
+    requires ends { (q : ℕ) → LeavesTo starts.now point (meant statement.now) q
+        → q < graph.old.points }
+    requires room { length graph.old.edges + edges_from (meant statement.now) ≤ most_edges }
+    ensures ok { OnOk result
+        (AddsEdges starts.now point (meant statement.now) graph.old graph.new) }
+    ensures err { IfErr result (λ e. e ≡ BuildError.Memory) }
+{
+    if statement.is_terminator() {
+        blocks.clear();
+        statement.targets(blocks)?;
+        add_targets(graph, point, starts, blocks.as_slice())?;
+        return Ok(());
+    }
+    add_edge(graph, point, point + 1)?;
+    Ok(())
+}
+
+// Adds what stands at a point.
+fn add_point(
+    graph: &mut GraphBuilder,
+    point: u32,
+    statement: &Stmt,
+    starts: &[u32],
+    blocks: &mut Vec<u32>,
+) -> Result<(), BuildError>
+    requires few { graph.old.points ≤ most_points }
+    requires point { point < graph.old.points }
+    requires blocks { (b : ℕ) → Contains (targets (meant statement.now)) b
+        → b < length starts.now }
+    requires ends { (q : ℕ) → LeavesTo starts.now point (meant statement.now) q
+        → q < graph.old.points }
+    requires room { length graph.old.edges + edges_from (meant statement.now) ≤ most_edges }
+    ensures ok { OnOk result
+        (AddsPoint starts.now point (meant statement.now) graph.old graph.new) }
+    ensures err { IfErr result (λ e. e ≡ BuildError.Memory) }
+{
+    add_edges(graph, point, statement, starts, blocks)?;
+    if is_return(statement) {
+        graph.ret(point)?;
+    }
+    Ok(())
+}
+
+// Adds what stands at each of the points to a graph that has nothing but so many points.
+fn add_points(
+    graph: &mut GraphBuilder,
+    starts: &[u32],
+    points: &[Stmt],
+    blocks: &mut Vec<u32>,
+) -> Result<(), BuildError>
+    requires bare { graph.old ≡ bare_graph (length points.now) graph.old.universals }
+    requires few { length points.now ≤ most_points }
+    requires blocks { AreBlocks (length starts.now) (map meant points.now) }
+    requires ends { AreEnds starts.now (map meant points.now) }
+    requires room { edge_count (map meant points.now) ≤ most_edges }
+    ensures ok { OnOk result (HasPoints starts.now graph.old.universals (map meant points.now)
+        (length points.now) graph.new) }
+    ensures err { IfErr result (λ e. e ≡ BuildError.Memory) }
+{
+    for point in 0..points.len() {
+        add_point(graph, point as u32, &points[point], starts, blocks)?;
+    }
+    Ok(())
+}
+
+/// The graph of a body with this many universal regions, blocks with these first points, and
+/// these statements and terminators at its points.
+///
+/// # Errors
+/// `Memory` alone.
+pub(crate) fn graph_of(
+    alloc: Global,
+    universals: u32,
+    starts: &[u32],
+    points: &[Stmt],
+) -> Result<Graph, BuildError>
+    requires some { 0 < length points.now }
+    requires few { length points.now ≤ most_points }
+    requires some_universal { 0 < universals }
+    requires few_universals { universals ≤ most_universals }
+    requires blocks { AreBlocks (length starts.now) (map meant points.now) }
+    requires ends { AreEnds starts.now (map meant points.now) }
+    requires room { edge_count (map meant points.now) ≤ most_edges }
+    ensures ok { IfOk result (λ g. HasPoints starts.now universals (map meant points.now)
+        (length points.now) g) }
+    ensures err { IfErr result (λ e. e ≡ BuildError.Memory) }
+{
+    let mut graph = GraphBuilder::new(alloc, points.len() as u32, universals)?;
+    let mut blocks = Vec::new(alloc);
+    let told = add_points(&mut graph, starts, points, &mut blocks);
+    drop(blocks);
+    match told {
+        Ok(()) => Ok(graph.finish()),
+        Err(error) => {
+            drop(graph);
+            Err(error)
+        }
+    }
+}

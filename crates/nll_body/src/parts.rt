@@ -1,0 +1,23 @@
+//! What a reader gathers for a body.
+
+use crate::statement::Stmt;
+use nll_reading::Names;
+use nll_types::{Structs, Ty};
+
+/// The parts of a body.
+#[derive(Drop)]
+pub struct BodyParts {
+    /// The names of its regions: `static`, the other universal ones, and the others.
+    pub names: Names,
+    /// How many regions are universal, `'static` included.
+    pub universals: u32,
+    /// Of each pair of universal regions the first is known to outlive the second.
+    pub outlives: Vec<(u32, u32)>,
+    pub structs: Structs,
+    /// The types of its variables.
+    pub variables: Vec<Ty>,
+    /// The first point of each block.
+    pub starts: Vec<u32>,
+    /// What stands at each point.
+    pub points: Vec<Stmt>,
+}

@@ -1,0 +1,4 @@
+pub mod GrammarLemmas
+pub mod PartLemmas
+pub mod KindLemmas
+pub mod LineLemmas

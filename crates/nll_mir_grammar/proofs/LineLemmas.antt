@@ -1,0 +1,307 @@
+-- Lines and their parts.
+use Rattle.std.proofs.Common.{◌≡◌, ◌==◌, true, false, length, ℕ, Bool, List, [], ◌∷◌, ◌++◌, map, refl, sym, ap, ◌∙◌, subst, append_assoc, Option, Some, None}
+use Rattle.std.specs.List.{AllByRecursion}
+use Rattle.std.specs.Prelude.{codes}
+use Rattle.nll_text.specs.Tokens.{Token, word, region, sign, arrow, view, views}
+use Rattle.nll_text.specs.declared.token.Token.{Token as InLine}
+use Rattle.std.proofs.lemmas.Bool.{eqb-true, false≢true}
+use Rattle.std.proofs.lemmas.List.{nil_from_length}
+use Rattle.nll_types.specs.Places.{PlacePath}
+use Rattle.nll_types.specs.Operands.{Operand, constant, copied, moved}
+use Rattle.nll_type_grammar.specs.WrittenTypes.{Name, WrittenType, WrittenTypes, tuple, spelled, HasNames, IsFree}
+use Rattle.nll_types.specs.Operands.{operand_of}
+use Rattle.nll_types.specs.declared.operand.Operand.{Operand as Written}
+use Rattle.nll_type_grammar.specs.TypeTexts.{written}
+use Rattle.nll_type_grammar.specs.declared.type_text.TypeNode.{TypeNode}
+use Rattle.nll_mir_grammar.specs.Lines.{argument_of}
+use Rattle.nll_statements.specs.Statements.{Statement, assign, borrow, make, read, live, dead, nop, goto, switch, drop, call, return, stop}
+use Rattle.nll_mir_grammar.specs.MirForms.{Form, universal, outlives, further, struct_line, variable, blocks, block, at_point, end, spelled_form, spelled_place, IsWritable, IsWritableOperand, IsSpelled}
+use Rattle.nll_mir_grammar.specs.Grammars.{Grammar, Begins, HasNone, IsOne, IsNotNext, behind, empty, pair, many, commas, parentheses, by_kind}
+use Rattle.nll_mir_grammar.specs.Parts.{any_words, places, operands, types, exits, arguments, block_names, MayFollowOperand, MayFollowUnwind}
+use Rattle.nll_mir_grammar.specs.Kinds.{borrows, makes, results, signatures, Right, value, borrowed, made, called, RightParts, right_sides, rights, Behind, tails, keyword_name, LineParts, line_grammars, lines, parts_of, IsLine, IsRightSide, IsBehind, HasNoKeyword}
+use Rattle.nll_mir_grammar.specs.declared.keyword.Keyword.{Keyword}
+use Rattle.nll_mir_grammar.specs.declared.keyword.Keyword.TheVariants as words
+use Rattle.nll_mir_grammar.proofs.GrammarLemmas.{append_nil, behind_found, behind_none, pair_found, tail_same, head_same}
+use Rattle.nll_mir_grammar.proofs.PartLemmas.{no_projection_left}
+use Rattle.nll_mir_grammar.proofs.KindLemmas.{lines_one, line_kind, line_kind_of, line_kind_of_name}
+
+-- ---- right sides
+
+pub borrow_side : (ts rest : List Token) (p : PlacePath) (a : Name) (m : Bool) (q : PlacePath) (r : List Token) → ts ≡ sign 38 ∷ rest → Begins borrows rest (a, (m, q)) r → IsRightSide ts p (at_point (borrow p a m q)) r
+borrow_side ts rest p a m q r e b = record {
+  callee = [];
+  right = (borrowed, (a, (m, q)));
+  begins = let f = behind_found borrows (sign 38) ts rest (a, (m, q)) r e b in record { joined = f.joined; allowed = f.allowed; follows = f.follows };
+  same = refl;
+}
+
+pub make_side : (ts rest : List Token) (p : PlacePath) (t : WrittenType) (ops : List Operand) (r : List Token) → ts ≡ word (codes "make") ∷ rest → Begins makes rest (t, ops) r → IsRightSide ts p (at_point (make p t ops)) r
+make_side ts rest p t ops r e b = record {
+  callee = [];
+  right = (made, (t, ops));
+  begins = let f = behind_found makes (word (codes "make")) ts rest (t, ops) r e b in record { joined = f.joined; allowed = f.allowed; follows = f.follows };
+  same = refl;
+}
+
+pub value_side : (ts : List Token) (p : PlacePath) (op : Operand) (r : List Token) → Begins operands ts op r → IsRightSide ts p (at_point (assign p op)) r
+value_side ts p op r b = record {
+  callee = [];
+  right = (value, op);
+  begins = record { joined = b.joined; allowed = b.allowed; follows = b.follows };
+  same = refl;
+}
+
+pub call_side : (ts rest mid : List Token) (p : PlacePath) (f : List ℕ) (args : List (Operand × WrittenType)) (t : WrittenType) (wheres : List (Name × Name)) (b : ℕ) (unwind : Option ℕ) (r : List Token) → ts ≡ word (codes "call") ∷ rest → Begins any_words rest f mid → Begins signatures mid (args, (t, (wheres, (b, unwind)))) r → IsRightSide ts p (at_point (call p args t wheres b unwind)) r
+call_side ts rest mid p f args t wheres b unwind r e w s = record {
+  callee = f;
+  right = (called, (f, (args, (t, (wheres, (b, unwind))))));
+  begins =
+      let x = pair_found any_words signatures rest mid r f (args, (t, (wheres, (b, unwind)))) w s in
+      let y = behind_found (pair any_words signatures) (word (codes "call")) ts rest _ r e x in
+      record { joined = y.joined; allowed = y.allowed; follows = y.follows };
+  same = refl;
+}
+
+-- the arguments of a call in the code, in two steps
+pub arguments_same : (xs : List (Written × List TypeNode)) → map (λ (a : Operand × List TypeNode). (a.0, written a.1)) (map (λ (a : Written × List TypeNode). (operand_of a.0, a.1)) xs) ≡ map argument_of xs
+arguments_same [] = refl
+arguments_same (x ∷ xs) = ap (λ l. (operand_of x.0, written x.1) ∷ l) (arguments_same xs)
+
+-- ---- assignments
+
+pub assignment_line : (ts mid after : List Token) (p : PlacePath) (f : Form) (r : List Token) → Begins places ts p mid → mid ≡ sign 61 ∷ after → IsRightSide after p f r → IsLine ts f r
+assignment_line ts mid after p f r b e s = record {
+  callee = s.callee;
+  begins =
+      let x = behind_found rights (sign 61) mid after s.right r e s.begins in
+      let y = pair_found places (behind (sign 61) rights) ts mid r p s.right b x in
+      let z : Begins lines ts (None, (p, s.right)) r = record { joined = y.joined; allowed = y.allowed; follows = y.follows } in
+      subst (λ l. Begins lines ts l r) (sym s.same) z;
+}
+
+-- ---- lines
+
+pub keyword_line : (ts mid : List Token) (k : Keyword) (f : Form) (r : List Token) → ts ≡ word (keyword_name k) ∷ mid → IsBehind k mid f r → IsLine ts f r
+keyword_line ts mid k f r e b = record { callee = []; begins = subst (λ l. Begins lines l (parts_of [] f) r) (sym e) b }
+
+no_lines : (k : Option Keyword) (ts : List Token) → line_kind ts ≡ k → HasNone (line_grammars k) ts → HasNone lines ts
+no_lines k ts e none p r b =
+    let f : p.0 ≡ k = sym (line_kind_of p.0 p.1 r) ∙ (ap line_kind (sym b.joined) ∙ e) in
+    subst (λ (z : Option Keyword). (q : LineParts z) → Begins (line_grammars z) ts q r → ⊥) (sym f) (λ q x. none q r x) p.1
+    (record { joined = b.joined; allowed = b.allowed; follows = b.follows })
+
+pub no_keyword_line : (ts mid : List Token) (k : Keyword) → ts ≡ word (keyword_name k) ∷ mid → HasNone (tails k) mid → HasNone lines ts
+no_keyword_line ts mid k e none = no_lines (Some k) ts (ap line_kind e ∙ line_kind_of_name k mid) (behind_none (tails k) (word (keyword_name k)) ts mid e none)
+
+pub no_assignment : (ts : List Token) → HasNoKeyword ts → HasNone (line_grammars None) ts → HasNone lines ts
+no_assignment ts other none (None, p) r b = none p r (record { joined = b.joined; allowed = b.allowed; follows = b.follows })
+no_assignment ts other none (Some k, p) r b = other k _ b.joined
+
+-- a word that is no keyword
+pub no_keyword : (ts mid : List Token) (w : List ℕ) → Begins any_words ts w mid → ((k : Keyword) → w ≡ keyword_name k → ⊥) → HasNoKeyword ts
+no_keyword ts mid w b other k rest f = other k (let h : word w ≡ word (keyword_name k) = head_same _ _ _ _ (sym b.joined ∙ f) in cc)
+
+pub no_word : (ts : List Token) → HasNone any_words ts → HasNoKeyword ts
+no_word ts none k rest e = none (keyword_name k) rest (record { joined = e; allowed = tt; follows = tt })
+
+-- ---- forms
+
+-- the form of parts
+form_from : (k : Option Keyword) × LineParts k → Form
+form_from (None, (p, (value, op))) = at_point (assign p op)
+form_from (None, (p, (borrowed, x))) = at_point (borrow p x.0 x.1.0 x.1.1)
+form_from (None, (p, (made, x))) = at_point (make p x.0 x.1)
+form_from (None, (p, (called, x))) = at_point (call p x.1.0 x.1.1.0 x.1.1.1.0 x.1.1.1.1.0 x.1.1.1.1.1)
+form_from (Some words.Universal, a) = universal a
+form_from (Some words.Outlives, a) = outlives a.0 a.1
+form_from (Some words.Region, x) = further x
+form_from (Some words.Struct, x) = struct_line x.0 x.1.0 x.1.1.0 x.1.1.1
+form_from (Some words.Let, x) = variable x.0 x.1
+form_from (Some words.Blocks, n) = blocks n
+form_from (Some words.Block, n) = block n
+form_from (Some words.Read, p) = at_point (read p)
+form_from (Some words.Live, x) = at_point (live x)
+form_from (Some words.Dead, x) = at_point (dead x)
+form_from (Some words.Nop, x) = at_point nop
+form_from (Some words.Goto, b) = at_point (goto b)
+form_from (Some words.Switch, x) = at_point (switch x.0 x.1)
+form_from (Some words.Drop, x) = at_point (drop x.0 x.1.0 x.1.1)
+form_from (Some words.Return, x) = at_point return
+form_from (Some words.Stop, x) = at_point stop
+form_from (Some words.End, x) = end
+
+from_parts : (c : List ℕ) (f : Form) → form_from (parts_of c f) ≡ f
+unfolding form_from
+from_parts c (universal a) = refl
+from_parts c (outlives a b) = refl
+from_parts c (further x) = refl
+from_parts c (struct_line n ps d ts) = refl
+from_parts c (variable x t) = refl
+from_parts c (blocks n) = refl
+from_parts c (block n) = refl
+from_parts c (at_point (assign p op)) = refl
+from_parts c (at_point (borrow p r m q)) = refl
+from_parts c (at_point (make p t ops)) = refl
+from_parts c (at_point (read p)) = refl
+from_parts c (at_point (live x)) = refl
+from_parts c (at_point (dead x)) = refl
+from_parts c (at_point nop) = refl
+from_parts c (at_point (goto b)) = refl
+from_parts c (at_point (switch op bs)) = refl
+from_parts c (at_point (drop x b u)) = refl
+from_parts c (at_point (call p args t ws b u)) = refl
+from_parts c (at_point return) = refl
+from_parts c (at_point stop) = refl
+from_parts c end = refl
+
+spelled_parts : (c : List ℕ) (f : Form) → spelled_form c f ≡ lines.spells (parts_of c f)
+spelled_parts c (universal a) = refl
+spelled_parts c (outlives a b) = refl
+spelled_parts c (further x) = refl
+spelled_parts c (struct_line n ps d ts) = refl
+spelled_parts c (variable x t) = refl
+spelled_parts c (blocks n) = refl
+spelled_parts c (block n) = refl
+spelled_parts c (at_point (assign p op)) = refl
+spelled_parts c (at_point (borrow p r m q)) = refl
+spelled_parts c (at_point (make p t ops)) = refl
+spelled_parts c (at_point (read p)) = refl
+spelled_parts c (at_point (live x)) = refl
+spelled_parts c (at_point (dead x)) = refl
+spelled_parts c (at_point nop) = refl
+spelled_parts c (at_point (goto b)) = refl
+spelled_parts c (at_point (switch op bs)) = refl
+spelled_parts c (at_point (drop x b u)) = refl
+spelled_parts c (at_point (call p args t ws b u)) = refl
+spelled_parts c (at_point return) = refl
+spelled_parts c (at_point stop) = refl
+spelled_parts c end = refl
+
+-- an argument may be written where its operand and its type may
+all_arguments : (args : List (Operand × WrittenType)) → AllByRecursion (λ a. IsWritableOperand a.0 × HasNames a.1) args → AllByRecursion arguments.IsAllowed args
+all_arguments [] h = tt
+all_arguments (a ∷ args) h = ((h.0.0, h.0.1), all_arguments args h.1)
+
+arguments_all : (args : List (Operand × WrittenType)) → AllByRecursion arguments.IsAllowed args → AllByRecursion (λ a. IsWritableOperand a.0 × HasNames a.1) args
+arguments_all [] h = tt
+arguments_all (a ∷ args) h = ((h.0.0, h.0.1), arguments_all args h.1)
+
+allowed_parts : (c : List ℕ) (f : Form) → IsWritable f → lines.IsAllowed (parts_of c f)
+allowed_parts c (universal a) h = tt
+allowed_parts c (outlives a b) h = (tt, tt)
+allowed_parts c (further x) h = tt
+allowed_parts c (struct_line n ps d ts) h = (h.0, (h.1, (tt, h.2)))
+allowed_parts c (variable x t) h = (h.0, h.1)
+allowed_parts c (blocks n) h = h
+allowed_parts c (block n) h = h
+allowed_parts c (at_point (assign p op)) h = (h.0, h.1)
+allowed_parts c (at_point (borrow p r m q)) h = (h.0, (tt, (tt, h.1)))
+allowed_parts c (at_point (make p t ops)) h = (h.0, (h.1, h.2))
+allowed_parts c (at_point (read p)) h = h
+allowed_parts c (at_point (live x)) h = h
+allowed_parts c (at_point (dead x)) h = h
+allowed_parts c (at_point nop) h = tt
+allowed_parts c (at_point (goto b)) h = h
+allowed_parts c (at_point (switch op bs)) h = (h.0, (h.1, h.2))
+allowed_parts c (at_point (drop x b u)) h = (h.0, (h.1, h.2))
+allowed_parts c (at_point (call p args t ws b u)) h = (h.0, (tt, (all_arguments args h.1, (h.2, (tt, (h.3, h.4))))))
+allowed_parts c (at_point return) h = tt
+allowed_parts c (at_point stop) h = tt
+allowed_parts c end h = tt
+
+writable_parts : (c : List ℕ) (f : Form) → lines.IsAllowed (parts_of c f) → IsWritable f
+writable_parts c (universal a) h = tt
+writable_parts c (outlives a b) h = tt
+writable_parts c (further x) h = tt
+writable_parts c (struct_line n ps d ts) h = (h.0, h.1.0, h.1.1.1)
+writable_parts c (variable x t) h = (h.0, h.1)
+writable_parts c (blocks n) h = h
+writable_parts c (block n) h = h
+writable_parts c (at_point (assign p op)) h = (h.0, h.1)
+writable_parts c (at_point (borrow p r m q)) h = (h.0, h.1.1.1)
+writable_parts c (at_point (make p t ops)) h = (h.0, h.1.0, h.1.1)
+writable_parts c (at_point (read p)) h = h
+writable_parts c (at_point (live x)) h = h
+writable_parts c (at_point (dead x)) h = h
+writable_parts c (at_point nop) h = tt
+writable_parts c (at_point (goto b)) h = h
+writable_parts c (at_point (switch op bs)) h = (h.0, h.1.0, h.1.1)
+writable_parts c (at_point (drop x b u)) h = (h.0, h.1.0, h.1.1)
+writable_parts c (at_point (call p args t ws b u)) h = (h.0, arguments_all args h.1.1.0, h.1.1.1.0, h.1.1.1.1.1.0, h.1.1.1.1.1.1)
+writable_parts c (at_point return) h = tt
+writable_parts c (at_point stop) h = tt
+writable_parts c end h = tt
+
+free_end : IsFree []
+free_end others e = cc
+
+operand_end : (op : Operand) → MayFollowOperand op []
+operand_end constant = tt
+operand_end (copied p) = no_projection_left
+operand_end (moved p) = no_projection_left
+
+unwind_end : (u : Option ℕ) → MayFollowUnwind u []
+unwind_end None = λ rest e. cc
+unwind_end (Some b) = tt
+
+block_end : HasNone block_names []
+block_end b r x = let e = x.joined in cc
+
+-- each line may stand at the end
+ends : (c : List ℕ) (f : Form) → lines.MayFollow (parts_of c f) []
+ends c (universal a) = tt
+ends c (outlives a b) = tt
+ends c (further x) = tt
+ends c (struct_line n ps d ts) = free_end
+ends c (variable x t) = free_end
+ends c (blocks n) = tt
+ends c (block n) = tt
+ends c (at_point (assign p op)) = operand_end op
+ends c (at_point (borrow p r m q)) = no_projection_left
+ends c (at_point (make p t ops)) = tt
+ends c (at_point (read p)) = no_projection_left
+ends c (at_point (live x)) = tt
+ends c (at_point (dead x)) = tt
+ends c (at_point nop) = tt
+ends c (at_point (goto b)) = tt
+ends c (at_point (switch op bs)) = block_end
+ends c (at_point (drop x b u)) = unwind_end u
+ends c (at_point (call p args t ws b u)) = unwind_end u
+ends c (at_point return) = tt
+ends c (at_point stop) = tt
+ends c end = tt
+
+pub to_line : (ts : List Token) (f : Form) → (s : IsSpelled ts f) → Begins lines ts (parts_of s.callee f) []
+to_line ts f s = record {
+  joined = s.same ∙ (spelled_parts s.callee f ∙ sym (append_nil (lines.spells (parts_of s.callee f))));
+  allowed = allowed_parts s.callee f s.writable;
+  follows = ends s.callee f;
+}
+
+pub from_line : (ts : List Token) (f : Form) → IsLine ts f [] → IsSpelled ts f
+from_line ts f h = record {
+  callee = h.callee;
+  same = h.begins.joined ∙ (append_nil (lines.spells (parts_of h.callee f)) ∙ sym (spelled_parts h.callee f));
+  writable = writable_parts h.callee f h.begins.allowed;
+}
+
+pub no_form : (ts : List Token) → HasNone lines ts → (f : Form) → IsSpelled ts f → ⊥
+no_form ts none f s = none (parts_of s.callee f) [] (to_line ts f s)
+
+-- a line that goes on isn't spelled whole
+pub no_form_before : (ts : List Token) (f : Form) (rest : List Token) → IsLine ts f rest → (rest ≡ [] → ⊥) → (g : Form) → IsSpelled ts g → ⊥
+no_form_before ts f rest h more g s = more (lines_one ts _ _ rest [] h.begins (to_line ts g s)).1
+
+pub one_form_lem : (ts : List Token) (f g : Form) → IsSpelled ts f → IsSpelled ts g → f ≡ g
+one_form_lem ts f g s u =
+    let same = lines_one ts _ _ [] [] (to_line ts f s) (to_line ts g u) in
+    sym (from_parts s.callee f) ∙ (ap form_from same.0 ∙ from_parts u.callee g)
+
+-- ---- no tokens left
+
+pub more_left : (rest : List InLine) → (length rest == 0) ≡ false → views rest ≡ [] → ⊥
+more_left [] h e = false≢true (sym h)
+more_left (t ∷ rest) h e = let f : view t ∷ views rest ≡ [] = e in cc
+
+pub none_left : (rest : List InLine) → (length rest == 0) ≡ true → views rest ≡ []
+none_left rest h = ap views (nil_from_length rest (eqb-true _ _ h))

@@ -1,0 +1,99 @@
+-- Grammars: how values are spelled by tokens at the front of others.
+-- Source: project's choice. Only private contracts cite this file.
+use Rattle.std.specs.Prelude.{◌≡◌, ℕ, ◌<◌, Bool, true, false, List, [], ◌∷◌, ◌++◌, map, length}
+use Rattle.std.specs.List.{AllByRecursion, flat_map}
+use Rattle.nll_text.specs.Tokens.{Token, sign}
+use Rattle.nll_mir_grammar.specs.MirForms.{parted, in_parentheses}
+
+-- How values are spelled, which of them are allowed, and what may stand behind each.
+pub record Grammar (A : Type 0) : Type 1 where
+  pub spells : A → List Token
+  pub IsAllowed : A → Type 0
+  pub MayFollow : A → List Token → Type 0
+
+-- The tokens begin with the value, and behind it come others.
+pub record Begins {A : Type 0} (g : Grammar A) (ts : List Token) (a : A) (rest : List Token) :
+    Type 0 where
+  pub joined : ts ≡ g.spells a ++ rest
+  pub allowed : g.IsAllowed a
+  pub follows : g.MayFollow a rest
+
+-- the tokens begin with no value
+abbrev pub HasNone : {A : Type 0} → Grammar A → List Token → Type 0
+HasNone {A} g ts = (a : A) (rest : List Token) → Begins g ts a rest → ⊥
+
+-- tokens begin with one value at most
+abbrev pub IsOne : {A : Type 0} → Grammar A → Type 0
+IsOne {A} g =
+    (ts : List Token) (a b : A) (r s : List Token) → Begins g ts a r → Begins g ts b s
+    → (a ≡ b) × (r ≡ s)
+
+-- the token doesn't come next
+abbrev pub IsNotNext : Token → List Token → Type 0
+IsNotNext t ts = (rest : List Token) → ts ≡ t ∷ rest → ⊥
+
+-- ---- grammars made of others
+
+-- a token, and then a value
+abbrev pub behind : {A : Type 0} → Token → Grammar A → Grammar A
+behind t g = record {
+  spells = λ a. t ∷ g.spells a;
+  IsAllowed = g.IsAllowed;
+  MayFollow = g.MayFollow;
+}
+
+-- nothing
+abbrev pub empty : Grammar (Unit {0})
+empty = record { spells = λ a. []; IsAllowed = λ a. Unit {0}; MayFollow = λ a r. Unit {0} }
+
+-- a value, and then another
+abbrev pub pair : {A B : Type 0} → Grammar A → Grammar B → Grammar (A × B)
+pair g h = record {
+  spells = λ p. g.spells p.0 ++ h.spells p.1;
+  IsAllowed = λ p. g.IsAllowed p.0 × h.IsAllowed p.1;
+  MayFollow = λ p r. h.MayFollow p.1 r;
+}
+
+-- values, as many as there are
+abbrev pub many : {A : Type 0} → Grammar A → Grammar (List A)
+many g = record {
+  spells = λ xs. flat_map g.spells xs;
+  IsAllowed = λ xs. AllByRecursion g.IsAllowed xs;
+  MayFollow = λ xs r. HasNone g r;
+}
+
+-- these may stand behind the last of the values
+abbrev pub MayFollowLast : {A : Type 0} → Grammar A → A → List A → List Token → Type 0
+MayFollowLast g a [] r = g.MayFollow a r
+MayFollowLast g a (b ∷ bs) r = MayFollowLast g b bs r
+
+-- these may stand behind values that are parted by commas
+abbrev pub MayFollowAll : {A : Type 0} → Grammar A → List A → List Token → Type 0
+MayFollowAll g [] r = Unit {0}
+MayFollowAll g (a ∷ xs) r = MayFollowLast g a xs r × HasNone (behind (sign 44) g) r
+
+-- values parted by commas, at least one and as many as there are
+abbrev pub commas : {A : Type 0} → Grammar A → Grammar (List A)
+commas g = record {
+  spells = λ xs. parted (map g.spells xs);
+  IsAllowed = λ xs. (0 < length xs) × AllByRecursion g.IsAllowed xs;
+  MayFollow = MayFollowAll g;
+}
+
+-- values parted by commas, between `(` and `)`
+abbrev pub parentheses : {A : Type 0} → Grammar A → Grammar (List A)
+parentheses g = record {
+  spells = λ xs. in_parentheses (map g.spells xs);
+  IsAllowed = λ xs. AllByRecursion g.IsAllowed xs;
+  MayFollow = λ xs r. Unit {0};
+}
+
+-- a value by its kind
+abbrev pub by_kind :
+    {K : Type 0} → (Payload : K → Type 0) → ((k : K) → Grammar (Payload k))
+    → Grammar ((k : K) × Payload k)
+by_kind Payload g = record {
+  spells = λ p. (g p.0).spells p.1;
+  IsAllowed = λ p. (g p.0).IsAllowed p.1;
+  MayFollow = λ p r. (g p.0).MayFollow p.1 r;
+}

@@ -1,0 +1,215 @@
+-- Lines by their first words, and the right sides of assignments by their first tokens.
+-- Source: project's choice. Only private contracts cite this file.
+use Rattle.std.specs.Prelude.{◌≡◌, ℕ, Bool, List, [], ◌∷◌, codes, Option, Some, None}
+use Rattle.nll_text.specs.Tokens.{Token, word, sign}
+use Rattle.nll_types.specs.Places.{PlacePath}
+use Rattle.nll_types.specs.Operands.{Operand}
+use Rattle.nll_type_grammar.specs.WrittenTypes.{Name, WrittenType, WrittenTypes}
+use Rattle.nll_mir_grammar.specs.Grammars.{Grammar, Begins, behind, empty, pair, parentheses}
+use Rattle.nll_mir_grammar.specs.Grammars.{by_kind}
+use Rattle.nll_mir_grammar.specs.Parts.{regions, any_words, names, numbers, variables, block_names}
+use Rattle.nll_mir_grammar.specs.Parts.{places, operands, types, tuples, arguments, mutabilities}
+use Rattle.nll_mir_grammar.specs.Parts.{drop_marks, parameter_lists, bound_lists, block_lists}
+use Rattle.nll_mir_grammar.specs.Parts.{exits}
+use Rattle.nll_statements.specs.Statements.{Statement, assign, borrow, make, read, live, dead, nop}
+use Rattle.nll_statements.specs.Statements.{goto, switch, drop, call, return, stop}
+use Rattle.nll_mir_grammar.specs.MirForms.{Form, universal, outlives, further, struct_line}
+use Rattle.nll_mir_grammar.specs.MirForms.{variable, blocks, block, at_point, end, WrittenParameter}
+use Rattle.nll_mir_grammar.specs.declared.keyword.Keyword.{Keyword}
+use Rattle.nll_mir_grammar.specs.declared.keyword.Keyword.TheVariants as words
+
+-- ---- lines that begin with a word of their own
+
+-- the first word of a line
+abbrev pub keyword_name : Keyword → List ℕ
+keyword_name words.Universal = codes "universal"
+keyword_name words.Outlives = codes "outlives"
+keyword_name words.Region = codes "region"
+keyword_name words.Struct = codes "struct"
+keyword_name words.Let = codes "let"
+keyword_name words.Blocks = codes "blocks"
+keyword_name words.Block = codes "block"
+keyword_name words.Read = codes "read"
+keyword_name words.Live = codes "live"
+keyword_name words.Dead = codes "dead"
+keyword_name words.Nop = codes "nop"
+keyword_name words.Goto = codes "goto"
+keyword_name words.Switch = codes "switch"
+keyword_name words.Drop = codes "drop"
+keyword_name words.Return = codes "return"
+keyword_name words.Stop = codes "stop"
+keyword_name words.End = codes "end"
+
+-- the word is the first word of no line that isn't at a point
+pub record IsNoLineKeyword (w : List ℕ) : Type 0 where
+  pub universal : w ≡ codes "universal" → ⊥
+  pub outlives : w ≡ codes "outlives" → ⊥
+  pub region : w ≡ codes "region" → ⊥
+  pub struct_line : w ≡ codes "struct" → ⊥
+  pub variable : w ≡ codes "let" → ⊥
+  pub blocks : w ≡ codes "blocks" → ⊥
+  pub block : w ≡ codes "block" → ⊥
+  pub last : w ≡ codes "end" → ⊥
+
+-- the word is the first word of no statement or terminator
+pub record IsNoPointKeyword (w : List ℕ) : Type 0 where
+  pub read : w ≡ codes "read" → ⊥
+  pub live : w ≡ codes "live" → ⊥
+  pub dead : w ≡ codes "dead" → ⊥
+  pub nop : w ≡ codes "nop" → ⊥
+  pub goto : w ≡ codes "goto" → ⊥
+  pub switch : w ≡ codes "switch" → ⊥
+  pub drop : w ≡ codes "drop" → ⊥
+  pub returns : w ≡ codes "return" → ⊥
+  pub stop : w ≡ codes "stop" → ⊥
+
+-- what stands behind the word
+abbrev pub Behind : Keyword → Type 0
+Behind words.Universal = Name
+Behind words.Outlives = Name × Name
+Behind words.Region = Name
+Behind words.Struct = Name × (List WrittenParameter × (Bool × WrittenTypes))
+Behind words.Let = ℕ × WrittenType
+Behind words.Blocks = ℕ
+Behind words.Block = ℕ
+Behind words.Read = PlacePath
+Behind words.Live = ℕ
+Behind words.Dead = ℕ
+Behind words.Nop = Unit {0}
+Behind words.Goto = ℕ
+Behind words.Switch = Operand × List ℕ
+Behind words.Drop = ℕ × (ℕ × Option ℕ)
+Behind words.Return = Unit {0}
+Behind words.Stop = Unit {0}
+Behind words.End = Unit {0}
+
+-- what stands behind `struct`
+abbrev pub structs : Grammar (Name × (List WrittenParameter × (Bool × WrittenTypes)))
+structs = pair names (pair parameter_lists (pair drop_marks tuples))
+
+-- how it is spelled
+abbrev pub tails : (k : Keyword) → Grammar (Behind k)
+tails words.Universal = regions
+tails words.Outlives = pair regions regions
+tails words.Region = regions
+tails words.Struct = structs
+tails words.Let = pair variables (behind (sign 58) types)
+tails words.Blocks = numbers
+tails words.Block = block_names
+tails words.Read = places
+tails words.Live = variables
+tails words.Dead = variables
+tails words.Nop = empty
+tails words.Goto = block_names
+tails words.Switch = pair operands block_lists
+tails words.Drop = pair variables exits
+tails words.Return = empty
+tails words.Stop = empty
+tails words.End = empty
+
+-- ---- right sides of assignments
+
+pub data Right : Type 0 where
+  value : Right
+  borrowed : Right
+  made : Right
+  called : Right
+
+-- what a right side has
+abbrev pub RightParts : Right → Type 0
+RightParts value = Operand
+RightParts borrowed = Name × (Bool × PlacePath)
+RightParts made = WrittenType × List Operand
+RightParts called =
+    List ℕ × (List (Operand × WrittenType)
+    × (WrittenType × (List (Name × Name) × (ℕ × Option ℕ))))
+
+-- what stands behind the `&` of a borrow
+abbrev pub borrows : Grammar (Name × (Bool × PlacePath))
+borrows = pair regions (pair mutabilities places)
+
+-- what stands behind `make`
+abbrev pub makes : Grammar (WrittenType × List Operand)
+makes = pair types (parentheses operands)
+
+-- what stands behind the `:` of a call
+abbrev pub results : Grammar (WrittenType × (List (Name × Name) × (ℕ × Option ℕ)))
+results = pair types (pair bound_lists exits)
+
+-- what stands behind the name of a function that is called
+abbrev pub signatures :
+    Grammar (List (Operand × WrittenType) × (WrittenType × (List (Name × Name) × (ℕ × Option ℕ))))
+signatures = pair (parentheses arguments) (behind (sign 58) results)
+
+-- how it is spelled
+abbrev pub right_sides : (k : Right) → Grammar (RightParts k)
+right_sides value = operands
+right_sides borrowed = behind (sign 38) borrows
+right_sides made = behind (word (codes "make")) makes
+right_sides called = behind (word (codes "call")) (pair any_words signatures)
+
+-- a right side
+abbrev pub rights : Grammar ((k : Right) × RightParts k)
+rights = by_kind RightParts right_sides
+
+-- ---- lines
+
+-- what a line has, behind its keyword or where it has none
+abbrev pub LineParts : Option Keyword → Type 0
+LineParts None = PlacePath × ((k : Right) × RightParts k)
+LineParts (Some k) = Behind k
+
+-- how it is spelled, with its keyword
+abbrev pub line_grammars : (k : Option Keyword) → Grammar (LineParts k)
+line_grammars None = pair places (behind (sign 61) rights)
+line_grammars (Some k) = behind (word (keyword_name k)) (tails k)
+
+-- a line
+abbrev pub lines : Grammar ((k : Option Keyword) × LineParts k)
+lines = by_kind LineParts line_grammars
+
+-- the parts of a form, with the word behind `call`
+abbrev pub parts_of : List ℕ → Form → (k : Option Keyword) × LineParts k
+parts_of f (universal a) = (Some words.Universal, a)
+parts_of f (outlives a b) = (Some words.Outlives, (a, b))
+parts_of f (further x) = (Some words.Region, x)
+parts_of f (struct_line n ps has_drop fields) = (Some words.Struct, (n, (ps, (has_drop, fields))))
+parts_of f (variable x t) = (Some words.Let, (x, t))
+parts_of f (blocks n) = (Some words.Blocks, n)
+parts_of f (block n) = (Some words.Block, n)
+parts_of f (at_point (assign p op)) = (None, (p, (value, op)))
+parts_of f (at_point (borrow p r m q)) = (None, (p, (borrowed, (r, (m, q)))))
+parts_of f (at_point (make p t ops)) = (None, (p, (made, (t, ops))))
+parts_of f (at_point (read p)) = (Some words.Read, p)
+parts_of f (at_point (live x)) = (Some words.Live, x)
+parts_of f (at_point (dead x)) = (Some words.Dead, x)
+parts_of f (at_point nop) = (Some words.Nop, tt)
+parts_of f (at_point (goto b)) = (Some words.Goto, b)
+parts_of f (at_point (switch op bs)) = (Some words.Switch, (op, bs))
+parts_of f (at_point (drop x b unwind)) = (Some words.Drop, (x, (b, unwind)))
+parts_of f (at_point (call p args t wheres b unwind)) =
+    (None, (p, (called, (f, (args, (t, (wheres, (b, unwind))))))))
+parts_of f (at_point return) = (Some words.Return, tt)
+parts_of f (at_point stop) = (Some words.Stop, tt)
+parts_of f end = (Some words.End, tt)
+
+-- a form at the front: `f` is the word behind `call`
+pub record IsLine (ts : List Token) (f : Form) (rest : List Token) : Type 0 where
+  pub callee : List ℕ
+  pub begins : Begins lines ts (parts_of callee f) rest
+
+-- the right side at the front, of an assignment to the place that is of this form
+pub record IsRightSide (ts : List Token) (p : PlacePath) (f : Form) (rest : List Token) :
+    Type 0 where
+  pub callee : List ℕ
+  pub right : (k : Right) × RightParts k
+  pub begins : Begins rights ts right rest
+  pub same : parts_of callee f ≡ (None, (p, right))
+
+-- what stands behind the keyword, of a line that is of this form
+abbrev pub IsBehind : Keyword → List Token → Form → List Token → Type 0
+IsBehind k ts f rest = Begins lines (word (keyword_name k) ∷ ts) (parts_of [] f) rest
+
+-- the tokens begin with no keyword
+abbrev pub HasNoKeyword : List Token → Type 0
+HasNoKeyword ts = (k : Keyword) (rest : List Token) → ts ≡ word (keyword_name k) ∷ rest → ⊥

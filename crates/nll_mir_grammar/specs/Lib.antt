@@ -1,0 +1,5 @@
+pub mod MirForms
+pub mod Lines
+pub mod Grammars
+pub mod Parts
+pub mod Kinds

@@ -1,0 +1,51 @@
+-- The code's lines and statements as the forms that they are.
+-- Source: project's choice.
+use Rattle.std.specs.Prelude.{ℕ, List, map}
+use Rattle.std.specs.Borrow.{Bor}
+use Rattle.nll_types.specs.Operands.{Operand, operand_of}
+use Rattle.nll_types.specs.declared.operand.Operand.{Operand as Written}
+use Rattle.nll_type_grammar.specs.WrittenTypes.{WrittenType, WrittenTypes, tuple, none}
+use Rattle.nll_type_grammar.specs.TypeTexts.{written}
+use Rattle.nll_type_grammar.specs.declared.type_text.TypeNode.{TypeNode}
+use Rattle.nll_statements.specs.Statements.{map_statement}
+use Rattle.nll_statements.specs.Kept.{statement_of}
+use Rattle.nll_statements.specs.declared.statement.Statement.{Statement as Kept}
+use Rattle.nll_mir_grammar.specs.MirForms.{Form, universal, outlives, further, struct_line}
+use Rattle.nll_mir_grammar.specs.MirForms.{variable, blocks, block, at_point, end}
+use Rattle.nll_mir_grammar.specs.MirForms.{WrittenParameter, region_parameter, type_parameter}
+use Rattle.nll_mir_grammar.specs.declared.line.Line.{Line}
+use Rattle.nll_mir_grammar.specs.declared.line.Line.TheVariants as lines
+use Rattle.nll_mir_grammar.specs.declared.line.ParameterText.{ParameterText}
+use Rattle.nll_mir_grammar.specs.declared.line.ParameterText.TheVariants as parameters
+
+-- an argument of a call in the code
+abbrev pub argument_of : Written × List TypeNode → Operand × WrittenType
+argument_of a = (operand_of a.0, written a.1)
+
+-- a parameter of the code
+abbrev pub parameter_of : ParameterText → WrittenParameter
+parameter_of (parameters.Region a p) = region_parameter a.now p
+parameter_of (parameters.Type n p) = type_parameter n.now p
+
+-- the types of a tuple
+abbrev pub parts : WrittenType → WrittenTypes
+parts (tuple ts) = ts
+parts _ = none
+
+-- a statement of the code as the line at its point
+abbrev pub point_form : Kept (Bor (List ℕ)) (List TypeNode) → Form
+point_form s = at_point (map_statement (λ r. r.now) written (statement_of s))
+
+-- a line of the code
+abbrev pub form_of : Line → Form
+form_of (lines.Universal a) = universal a.now
+form_of (lines.Outlives a b) = outlives a.now b.now
+form_of (lines.Region x) = further x.now
+form_of (lines.Struct b) =
+    struct_line b.value.name.now (map parameter_of b.value.parameters.items) b.value.has_drop
+    (parts (written b.value.fields))
+form_of (lines.Let x t) = variable x (written t)
+form_of (lines.Blocks n) = blocks n
+form_of (lines.Block n) = block n
+form_of (lines.At s) = point_form s
+form_of lines.End = end

@@ -1,0 +1,157 @@
+//! Assignments: a place, `=`, and what goes to the place.
+
+ghost use Rattle.std.specs.Prelude.{◌≡◌, ◌∷◌, IfOk, List, MatchOption, None, codes};
+ghost use Rattle.nll_text.specs.Tokens as lex;
+ghost use Rattle.nll_text.specs.Tokens.{views};
+ghost use Rattle.nll_types.specs.Places.{path_of};
+ghost use Rattle.nll_mir_grammar.specs.Grammars.{HasNone};
+ghost use Rattle.nll_mir_grammar.specs.Kinds.{IsLine, IsRightSide, line_grammars, rights};
+ghost use Rattle.nll_mir_grammar.specs.Lines.{point_form};
+ghost use Rattle.nll_mir_grammar.specs.Parts.{operands};
+
+use crate::place::{operand_at, place_at};
+use crate::right::{CallResult, borrow_at, make_at, signature_at};
+use crate::words::{after_sign, after_word, word_at};
+use nll_sets::Memory;
+use nll_statements::{Call, Make, Statement};
+use nll_text::Token;
+use nll_type_grammar::TypeText;
+use nll_types::Place;
+use std::alloc::Global;
+
+// The borrow that goes to the place, behind its `&`.
+fn borrowed<'t, 'a>(
+    alloc: Global,
+    place: Place,
+    tokens: &'t [Token<'a>],
+) -> Result<Option<(Statement<&'a [u8], TypeText<'a>>, &'t [Token<'a>])>, Memory>
+    ensures { IfOk result
+        (λ o. (ts : List lex.Token) → ts ≡ lex.sign 38 ∷ views tokens.now
+        → MatchOption o (HasNone rights ts)
+        (λ p. IsRightSide ts (path_of place) (point_form p.0) (views p.1.now))) }
+{
+    let Some((region, mutable, source, rest)) = borrow_at(alloc, tokens)? else {
+        return Ok(None);
+    };
+    Ok(Some((Statement::Borrow(place, region, mutable, source), rest)))
+}
+
+// The value of a tuple or struct that goes to the place, behind `make`.
+fn made<'t, 'a>(
+    alloc: Global,
+    place: Place,
+    tokens: &'t [Token<'a>],
+) -> Result<Option<(Statement<&'a [u8], TypeText<'a>>, &'t [Token<'a>])>, Memory>
+    ensures { IfOk result
+        (λ o. (ts : List lex.Token) → ts ≡ lex.word (codes "make") ∷ views tokens.now
+        → MatchOption o (HasNone rights ts)
+        (λ p. IsRightSide ts (path_of place) (point_form p.0) (views p.1.now))) }
+{
+    let Some((ty, operands, rest)) = make_at(alloc, tokens)? else {
+        return Ok(None);
+    };
+    let make = Make {
+        place,
+        ty,
+        operands,
+    };
+    Ok(Some((Statement::Make(Box::new(alloc, make)?), rest)))
+}
+
+// The call whose result goes to the place, behind `call`.
+fn called<'t, 'a>(
+    alloc: Global,
+    place: Place,
+    tokens: &'t [Token<'a>],
+) -> Result<Option<(Statement<&'a [u8], TypeText<'a>>, &'t [Token<'a>])>, Memory>
+    ensures { IfOk result
+        (λ o. (ts : List lex.Token) → ts ≡ lex.word (codes "call") ∷ views tokens.now
+        → MatchOption o (HasNone rights ts)
+        (λ p. IsRightSide ts (path_of place) (point_form p.0) (views p.1.now))) }
+{
+    let Some((_, behind)) = word_at(tokens) else {
+        return Ok(None);
+    };
+    let Some((arguments, call, rest)) = signature_at(alloc, behind)? else {
+        return Ok(None);
+    };
+    let CallResult {
+        ty,
+        wheres,
+        target,
+        unwind,
+    } = call;
+    let call = Call {
+        place,
+        arguments,
+        result: ty,
+        wheres,
+        target,
+        unwind,
+    };
+    Ok(Some((Statement::Call(Box::new(alloc, call)?), rest)))
+}
+
+// The operand that goes to the place.
+fn assigned<'t, 'a>(
+    alloc: Global,
+    place: Place,
+    tokens: &'t [Token<'a>],
+) -> Result<Option<(Statement<&'a [u8], TypeText<'a>>, &'t [Token<'a>])>, Memory>
+    ensures { IfOk result
+        (λ o. MatchOption o (HasNone operands (views tokens.now))
+        (λ p. IsRightSide (views tokens.now) (path_of place) (point_form p.0)
+        (views p.1.now))) }
+{
+    let Some((operand, rest)) = operand_at(alloc, tokens)? else {
+        return Ok(None);
+    };
+    Ok(Some((Statement::Assign(place, operand), rest)))
+}
+
+// What goes to the place: the right side of an assignment.
+fn right_side<'t, 'a>(
+    alloc: Global,
+    place: Place,
+    tokens: &'t [Token<'a>],
+) -> Result<Option<(Statement<&'a [u8], TypeText<'a>>, &'t [Token<'a>])>, Memory>
+    ensures { IfOk result
+        (λ o. MatchOption o (HasNone rights (views tokens.now))
+        (λ p. IsRightSide (views tokens.now) (path_of place) (point_form p.0)
+        (views p.1.now))) }
+{
+    if let Some(behind) = after_sign(tokens, b'&') {
+        return borrowed(alloc, place, behind);
+    }
+    if let Some(behind) = after_word(tokens, b"make") {
+        return made(alloc, place, behind);
+    }
+    if let Some(behind) = after_word(tokens, b"call") {
+        return called(alloc, place, behind);
+    }
+    let Some((statement, rest)) = assigned(alloc, place, tokens)? else {
+        return Ok(None);
+    };
+    Ok(Some((statement, rest)))
+}
+
+/// The assignment at the front.
+pub fn assignment_at<'t, 'a>(
+    alloc: Global,
+    tokens: &'t [Token<'a>],
+) -> Result<Option<(Statement<&'a [u8], TypeText<'a>>, &'t [Token<'a>])>, Memory>
+    ensures { IfOk result
+        (λ o. MatchOption o (HasNone (line_grammars None) (views tokens.now))
+        (λ p. IsLine (views tokens.now) (point_form p.0) (views p.1.now))) }
+{
+    let Some((place, behind)) = place_at(alloc, tokens)? else {
+        return Ok(None);
+    };
+    let Some(behind) = after_sign(behind, b'=') else {
+        return Ok(None);
+    };
+    let Some((statement, rest)) = right_side(alloc, place, behind)? else {
+        return Ok(None);
+    };
+    Ok(Some((statement, rest)))
+}

@@ -1,0 +1,24 @@
+//! The grammar of MIR texts: from the tokens of a line to its form.
+#![tactic(auto)]
+
+mod arguments;
+mod assignment;
+mod blocks;
+mod bounds;
+mod exits;
+mod keyword;
+mod laws;
+mod line;
+mod lines;
+mod operands;
+mod parameters;
+mod place;
+mod points;
+mod reading;
+mod right;
+mod type_front;
+mod words;
+
+pub use laws::one_form;
+pub use line::{Line, ParameterText, StructText};
+pub use reading::line_of;

@@ -1,0 +1,113 @@
+//! Lines that begin with a word of their own, behind that word.
+
+ghost use Rattle.std.specs.Prelude.{IfOk, MatchOption};
+ghost use Rattle.nll_text.specs.Tokens.{views};
+ghost use Rattle.nll_mir_grammar.specs.Grammars.{HasNone};
+ghost use Rattle.nll_mir_grammar.specs.Kinds.{IsBehind, tails};
+ghost use Rattle.nll_mir_grammar.specs.Lines.{form_of};
+ghost use Rattle.nll_mir_grammar.specs.declared.keyword.Keyword.TheVariants as keyword;
+
+use crate::line::{Line, StructText};
+use crate::parameters::parameters_in;
+use crate::type_front::{tuple_front, type_front};
+use crate::words::{
+    after_sign, block_at, drop_mark_at, name_at, number_at, region_at, variable_at,
+};
+use nll_sets::Memory;
+use nll_text::Token;
+use std::alloc::Global;
+
+/// Behind `universal`.
+pub fn universal_line<'t, 'a>(tokens: &'t [Token<'a>]) -> Option<(Line<'a>, &'t [Token<'a>])>
+    ensures { MatchOption result (HasNone (tails keyword.Universal) (views tokens.now))
+        (λ p. IsBehind keyword.Universal (views tokens.now) (form_of p.0) (views p.1.now)) }
+{
+    let (name, rest) = region_at(tokens)?;
+    Some((Line::Universal(name), rest))
+}
+
+/// Behind `outlives`.
+pub fn outlives_line<'t, 'a>(tokens: &'t [Token<'a>]) -> Option<(Line<'a>, &'t [Token<'a>])>
+    ensures { MatchOption result (HasNone (tails keyword.Outlives) (views tokens.now))
+        (λ p. IsBehind keyword.Outlives (views tokens.now) (form_of p.0) (views p.1.now)) }
+{
+    let (longer, behind) = region_at(tokens)?;
+    let (shorter, rest) = region_at(behind)?;
+    Some((Line::Outlives(longer, shorter), rest))
+}
+
+/// Behind `region`.
+pub fn region_line<'t, 'a>(tokens: &'t [Token<'a>]) -> Option<(Line<'a>, &'t [Token<'a>])>
+    ensures { MatchOption result (HasNone (tails keyword.Region) (views tokens.now))
+        (λ p. IsBehind keyword.Region (views tokens.now) (form_of p.0) (views p.1.now)) }
+{
+    let (name, rest) = region_at(tokens)?;
+    Some((Line::Region(name), rest))
+}
+
+/// Behind `blocks`.
+pub fn blocks_line<'t, 'a>(tokens: &'t [Token<'a>]) -> Option<(Line<'a>, &'t [Token<'a>])>
+    ensures { MatchOption result (HasNone (tails keyword.Blocks) (views tokens.now))
+        (λ p. IsBehind keyword.Blocks (views tokens.now) (form_of p.0) (views p.1.now)) }
+{
+    let (number, rest) = number_at(tokens)?;
+    Some((Line::Blocks(number), rest))
+}
+
+/// Behind `block`.
+pub fn block_line<'t, 'a>(tokens: &'t [Token<'a>]) -> Option<(Line<'a>, &'t [Token<'a>])>
+    ensures { MatchOption result (HasNone (tails keyword.Block) (views tokens.now))
+        (λ p. IsBehind keyword.Block (views tokens.now) (form_of p.0) (views p.1.now)) }
+{
+    let (number, rest) = block_at(tokens)?;
+    Some((Line::Block(number), rest))
+}
+
+/// Behind `let`.
+pub fn let_line<'t, 'a>(
+    alloc: Global,
+    tokens: &'t [Token<'a>],
+) -> Result<Option<(Line<'a>, &'t [Token<'a>])>, Memory>
+    ensures { IfOk result
+        (λ o. MatchOption o (HasNone (tails keyword.Let) (views tokens.now))
+        (λ p. IsBehind keyword.Let (views tokens.now) (form_of p.0) (views p.1.now))) }
+{
+    let Some((variable, behind)) = variable_at(tokens) else {
+        return Ok(None);
+    };
+    let Some(behind) = after_sign(behind, b':') else {
+        return Ok(None);
+    };
+    let Some((ty, rest)) = type_front(alloc, behind)? else {
+        return Ok(None);
+    };
+    Ok(Some((Line::Let(variable, ty), rest)))
+}
+
+/// Behind `struct`.
+pub fn struct_line<'t, 'a>(
+    alloc: Global,
+    tokens: &'t [Token<'a>],
+) -> Result<Option<(Line<'a>, &'t [Token<'a>])>, Memory>
+    ensures { IfOk result
+        (λ o. MatchOption o (HasNone (tails keyword.Struct) (views tokens.now))
+        (λ p. IsBehind keyword.Struct (views tokens.now) (form_of p.0) (views p.1.now))) }
+{
+    let Some((name, behind)) = name_at(tokens) else {
+        return Ok(None);
+    };
+    let Some((parameters, behind)) = parameters_in(alloc, behind)? else {
+        return Ok(None);
+    };
+    let (has_drop, behind) = drop_mark_at(behind);
+    let Some((fields, rest)) = tuple_front(alloc, behind)? else {
+        return Ok(None);
+    };
+    let text = StructText {
+        name,
+        parameters,
+        has_drop,
+        fields,
+    };
+    Ok(Some((Line::Struct(Box::new(alloc, text)?), rest)))
+}

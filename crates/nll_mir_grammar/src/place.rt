@@ -1,0 +1,91 @@
+//! Places and operands.
+
+ghost use Rattle.std.specs.Prelude.{IfOk, MatchOption};
+ghost use Rattle.nll_text.specs.Tokens.{views};
+ghost use Rattle.nll_types.specs.Places.{path_of};
+ghost use Rattle.nll_types.specs.Operands.{operand_of};
+ghost use Rattle.nll_mir_grammar.specs.Grammars.{Begins, HasNone, many};
+ghost use Rattle.nll_mir_grammar.specs.Parts as parts;
+
+use crate::words::{after_word, variable_at};
+use nll_sets::Memory;
+use nll_text::{Token, number_of};
+use nll_types::{Operand, Place, Projection};
+use std::alloc::Global;
+
+// The projection at the front.
+fn projection_at<'t, 'a>(tokens: &'t [Token<'a>]) -> Option<(Projection, &'t [Token<'a>])>
+    ensures { MatchOption result (HasNone parts.projections (views tokens.now))
+        (λ p. Begins parts.projections (views tokens.now) p.0 (views p.1.now)) }
+{
+    match tokens {
+        [Token::Sign(b'.'), Token::Sign(b'*'), rest @ ..] => Some((Projection::Deref, rest)),
+        [Token::Sign(b'.'), Token::Word(word), rest @ ..] => {
+            let number = number_of(word)?;
+            Some((Projection::Field(number), rest))
+        }
+        _ => None,
+    }
+}
+
+// The projections at the front, as many as there are.
+fn projections_at<'t, 'a>(
+    alloc: Global,
+    tokens: &'t [Token<'a>],
+) -> Result<(Vec<Projection>, &'t [Token<'a>]), Memory>
+    ensures { IfOk result
+        (λ p. Begins (many parts.projections) (views tokens.now) p.0.items (views p.1.now)) }
+{
+    let mut projections = Vec::new(alloc);
+    let mut at = 0;
+    while let Some((projection, behind)) = projection_at(&tokens[at..]) {
+        projections.push(projection)?;
+        at = tokens.len() - behind.len();
+    }
+    Ok((projections, &tokens[at..]))
+}
+
+/// The place at the front.
+pub fn place_at<'t, 'a>(
+    alloc: Global,
+    tokens: &'t [Token<'a>],
+) -> Result<Option<(Place, &'t [Token<'a>])>, Memory>
+    ensures { IfOk result (λ o. MatchOption o (HasNone parts.places (views tokens.now))
+        (λ p. Begins parts.places (views tokens.now) (path_of p.0) (views p.1.now))) }
+{
+    let Some((variable, behind)) = variable_at(tokens) else {
+        return Ok(None);
+    };
+    let (projections, rest) = projections_at(alloc, behind)?;
+    let place = Place {
+        variable,
+        projections,
+    };
+    Ok(Some((place, rest)))
+}
+
+/// The operand at the front.
+pub fn operand_at<'t, 'a>(
+    alloc: Global,
+    tokens: &'t [Token<'a>],
+) -> Result<Option<(Operand, &'t [Token<'a>])>, Memory>
+    ensures { IfOk result (λ o. MatchOption o (HasNone parts.operands (views tokens.now))
+        (λ p. Begins parts.operands (views tokens.now) (operand_of p.0) (views p.1.now))) }
+{
+    if let Some(rest) = after_word(tokens, b"copy") {
+        let Some((place, rest)) = place_at(alloc, rest)? else {
+            return Ok(None);
+        };
+        return Ok(Some((Operand::Copy(place), rest)));
+    }
+    if let Some(rest) = after_word(tokens, b"move") {
+        let Some((place, rest)) = place_at(alloc, rest)? else {
+            return Ok(None);
+        };
+        return Ok(Some((Operand::Move(place), rest)));
+    }
+    match after_word(tokens, b"const") {
+        Some(rest) => Ok(Some((Operand::Const, rest))),
+        None => Ok(None),
+    }
+}

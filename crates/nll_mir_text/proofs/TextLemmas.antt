@@ -1,0 +1,68 @@
+-- The lines of a MIR text, read one after another.
+use Rattle.std.proofs.Common.{◌≡◌, ℕ, suc, zero, ◌+◌, ◌-◌, ◌<◌, ◌≤◌, List, [], ◌∷◌, ◌++◌, length, refl, subst, sym, ap, arith, ◌∙◌, length-append}
+use Rattle.nll_text.specs.Tokens.{Token, word, region, arrow, sign, IsMadeOf, IsToken, spelling, IsNotMadeWithin}
+use Rattle.nll_text.specs.Scan.{IsTokenLine}
+use Rattle.nll_text.proofs.Utf8Lemmas.{IsUtf8-word}
+use Rattle.std.specs.Str.{IsUtf8}
+use Rattle.nll_mir_grammar.specs.MirForms.{Form, IsSpelled, HasForm}
+use Rattle.nll_reading.specs.Text.{HasFault, IsFaulty, Says}
+use Rattle.nll_reading.specs.declared.error.TextKind.{TextKind}
+use Rattle.nll_reading.proofs.ReadingLemmas as lemmas
+use Rattle.nll_mir_text.specs.MirSaid.{Said, said}
+use Rattle.nll_mir_text.specs.MirReading.{Adds, ReadsLine}
+use Rattle.nll_mir_text.specs.MirText.{mir}
+use Rattle.nll_mir_text.proofs.SaidLemmas.{adds_said, same_fault}
+
+abbrev Same : Said → Said → Type 0
+Same s t = s ≡ t
+
+-- Of all lines those in front are read, they are of the forms and what they say is s.
+abbrev pub IsRead : List (List ℕ) → List (List ℕ) → List (List ℕ) → List Form → Said → ℕ → Type 0
+IsRead = lemmas.IsRead mir Same
+
+-- nothing is read yet
+pub read_none : (all : List (List ℕ)) (s : Said) → s ≡ said [] → IsRead all [] all [] s 1
+read_none all s e = lemmas.read_none mir Same all s (sym e)
+
+-- one more line is read
+pub read_more : (all front rest : List (List ℕ)) (line : List ℕ) (after : List (List ℕ)) (forms : List Form) (s t : Said) (number : ℕ) → rest ≡ line ∷ after → IsRead all front rest forms s number → ReadsLine s line t → (more : List Form) × IsRead all (front ++ line ∷ []) after more t (number + 1)
+read_more all front rest line after forms s t number step r h =
+    lemmas.read_more mir Same same_fault Adds adds_said all front rest line after forms s t number step r h
+
+-- the next line is faulty
+pub read_fault : (all front rest : List (List ℕ)) (line : List ℕ) (after : List (List ℕ)) (forms : List Form) (s : Said) (number : ℕ) → rest ≡ line ∷ after → IsRead all front rest forms s number → (kind : TextKind) → IsFaulty mir s line kind → HasFault mir all (number + 1 - 2) kind
+read_fault = lemmas.read_fault mir Same same_fault
+
+pub read_bound : (all front rest : List (List ℕ)) (forms : List Form) (s : Said) (number : ℕ) → IsRead all front rest forms s number → number ≤ 1 + length all
+read_bound = lemmas.read_bound mir Same
+
+-- all lines are read
+pub read_all : (all front : List (List ℕ)) (forms : List Form) (s : Said) (number : ℕ) → IsRead all front [] forms s number → Says mir [] all forms × (said forms ≡ s) × (number ≡ 1 + length all)
+read_all = lemmas.read_all mir Same
+
+-- ---- the tokens of a line
+
+spelling_some : (t : Token) → IsToken t → 0 < length (spelling t)
+spelling_some (word w) h = h.0
+spelling_some (region x) h = omega (arith, h.0)
+spelling_some arrow h = omega arith
+spelling_some (sign b) h = omega arith
+
+-- a line has no more tokens than bytes
+pub few_made : (line : List ℕ) (ts : List Token) → IsMadeOf line ts → length ts ≤ length line
+few_made line [] h = omega arith
+few_made line (t ∷ ts) h =
+    omega (arith, few_made h.1 ts h.6, spelling_some t h.4, ap length h.2, length-append h.0 (spelling t ++ h.1), length-append (spelling t) h.1)
+
+-- a line that no so few tokens make has no form
+pub no_form_within : (line : List ℕ) → IsNotMadeWithin (length line) line → (f : Form) → HasForm line f → ⊥
+no_form_within line none f h = none h.0 (few_made line h.0 h.1) h.1
+
+-- a line whose tokens spell no form has none
+pub no_form_from : (line : List ℕ) (ts us : List Token) → us ≡ ts → IsTokenLine line ts → ((f : Form) → IsSpelled us f → ⊥) → (f : Form) → HasForm line f → ⊥
+no_form_from line ts us e scanned none f h =
+    none f (subst (λ (vs : List Token). IsSpelled vs f) (scanned.only h.0 h.1 ∙ sym e) h.2)
+
+-- a line whose tokens spell a form has it
+pub form_from : (line : List ℕ) (ts us : List Token) → us ≡ ts → IsTokenLine line ts → (f : Form) → IsSpelled us f → HasForm line f
+form_from line ts us e scanned f s = (us, subst (IsMadeOf line) (sym e) scanned.made, s)

@@ -1,0 +1,41 @@
+use Rattle.std.proofs.Common.{ap, refl, inl, inr, ⊎_elim}
+use Rattle.std.proofs.lemmas.Result.{err_from_is_err_and}
+use Rattle.nll_text.specs.Tokens.{views}
+use Rattle.nll_reading.specs.Text.{skipped, of_form, not_utf8, no_form, at_form}
+use Rattle.nll_reading.specs.Reading.{skips, reads}
+use Rattle.nll_mir_text.specs.MirText.{mir}
+use Rattle.nll_mir_text.proofs.FormLemmas.{texts_in}
+use Rattle.nll_mir_text.proofs.TextLemmas.{no_form_from, form_from, no_form_within}
+use Rattle.nll_mir_text.proofs.reader.Reader.read_line.Goals as goal
+
+pub returns-in-Ok-Skipped-clause-ok : goal.returns-in-Ok-Skipped-clause-ok
+returns-in-Ok-Skipped-clause-ok c = let h = rw c.in-Ok-Skipped.field-0-is at c.in-Ok-Skipped.ensures.ok in skips (skipped h.utf8 h.skipped) refl
+
+pub returns-in-Err-NotUtf8-clause-fault : goal.returns-in-Err-NotUtf8-clause-fault
+returns-in-Err-NotUtf8-clause-fault c = inr (not_utf8 (rw c.in-Err-NotUtf8.field-0-is at c.in-Err-NotUtf8.ensures.err))
+
+pub returns-in-Err-NoTokens-clause-fault : goal.returns-in-Err-NoTokens-clause-fault
+returns-in-Err-NoTokens-clause-fault c = let h = rw c.in-Err-NoTokens.field-0-is at c.in-Err-NoTokens.ensures.err in inr (no_form h.utf8 h.kept (no_form_within _ h.none))
+
+pub returns-in_default-clause-fault : goal.returns-in_default-clause-fault
+returns-in_default-clause-fault c =
+    let h = rw c.in-Ok-Tokens.field-0-is at c.in-Ok-Tokens.ensures.ok in
+    inr (no_form h.utf8 h.kept (no_form_from _ _ _ (ap views c.as_slice.ensures.value) h (rw c.in_default.is at c.in_ok-found.ensures)))
+
+pub take-requires-clause-texts : goal.take-requires-clause-texts
+take-requires-clause-texts c =
+    let h = rw c.in-Ok-Tokens.field-0-is at c.in-Ok-Tokens.ensures.ok in
+    texts_in _ _ (form_from _ _ _ (ap views c.as_slice.ensures.value) h _ (rw c.in-Some.is at c.in_ok-found.ensures))
+
+pub returns-in_err-take-clause-fault : goal.returns-in_err-take-clause-fault
+returns-in_err-take-clause-fault c =
+    let h = rw c.in-Ok-Tokens.field-0-is at c.in-Ok-Tokens.ensures.ok in
+    let form = form_from _ _ _ (ap views c.as_slice.ensures.value) h _ (rw c.in-Some.is at c.in_ok-found.ensures) in
+    let p = err_from_is_err_and c.from_residual-in_err-take.result c.from_residual-in_err-take.ensures.1 in
+    rw (p.1, p.2) (⊎_elim inl (λ fault. inr (at_form _ _ h.utf8 h.kept form fault)) c.in_err-take.ensures.refused)
+
+pub returns-clause-ok : goal.returns-clause-ok
+returns-clause-ok c =
+    let h = rw c.in-Ok-Tokens.field-0-is at c.in-Ok-Tokens.ensures.ok in
+    let form = form_from _ _ _ (ap views c.as_slice.ensures.value) h _ (rw c.in-Some.is at c.in_ok-found.ensures) in
+    reads _ (of_form _ h.utf8 h.kept form c.in_ok-take.ensures.taken.fine) c.in_ok-take.ensures.taken.says

@@ -1,0 +1,4 @@
+pub mod MirSaid
+pub mod MirFaults
+pub mod MirText
+pub mod MirReading

@@ -1,0 +1,187 @@
+-- What a reader of MIR texts holds, and how a line changes it.
+-- Source: project's choice. Only private contracts cite this file.
+use Rattle.std.specs.Prelude.{◌≡◌, ◌⊎◌, ℕ, ◌+◌, ◌<◌, ◌≤◌, Bool, true, false, List, [], ◌∷◌, map}
+use Rattle.std.specs.Prelude.{length, slice_index_or, Some, None}
+use Rattle.std.specs.List.{AllByRecursion}
+use Rattle.std.specs.Str.{IsUtf8}
+use Rattle.nll_problem.specs.Limits.{most_points, most_edges, most_universals, most_regions}
+use Rattle.nll_problem.specs.Limits.{most_variables, most_structs}
+use Rattle.nll_types.specs.Types.{TypeTree}
+use Rattle.nll_types.specs.Shapes.{Shape, shape_of, is_small}
+use Rattle.nll_types.specs.Table.{shape_in, AreBelow}
+use Rattle.nll_types.specs.Declarations.{structs_of}
+use Rattle.nll_types.specs.Structs.{Struct, struct_at}
+use Rattle.nll_types.specs.Views.{tree}
+use Rattle.nll_types.specs.declared.node.Node.{Node}
+use Rattle.nll_types.specs.declared.ty.Ty.{Ty}
+use Rattle.nll_statements.specs.Statements.{Statement, map_statement}
+use Rattle.nll_statements.specs.Kept.{statement_of}
+use Rattle.nll_statements.specs.declared.statement.Statement.{Statement as Kept}
+use Rattle.nll_reading.specs.Reading as reading
+use Rattle.nll_reading.specs.Text.{Says, IsText, IsFault, IsHeaded, IsRefusal}
+use Rattle.nll_reading.specs.declared.error.TextError.{TextError}
+use Rattle.nll_reading.specs.declared.error.TextKind.{TextKind}
+use Rattle.nll_reading.specs.declared.error.TextKind.TheVariants.{Memory}
+use Rattle.nll_mir_grammar.specs.MirForms.{Form, universal, outlives, further, struct_line}
+use Rattle.nll_mir_grammar.specs.MirForms.{WrittenParameter, region_parameter, type_parameter}
+use Rattle.nll_mir_grammar.specs.Lines.{parameter_of, parts}
+use Rattle.nll_mir_grammar.specs.declared.line.StructText.{StructText}
+use Rattle.nll_type_grammar.specs.WrittenTypes.{WrittenType}
+use Rattle.nll_type_grammar.specs.TypeTexts.{written}
+use Rattle.nll_naming.specs.Naming.{Scope, is_known, has_arguments, meant}
+use Rattle.nll_mir_text.specs.declared.tables.Regions.{Regions}
+use Rattle.nll_mir_text.specs.declared.tables.StructNames.{StructNames}
+use Rattle.nll_mir_text.specs.declared.judging.JudgedType.{JudgedType}
+use Rattle.nll_mir_text.specs.MirSaid.{Said, said, says}
+use Rattle.nll_mir_text.specs.MirFaults.{is_in_order, first_fault, edge_count}
+use Rattle.nll_mir_text.specs.MirText.{mir}
+use Rattle.nll_mir_text.specs.declared.reader.Reader.{Reader}
+
+-- ---- what a reader holds
+
+-- a statement of the code, with its types as trees
+abbrev pub statement_kept : Kept ℕ Ty → Statement ℕ TypeTree
+statement_kept i = map_statement (λ r. r) tree (statement_of i)
+
+-- what the reader's lines say
+abbrev pub said_by : Reader → Said
+said_by r = record {
+  reached = r.reached;
+  names = r.regions.names;
+  universals = r.regions.universals;
+  outlives = r.regions.outlives.keys;
+  struct_names = r.structs.names;
+  kinds = map (λ ks. ks.items) r.structs.kinds.items;
+  structs = structs_of r.variables.table.structs;
+  variables = map tree r.variables.types.items;
+  blocks = r.points.blocks;
+  starts = r.points.starts.items;
+  points = map statement_kept r.points.statements.items;
+  owes = r.points.owes;
+}
+
+-- The numbers of shapes are those of these types.
+pub record AreShapes (shapes : List Node) (numbers : List ℕ) (types : List Ty) : Type 0 where
+  pub below : AreBelow (length shapes) numbers
+  pub same : map (shape_in shapes) numbers ≡ map (λ t. shape_of (tree t)) types
+
+-- what names mean in the types of variables and of statements
+abbrev pub scope_in : Regions → StructNames → Scope
+scope_in regions structs = record {
+  regions = regions.names;
+  parameters = [];
+  structs = structs.names;
+  kinds = map (λ ks. ks.items) structs.kinds.items;
+}
+
+-- It tells of the type whether its names are known, whether it has arguments of the kinds that they
+-- take, whether it has no more nodes than a type may have, and the number of its shape.
+pub record IsOfType (s : Scope) (shapes : List Node) (t : WrittenType) (j : JudgedType)
+    : Type 0 where
+  pub known : j.known ≡ is_known s t
+  pub fits : j.fits ≡ has_arguments s t
+  pub small : j.small ≡ is_small (meant s t)
+  pub within : j.shape < length shapes
+  pub shape : shape_in shapes j.shape ≡ shape_of (meant s t)
+
+-- how many of the kinds are that of a region, and how many are not
+abbrev pub region_count : List Bool → ℕ
+region_count [] = 0
+region_count (true ∷ ks) = region_count ks + 1
+region_count (false ∷ ks) = region_count ks
+
+abbrev pub other_count : List Bool → ℕ
+other_count [] = 0
+other_count (true ∷ ks) = other_count ks
+other_count (false ∷ ks) = other_count ks + 1
+
+-- The kinds are those of the arguments that the structs take.
+pub record AreKinds (kinds : List (List Bool)) (structs : List Struct) : Type 0 where
+  pub regions : (n : ℕ) → n < length structs
+      → region_count (slice_index_or kinds n []) ≡ length (struct_at structs n).regions
+  pub types : (n : ℕ) → n < length structs
+      → other_count (slice_index_or kinds n []) ≡ length (struct_at structs n).types
+
+-- The reader's tables agree, and are within the limits.
+pub record IsReady (r : Reader) : Type 0 where
+  pub static : 0 < r.regions.universals
+  pub universals : r.regions.universals ≤ length r.regions.names
+  pub few_universals : r.regions.universals ≤ most_universals
+  pub few_regions : length r.regions.names ≤ most_regions
+  pub no_parameter : r.structs.none ≡ []
+  pub named_structs : length r.structs.names ≡ length r.variables.table.structs
+  pub counted_kinds : length r.structs.kinds.items ≡ length r.variables.table.structs
+  pub kinds :
+      AreKinds (map (λ ks. ks.items) r.structs.kinds.items) (structs_of r.variables.table.structs)
+  pub few_structs : length r.variables.table.structs ≤ most_structs
+  pub few_variables : length r.variables.types.items ≤ most_variables
+  pub shapes :
+      AreShapes r.variables.table.shapes r.variables.shapes.items r.variables.types.items
+  pub few_blocks : r.points.blocks ≤ most_points
+  pub no_start : r.reached < 6 → length r.points.starts.items ≡ 0
+  pub starts : length r.points.starts.items ≤ r.points.blocks
+  pub few_points : length r.points.statements.items ≤ most_points
+  pub edges : r.points.edges ≡ edge_count (map statement_kept r.points.statements.items)
+  pub few_edges : r.points.edges ≤ most_edges
+
+-- ---- one line
+
+-- the form of a struct line of the code
+abbrev pub struct_form : StructText → Form
+struct_form t =
+    struct_line t.name.now (map parameter_of t.parameters.items) t.has_drop
+    (parts (written t.fields))
+
+-- the name of a parameter is UTF-8
+abbrev pub IsNamed : WrittenParameter → Type 0
+IsNamed (region_parameter a p) = IsUtf8 a
+IsNamed (type_parameter n p) = IsUtf8 n
+
+-- the names that a line of the form declares are UTF-8
+abbrev pub HasTexts : Form → Type 0
+HasTexts (universal a) = IsUtf8 a
+HasTexts (further x) = IsUtf8 x
+HasTexts (struct_line n ps has_drop fields) = IsUtf8 n × AllByRecursion IsNamed ps
+HasTexts _ = Unit {0}
+
+-- The reader is prepared for a line of the form: it stands in order, the names that it declares are
+-- texts, and the tables agree.
+pub record IsDue (r : Reader) (f : Form) : Type 0 where
+  pub ready : IsReady r
+  pub order : is_in_order (said_by r) f ≡ true
+  pub texts : HasTexts f
+
+-- A line of the form is taken after lines that say s: it had no fault, what it says came, and the
+-- tables agree.
+pub record IsTaken (s : Said) (f : Form) (r : Reader) : Type 0 where
+  pub fine : first_fault s f ≡ None
+  pub says : said_by r ≡ says s f
+  pub ready : IsReady r
+
+-- a line of the form is refused after lines that say s: for want of memory, or with its first kind
+-- of fault
+abbrev pub IsRefused : Said → Form → TextKind → Type 0
+IsRefused s f kind = (kind ≡ Memory) ⊎ (first_fault s f ≡ Some kind)
+
+-- t is what is said after a line of the form, where s was said before
+abbrev pub Adds : Said → Form → Said → Type 0
+Adds s f t = t ≡ says s f
+
+-- t is what is said after a line that has no fault
+abbrev pub ReadsLine : Said → List ℕ → Said → Type 0
+ReadsLine = reading.ReadsLine mir Adds
+
+-- ---- all lines
+
+-- the lines have no fault, and the reader holds what they say
+abbrev pub HasRead : List (List ℕ) → Reader → Type 0
+HasRead body r = (forms : List Form) × Says mir [] body forms × (said forms ≡ said_by r)
+
+-- the error refuses each text that has a header and these lines behind it
+abbrev pub RefusesBody : List (List ℕ) → TextError → Type 0
+RefusesBody body error =
+    (text : List ℕ) → IsHeaded mir text body → IsRefusal (IsFault mir text) error
+
+-- the text fits, and the reader holds what its lines say
+abbrev pub Holds : List ℕ → Reader → Type 0
+Holds text r = (forms : List Form) × IsText mir text forms × (said forms ≡ said_by r)

@@ -1,0 +1,363 @@
+//! The reader of the lines of a MIR text: what they say so far.
+
+ghost use Rattle.std.specs.Prelude.{◌≡◌, ◌⊎◌, ◌↔◌, ◌≤◌, ℕ, [], length, Some, true, false};
+ghost use Rattle.std.specs.Prelude.{IsTrue, IfOk, IfErr, OnOk, OnErr};
+ghost use Rattle.nll_problem.specs.Limits.{most_regions};
+ghost use Rattle.nll_reading.specs.Names.{number_of};
+ghost use Rattle.nll_type_grammar.specs.TypeTexts.{written};
+ghost use Rattle.nll_mir_grammar.specs.MirForms as forms;
+ghost use Rattle.nll_mir_grammar.specs.Lines.{form_of};
+ghost use Rattle.nll_mir_text.specs.MirSaid as specs;
+ghost use Rattle.nll_mir_text.specs.MirSaid.{said};
+ghost use Rattle.nll_mir_text.specs.MirFaults.{first_fault, is_in_order, is_universal};
+ghost use Rattle.nll_mir_text.specs.MirReading.{said_by, IsReady, HasTexts};
+ghost use Rattle.nll_mir_text.specs.MirReading.{IsDue, IsTaken, IsRefused, ReadsLine};
+ghost use Rattle.nll_mir_text.specs.MirReading.{struct_form};
+ghost use Rattle.nll_mir_text.specs.MirText.{mir};
+ghost use Rattle.nll_mir_grammar.specs.declared.line.Line.TheVariants as lines;
+ghost use Rattle.nll_reading.specs.Text.{IsFaulty};
+
+use crate::judging::{judge_type, type_meant};
+use crate::limits::MAX_VARIABLES;
+use crate::tables::{Points, Regions, StructNames, Variables};
+use indexmap::IndexSet;
+use nll_mir_grammar::{Line, StructText, line_of};
+use nll_problem::{Kind, MAX_POINTS, MAX_REGIONS, MAX_UNIVERSALS};
+use nll_reading::{Names, TextKind};
+use nll_statements::Statement;
+use nll_text::{ScanError, Scanned, Token, scan_line};
+use nll_type_grammar::TypeText;
+use nll_types::TypeTable;
+use std::alloc::Global;
+
+/// What the lines read so far say.
+#[derive(Drop)]
+pub struct Reader {
+    alloc: Global,
+    reached: u8,
+    regions: Regions,
+    structs: StructNames,
+    variables: Variables,
+    points: Points,
+}
+
+// The group of a line.
+fn group(line: &Line<'_>) -> u8
+    ensures { result ≡ specs.group (form_of line.now) }
+{
+    match line {
+        Line::Universal(_) => 1,
+        Line::Outlives(_, _) => 2,
+        Line::Region(_) => 3,
+        Line::Struct(_) => 4,
+        Line::Let(_, _) => 5,
+        Line::Blocks(_) => 6,
+        Line::Block(_) | Line::At(_) => 7,
+        Line::End => 8,
+    }
+}
+
+// No block is known.
+fn no_points(alloc: Global) -> Points
+    ensures blocks { result.blocks ≡ 0 }
+    ensures starts { result.starts.items ≡ [] }
+    ensures statements { result.statements.items ≡ [] }
+    ensures edges { result.edges ≡ 0 }
+    ensures owes { result.owes ≡ false }
+{
+    Points {
+        blocks: 0,
+        starts: Vec::new(alloc),
+        statements: Vec::new(alloc),
+        edges: 0,
+        owes: false,
+    }
+}
+
+impl Reader {
+    /// No line is read yet, and `'static` is declared.
+    pub fn new(alloc: Global) -> Result<Reader, TextKind>
+        ensures said { IfOk result (λ r. said_by r ≡ said []) }
+        ensures ready { IfOk result IsReady }
+        ensures err { IfErr result (λ kind. kind ≡ TextKind.Memory) }
+    {
+        let names = Names::new(alloc)?;
+        Ok(Reader {
+            alloc,
+            reached: 0,
+            regions: Regions {
+                names,
+                universals: 1,
+                outlives: IndexSet::new(alloc),
+            },
+            structs: StructNames {
+                names: Names::empty(alloc),
+                kinds: Vec::new(alloc),
+                none: Names::empty(alloc),
+            },
+            variables: Variables {
+                table: TypeTable::new(alloc),
+                types: Vec::new(alloc),
+                shapes: Vec::new(alloc),
+            },
+            points: no_points(alloc),
+        })
+    }
+
+    // Whether a line stands in order.
+    fn may_follow(&self, line: &Line<'_>) -> bool
+        ensures { result ≡ is_in_order (said_by self.now) (form_of line.now) }
+    {
+        match line {
+            Line::Blocks(_) => self.reached == 5,
+            Line::Block(_) | Line::End => {
+                6 <= self.reached && self.reached <= 7 && !self.points.owes
+            }
+            Line::At(_) => self.reached == 7 && self.points.owes,
+            _ => self.reached <= group(line),
+        }
+    }
+
+    // Adds a universal region.
+    fn add_universal(&mut self, name: &[u8]) -> Result<(), TextKind>
+        requires { IsDue self.old (forms.universal name.now) }
+        ensures taken { OnOk result
+            (IsTaken (said_by self.old) (forms.universal name.now) self.new) }
+        ensures refused { IfErr result (IsRefused (said_by self.old) (forms.universal name.now)) }
+    {
+        if self.regions.names.number_of(name).is_some() {
+            return Err(TextKind::Duplicate);
+        }
+        if self.regions.universals >= MAX_UNIVERSALS as usize {
+            return Err(TextKind::Limit(Kind::Universals));
+        }
+        if self.regions.names.len() >= MAX_REGIONS as usize {
+            return Err(TextKind::Limit(Kind::Regions));
+        }
+        self.regions.names.add(self.alloc, name)?;
+        self.regions.universals += 1;
+        self.reached = 1;
+        Ok(())
+    }
+
+    // Adds a further region.
+    fn add_region(&mut self, name: &[u8]) -> Result<(), TextKind>
+        requires { IsDue self.old (forms.further name.now) }
+        ensures taken { OnOk result (IsTaken (said_by self.old) (forms.further name.now) self.new) }
+        ensures refused { IfErr result (IsRefused (said_by self.old) (forms.further name.now)) }
+    {
+        if self.regions.names.number_of(name).is_some() {
+            return Err(TextKind::Duplicate);
+        }
+        if self.regions.names.len() >= MAX_REGIONS as usize {
+            return Err(TextKind::Limit(Kind::Regions));
+        }
+        self.regions.names.add(self.alloc, name)?;
+        self.reached = 3;
+        Ok(())
+    }
+
+    // The number of a universal region.
+    fn universal(&self, name: &[u8]) -> Result<u32, TextKind>
+        requires { IsReady self.now }
+        ensures ok { IfOk result (λ r. r ≡ number_of self.now.regions.names name.now) }
+        ensures universal { OnOk result (is_universal (said_by self.now) name.now ≡ true) }
+        ensures other { OnErr result (is_universal (said_by self.now) name.now ≡ false) }
+        ensures err { IfErr result (λ kind. kind ≡ TextKind.Unknown) }
+    {
+        match self.regions.names.number_of(name) {
+            Some(number) if number < self.regions.universals => Ok(number as u32),
+            _ => Err(TextKind::Unknown),
+        }
+    }
+
+    // Adds that one universal region is known to outlive another.
+    fn add_outlives(&mut self, longer: &[u8], shorter: &[u8]) -> Result<(), TextKind>
+        requires { IsDue self.old (forms.outlives longer.now shorter.now) }
+        ensures taken { OnOk result
+            (IsTaken (said_by self.old) (forms.outlives longer.now shorter.now) self.new) }
+        ensures refused { IfErr result
+            (IsRefused (said_by self.old) (forms.outlives longer.now shorter.now)) }
+    {
+        let longer = self.universal(longer)?;
+        let shorter = self.universal(shorter)?;
+        self.regions.outlives.insert((longer, shorter))?;
+        self.reached = 2;
+        Ok(())
+    }
+
+    // Sets the number of blocks.
+    fn set_blocks(&mut self, count: u32) -> Result<(), TextKind>
+        requires { IsDue self.old (forms.blocks count) }
+        ensures taken { OnOk result (IsTaken (said_by self.old) (forms.blocks count) self.new) }
+        ensures refused { IfErr result
+            (λ kind. first_fault (said_by self.old) (forms.blocks count) ≡ Some kind) }
+    {
+        if count == 0 {
+            return Err(TextKind::Range);
+        }
+        if count > MAX_POINTS {
+            return Err(TextKind::Limit(Kind::Points));
+        }
+        self.points.blocks = count;
+        self.reached = 6;
+        Ok(())
+    }
+
+    // Begins a block.
+    fn add_block(&mut self, number: u32) -> Result<(), TextKind>
+        requires { IsDue self.old (forms.block number) }
+        ensures taken { OnOk result (IsTaken (said_by self.old) (forms.block number) self.new) }
+        ensures refused { IfErr result (IsRefused (said_by self.old) (forms.block number)) }
+    {
+        if number as usize != self.points.starts.len() || number >= self.points.blocks {
+            return Err(TextKind::Range);
+        }
+        let start = self.points.statements.len() as u32;
+        self.points.starts.push(start)?;
+        self.points.owes = true;
+        self.reached = 7;
+        Ok(())
+    }
+
+    // Ends the text.
+    fn end(&mut self) -> Result<(), TextKind>
+        requires { IsDue self.old forms.end }
+        ensures taken { OnOk result (IsTaken (said_by self.old) forms.end self.new) }
+        ensures refused { IfErr result
+            (λ kind. first_fault (said_by self.old) forms.end ≡ Some kind) }
+    {
+        if self.points.starts.len() < self.points.blocks as usize {
+            return Err(TextKind::Range);
+        }
+        self.reached = 8;
+        Ok(())
+    }
+
+    // Declares a variable.
+    fn add_variable(&mut self, number: u32, text: &TypeText<'_>) -> Result<(), TextKind>
+        requires { IsDue self.old (forms.variable number (written text.now)) }
+        ensures taken { OnOk result
+            (IsTaken (said_by self.old) (forms.variable number (written text.now)) self.new) }
+        ensures refused { IfErr result
+            (IsRefused (said_by self.old) (forms.variable number (written text.now))) }
+    {
+        let table = &mut self.variables.table;
+        let judged = judge_type(self.alloc, &self.regions, &self.structs, table, text)?;
+        if !judged.known {
+            return Err(TextKind::Unknown);
+        }
+        if number as usize != self.variables.types.len() {
+            return Err(TextKind::Range);
+        }
+        if !judged.fits {
+            return Err(TextKind::Shape);
+        }
+        if !judged.small {
+            return Err(TextKind::TypeSize);
+        }
+        if self.variables.types.len() >= MAX_VARIABLES {
+            return Err(TextKind::Limit(Kind::Variables));
+        }
+        let ty = type_meant(self.alloc, &self.regions, &self.structs, text)?;
+        self.variables.types.push(ty)?;
+        self.variables.shapes.push(judged.shape)?;
+        self.reached = 5;
+        Ok(())
+    }
+
+    // Declares a struct. DRAFT: not written yet. It answers want of memory, which its contract
+    // lets any body do.
+    fn add_struct(&mut self, text: &StructText<'_>) -> Result<(), TextKind>
+        requires { IsDue self.old (struct_form text.now) }
+        ensures taken { OnOk result (IsTaken (said_by self.old) (struct_form text.now) self.new) }
+        ensures refused { IfErr result (IsRefused (said_by self.old) (struct_form text.now)) }
+    {
+        Err(TextKind::Memory)
+    }
+
+    // Adds what stands at the next point. DRAFT: not written yet. It answers want of memory, which
+    // its contract lets any body do.
+    fn add_statement(
+        &mut self,
+        statement: &Statement<&[u8], TypeText<'_>>,
+    ) -> Result<(), TextKind>
+        requires { IsDue self.old (form_of (lines.At statement.now)) }
+        ensures taken { OnOk result
+            (IsTaken (said_by self.old) (form_of (lines.At statement.now)) self.new) }
+        ensures refused { IfErr result
+            (IsRefused (said_by self.old) (form_of (lines.At statement.now))) }
+    {
+        Err(TextKind::Memory)
+    }
+
+    // Takes in a line of a form, unless something is wrong with it.
+    fn accept(&mut self, line: &Line<'_>) -> Result<(), TextKind>
+        requires ready { IsReady self.old }
+        requires texts { HasTexts (form_of line.now) }
+        ensures taken { OnOk result (IsTaken (said_by self.old) (form_of line.now) self.new) }
+        ensures refused { IfErr result (IsRefused (said_by self.old) (form_of line.now)) }
+    {
+        if !self.may_follow(line) {
+            return Err(TextKind::Syntax);
+        }
+        match line {
+            Line::Universal(name) => self.add_universal(*name),
+            Line::Outlives(longer, shorter) => self.add_outlives(*longer, *shorter),
+            Line::Region(name) => self.add_region(*name),
+            Line::Struct(text) => self.add_struct(&**text),
+            Line::Let(number, text) => self.add_variable(*number, text),
+            Line::Blocks(count) => self.set_blocks(*count),
+            Line::Block(number) => self.add_block(*number),
+            Line::At(statement) => self.add_statement(statement),
+            Line::End => self.end(),
+        }
+    }
+
+    // Takes in a line of a form, and lets it go.
+    fn take(&mut self, line: Line<'_>) -> Result<(), TextKind>
+        requires ready { IsReady self.old }
+        requires texts { HasTexts (form_of line) }
+        ensures taken { OnOk result (IsTaken (said_by self.old) (form_of line.entry) self.new) }
+        ensures refused { IfErr result (IsRefused (said_by self.old) (form_of line.entry)) }
+    {
+        let taken = self.accept(&line);
+        drop(line);
+        taken
+    }
+
+    /// Takes in a line behind the header. The list serves for its tokens.
+    pub fn read_line<'a>(
+        &mut self,
+        line: &'a [u8],
+        tokens: &mut Vec<Token<'a>>,
+    ) -> Result<(), TextKind>
+        requires ready { IsReady self.old }
+        ensures ok { OnOk result (ReadsLine (said_by self.old) line.now (said_by self.new)) }
+        ensures ready { OnOk result (IsReady self.new) }
+        ensures fault { IfErr result
+            (λ kind. (kind ≡ TextKind.Memory) ⊎ IsFaulty mir (said_by self.old) line.now kind) }
+    {
+        let most = line.len();
+        match scan_line(line, most, tokens) {
+            Ok(Scanned::Skipped) => return Ok(()),
+            Ok(Scanned::Tokens) => {}
+            Err(ScanError::NotUtf8) => return Err(TextKind::NotUtf8),
+            Err(ScanError::NoTokens) => return Err(TextKind::Syntax),
+            Err(ScanError::Memory) => return Err(TextKind::Memory),
+        }
+        let found = line_of(self.alloc, tokens.as_slice())?;
+        let Some(form) = found else {
+            return Err(TextKind::Syntax);
+        };
+        self.take(form)?;
+        Ok(())
+    }
+
+    /// Whether the last line that a text needs was read.
+    pub fn has_ended(&self) -> bool
+        ensures { IsTrue result ↔ ((said_by self.now).reached ≡ 8) }
+    {
+        self.reached == 8
+    }
+}
