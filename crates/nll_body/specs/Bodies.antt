@@ -21,6 +21,10 @@ pub record BodyText : Type 0 where
   pub starts : List ℕ
   pub points : List (Statement ℕ TypeTree)
 
+-- the variable has this type
+abbrev pub HasType : BodyText → ℕ → TypeTree → Type 0
+HasType body x t = slice_get body.variables x ≡ Some t
+
 -- this statement or terminator stands at p
 abbrev pub StandsAt : BodyText → ℕ → Statement ℕ TypeTree → Type 0
 StandsAt body p i = slice_get body.points p ≡ Some i
