@@ -1,6 +1,6 @@
 -- What holds of each body.
 -- Source: project's choice.
-use Rattle.std.specs.Prelude.{◌≡◌, ◌<◌, ◌≤◌, ℕ, List, length, All, Contains}
+use Rattle.std.specs.Prelude.{◌<◌, ◌≤◌, ℕ, length, All, Contains}
 use Rattle.nll_problem.specs.Limits.{most_points, most_edges, most_universals, most_regions}
 use Rattle.nll_problem.specs.Limits.{most_variables}
 use Rattle.nll_reading.specs.Labels.{AreFirstPoints}

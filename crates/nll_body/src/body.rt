@@ -44,10 +44,8 @@ impl Model for Body {
 
     ghost Value = { BodyText };
 
-    ghost coded = {
-        let step : Coded Step = Prim.hlevel codes in
-        Prim.hlevel (codes, tree_code step, trees_code step)
-    };
+    ghost coded = { let step : Coded Step = Prim.hlevel codes in
+        Prim.hlevel (codes, tree_code step, trees_code step) };
 
     ghost view = { λ b.
         kept_body b.labels b.outlives.items b.structs b.variables.items b.points.items b.graph };
@@ -163,8 +161,7 @@ impl Body {
     pub fn var_type(&self, variable: u32) -> &Ty
         requires { variable < length self.now.variables }
         ensures value { HasType self.now variable (tree result.now) }
-        ensures well_formed
-            { IsWellFormed self.now.structs (length self.now.names) 0 (tree result.now) }
+        ensures well_formed { IsWellFormed self.now.structs (length self.now.names) 0 (tree result.now) }
     {
         &self.variables[variable as usize]
     }

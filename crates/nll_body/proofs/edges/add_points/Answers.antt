@@ -1,5 +1,4 @@
-use Rattle.std.proofs.Common.{◌≡◌, ◌<◌, ◌≤◌, ℕ, length, map, arith, Some, slice_get, subst, sym, ap}
-use Rattle.std.proofs.lemmas.List.{length-map}
+use Rattle.std.proofs.Common.{◌≡◌, ◌<◌, map, Some, slice_get, subst, sym}
 use Rattle.nll_body.specs.Views.{meant}
 use Rattle.nll_body.proofs.GraphLemmas.{points_step, points_room, stands}
 use Rattle.nll_body.proofs.edges.add_points.Goals as goal
