@@ -7,6 +7,7 @@ use nll_core::{
     BuildError, Constraint, Element, ElementSet, Elements, Graph, Problem, RegionId, Values,
     faults, solve,
 };
+use nll_cut::{Cut, CutError, Readers};
 use nll_problem::ConstraintIndex;
 use std::alloc::{AllocError, Global};
 
@@ -21,6 +22,8 @@ pub enum Asked {
     Values,
     /// Whether both solvers give it the same values.
     BothSolvers,
+    /// Who reads what, where its regions go round so many owners.
+    ReadersAmong(u16),
     /// The faults of its least values.
     Faults,
     /// What values of it that hold nothing answer where an element is put into a region's.
@@ -34,6 +37,7 @@ pub fn tell(alloc: Global, problem: &Problem, asked: Asked) -> Result<String, Bu
         Asked::Readers => readers_of(alloc, problem),
         Asked::Values => values_of(alloc, problem),
         Asked::BothSolvers => solvers_of(alloc, problem),
+        Asked::ReadersAmong(owners) => readers_among(alloc, problem, owners),
         Asked::Faults => faults_of(alloc, problem),
         Asked::Inserted(region, element) => inserted(alloc, problem, region, element),
     }
@@ -111,6 +115,54 @@ fn readers_of(alloc: Global, problem: &Problem) -> Result<String, BuildError> {
     let index = ConstraintIndex::of(alloc, problem)?;
     let written = write_readers(&mut out, &index, problem.regions());
     drop(index);
+    written?;
+    Ok(out)
+}
+
+// Writes which regions an owner reads, of those that there are and one more.
+fn write_read(
+    out: &mut String,
+    readers: &Readers,
+    owner: u16,
+    regions: u32,
+) -> Result<(), AllocError> {
+    write!(out, "{owner} reads")?;
+    for number in 0..=regions {
+        if readers.reads(owner, RegionId(number)) {
+            write!(out, " {number}")?;
+        }
+    }
+    out.push('|')
+}
+
+// Writes which regions each owner reads, and one more that there isn't.
+fn write_all_read(
+    out: &mut String,
+    readers: &Readers,
+    owners: u16,
+    regions: u32,
+) -> Result<(), AllocError> {
+    for owner in 0..=owners {
+        write_read(out, readers, owner, regions)?;
+    }
+    Ok(())
+}
+
+// The readers of a problem whose regions go round so many owners.
+fn readers_of_round(alloc: Global, problem: &Problem, owners: u16) -> Result<Readers, CutError> {
+    let cut = Cut::round(alloc, problem.regions(), owners)?;
+    let readers = cut.readers(alloc, problem);
+    drop(cut);
+    Ok(readers?)
+}
+
+// Who reads what, where the regions of a problem go round so many owners.
+fn readers_among(alloc: Global, problem: &Problem, owners: u16) -> Result<String, BuildError> {
+    let mut out = String::new(alloc);
+    let written = match readers_of_round(alloc, problem, owners) {
+        Ok(readers) => write_all_read(&mut out, &readers, owners, problem.regions()),
+        Err(error) => write!(out, "{error}"),
+    };
     written?;
     Ok(out)
 }
