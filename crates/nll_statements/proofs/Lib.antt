@@ -1,1 +1,2 @@
 pub mod EffectLemmas
+pub mod MapLemmas
