@@ -1,2 +1,3 @@
+pub mod EdgeLemmas
 pub mod EffectLemmas
 pub mod MapLemmas

@@ -36,6 +36,9 @@ fn distinct(alloc: Global, numbers: &[u32]) -> Result<usize, Memory>
         (λ n. n ≡ length (insert_all (λ b c. b == c) [] numbers.now)) }
     ensures few { IfOk result (λ n. n < 2 ^ 63) }
 {
+    if numbers.len() < 2 {
+        return Ok(numbers.len());
+    }
     let mut known = IndexSet::new(alloc);
     for number in numbers {
         known.insert(*number)?;
