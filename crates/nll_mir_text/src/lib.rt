@@ -3,8 +3,12 @@
 #![tactic(auto)]
 
 mod judging;
+mod judging_types;
+mod knowing;
 mod limits;
+mod meaning;
 mod reader;
+mod stating;
 mod tables;
 mod text;
 

@@ -13,16 +13,20 @@ ghost use Rattle.nll_mir_text.specs.MirFaults.{first_fault, is_in_order, is_univ
 ghost use Rattle.nll_mir_text.specs.MirReading.{said_by, IsReady, HasTexts};
 ghost use Rattle.nll_mir_text.specs.MirReading.{IsDue, IsTaken, IsRefused, ReadsLine};
 ghost use Rattle.nll_mir_text.specs.MirReading.{struct_form};
+ghost use Rattle.nll_mir_text.specs.Stating.{as_written, IsOfPoint};
 ghost use Rattle.nll_mir_text.specs.MirText.{mir};
 ghost use Rattle.nll_mir_grammar.specs.declared.line.Line.TheVariants as lines;
 ghost use Rattle.nll_reading.specs.Text.{IsFaulty};
 
 use crate::judging::{judge_type, type_meant};
+use crate::knowing::targets_are_blocks;
 use crate::limits::MAX_VARIABLES;
+use crate::meaning::statement_meant;
+use crate::stating::{JudgedPoint, add_point, judge_point};
 use crate::tables::{Points, Regions, StructNames, Variables};
 use indexmap::IndexSet;
 use nll_mir_grammar::{Line, StructText, line_of};
-use nll_problem::{Kind, MAX_POINTS, MAX_REGIONS, MAX_UNIVERSALS};
+use nll_problem::{Kind, MAX_EDGES, MAX_POINTS, MAX_REGIONS, MAX_UNIVERSALS};
 use nll_reading::{Names, TextKind};
 use nll_statements::Statement;
 use nll_text::{ScanError, Scanned, Token, scan_line};
@@ -276,8 +280,45 @@ impl Reader {
         Err(TextKind::Memory)
     }
 
-    // Adds what stands at the next point. DRAFT: not written yet. It answers want of memory, which
-    // its contract lets any body do.
+    // Adds what stands at the next point, unless it has a fault by what was judged of it.
+    fn add_judged(
+        &mut self,
+        judged: JudgedPoint,
+        statement: &Statement<&[u8], TypeText<'_>>,
+    ) -> Result<(), TextKind>
+        requires due { IsDue self.old (form_of (lines.At statement.now)) }
+        requires judged { IsOfPoint (said_by self.old) (as_written statement.now) judged }
+        ensures taken { OnOk result
+            (IsTaken (said_by self.old) (form_of (lines.At statement.now)) self.new) }
+        ensures refused { IfErr result
+            (IsRefused (said_by self.old) (form_of (lines.At statement.now))) }
+    {
+        if !judged.known {
+            return Err(TextKind::Unknown);
+        }
+        if !targets_are_blocks(self.alloc, self.points.blocks, statement)? {
+            return Err(TextKind::Range);
+        }
+        if !judged.fits {
+            return Err(TextKind::Shape);
+        }
+        if !judged.small {
+            return Err(TextKind::TypeSize);
+        }
+        if self.points.statements.len() >= MAX_POINTS as usize {
+            return Err(TextKind::Limit(Kind::Points));
+        }
+        let edges = self.points.edges + statement.edges(self.alloc)?;
+        if edges > MAX_EDGES {
+            return Err(TextKind::Limit(Kind::Edges));
+        }
+        let meant = statement_meant(self.alloc, &self.regions, &self.structs, statement)?;
+        add_point(&mut self.points, meant, edges)?;
+        self.reached = 7;
+        Ok(())
+    }
+
+    // Adds what stands at the next point.
     fn add_statement(
         &mut self,
         statement: &Statement<&[u8], TypeText<'_>>,
@@ -288,7 +329,9 @@ impl Reader {
         ensures refused { IfErr result
             (IsRefused (said_by self.old) (form_of (lines.At statement.now))) }
     {
-        Err(TextKind::Memory)
+        let variables = &mut self.variables;
+        let judged = judge_point(self.alloc, &self.regions, &self.structs, variables, statement)?;
+        self.add_judged(judged, statement)
     }
 
     // Takes in a line of a form, unless something is wrong with it.
