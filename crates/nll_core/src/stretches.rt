@@ -59,10 +59,11 @@ pub fn enter(
         return Ok(inside.first);
     }
     let last = lines.line_end(point).min(inside.last);
-    if let Some(run) = gap(reached, point, last) {
-        reached.insert_run(run)?;
-        todo.push(run)?;
-    }
+    let Some(run) = gap(reached, point, last) else {
+        return Ok(last + 1);
+    };
+    reached.insert_run(run)?;
+    todo.push(run)?;
     Ok(last + 1)
 }
 
