@@ -1,14 +1,14 @@
 //! What problems, values and sets tell, as text.
-ghost use Rattle.std.specs.Prelude.{◌<◌, length};
+ghost use Rattle.std.specs.Prelude.{◌≡◌, ◌<◌, length};
 ghost use Rattle.nll_core.specs.Values.{IsShaped, set_of};
 
 use crate::rounds::solve_by_rounds;
 use nll_core::{
-    BuildError, Constraint, Element, ElementSet, Elements, Graph, Problem, RegionId, Values,
-    faults, solve,
+    BuildError, Constraint, Element, ElementSet, Elements, Graph, Memory, Problem, RegionId,
+    Values, faults, solve,
 };
 use nll_cut::{Cut, CutError, Readers};
-use nll_problem::ConstraintIndex;
+use nll_problem::{ConstraintIndex, Predecessors};
 use std::alloc::{AllocError, Global};
 
 /// What is asked of a problem.
@@ -44,10 +44,24 @@ pub fn tell(alloc: Global, problem: &Problem, asked: Asked) -> Result<String, Bu
 }
 
 /// Writes the successors of each point and its predecessors, and which points return.
-pub fn write_graph(out: &mut String, graph: &Graph) -> Result<(), AllocError> {
+pub fn write_graph(alloc: Global, out: &mut String, graph: &Graph) -> Result<(), Memory> {
+    let predecessors = Predecessors::of(alloc, graph)?;
+    let written = write_points(out, graph, &predecessors);
+    drop(predecessors);
+    Ok(written?)
+}
+
+// The same, by the predecessors of the graph's points.
+fn write_points(
+    out: &mut String,
+    graph: &Graph,
+    predecessors: &Predecessors,
+) -> Result<(), AllocError>
+    requires { predecessors.now ≡ graph.now }
+{
     for point in 0..graph.points() {
         write!(out, "{point} to {:?}", graph.next_of(point))?;
-        write!(out, " from {:?}", graph.previous_of(point))?;
+        write!(out, " from {:?}", predecessors.previous_of(point))?;
         if graph.is_return(point) {
             out.push_str(" and out")?;
         }
@@ -83,9 +97,9 @@ fn write_lists(out: &mut String, problem: &Problem) -> Result<(), AllocError> {
 }
 
 // The facts of a problem.
-fn facts_of(alloc: Global, problem: &Problem) -> Result<String, AllocError> {
+fn facts_of(alloc: Global, problem: &Problem) -> Result<String, Memory> {
     let mut out = String::new(alloc);
-    write_graph(&mut out, problem.graph())?;
+    write_graph(alloc, &mut out, problem.graph())?;
     for region in 0..problem.regions() {
         write_bases(&mut out, problem, region)?;
     }
