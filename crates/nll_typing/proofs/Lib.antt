@@ -1,0 +1,3 @@
+pub mod JudgedLemmas
+pub mod FoundLemmas
+pub mod PartLemmas
