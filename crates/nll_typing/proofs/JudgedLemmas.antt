@@ -34,9 +34,12 @@ same_bool true false f g = absurd (let e : false ≡ true = f refl in cc)
 same_bool false true f g = absurd (let e : false ≡ true = g refl in cc)
 same_bool false false f g = refl
 
-pub both_judged : (f s g t : Bool) (one other : JudgedStatement) → IsJudged f s one → IsJudged g t other
-    → ((one.small && other.small) ≡ ((f && g) && (s && t)))
-both_judged f s g t one other a b = rw (a.fits_small, b.fits_small) (and_swap f s g t)
+pub both_judged : (f s g t : Bool) (one other j : JudgedStatement) → IsJudged f s one → IsJudged g t other
+    → j.fits ≡ (one.fits && other.fits) → j.small ≡ (one.small && other.small) → IsJudged (f && g) (s && t) j
+both_judged f s g t one other j a b e d = record {
+  fits = e ∙ rw (a.fits, b.fits) refl;
+  fits_small = d ∙ rw (a.fits_small, b.fits_small) (and_swap f s g t);
+}
 
 -- the same judgement, where it is of another order
 pub judged_as : {f g s t : Bool} {j : JudgedStatement} → f ≡ g → s ≡ t → IsJudged f s j → IsJudged g t j

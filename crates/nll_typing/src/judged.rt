@@ -1,6 +1,7 @@
 //! What is judged of a statement.
 
-ghost use Rattle.std.specs.Prelude.{◌≡◌, ◌&&◌, ◌<◌, Bool, Option, length, IfSome};
+ghost use Rattle.std.specs.Prelude.{◌≡◌, ◌&&◌, ◌<◌, Bool, true, false, Option, length};
+ghost use Rattle.std.specs.Prelude.{IfSome};
 ghost use Rattle.nll_types.specs.Types.{TypeTree};
 ghost use Rattle.nll_typing.specs.Found.{IsFound};
 ghost use Rattle.nll_typing.specs.Judging.{IsJudged};
@@ -20,14 +21,14 @@ pub struct JudgedStatement {
 
 /// It fits, and its types are small or not.
 pub(crate) fn fitting(small: bool) -> JudgedStatement
-    ensures { result ≡ record { fits = Prim.true; small = small } }
+    ensures { IsJudged true small result }
 {
     JudgedStatement { fits: true, small }
 }
 
 /// It doesn't fit.
 pub(crate) fn unfit() -> JudgedStatement
-    ensures { (small : Bool) → IsJudged Prim.false small result }
+    ensures { (small : Bool) → IsJudged false small result }
 {
     JudgedStatement {
         fits: false,
@@ -37,8 +38,8 @@ pub(crate) fn unfit() -> JudgedStatement
 
 /// What is judged of two parts of a statement together.
 pub(crate) fn both(one: JudgedStatement, other: JudgedStatement) -> JudgedStatement
-    ensures { (f s g t : Bool) → IsJudged f s one → IsJudged g t other
-        → IsJudged (f && g) (s && t) result }
+    ensures fits { result.fits ≡ (one.fits && other.fits) }
+    ensures small { result.small ≡ (one.small && other.small) }
 {
     JudgedStatement {
         fits: one.fits & other.fits,

@@ -1,17 +1,18 @@
 //! Judging statements, a case a form.
 
 ghost use Rattle.std.specs.Prelude.{◌≡◌, ◌&&◌, ◌++◌, ◌∷◌, [], ◌<◌, ℕ, List, Some, length, map};
-ghost use Rattle.std.specs.Prelude.{IfOk, is_some};
+ghost use Rattle.std.specs.Prelude.{IfOk, Option, is_some, true};
 ghost use Rattle.std.specs.List.{flat_map, list_all};
 ghost use Rattle.nll_types.specs.Declarations.{structs_of};
 ghost use Rattle.nll_types.specs.Operands.{operand_of, operand_type};
 ghost use Rattle.nll_types.specs.Places.{path_of, type_of, small_prefixes};
 ghost use Rattle.nll_types.specs.Shapes.{shape_of, is_small};
+ghost use Rattle.nll_types.specs.Structs.{Struct};
 ghost use Rattle.nll_types.specs.Table.{Extends, AreBelow, shape_in};
 ghost use Rattle.nll_types.specs.Types.{TypeTree, int};
 ghost use Rattle.nll_statements.specs.Effects.{place_in};
 ghost use Rattle.nll_statements.specs.Kept.{statement_of};
-ghost use Rattle.nll_statements.specs.Statements.{map_statement, types_written};
+ghost use Rattle.nll_statements.specs.Statements.{map_statement, types_written, make, call};
 ghost use Rattle.nll_typing.specs.Judging.{HaveShapes, IsJudged};
 ghost use Rattle.nll_typing.specs.Typing as spec;
 ghost use Rattle.nll_typing.specs.Typing.{types_agree, types_are_small, reference_to};
@@ -210,7 +211,7 @@ fn judge_return(shapes: &Shapes, variables: &[usize]) -> JudgedStatement
     requires { AreBelow (length shapes.now) variables.now }
     ensures { (structs : List Struct) (types : List TypeTree)
         → HaveShapes shapes.now variables.now types
-        → IsJudged Prim.true (small_prefixes structs types
+        → IsJudged true (small_prefixes structs types
         (record { variable = 0; projections = [] })) result }
 {
     if variables.is_empty() {

@@ -117,8 +117,8 @@ pub(crate) fn judge_parts(
         return Ok(unfit());
     }
     let mut judged = fitting(true);
-    for (place, operand) in operands.iter().enumerate() {
-        let part = judge_part(alloc, table, variables, operand, shape, place)?;
+    for place in 0..operands.len() {
+        let part = judge_part(alloc, table, variables, &operands[place], shape, place)?;
         judged = both(judged, part);
     }
     Ok(judged)
@@ -150,9 +150,9 @@ pub(crate) fn judge_arguments<T>(
         && list_all is_small (map (λ a. g a.1) arguments.now)) j) }
 {
     let mut judged = fitting(true);
-    for (place, argument) in arguments.iter().enumerate() {
-        let (operand, shape) = (&argument.0, written[place]);
-        let one = judge_operand(alloc, table, variables, operand, shape)?;
+    for place in 0..arguments.len() {
+        let (argument, shape) = (&arguments[place], written[place]);
+        let one = judge_operand(alloc, table, variables, &argument.0, shape)?;
         judged = both(judged, one);
     }
     Ok(judged)

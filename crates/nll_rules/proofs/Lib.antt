@@ -1,0 +1,3 @@
+pub mod PairLemmas
+pub mod SubtypeLemmas
+pub mod ReborrowLemmas
