@@ -3,6 +3,9 @@
 use Rattle.std.specs.Prelude.{◌≡◌, ◌⊎◌, ◌↔◌, ◌<◌, ℕ, List, Contains, Option, Some, slice_get}
 use Rattle.nll_types.specs.Types.{TypeTree, TypeTrees, type_at}
 use Rattle.nll_types.specs.Structs.{Struct}
+use Rattle.nll_types.specs.Places.{behind}
+use Rattle.nll_types.specs.Operands.{Operand, operand_type}
+use Rattle.nll_types.specs.declared.place.Projection.TheVariants.{Field}
 use Rattle.nll_types.specs.declared.parameter.Parameter.{Parameter}
 use Rattle.nll_types.specs.declared.parameter.Sign.{Sign}
 use Rattle.nll_types.specs.declared.parameter.Sign.TheVariants.{Invariant}
@@ -33,3 +36,19 @@ AtOne kind x = (k : ℕ) × kind k x
 abbrev pub BothAsk : List Struct → Option TypeTree → Option TypeTree → ℕ × ℕ → Type 0
 BothAsk structs one other x = (t u : TypeTree) × (one ≡ Some t) × (other ≡ Some u)
     × SubtypeAsks structs t u x
+
+-- the operand at a place of these, of which a type is made, asks the pair
+abbrev pub PartAsks : List Struct → List TypeTree → TypeTree → List Operand → ℕ → ℕ × ℕ → Type 0
+PartAsks structs variables made ops k x = (op : Operand) × (slice_get ops k ≡ Some op)
+    × BothAsk structs (operand_type structs variables op) (behind structs (Field k) made) x
+
+-- the operand at a place of these, each for a parameter of a type, asks the pair
+abbrev pub InputAsks : List Struct → List TypeTree → List (Operand × TypeTree) → ℕ → ℕ × ℕ
+    → Type 0
+InputAsks structs variables args k x = (op : Operand) × (u : TypeTree)
+    × (slice_get args k ≡ Some (op, u))
+    × BothAsk structs (operand_type structs variables op) (Some u) x
+
+-- the first region is one of these, and the second is this one
+abbrev pub OneOutlives : List ℕ → ℕ → ℕ × ℕ → Type 0
+OneOutlives regions r x = Contains regions x.0 × (x.1 ≡ r)

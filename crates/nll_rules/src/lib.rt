@@ -4,6 +4,8 @@
 mod asking;
 mod reborrow;
 mod sign;
+mod statement;
 
 pub use asking::subtyping;
 pub use reborrow::rests_on;
+pub use statement::asks;
