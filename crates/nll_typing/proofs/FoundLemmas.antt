@@ -1,7 +1,6 @@
 -- The shapes of variables' types and of places.
-use Rattle.std.proofs.Common.{◌≡◌, ℕ, zero, suc, ◌+◌, ◌<◌, ◌≤◌, Bool, true, List, [], ◌∷◌, length, map, refl, sym, ap, ◌∙◌, subst, arith, Option, Some, None}
-use Rattle.std.specs.Prelude.{slice_get, slice_index, option_map, option_and_then, unwrap_or, IfSome, ◌&&◌, nat_le}
-use Rattle.std.specs.List.{list_all}
+use Rattle.std.proofs.Common.{◌≡◌, ℕ, zero, suc, ◌<◌, ◌≤◌, Bool, true, false, List, [], ◌∷◌, length, map, refl, sym, ap, ◌∙◌, subst, arith, Option, Some, None}
+use Rattle.std.specs.Prelude.{slice_get, slice_index, option_map, option_and_then, unwrap_or, IfSome, nat_le, is_some}
 use Rattle.nll_problem.specs.Limits.{most_nodes}
 use Rattle.nll_types.specs.Types.{TypeTree}
 use Rattle.nll_types.specs.Structs.{Struct}
@@ -9,7 +8,6 @@ use Rattle.nll_types.specs.Places.{PlacePath, type_of, behind_all, small_behind,
 use Rattle.nll_types.specs.Shapes.{Shape, shape_of, reference_shape, is_small, is_small_shape}
 use Rattle.nll_types.specs.Table.{Extends, AreBelow, shape_in}
 use Rattle.nll_types.specs.declared.node.Node.{Node}
-use Rattle.nll_types.specs.declared.place.Projection.{Projection}
 use Rattle.nll_types.proofs.ShapeLemmas.{same_nodes}
 use Rattle.nll_typing.specs.Typing.{reference_to}
 use Rattle.nll_typing.specs.Judging.{HaveShapes}
@@ -106,3 +104,17 @@ no_reference ns (Some t) small m r h = absurd (let z = h.shape in cc)
 
 pub small_agrees : (t : TypeTree) (s : Shape) → s ≡ shape_of t → is_small_shape s ≡ is_small t
 small_agrees t s e = ap is_small_shape e ∙ sym (ap (λ (n : ℕ). nat_le n most_nodes) (same_nodes t))
+
+pub return_small : (structs : List Struct) (ns : List Node) (is : List ℕ) (ts : List TypeTree) → HaveShapes ns is ts → 0 < length is
+    → is_small_shape (shape_in ns (slice_index is 0)) ≡ small_prefixes structs ts (record { variable = 0; projections = [] })
+return_small structs ns is ts h l =
+    let t = type_there ns is ts 0 h l in
+    small_agrees t.0 _ (shape_at ns is ts 0 t.0 h t.1) ∙ ap (λ (o : Option TypeTree). unwrap_or (option_map (small_behind structs []) o) true) (sym t.1)
+
+pub is_none : (ns : List Node) (t : Option TypeTree) (small : Bool) → IsFound ns None t small → is_some t ≡ false
+is_none ns None small h = refl
+is_none ns (Some t) small h = absurd (let z = h.shape in cc)
+
+pub is_there : (ns : List Node) (f : Found) (t : Option TypeTree) (small : Bool) → IsFound ns (Some f) t small → is_some t ≡ true
+is_there ns f None small h = absurd (let z = h.shape in cc)
+is_there ns f (Some t) small h = refl

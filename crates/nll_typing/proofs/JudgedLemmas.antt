@@ -1,6 +1,6 @@
 -- What is judged of parts of a statement, put together.
 use Rattle.std.proofs.Common.{◌≡◌, Bool, true, false, Option, Some, None, List, refl, sym, ap, ◌∙◌, ◌↔◌}
-use Rattle.std.specs.Prelude.{◌&&◌, IsTrue, option_map}
+use Rattle.std.specs.Prelude.{◌&&◌, IsTrue}
 use Rattle.nll_types.specs.Types.{TypeTree}
 use Rattle.nll_types.specs.Shapes.{Shape, shape_of, same_shape}
 use Rattle.nll_types.specs.Table.{shape_in}
@@ -85,8 +85,8 @@ pub so_far_more : (j part next : JudgedStatement) (f s left_fits left_small rest
 so_far_more j part next f s left_fits left_small rest_fits rest_small whole_fits whole_small far is a b c d = record {
   agrees = rw (c, is.fits) (sym (and_assoc j.fits f rest_fits) ∙ ap (λ (z : Bool). j.fits && z) (sym a) ∙ far.agrees);
   smalls = rw (d, is.fits_small) (sym (and_assoc j.small (f && s) (rest_fits && rest_small))
-    ∙ ap (λ (z : Bool). j.small && z) (and_swap f s rest_fits rest_small ∙ ap (λ (z : Bool). z && (s && rest_small)) (sym a) ∙ ap (λ (z : Bool). left_fits && z) (sym b))
-    ∙ far.smalls);
+      ∙ ap (λ (z : Bool). j.small && z) (and_swap f s rest_fits rest_small ∙ ap (λ (z : Bool). z && (s && rest_small)) (sym a) ∙ ap (λ (z : Bool). left_fits && z) (sym b))
+      ∙ far.smalls);
 } where
   and_assoc : (x y z : Bool) → (x && (y && z)) ≡ ((x && y) && z)
   and_assoc true y z = refl
@@ -94,3 +94,40 @@ so_far_more j part next f s left_fits left_small rest_fits rest_small whole_fits
 
 pub so_far_all : (j : JudgedStatement) (f s : Bool) → IsSoFar j true true f s → IsJudged f s j
 so_far_all j f s far = record { fits = sym (and_right_true j.fits) ∙ far.agrees; fits_small = sym (and_right_true j.small) ∙ far.smalls }
+
+pub so_far_as : {j : JudgedStatement} {a b c d f s : Bool} → a ≡ c → b ≡ d → IsSoFar j a b f s → IsSoFar j c d f s
+so_far_as {j} {a} {b} {c} {d} {f} {s} x y far = record {
+  agrees = ap (λ (z : Bool). j.fits && z) (sym x) ∙ far.agrees;
+  smalls = ap (λ (z : Bool). j.small && (z && d)) (sym x) ∙ ap (λ (z : Bool). j.small && (a && z)) (sym y) ∙ far.smalls;
+}
+
+-- ---- orders of parts
+
+and_false : (a : Bool) → (a && false) ≡ false
+and_false true = refl
+and_false false = refl
+
+pub make_order : (places parts written target : Bool) → ((places && parts) && (written && target)) ≡ (((written && true) && (target && places)) && parts)
+make_order places parts true true = and_right_true (places && parts)
+make_order places parts true false = and_false (places && parts)
+make_order places parts false target = and_false (places && parts)
+
+pub call_order : (places inputs written target : Bool) → ((places && inputs) && (written && target)) ≡ (((inputs && (written && true)) && (target && places)) && true)
+call_order true true true true = refl
+call_order true true true false = refl
+call_order true true false target = refl
+call_order true false written target = refl
+call_order false true true true = refl
+call_order false true true false = refl
+call_order false true false target = refl
+call_order false false written target = refl
+
+pub borrow_order : (source target : Bool) → (source && target) ≡ ((true && (target && (source && true))) && true)
+borrow_order true true = refl
+borrow_order true false = refl
+borrow_order false true = refl
+borrow_order false false = refl
+
+pub return_order : (place : Bool) → place ≡ ((true && (place && true)) && true)
+return_order true = refl
+return_order false = refl

@@ -1,3 +1,4 @@
 pub mod JudgedLemmas
 pub mod FoundLemmas
 pub mod PartLemmas
+pub mod CallLemmas

@@ -1,6 +1,6 @@
 -- The shape that is found of a place or operand.
 -- Source: project's choice. Only private contracts cite this file.
-use Rattle.std.specs.Prelude.{◌≡◌, ℕ, Bool, List, Option, option_map, IfSome}
+use Rattle.std.specs.Prelude.{◌≡◌, Bool, List, Option, option_map, IfSome}
 use Rattle.nll_types.specs.Types.{TypeTree}
 use Rattle.nll_types.specs.Shapes.{shape_of}
 use Rattle.nll_types.specs.Table.{shape_in}

@@ -1,6 +1,6 @@
 //! The shapes of places and operands.
 
-ghost use Rattle.std.specs.Prelude.{◌≡◌, ◌<◌, List, Some, length, IfOk, IfSome};
+ghost use Rattle.std.specs.Prelude.{◌≡◌, ◌<◌, ℕ, List, Some, length, IfOk, IfSome};
 ghost use Rattle.std.specs.List.{list_all};
 ghost use Rattle.nll_types.specs.Declarations.{structs_of};
 ghost use Rattle.nll_types.specs.Operands.{operand_of, operand_type};

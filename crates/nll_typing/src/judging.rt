@@ -1,7 +1,7 @@
 //! Judging statements, a case a form.
 
-ghost use Rattle.std.specs.Prelude.{◌≡◌, ◌&&◌, ◌++◌, ◌∷◌, [], ◌<◌, ℕ, List, Some, length, map};
-ghost use Rattle.std.specs.Prelude.{IfOk, Option, is_some, true};
+ghost use Rattle.std.specs.Prelude.{◌≡◌, ◌&&◌, ◌++◌, ◌+◌, ◌∷◌, [], ◌<◌, ℕ, List};
+ghost use Rattle.std.specs.Prelude.{IfOk, Option, Some, is_some, length, map, true};
 ghost use Rattle.std.specs.List.{flat_map, list_all};
 ghost use Rattle.nll_types.specs.Declarations.{structs_of};
 ghost use Rattle.nll_types.specs.Operands.{operand_of, operand_type};

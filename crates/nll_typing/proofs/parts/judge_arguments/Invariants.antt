@@ -16,7 +16,7 @@ use Rattle.nll_typing.proofs.parts.judge_arguments.Given as goal
 abbrev pub invariant-loop-place : goal.invariant-loop-place
 invariant-loop-place g l = (l.table.structs ≡ l.fn.table.structs)
     × Extends l.fn.table.shapes l.table.shapes
-    × ((types others : List TypeTree) (h : g.T → TypeTree) → HaveShapes l.fn.table.shapes l.variables types
+    × ((types others : List TypeTree) (h : g.row.T.Denot → TypeTree) → HaveShapes l.fn.table.shapes l.variables types
     → HaveShapes l.fn.table.shapes l.written (map (λ a. h a.1) l.arguments ++ others)
     → IsSoFar l.judged
     (list_all (λ a. agree (operand_type (structs_of l.fn.table.structs) types (operand_of a.0)) (Some (h a.1))) (drop l.place l.arguments))
