@@ -1,3 +1,4 @@
+pub mod CallLemmas
 pub mod FormLemmas
 pub mod GoodFieldLemmas
 pub mod LawLemmas
