@@ -1,6 +1,10 @@
 pub mod FormLemmas
 pub mod GoodFieldLemmas
 pub mod LawLemmas
+pub mod NeitherLemmas
+pub mod OwnLemmas
 pub mod SaidLemmas
 pub mod ShapeLemmas
+pub mod SoundLemmas
+pub mod StructLemmas
 pub mod TextLemmas

@@ -43,9 +43,16 @@ shapes_one_more shapes (j ∷ is) (u ∷ ts) i t h e =
     let parts = cons_parts (shape_in shapes j) (shape_of (tree u)) (map (shape_in shapes) is) (map (λ v. shape_of (tree v)) ts) h in
     cons_both (shape_in shapes j) (shape_of (tree u)) _ _ parts.0 (shapes_one_more shapes is ts i t parts.1 e)
 
+-- the table has got further shapes
+pub shapes_extended : (old new : List Node) (is : List ℕ) (ts : List Ty) → Extends old new → AreShapes old is ts → AreShapes new is ts
+shapes_extended old new is ts e h = record {
+  below = λ k l. omega (arith, h.below k l, e.longer);
+  same = shapes_kept old new e is h.below ∙ h.same;
+}
+
 -- one more variable
-pub shapes_pushed : (old new : List Node) (is : List ℕ) (ts : List Ty) (i : ℕ) (t : Ty) → Extends old new → AreShapes old is ts → i < length new → shape_in new i ≡ shape_of (tree t) → AreShapes new (is ++ i ∷ []) (ts ++ t ∷ [])
-shapes_pushed old new is ts i t e h lt same = record {
-  below = below_push (length old) (length new) is i e.longer h.below lt;
-  same = shapes_one_more new is ts i t (shapes_kept old new e is h.below ∙ h.same) same;
+pub shapes_pushed : (shapes : List Node) (is : List ℕ) (ts : List Ty) (i : ℕ) (t : Ty) → AreShapes shapes is ts → i < length shapes → shape_in shapes i ≡ shape_of (tree t) → AreShapes shapes (is ++ i ∷ []) (ts ++ t ∷ [])
+shapes_pushed shapes is ts i t h l same = record {
+  below = below_push (length shapes) (length shapes) is i (omega arith) h.below l;
+  same = shapes_one_more shapes is ts i t h.same same;
 }

@@ -2,3 +2,4 @@ pub mod MirSaid
 pub mod MirFaults
 pub mod MirText
 pub mod MirReading
+pub mod Declaring

@@ -1,10 +1,9 @@
 -- What is wrong with a further line of a MIR text.
 -- Source: project's choice; docs/FORMATS.md says the same in words.
 use Rattle.std.specs.Prelude.{ℕ, ◌+◌, Bool, true, false, not, ◌&&◌, ◌||◌, ◌==◌, nat_lt, nat_le}
-use Rattle.std.specs.Prelude.{if◌then◌else◌, List, [], ◌∷◌, ◌++◌, length, map, find, sum_by}
+use Rattle.std.specs.Prelude.{List, [], ◌∷◌, ◌++◌, length, map, find}
 use Rattle.std.specs.Prelude.{Option, Some, None, is_some}
 use Rattle.std.specs.List.{flat_map, list_all, list_any}
-use Rattle.indexmap.specs.IndexSet.{insert_all}
 use Rattle.nll_problem.specs.Limits.{most_points, most_edges, most_universals, most_regions}
 use Rattle.nll_problem.specs.Limits.{most_variables, most_structs}
 use Rattle.nll_problem.specs.declared.error.Kind.TheVariants.{Points, Edges, Universals, Regions}
@@ -22,13 +21,13 @@ use Rattle.nll_types.specs.Shapes.{same_shape, is_small}
 use Rattle.nll_type_grammar.specs.WrittenTypes.{Name, WrittenType, WrittenTypes}
 use Rattle.nll_statements.specs.Statements.{Statement, assign, borrow, make, read, live, dead, nop}
 use Rattle.nll_statements.specs.Statements.{goto, switch, drop, call, return, stop}
-use Rattle.nll_statements.specs.Statements.{is_terminator}
 use Rattle.nll_mir_grammar.specs.MirForms.{WrittenParameter}
 use Rattle.nll_mir_grammar.specs.MirForms.{Form, universal, outlives, further, struct_line}
 use Rattle.nll_mir_grammar.specs.MirForms.{variable, blocks, block, at_point, end}
 use Rattle.nll_naming.specs.Naming.{is_among, is_known, are_known, has_arguments}
 use Rattle.nll_naming.specs.Naming.{have_arguments, meant, all_meant}
 use Rattle.nll_statements.specs.Effects.{target_of, sources_of, targets, operands_of}
+use Rattle.nll_body.specs.Edges.{edges_from, edge_count}
 use Rattle.nll_mir_text.specs.MirSaid.{Said, body_scope, field_scope, regions_in, types_in, group}
 use Rattle.nll_mir_text.specs.MirSaid.{statement_meant}
 
@@ -98,15 +97,6 @@ knows s i =
 -- each target is one of the blocks
 abbrev pub has_targets : {R T : Type 0} → Said → Statement R T → Bool
 has_targets s i = list_all (λ b. nat_lt b s.blocks) (targets i)
-
--- how many edges leave the point where the statement or terminator stands
-abbrev pub edges_from : {R T : Type 0} → Statement R T → ℕ
-edges_from i =
-    if is_terminator i then length (insert_all (λ b c. b == c) [] (targets i)) else 1
-
--- how many edges leave these points
-abbrev pub edge_count : {R T : Type 0} → List (Statement R T) → ℕ
-edge_count points = sum_by edges_from points
 
 -- ---- types
 
