@@ -18,21 +18,9 @@ use Rattle.nll_mir_grammar.specs.declared.keyword.Keyword.TheVariants as words
 use Rattle.nll_statements.specs.Statements.{Statement, assign, borrow, make, read, live, dead, nop, goto, switch, drop, call, return, stop}
 use Rattle.nll_mir_grammar.specs.MirForms.{Form, universal, outlives, further, struct_line, variable, blocks, block, at_point, end, spelled_form, IsWritable, IsSpelled}
 use Rattle.nll_mir_grammar.proofs.GrammarLemmas.{tail_same, head_same, append_nil, pair_found, behind_found, signs_apart, signs_differ, behind_one, behind_none, behind_other, behind_back, Joins, pair_one, pair_none, pair_none_behind, IsBefore, parentheses_one, all_before, empty_one, kinds_one}
-use Rattle.nll_mir_grammar.proofs.PartLemmas.{words_apart, no_projection_left, regions_one, any_words_one, names_one, prefixed_one, places_one, operands_one, types_one, tuples_one, mark_one, parameter_lists_one, bound_lists_one, block_lists_one, exits_one, operands_listable, arguments_listable, bounds_before, no_projection, operands_before, places_before, mark_before}
+use Rattle.nll_mir_grammar.proofs.PartLemmas.{words_apart, regions_join, words_join, names_join, variables_join, any_bounds, blocks_one, no_projection_left, regions_one, any_words_one, names_one, prefixed_one, places_one, operands_one, types_one, tuples_one, mark_one, parameter_lists_one, bound_lists_one, block_lists_one, exits_one, operands_listable, arguments_listable, bounds_before, no_projection, operands_before, places_before, mark_before}
 
 -- ---- what stands behind what
-
-pub regions_join : {B : Type 0} (h : Grammar B) → Joins regions h
-regions_join h a b r k l m = tt
-
-pub words_join : {B : Type 0} (h : Grammar B) → Joins any_words h
-words_join h a b r k l m = tt
-
-pub names_join : {B : Type 0} (h : Grammar B) → Joins names h
-names_join h a b r k l m = tt
-
-pub variables_join : {B : Type 0} (h : Grammar B) → Joins variables h
-variables_join h a b r k l m = tt
 
 variable_is_no : (w : List ℕ) (x : ℕ) → bytes_eq (codes "_" ++ decimal x) w ≡ false → word (codes "_" ++ decimal x) ≡ word w → ⊥
 variable_is_no w x n e = words_apart (codes "_" ++ decimal x) w n (let f : codes "_" ++ decimal x ≡ w = cc in f)
@@ -46,10 +34,6 @@ makes_join t ops r k l m others e = signs_differ 40 60 _ _ refl e
 exits_begin : (e : ℕ × Option ℕ) (r : List Token) → (rest : List Token) × (exits.spells e ++ r ≡ arrow ∷ rest)
 exits_begin (b, None) r = (block_word b ∷ r, refl)
 exits_begin (b, Some c) r = (block_word b ∷ word (codes "unwind") ∷ block_word c ∷ r, refl)
-
-any_bounds : (vs : List (Name × Name)) → AllByRecursion bounds.IsAllowed vs
-any_bounds [] = tt
-any_bounds (v ∷ vs) = ((tt, tt), any_bounds vs)
 
 pub bounds_join : Joins bound_lists exits
 bounds_join [] e r k l m = λ others f. let g = exits_begin e r in let h : arrow ∷ g.0 ≡ word (codes "where") ∷ others = sym g.1 ∙ f in cc
@@ -218,9 +202,6 @@ pub structs_one : IsOne structs
 structs_one = pair_one names (pair parameter_lists (pair drop_marks tuples)) (names_join (pair parameter_lists (pair drop_marks tuples))) names_one
     (pair_one parameter_lists (pair drop_marks tuples) parameters_join parameter_lists_one
     (pair_one drop_marks tuples drops_join drop_marks_one tuples_one))
-
-blocks_one : IsOne block_names
-blocks_one = prefixed_one (codes "bb")
 
 variables_one : IsOne variables
 variables_one = prefixed_one (codes "_")

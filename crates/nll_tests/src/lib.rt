@@ -26,6 +26,10 @@ mod making;
 #[cfg(test)]
 mod messages;
 #[cfg(test)]
+mod mir_lines;
+#[cfg(test)]
+mod naming;
+#[cfg(test)]
 mod sets;
 #[cfg(test)]
 mod solving;
