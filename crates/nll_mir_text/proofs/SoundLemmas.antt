@@ -5,10 +5,10 @@ use Rattle.std.specs.List.{list_all}
 use Rattle.std.specs.List.Sorted.{IsStrictlyIncreasing}
 use Rattle.std.proofs.lemmas.Bool.{cases_lt, and_parts, not-true, not-false, leb-true, leb-false, ltb-true, ltb-false, eqb-true, eqb-false}
 use Rattle.std.proofs.lemmas.List.{get_or_append_left, get_or_at, append-nil}
-use Rattle.std.proofs.lemmas.List.Elements.{All-cons, All-push, All-weaker, All-nil, All-contains, All-get_or}
+use Rattle.std.proofs.lemmas.List.Elements.{Contains-push_cases, All-cons, All-push, All-weaker, All-nil, All-contains, All-get_or}
 use Rattle.std.proofs.lemmas.List.Sums.{sum_by_push}
 use Rattle.std.proofs.lemmas.Option.{get_or_from_slice_get, slice_get_within, slice_get-get_or}
-use Rattle.nll_problem.specs.Limits.{most_points, most_edges, most_universals}
+use Rattle.nll_problem.specs.Limits.{most_points, most_edges, most_universals, most_regions, most_variables}
 use Rattle.nll_types.specs.Types.{TypeTree}
 use Rattle.nll_types.specs.Structs.{Struct, AreInOrder, IsWellFormed}
 use Rattle.nll_types.proofs.DeclareLemmas.{order_push}
@@ -16,7 +16,7 @@ use Rattle.nll_type_grammar.specs.WrittenTypes.{Name, WrittenType, WrittenTypes}
 use Rattle.nll_statements.specs.Statements.{Statement, is_terminator, map_statement}
 use Rattle.nll_statements.specs.Effects.{targets}
 use Rattle.nll_mir_grammar.specs.MirForms.{Form, WrittenParameter, universal, outlives, further, struct_line, variable, blocks, block, at_point, end}
-use Rattle.nll_naming.specs.Naming.{has_arguments, have_arguments, is_known, are_known}
+use Rattle.nll_naming.specs.Naming.{meant, has_arguments, have_arguments, is_known, are_known}
 use Rattle.nll_reading.specs.Labels.{AreFirstPoints}
 use Rattle.nll_reading.specs.Text.{Fits, skipped, of_form, Says, IsText}
 use Rattle.nll_body.specs.Bodies.{BodyText, StandsAt, GoesOn}
@@ -24,7 +24,7 @@ use Rattle.nll_body.specs.Edges.{edges_from, edge_count}
 use Rattle.nll_body.specs.Sound.{IsSound}
 use Rattle.nll_body.proofs.PointLemmas.{same_targets, same_end}
 use Rattle.nll_mir_text.specs.MirSaid.{Said, said, says, nothing_said, statement_meant, body_scope, field_scope, declared, is_region}
-use Rattle.nll_mir_text.specs.MirFaults.{first_fault, is_in_order, has_targets, shapes_fit, knows}
+use Rattle.nll_mir_text.specs.MirFaults.{is_universal, first_fault, is_in_order, has_targets, shapes_fit, knows}
 use Rattle.nll_mir_text.specs.MirReading.{AreKinds}
 use Rattle.nll_mir_text.specs.MirText.{mir, body_said}
 use Rattle.nll_mir_text.proofs.GoodFieldLemmas.{well_formed}
@@ -84,6 +84,10 @@ rise_push xs n rise below k l = ⊎_elim
     rw (get_or_append_left xs (n ∷ []) 0 k (omega (arith, last)), get_or_at xs n [] 0 (k + 1) last) (below k 0 (omega (arith, last))))
     (cases_lt (k + 1) (length xs))
 
+inserted : {X : Type 0} (b : Bool) (ks : List X) (x y : X) → Contains (cond b ks (ks ++ x ∷ [])) y → Contains ks y ⊎ (x ≡ y)
+inserted true ks x y c = inl c
+inserted false ks x y c = Contains-push_cases ks x y c
+
 first_pushed : (xs : List ℕ) (n : ℕ) → (length xs ≡ 0 → n ≡ 0) → (0 < length xs → slice_get xs 0 ≡ Some 0) → slice_get (xs ++ n ∷ []) 0 ≡ Some 0
 first_pushed [] n z h = ap Some (z refl)
 first_pushed (x ∷ xs) n z h = h (omega arith)
@@ -91,10 +95,13 @@ first_pushed (x ∷ xs) n z h = h (omega arith)
 -- ---- what holds of what lines say
 
 -- What is declared keeps to what was declared before.
-record IsDeclared (reached universals : ℕ) (names struct_names : List Name) (kinds : List (List Bool)) (structs : List Struct) (variables : List TypeTree) : Type 0 where
+record IsDeclared (reached universals : ℕ) (names : List Name) (longer : List (ℕ × ℕ)) (struct_names : List Name) (kinds : List (List Bool)) (structs : List Struct) (variables : List TypeTree) : Type 0 where
   some : 0 < universals
   few : universals ≤ most_universals
   all : universals ≤ length names
+  few_names : length names ≤ most_regions
+  few_variables : length variables ≤ most_variables
+  known : (a b : ℕ) → Contains longer (a, b) → (a < universals) × (b < universals)
   named : length struct_names ≡ length structs
   counted : length kinds ≡ length structs
   takes : AreKinds kinds structs
@@ -133,7 +140,7 @@ record ArePlaced (reached count : ℕ) (starts : List ℕ) (points : List (State
   leads : (p b : ℕ) (i : Statement ℕ TypeTree) → slice_get points p ≡ Some i → Contains (targets i) b → b < count
 
 record IsWell (s : Said) : Type 0 where
-  declares : IsDeclared s.reached s.universals s.names s.struct_names s.kinds s.structs s.variables
+  declares : IsDeclared s.reached s.universals s.names s.outlives s.struct_names s.kinds s.structs s.variables
   places : ArePlaced s.reached s.blocks s.starts s.points s.owes
 
 -- ---- no line yet
@@ -144,6 +151,9 @@ well_nothing = record {
     some = omega arith;
     few = omega arith;
     all = omega arith;
+    few_names = omega arith;
+    few_variables = omega arith;
+    known = λ a b c. absurd (omega (arith, c.1));
     named = refl;
     counted = refl;
     takes = record { regions = λ n l. absurd (omega (arith, l)); types = λ n l. absurd (omega (arith, l)) };
@@ -186,12 +196,15 @@ module _ (reached count : ℕ) (starts : List ℕ) (points : List (Statement ℕ
   }
 
 -- a line behind the declarations leaves them as they are
-module _ (reached universals : ℕ) (names struct_names : List Name) (kinds : List (List Bool)) (structs : List Struct) (variables : List TypeTree) where
-  declares_late : (after : ℕ) → IsDeclared reached universals names struct_names kinds structs variables → 5 ≤ after → IsDeclared after universals names struct_names kinds structs variables
+module _ (reached universals : ℕ) (names : List Name) (longer : List (ℕ × ℕ)) (struct_names : List Name) (kinds : List (List Bool)) (structs : List Struct) (variables : List TypeTree) where
+  declares_late : (after : ℕ) → IsDeclared reached universals names longer struct_names kinds structs variables → 5 ≤ after → IsDeclared after universals names longer struct_names kinds structs variables
   declares_late after h late = record {
     some = h.some;
     few = h.few;
     all = h.all;
+    few_names = h.few_names;
+    few_variables = h.few_variables;
+    known = h.known;
     named = h.named;
     counted = h.counted;
     takes = h.takes;
@@ -201,7 +214,7 @@ module _ (reached universals : ℕ) (names struct_names : List Name) (kinds : Li
   }
 
   -- names and structs are declared before variables
-  keeps_none : reached < 5 → IsDeclared reached universals names struct_names kinds structs variables → (P : TypeTree → Type 0) → All P variables
+  keeps_none : reached < 5 → IsDeclared reached universals names longer struct_names kinds structs variables → (P : TypeTree → Type 0) → All P variables
   keeps_none early h P = subst (All P) (sym (h.none_yet early)) (All-nil P)
 
 -- the line is of a group that isn't before that reached
@@ -212,19 +225,24 @@ module _ (s : Said) (w : IsWell s) where
   well_universal : (a : Name) → first_fault s (universal a) ≡ None → IsWell (says s (universal a))
   well_universal a e =
       let le : s.reached ≤ 1 = in_group s 1 (here _ _ _ e) in
-      let few : nat_le most_universals s.universals ≡ false = here _ _ _ (past _ _ _ (past _ _ _ e)) in
+      let limits = past _ _ _ (past _ _ _ e) in
+      let few : nat_le most_universals s.universals ≡ false = here _ _ _ limits in
+      let regions : nat_le most_regions (length s.names) ≡ false = here _ _ _ (past _ _ _ limits) in
       let d = w.declares in
       record {
         declares = record {
           some = omega arith;
           few = omega (arith, leb-false _ _ few);
           all = omega (arith, d.all, length-append s.names (a ∷ []));
+          few_names = omega (arith, leb-false _ _ regions, length-append s.names (a ∷ []));
+          few_variables = d.few_variables;
+          known = λ x y c. (let k = d.known x y c in (omega (arith, k.0), omega (arith, k.1)));
           named = d.named;
           counted = d.counted;
           takes = d.takes;
           order = d.order;
           none_yet = λ _. d.none_yet (omega (arith, le));
-          keep = keeps_none _ _ _ _ _ _ _ (omega (arith, le)) d _;
+          keep = keeps_none _ _ _ _ _ _ _ _ (omega (arith, le)) d _;
         };
         places = places_early _ _ _ _ _ 1 w.places le (omega arith);
       }
@@ -232,12 +250,16 @@ module _ (s : Said) (w : IsWell s) where
   well_outlives : (a b : Name) → first_fault s (outlives a b) ≡ None → IsWell (says s (outlives a b))
   well_outlives a b e =
       let le : s.reached ≤ 2 = in_group s 2 (here _ _ _ e) in
+      let both = and_parts (is_universal s a) (is_universal s b) (not-false _ (here _ _ _ (past _ _ _ e))) in
       let d = w.declares in
       record {
         declares = record {
           some = d.some;
           few = d.few;
           all = d.all;
+          few_names = d.few_names;
+          few_variables = d.few_variables;
+          known = λ x y c. ⊎_elim (d.known x y) (λ same. subst (λ (p : ℕ × ℕ). (p.0 < s.universals) × (p.1 < s.universals)) same (ltb-true _ _ both.0, ltb-true _ _ both.1)) (inserted _ s.outlives _ (x, y) c);
           named = d.named;
           counted = d.counted;
           takes = d.takes;
@@ -251,18 +273,22 @@ module _ (s : Said) (w : IsWell s) where
   well_further : (x : Name) → first_fault s (further x) ≡ None → IsWell (says s (further x))
   well_further x e =
       let le : s.reached ≤ 3 = in_group s 3 (here _ _ _ e) in
+      let regions : nat_le most_regions (length s.names) ≡ false = here _ _ _ (past _ _ _ (past _ _ _ e)) in
       let d = w.declares in
       record {
         declares = record {
           some = d.some;
           few = d.few;
           all = omega (arith, d.all, length-append s.names (x ∷ []));
+          few_names = omega (arith, leb-false _ _ regions, length-append s.names (x ∷ []));
+          few_variables = d.few_variables;
+          known = d.known;
           named = d.named;
           counted = d.counted;
           takes = d.takes;
           order = d.order;
           none_yet = λ _. d.none_yet (omega (arith, le));
-          keep = keeps_none _ _ _ _ _ _ _ (omega (arith, le)) d _;
+          keep = keeps_none _ _ _ _ _ _ _ _ (omega (arith, le)) d _;
         };
         places = places_early _ _ _ _ _ 3 w.places le (omega arith);
       }
@@ -279,12 +305,15 @@ module _ (s : Said) (w : IsWell s) where
           some = d.some;
           few = d.few;
           all = d.all;
+          few_names = d.few_names;
+          few_variables = d.few_variables;
+          known = d.known;
           named = omega (arith, d.named, length-append s.struct_names (n ∷ []), length-append s.structs (more ∷ []));
           counted = omega (arith, d.counted, length-append s.kinds (map is_region ps ∷ []), length-append s.structs (more ∷ []));
           takes = kinds_pushed s.kinds s.structs (map is_region ps) more d.counted d.takes (regions_declared s ps has_drop fields) (types_declared s ps has_drop fields);
           order = order_push s.structs more d.order (good_fields s ps has_drop fields d.takes d.named known has);
           none_yet = λ _. d.none_yet (omega (arith, le));
-          keep = keeps_none _ _ _ _ _ _ _ (omega (arith, le)) d _;
+          keep = keeps_none _ _ _ _ _ _ _ _ (omega (arith, le)) d _;
         };
         places = places_early _ _ _ _ _ 4 w.places le (omega arith);
       }
@@ -294,12 +323,16 @@ module _ (s : Said) (w : IsWell s) where
       let le : s.reached ≤ 5 = in_group s 5 (here _ _ _ e) in
       let known : is_known (body_scope s) t ≡ true = not-false _ (here _ _ _ (past _ _ _ e)) in
       let has : has_arguments (body_scope s) t ≡ true = not-false _ (here _ _ _ (past _ _ _ (past _ _ _ (past _ _ _ e)))) in
+      let limit : nat_le most_variables (length s.variables) ≡ false = here _ _ _ (past _ _ _ (past _ _ _ (past _ _ _ (past _ _ _ (past _ _ _ e))))) in
       let d = w.declares in
       record {
         declares = record {
           some = d.some;
           few = d.few;
           all = d.all;
+          few_names = d.few_names;
+          few_variables = omega (arith, leb-false _ _ limit, length-append s.variables (meant (body_scope s) t ∷ []));
+          known = d.known;
           named = d.named;
           counted = d.counted;
           takes = d.takes;
@@ -317,7 +350,7 @@ module _ (s : Said) (w : IsWell s) where
       let p = w.places in
       let none = p.none_yet (omega (arith, at)) in
       record {
-        declares = declares_late _ _ _ _ _ _ _ 6 w.declares (omega arith);
+        declares = declares_late _ _ _ _ _ _ _ _ 6 w.declares (omega arith);
         places = record {
           some_block = λ _. some;
           none_yet = λ _. none;
@@ -356,7 +389,7 @@ module _ (s : Said) (w : IsWell s) where
   well_block n e =
       let order = three _ _ _ (not-false _ (here _ _ _ e)) in
       record {
-        declares = declares_late _ _ _ _ _ _ _ 7 w.declares (omega arith);
+        declares = declares_late _ _ _ _ _ _ _ _ 7 w.declares (omega arith);
         places = begins (not-true _ order.2) (leb-true 6 s.reached order.0);
       }
 
@@ -396,11 +429,11 @@ module _ (s : Said) (w : IsWell s) where
       let limits = past _ _ _ (past _ _ _ (past _ _ _ range)) in
       let points : nat_le most_points (length s.points) ≡ false = here _ _ _ limits in
       let edges : nat_lt most_edges (edge_count s.points + edges_from i) ≡ false = here _ _ _ (past _ _ _ limits) in
-      let few_points = leb-false _ _ points in
-      let few_edges = ltb-false _ _ edges in
-      let at = eqb-true _ _ order.0 in
+      let few_points : length s.points < most_points = leb-false _ _ points in
+      let few_edges : edge_count s.points + edges_from i ≤ most_edges = ltb-false _ _ edges in
+      let at : s.reached ≡ 7 = eqb-true _ _ order.0 in
       record {
-        declares = declares_late _ _ _ _ _ _ _ 7 w.declares (omega arith);
+        declares = declares_late _ _ _ _ _ _ _ _ 7 w.declares (omega arith);
         places = stands i at order.1 (not-false _ (here _ _ _ range)) few_points few_edges;
       }
 
@@ -412,7 +445,7 @@ module _ (s : Said) (w : IsWell s) where
       let done = not-true _ order.2 in
       let enough : nat_lt (length s.starts) s.blocks ≡ false = here _ _ _ (past _ _ _ e) in
       record {
-        declares = declares_late _ _ _ _ _ _ _ 8 w.declares (omega arith);
+        declares = declares_late _ _ _ _ _ _ _ _ 8 w.declares (omega arith);
         places = record {
           some_block = λ _. p.some_block late;
           none_yet = λ l. absurd (omega (arith, l));
@@ -473,6 +506,9 @@ module _ (s : Said) (w : IsWell s) (at_end : s.reached ≡ 8) where
         some_universal = d.some;
         universal_limit = d.few;
         all_universals = d.all;
+        region_limit = d.few_names;
+        variable_limit = d.few_variables;
+        known_universals = d.known;
         first_points = record { rise = p.rise; at_zero = first };
         in_range = λ q r goes. ⊎_elim
             (λ plain. (let l = p.goes_on q goes.0 goes.1 plain.0 in omega (arith, l, plain.1, done)))
