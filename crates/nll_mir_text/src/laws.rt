@@ -8,31 +8,31 @@ ghost use Rattle.nll_body.specs.Sound.{IsSound};
 ghost use Rattle.nll_mir_text.specs.MirText.{mir, Means};
 
 /// States that a text has at most one fault.
-pub fn one_fault()
+pub fn mir_one_fault()
     ensures { (text : List ℕ) (line other_line : ℕ) (kind other_kind : TextKind)
         → IsFault mir text line kind → IsFault mir text other_line other_kind
         → (line ≡ other_line) × (kind ≡ other_kind) }
 {}
 
 /// States that a text that means a body has no fault.
-pub fn not_both()
+pub fn mir_not_both()
     ensures { (text : List ℕ) (body : BodyText) (line : ℕ) (kind : TextKind)
         → Means text body → IsFault mir text line kind → ⊥ }
 {}
 
 /// States that a text means at most one body.
-pub fn one_meaning()
+pub fn mir_one_meaning()
     ensures { (text : List ℕ) (body other : BodyText)
         → Means text body → Means text other → body ≡ other }
 {}
 
 /// States that no text has neither: each means a body or has a fault.
-pub fn not_neither()
+pub fn mir_not_neither()
     ensures { (text : List ℕ) → ((body : BodyText) → Means text body → ⊥)
         → ((line : ℕ) (kind : TextKind) → IsFault mir text line kind → ⊥) → ⊥ }
 {}
 
 /// States that the body that a text means is sound.
-pub fn meanings_are_sound()
+pub fn mir_meaning_is_sound()
     ensures { (text : List ℕ) (body : BodyText) → Means text body → IsSound body }
 {}

@@ -14,6 +14,8 @@ mod reader;
 mod tables;
 mod text;
 
-pub use laws::{meanings_are_sound, not_both, not_neither, one_fault, one_meaning};
+pub use laws::{
+    mir_meaning_is_sound, mir_not_both, mir_not_neither, mir_one_fault, mir_one_meaning,
+};
 pub use limits::{MAX_STRUCTS, MAX_VARIABLES};
 pub use mir::read_mir;
