@@ -1,5 +1,8 @@
+pub mod DeclaringLemmas
+pub mod FaultLemmas
 pub mod FormLemmas
 pub mod GoodFieldLemmas
+pub mod GrownLemmas
 pub mod LawLemmas
 pub mod NeitherLemmas
 pub mod OwnLemmas

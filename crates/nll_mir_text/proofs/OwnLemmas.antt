@@ -1,6 +1,6 @@
 -- The names of a struct's own, each once, and what depends on which names there are.
-use Rattle.std.proofs.Common.{◌≡◌, ℕ, zero, suc, ◌+◌, ◌<◌, ◌≤◌, Bool, true, false, not, cond, List, [], ◌∷◌, ◌++◌, length, map, refl, sym, ap, ◌∙◌, subst, ⊎_elim, arith}
-use Rattle.std.specs.Prelude.{◌&&◌, ◌||◌, nat_lt, codes}
+use Rattle.std.proofs.Common.{Option, Some, None, ◌≡◌, ℕ, zero, suc, ◌+◌, ◌<◌, ◌≤◌, Bool, true, false, not, cond, List, [], ◌∷◌, ◌++◌, length, map, refl, sym, ap, ◌∙◌, subst, ⊎_elim, arith}
+use Rattle.std.specs.Prelude.{◌&&◌, ◌||◌, nat_lt, codes, is_some, MatchOption}
 use Rattle.std.specs.List.{AllByRecursion, filter_map, list_any}
 use Rattle.std.specs.Str.{bytes_eq}
 use Rattle.std.proofs.lemmas.Bool.{cases_lt, cases_Bool, lt-ltb, le-ltb, ltb-false, or_parts, or_right, false_from_ne_true, false≢true}
@@ -17,10 +17,11 @@ use Rattle.nll_mir_grammar.specs.Lines.{parameter_of}
 use Rattle.nll_mir_grammar.specs.declared.line.ParameterText.{ParameterText}
 use Rattle.nll_mir_grammar.specs.declared.line.ParameterText.TheVariants as parameters
 use Rattle.nll_naming.specs.Naming.{Scope, is_among, is_known, are_known, arguments_are_known}
-use Rattle.nll_mir_text.specs.MirSaid.{region_in, type_in, regions_in, types_in}
+use Rattle.nll_mir_text.specs.MirSaid.{Said, field_scope, region_in, type_in, regions_in, types_in}
 use Rattle.nll_mir_text.specs.MirFaults.{has_repeats}
 use Rattle.nll_mir_text.specs.MirReading.{IsNamed}
-use Rattle.nll_mir_text.specs.Declaring.{AreNamesOf, AreOwn, region_names, type_names, takes_name}
+use Rattle.nll_mir_text.specs.Declaring.{AreNamesOf, AreOwn, region_names, type_names, takes_name, own_scope}
+use Rattle.nll_mir_text.specs.declared.tables.StructNames.{StructNames}
 use Rattle.nll_mir_text.specs.declared.own_names.OwnNames.{OwnNames}
 
 -- ---- tests
@@ -52,7 +53,7 @@ not_not false = refl
 -- ---- the name is among the names
 
 first_or_later : (b : Bool) (n m : ℕ) → nat_lt (cond (not b) (1 + n) 0) (suc m) ≡ b || nat_lt n m
-first_or_later true n m = refl
+first_or_later true n m = lt-ltb 0 (suc m) (omega arith)
 first_or_later false n m = ⊎_elim
     (λ low. lt-ltb (1 + n) (suc m) (omega (arith, low)) ∙ sym (lt-ltb n m low))
     (λ high. le-ltb (1 + n) (suc m) (omega (arith, high)) ∙ sym (le-ltb n m high))
@@ -140,26 +141,39 @@ types_stay : (ps : List WrittenParameter) (a : Name) (p : Parameter) → type_na
 types_stay ps a p =
     ap (λ (xs : List (Name × Parameter)). map (λ x. x.0) xs) (filter_map-append type_in ps (region_parameter a p ∷ []) ∙ append-nil (types_in ps))
 
+-- whether one stands twice, where the names in both rows are others by these
+both_rows : (qs : List WrittenParameter) (row other : List Name) → region_names qs ≡ row → type_names qs ≡ other → has_repeats (region_names qs) || has_repeats (type_names qs) ≡ has_repeats row || has_repeats other
+both_rows qs row other regions types =
+    ap (λ (xs : List Name). has_repeats xs || has_repeats (type_names qs)) regions ∙ ap (λ (xs : List Name). has_repeats row || has_repeats xs) types
+
 module _ (ps : List WrittenParameter) (x : Name) (p : Parameter) (old after : OwnNames) (new : Bool) (h : AreOwn ps old) where
+  repeated : (a : Bool) → not new ≡ a → after.repeats ≡ old.repeats || not new → after.repeats ≡ (has_repeats (region_names ps) || has_repeats (type_names ps)) || a
+  repeated a is repeats =
+      repeats ∙ (ap (λ (b : Bool). b || not new) h.repeats ∙ ap (λ (b : Bool). (has_repeats (region_names ps) || has_repeats (type_names ps)) || b) is)
+
   pub own_region : new ≡ not (is_among old.regions x) → after.regions ≡ cond new (old.regions ++ x ∷ []) old.regions → after.types ≡ old.types → after.repeats ≡ old.repeats || not new → AreOwn (ps ++ region_parameter x p ∷ []) after
-  own_region is regions types repeats = record {
-    regions = rw (regions_more ps x p) (names_more _ _ _ x new h.regions is regions);
-    types = rw (types_stay ps x p, types) h.types;
-    repeats = rw (regions_more ps x p, types_stay ps x p, repeats_push)
-        (repeats ∙ (ap (λ (b : Bool). b || not new) h.repeats
-        ∙ (ap (λ (b : Bool). (has_repeats (region_names ps) || has_repeats (type_names ps)) || b) (not_new _ _ x new h.regions is)
-        ∙ or_late _ _ _)));
-  }
+  own_region is regions types repeats =
+      let qs = ps ++ region_parameter x p ∷ [] in
+      record {
+        regions = subst (λ (xs : List Name). AreNamesOf xs after.regions) (sym (regions_more ps x p)) (names_more (region_names ps) old.regions after.regions x new h.regions is regions);
+        types = subst (λ (xs : List Name). AreNamesOf xs after.types) (sym (types_stay ps x p)) (subst (AreNamesOf (type_names ps)) (sym types) h.types);
+        repeats = repeated (is_among (region_names ps) x) (not_new (region_names ps) old.regions x new h.regions is) repeats
+            ∙ (or_late (has_repeats (region_names ps)) (has_repeats (type_names ps)) (is_among (region_names ps) x)
+            ∙ (ap (λ (b : Bool). b || has_repeats (type_names ps)) (sym (repeats_push (region_names ps) x))
+            ∙ sym (both_rows qs (region_names ps ++ x ∷ []) (type_names ps) (regions_more ps x p) (types_stay ps x p))));
+      }
 
   pub own_type : new ≡ not (is_among old.types x) → after.types ≡ cond new (old.types ++ x ∷ []) old.types → after.regions ≡ old.regions → after.repeats ≡ old.repeats || not new → AreOwn (ps ++ type_parameter x p ∷ []) after
-  own_type is types regions repeats = record {
-    regions = rw (regions_stay ps x p, regions) h.regions;
-    types = rw (types_more ps x p) (names_more _ _ _ x new h.types is types);
-    repeats = rw (regions_stay ps x p, types_more ps x p, repeats_push)
-        (repeats ∙ (ap (λ (b : Bool). b || not new) h.repeats
-        ∙ (ap (λ (b : Bool). (has_repeats (region_names ps) || has_repeats (type_names ps)) || b) (not_new _ _ x new h.types is)
-        ∙ or_group _ _ _)));
-  }
+  own_type is types regions repeats =
+      let qs = ps ++ type_parameter x p ∷ [] in
+      record {
+        regions = subst (λ (xs : List Name). AreNamesOf xs after.regions) (sym (regions_stay ps x p)) (subst (AreNamesOf (region_names ps)) (sym regions) h.regions);
+        types = subst (λ (xs : List Name). AreNamesOf xs after.types) (sym (types_more ps x p)) (names_more (type_names ps) old.types after.types x new h.types is types);
+        repeats = repeated (is_among (type_names ps) x) (not_new (type_names ps) old.types x new h.types is) repeats
+            ∙ (or_group (has_repeats (region_names ps)) (has_repeats (type_names ps)) (is_among (type_names ps) x)
+            ∙ (ap (λ (b : Bool). has_repeats (region_names ps) || b) (sym (repeats_push (type_names ps) x))
+            ∙ sym (both_rows qs (region_names ps) (type_names ps ++ x ∷ []) (regions_stay ps x p) (types_more ps x p))));
+      }
 
 -- no parameter yet
 pub own_none : (own : OwnNames) → own.regions ≡ codes "static" ∷ [] → own.types ≡ [] → own.repeats ≡ false → AreOwn [] own
@@ -212,3 +226,23 @@ module _ (s t : Scope) (regions : (x : Name) → is_among s.regions x ≡ is_amo
     arguments_known_same no_argument = refl
     arguments_known_same (region_argument r args) = both _ _ _ _ (regions r) (arguments_known_same args)
     arguments_known_same (type_argument w args) = both _ _ _ _ (known_same w) (arguments_known_same args)
+
+-- ---- what is told of the code's names
+
+-- a name that isn't found isn't among the names
+pub not_among : (names : List Name) (x : Name) (o : Option ℕ) → MatchOption o (number_of names x ≡ length names) (λ n. (n ≡ number_of names x) × (n < length names)) → is_some o ≡ false → is_among names x ≡ false
+not_among names x None h e = le-ltb (number_of names x) (length names) (omega (arith, h))
+not_among names x (Some n) h e = absurd cc
+
+pub none_redeclared : (a b c d r : Bool) → a ≡ false → b ≡ false → c ≡ false → r ≡ d → r ≡ a || b || c || d
+none_redeclared a b c d r ea eb ec e = rw (ea, eb, ec) e
+
+-- the fields of a struct in which no name stands twice mean what they mean by its parameters
+pub own_scope_is : (s : Said) (ps : List WrittenParameter) (own : OwnNames) (structs : StructNames) → AreOwn ps own → has_repeats (region_names ps) ≡ false → has_repeats (type_names ps) ≡ false → s.struct_names ≡ structs.names → s.kinds ≡ map (λ ks. ks.items) structs.kinds.items → own_scope own structs ≡ field_scope s ps
+own_scope_is s ps own structs h regions types names kinds =
+    rw (h.regions.same regions, h.types.same types, names, kinds) refl
+
+-- whether names are known by them is whether they are by its parameters
+pub own_known : (s : Said) (ps : List WrittenParameter) (own : OwnNames) (structs : StructNames) (fields : WrittenTypes) → AreOwn ps own → s.struct_names ≡ structs.names → are_known (own_scope own structs) fields ≡ are_known (field_scope s ps) fields
+own_known s ps own structs fields h names =
+    all_known_same (own_scope own structs) (field_scope s ps) h.regions.members h.types.members (λ x. ap (λ (xs : List Name). is_among xs x) (sym names)) fields

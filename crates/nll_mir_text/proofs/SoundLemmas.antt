@@ -1,17 +1,18 @@
 -- What the lines of a text that fits say is a sound body.
 use Rattle.std.proofs.Common.{◌≡◌, ◌⊎◌, ℕ, suc, ◌+◌, ◌<◌, ◌≤◌, Bool, true, false, not, cond, List, [], ◌∷◌, ◌++◌, Option, Some, None, Contains, length, map, inl, inr, refl, sym, ap, ◌∙◌, subst, ⊎_elim, arith, length-append, slice_get, get_or}
 use Rattle.std.specs.Prelude.{◌&&◌, ◌==◌, nat_le, nat_lt, All, slice_index_or}
-use Rattle.std.specs.List.{list_all}
+use Rattle.std.specs.List.{list_all, list_any}
 use Rattle.std.specs.List.Sorted.{IsStrictlyIncreasing}
 use Rattle.std.proofs.lemmas.Bool.{cases_lt, and_parts, not-true, not-false, leb-true, leb-false, ltb-true, ltb-false, eqb-true, eqb-false}
 use Rattle.std.proofs.lemmas.List.{get_or_append_left, get_or_at, append-nil}
 use Rattle.std.proofs.lemmas.List.Elements.{Contains-push_cases, All-cons, All-push, All-weaker, All-nil, All-contains, All-get_or}
 use Rattle.std.proofs.lemmas.List.Sums.{sum_by_push}
 use Rattle.std.proofs.lemmas.Option.{get_or_from_slice_get, slice_get_within, slice_get-get_or}
+use Rattle.nll_problem.specs.Building.{same_pair}
+use Rattle.nll_reading.specs.Names.{number_of}
 use Rattle.nll_problem.specs.Limits.{most_points, most_edges, most_universals, most_regions, most_variables}
 use Rattle.nll_types.specs.Types.{TypeTree}
 use Rattle.nll_types.specs.Structs.{Struct, AreInOrder, IsWellFormed}
-use Rattle.nll_types.proofs.DeclareLemmas.{order_push}
 use Rattle.nll_type_grammar.specs.WrittenTypes.{Name, WrittenType, WrittenTypes}
 use Rattle.nll_statements.specs.Statements.{Statement, is_terminator, map_statement}
 use Rattle.nll_statements.specs.Effects.{targets}
@@ -27,19 +28,12 @@ use Rattle.nll_mir_text.specs.MirSaid.{Said, said, says, nothing_said, statement
 use Rattle.nll_mir_text.specs.MirFaults.{is_universal, first_fault, is_in_order, has_targets, shapes_fit, knows}
 use Rattle.nll_mir_text.specs.MirReading.{AreKinds}
 use Rattle.nll_mir_text.specs.MirText.{mir, body_said}
+use Rattle.nll_mir_text.proofs.FaultLemmas.{faultless}
 use Rattle.nll_mir_text.proofs.GoodFieldLemmas.{well_formed}
 use Rattle.nll_mir_text.proofs.SaidLemmas.{said_push, in_order, reached_at_end}
-use Rattle.nll_mir_text.proofs.StructLemmas.{kinds_pushed, regions_declared, types_declared, good_fields}
+use Rattle.nll_mir_text.proofs.StructLemmas.{order_push, kinds_pushed, regions_declared, types_declared, good_fields}
 
--- ---- tests that come out false
-
-here : {A : Type 0} (b : Bool) (x : A) (o : Option A) → cond b (Some x) o ≡ None → b ≡ false
-here true x o e = absurd cc
-here false x o e = refl
-
-past : {A : Type 0} (b : Bool) (x : A) (o : Option A) → cond b (Some x) o ≡ None → o ≡ None
-past true x o e = absurd cc
-past false x o e = e
+-- ---- tests
 
 three : (a b c : Bool) → a && b && c ≡ true → (a ≡ true) × (b ≡ true) × (c ≡ true)
 three true true c h = (refl, refl, h)
@@ -50,11 +44,11 @@ positive : (n : ℕ) → n == 0 ≡ false → 0 < n
 positive n e = omega (arith, eqb-false n 0 e)
 
 below_all : (n : ℕ) (xs : List ℕ) → list_all (λ b. nat_lt b n) xs ≡ true → All (λ b. b < n) xs
-below_all n [] h = All-nil _
+below_all n [] h = All-nil (λ b. b < n)
 below_all n (x ∷ xs) h =
     let both = and_parts (nat_lt x n) (list_all (λ b. nat_lt b n) xs) h in
     let first : x < n = ltb-true x n both.0 in
-    All-cons _ x xs first (below_all n xs both.1)
+    All-cons (λ b. b < n) x xs first (below_all n xs both.1)
 
 -- ---- lists
 
@@ -110,7 +104,7 @@ record IsDeclared (reached universals : ℕ) (names : List Name) (longer : List 
   keep : All (IsWellFormed structs (length names) 0) variables
 
 -- one more than the last point that may come behind these
-ends : List (Statement ℕ TypeTree) → Bool → ℕ
+abbrev ends : List (Statement ℕ TypeTree) → Bool → ℕ
 ends points owes = cond owes (length points + 1) (length points)
 
 -- behind one more point
@@ -224,17 +218,17 @@ in_group s n e = leb-true s.reached n (not-false _ e)
 module _ (s : Said) (w : IsWell s) where
   well_universal : (a : Name) → first_fault s (universal a) ≡ None → IsWell (says s (universal a))
   well_universal a e =
-      let le : s.reached ≤ 1 = in_group s 1 (here _ _ _ e) in
-      let limits = past _ _ _ (past _ _ _ e) in
-      let few : nat_le most_universals s.universals ≡ false = here _ _ _ limits in
-      let regions : nat_le most_regions (length s.names) ≡ false = here _ _ _ (past _ _ _ limits) in
+      let no = faultless s (universal a) e in
+      let le : s.reached ≤ 1 = in_group s 1 no.syntax' in
+      let few : s.universals < most_universals = leb-false most_universals s.universals no.universals in
+      let regions : length s.names < most_regions = leb-false most_regions (length s.names) no.regions in
       let d = w.declares in
       record {
         declares = record {
           some = omega arith;
-          few = omega (arith, leb-false _ _ few);
+          few = omega (arith, few);
           all = omega (arith, d.all, length-append s.names (a ∷ []));
-          few_names = omega (arith, leb-false _ _ regions, length-append s.names (a ∷ []));
+          few_names = omega (arith, regions, length-append s.names (a ∷ []));
           few_variables = d.few_variables;
           known = λ x y c. (let k = d.known x y c in (omega (arith, k.0), omega (arith, k.1)));
           named = d.named;
@@ -242,15 +236,16 @@ module _ (s : Said) (w : IsWell s) where
           takes = d.takes;
           order = d.order;
           none_yet = λ _. d.none_yet (omega (arith, le));
-          keep = keeps_none _ _ _ _ _ _ _ _ (omega (arith, le)) d _;
+          keep = keeps_none _ _ _ _ _ _ _ _ (omega (arith, le)) d (IsWellFormed s.structs (length (s.names ++ a ∷ [])) 0);
         };
         places = places_early _ _ _ _ _ 1 w.places le (omega arith);
       }
 
   well_outlives : (a b : Name) → first_fault s (outlives a b) ≡ None → IsWell (says s (outlives a b))
   well_outlives a b e =
-      let le : s.reached ≤ 2 = in_group s 2 (here _ _ _ e) in
-      let both = and_parts (is_universal s a) (is_universal s b) (not-false _ (here _ _ _ (past _ _ _ e))) in
+      let no = faultless s (outlives a b) e in
+      let le : s.reached ≤ 2 = in_group s 2 no.syntax' in
+      let both = and_parts (is_universal s a) (is_universal s b) (not-false (is_universal s a && is_universal s b) no.unknown) in
       let d = w.declares in
       record {
         declares = record {
@@ -259,7 +254,7 @@ module _ (s : Said) (w : IsWell s) where
           all = d.all;
           few_names = d.few_names;
           few_variables = d.few_variables;
-          known = λ x y c. ⊎_elim (d.known x y) (λ same. subst (λ (p : ℕ × ℕ). (p.0 < s.universals) × (p.1 < s.universals)) same (ltb-true _ _ both.0, ltb-true _ _ both.1)) (inserted _ s.outlives _ (x, y) c);
+          known = λ x y c. ⊎_elim (d.known x y) (λ same. subst (λ (p : ℕ × ℕ). (p.0 < s.universals) × (p.1 < s.universals)) same (ltb-true (number_of s.names a) s.universals both.0, ltb-true (number_of s.names b) s.universals both.1)) (inserted (list_any (same_pair (number_of s.names a, number_of s.names b)) s.outlives) s.outlives (number_of s.names a, number_of s.names b) (x, y) c);
           named = d.named;
           counted = d.counted;
           takes = d.takes;
@@ -272,15 +267,16 @@ module _ (s : Said) (w : IsWell s) where
 
   well_further : (x : Name) → first_fault s (further x) ≡ None → IsWell (says s (further x))
   well_further x e =
-      let le : s.reached ≤ 3 = in_group s 3 (here _ _ _ e) in
-      let regions : nat_le most_regions (length s.names) ≡ false = here _ _ _ (past _ _ _ (past _ _ _ e)) in
+      let no = faultless s (further x) e in
+      let le : s.reached ≤ 3 = in_group s 3 no.syntax' in
+      let regions : length s.names < most_regions = leb-false most_regions (length s.names) no.regions in
       let d = w.declares in
       record {
         declares = record {
           some = d.some;
           few = d.few;
           all = omega (arith, d.all, length-append s.names (x ∷ []));
-          few_names = omega (arith, leb-false _ _ regions, length-append s.names (x ∷ []));
+          few_names = omega (arith, regions, length-append s.names (x ∷ []));
           few_variables = d.few_variables;
           known = d.known;
           named = d.named;
@@ -288,16 +284,17 @@ module _ (s : Said) (w : IsWell s) where
           takes = d.takes;
           order = d.order;
           none_yet = λ _. d.none_yet (omega (arith, le));
-          keep = keeps_none _ _ _ _ _ _ _ _ (omega (arith, le)) d _;
+          keep = keeps_none _ _ _ _ _ _ _ _ (omega (arith, le)) d (IsWellFormed s.structs (length (s.names ++ x ∷ [])) 0);
         };
         places = places_early _ _ _ _ _ 3 w.places le (omega arith);
       }
 
   well_struct : (n : Name) (ps : List WrittenParameter) (has_drop : Bool) (fields : WrittenTypes) → first_fault s (struct_line n ps has_drop fields) ≡ None → IsWell (says s (struct_line n ps has_drop fields))
   well_struct n ps has_drop fields e =
-      let le : s.reached ≤ 4 = in_group s 4 (here _ _ _ e) in
-      let known : are_known (field_scope s ps) fields ≡ true = not-false _ (here _ _ _ (past _ _ _ e)) in
-      let has : have_arguments (field_scope s ps) fields ≡ true = not-false _ (here _ _ _ (past _ _ _ (past _ _ _ (past _ _ _ e)))) in
+      let no = faultless s (struct_line n ps has_drop fields) e in
+      let le : s.reached ≤ 4 = in_group s 4 no.syntax' in
+      let known : are_known (field_scope s ps) fields ≡ true = not-false _ no.unknown in
+      let has : have_arguments (field_scope s ps) fields ≡ true = not-false _ no.shape in
       let d = w.declares in
       let more = declared s ps has_drop fields in
       record {
@@ -313,17 +310,18 @@ module _ (s : Said) (w : IsWell s) where
           takes = kinds_pushed s.kinds s.structs (map is_region ps) more d.counted d.takes (regions_declared s ps has_drop fields) (types_declared s ps has_drop fields);
           order = order_push s.structs more d.order (good_fields s ps has_drop fields d.takes d.named known has);
           none_yet = λ _. d.none_yet (omega (arith, le));
-          keep = keeps_none _ _ _ _ _ _ _ _ (omega (arith, le)) d _;
+          keep = keeps_none _ _ _ _ _ _ _ _ (omega (arith, le)) d (IsWellFormed (s.structs ++ more ∷ []) (length s.names) 0);
         };
         places = places_early _ _ _ _ _ 4 w.places le (omega arith);
       }
 
   well_variable : (x : ℕ) (t : WrittenType) → first_fault s (variable x t) ≡ None → IsWell (says s (variable x t))
   well_variable x t e =
-      let le : s.reached ≤ 5 = in_group s 5 (here _ _ _ e) in
-      let known : is_known (body_scope s) t ≡ true = not-false _ (here _ _ _ (past _ _ _ e)) in
-      let has : has_arguments (body_scope s) t ≡ true = not-false _ (here _ _ _ (past _ _ _ (past _ _ _ (past _ _ _ e)))) in
-      let limit : nat_le most_variables (length s.variables) ≡ false = here _ _ _ (past _ _ _ (past _ _ _ (past _ _ _ (past _ _ _ (past _ _ _ e))))) in
+      let no = faultless s (variable x t) e in
+      let le : s.reached ≤ 5 = in_group s 5 no.syntax' in
+      let known : is_known (body_scope s) t ≡ true = not-false _ no.unknown in
+      let has : has_arguments (body_scope s) t ≡ true = not-false _ no.shape in
+      let limit : length s.variables < most_variables = leb-false most_variables (length s.variables) no.variables in
       let d = w.declares in
       record {
         declares = record {
@@ -331,22 +329,23 @@ module _ (s : Said) (w : IsWell s) where
           few = d.few;
           all = d.all;
           few_names = d.few_names;
-          few_variables = omega (arith, leb-false _ _ limit, length-append s.variables (meant (body_scope s) t ∷ []));
+          few_variables = omega (arith, limit, length-append s.variables (meant (body_scope s) t ∷ []));
           known = d.known;
           named = d.named;
           counted = d.counted;
           takes = d.takes;
           order = d.order;
           none_yet = λ l. absurd (omega (arith, l));
-          keep = All-push _ _ _ d.keep (well_formed (body_scope s) s.structs d.takes d.named t known has);
+          keep = All-push (IsWellFormed s.structs (length s.names) 0) s.variables (meant (body_scope s) t) d.keep (well_formed (body_scope s) s.structs d.takes d.named t known has);
         };
         places = places_early _ _ _ _ _ 5 w.places le (omega arith);
       }
 
   well_blocks : (n : ℕ) → first_fault s (blocks n) ≡ None → IsWell (says s (blocks n))
   well_blocks n e =
-      let at : s.reached ≡ 5 = eqb-true _ _ (not-false _ (here _ _ _ e)) in
-      let some : 0 < n = positive n (here _ _ _ (past _ _ _ e)) in
+      let no = faultless s (blocks n) e in
+      let at : s.reached ≡ 5 = eqb-true s.reached 5 (not-false _ no.syntax') in
+      let some : 0 < n = positive n no.range in
       let p = w.places in
       let none = p.none_yet (omega (arith, at)) in
       record {
@@ -375,8 +374,8 @@ module _ (s : Said) (w : IsWell s) where
         some_block = λ _. p.some_block late;
         none_yet = λ l. absurd (omega (arith, l));
         begun = λ none. absurd (omega (arith, none, length-append s.starts (length s.points ∷ [])));
-        within = All-push _ _ _ (All-weaker _ _ (λ q l. omega (arith, l, here_ends)) s.starts p.within) (omega arith);
-        rise = rise_push s.starts (length s.points) p.rise (All-weaker _ _ (λ q l. omega (arith, l, here_ends)) s.starts p.within);
+        within = All-push (λ q. q < length s.points + 1) s.starts (length s.points) (All-weaker (λ q. q < ends s.points s.owes) (λ q. q < length s.points + 1) (λ q l. omega (arith, l, here_ends)) s.starts p.within) (omega arith);
+        rise = rise_push s.starts (length s.points) p.rise (All-weaker (λ q. q < ends s.points s.owes) (λ q. q < length s.points) (λ q l. omega (arith, l, here_ends)) s.starts p.within);
         at_zero = λ _. first_pushed s.starts (length s.points) (λ none. sym here_ends ∙ p.begun none) p.at_zero;
         whole = λ e. absurd (omega (arith, e));
         few_points = p.few_points;
@@ -387,10 +386,10 @@ module _ (s : Said) (w : IsWell s) where
 
   well_block : (n : ℕ) → first_fault s (block n) ≡ None → IsWell (says s (block n))
   well_block n e =
-      let order = three _ _ _ (not-false _ (here _ _ _ e)) in
+      let order = three (nat_le 6 s.reached) (nat_le s.reached 7) (not s.owes) (not-false _ (faultless s (block n) e).syntax') in
       record {
         declares = declares_late _ _ _ _ _ _ _ _ 7 w.declares (omega arith);
-        places = begins (not-true _ order.2) (leb-true 6 s.reached order.0);
+        places = begins (not-true s.owes order.2) (leb-true 6 s.reached order.0);
       }
 
   -- a statement or terminator stands where a terminator is owed
@@ -405,45 +404,43 @@ module _ (s : Said) (w : IsWell s) where
         some_block = λ _. p.some_block (omega (arith, at));
         none_yet = λ l. absurd (omega (arith, l));
         begun = λ none. absurd (omega (arith, p.begun none, before));
-        within = All-weaker _ _ (λ q l. omega (arith, l, before, after)) s.starts p.within;
+        within = All-weaker (λ q. q < ends s.points s.owes) (λ q. q < ends (s.points ++ j ∷ []) (not (is_terminator i))) (λ q l. omega (arith, l, before, after)) s.starts p.within;
         rise = p.rise;
         at_zero = p.at_zero;
         whole = λ e. absurd (omega (arith, e));
         few_points = omega (arith, few_points, length-append s.points (j ∷ []));
-        few_edges = omega (arith, few_edges, sum_by_push edges_from s.points j, same_edges _ _ i);
+        few_edges = omega (arith, few_edges, sum_by_push edges_from s.points j, same_edges (number_of s.names) (meant (body_scope s)) i);
         goes_on = λ q k at plain. ⊎_elim
             (λ old. (let l = p.goes_on q k old plain in omega (arith, l, before, after)))
-            (λ new. (let l = ends_behind s.points j (is_terminator i) (sym (same_end _ _ i) ∙ (ap is_terminator (sym new.1) ∙ plain)) in omega (arith, new.0, l)))
+            (λ new. (let l = ends_behind s.points j (is_terminator i) (sym (same_end (number_of s.names) (meant (body_scope s)) i) ∙ (ap is_terminator (sym new.1) ∙ plain)) in omega (arith, new.0, l)))
             (pushed_at s.points j q k at);
         leads = λ q b k at leads. ⊎_elim
             (λ old. p.leads q b k old leads)
-            (λ new. All-contains _ (targets i) b (below_all s.blocks (targets i) targeted)
-            (subst (λ (bs : List ℕ). Contains bs b) (ap targets new.1 ∙ same_targets _ _ i) leads))
+            (λ new. All-contains (λ c. c < s.blocks) (targets i) b (below_all s.blocks (targets i) targeted)
+            (subst (λ (bs : List ℕ). Contains bs b) (ap targets new.1 ∙ same_targets (number_of s.names) (meant (body_scope s)) i) leads))
             (pushed_at s.points j q k at);
       }
 
   well_at_point : (i : Statement Name WrittenType) → first_fault s (at_point i) ≡ None → IsWell (says s (at_point i))
   well_at_point i e =
-      let order = and_parts _ _ (not-false _ (here _ _ _ e)) in
-      let range = past _ _ _ (past _ _ _ e) in
-      let limits = past _ _ _ (past _ _ _ (past _ _ _ range)) in
-      let points : nat_le most_points (length s.points) ≡ false = here _ _ _ limits in
-      let edges : nat_lt most_edges (edge_count s.points + edges_from i) ≡ false = here _ _ _ (past _ _ _ limits) in
-      let few_points : length s.points < most_points = leb-false _ _ points in
-      let few_edges : edge_count s.points + edges_from i ≤ most_edges = ltb-false _ _ edges in
-      let at : s.reached ≡ 7 = eqb-true _ _ order.0 in
+      let no = faultless s (at_point i) e in
+      let order = and_parts (s.reached == 7) s.owes (not-false _ no.syntax') in
+      let few_points : length s.points < most_points = leb-false most_points (length s.points) no.points in
+      let few_edges : edge_count s.points + edges_from i ≤ most_edges = ltb-false most_edges (edge_count s.points + edges_from i) no.edges in
+      let at : s.reached ≡ 7 = eqb-true s.reached 7 order.0 in
       record {
         declares = declares_late _ _ _ _ _ _ _ _ 7 w.declares (omega arith);
-        places = stands i at order.1 (not-false _ (here _ _ _ range)) few_points few_edges;
+        places = stands i at order.1 (not-false (has_targets s i) no.range) few_points few_edges;
       }
 
   well_end : first_fault s end ≡ None → IsWell (says s end)
   well_end e =
-      let order = three _ _ _ (not-false _ (here _ _ _ e)) in
+      let no = faultless s end e in
+      let order = three (nat_le 6 s.reached) (nat_le s.reached 7) (not s.owes) (not-false _ no.syntax') in
       let p = w.places in
       let late = leb-true 6 s.reached order.0 in
-      let done = not-true _ order.2 in
-      let enough : nat_lt (length s.starts) s.blocks ≡ false = here _ _ _ (past _ _ _ e) in
+      let done : s.owes ≡ false = not-true s.owes order.2 in
+      let enough : s.blocks ≤ length s.starts = ltb-false (length s.starts) s.blocks no.range in
       record {
         declares = declares_late _ _ _ _ _ _ _ _ 8 w.declares (omega arith);
         places = record {
@@ -453,7 +450,7 @@ module _ (s : Said) (w : IsWell s) where
           within = p.within;
           rise = p.rise;
           at_zero = p.at_zero;
-          whole = λ _. (done, ltb-false _ _ enough);
+          whole = λ _. (done, enough);
           few_points = p.few_points;
           few_edges = p.few_edges;
           goes_on = p.goes_on;

@@ -163,9 +163,9 @@ module _ (structs : List Struct) (variables : List TypeTree) where
       list_all is_small (types_written i)
       && list_all (small_prefixes structs variables) (target_of i ++ sources_of i)
       && small_parts (parts_made i) where
-    small_parts : Option TypeTrees → Bool
-    small_parts None = true
-    small_parts (Some ts) = are_small ts
+        small_parts : Option TypeTrees → Bool
+        small_parts None = true
+        small_parts (Some ts) = are_small ts
 
 -- the statement's types agree, and those that are written have arguments of the right kinds
 abbrev pub shapes_fit : Said → Statement Name WrittenType → Bool

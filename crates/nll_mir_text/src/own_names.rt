@@ -124,9 +124,7 @@ fn is_taken(structs: &Names, name: &[u8], parameter: &ParameterText<'_>) -> bool
 {
     match parameter {
         ParameterText::Region(_, _) => false,
-        ParameterText::Type(other, _) => {
-            *other == name || structs.number_of(other).is_some()
-        }
+        ParameterText::Type(other, _) => { *other == name || structs.number_of(other).is_some() }
     }
 }
 

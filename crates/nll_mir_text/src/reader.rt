@@ -308,11 +308,7 @@ impl Reader {
     }
 
     // Declares a struct with these names of its own.
-    fn add_named_struct(
-        &mut self,
-        own: &OwnNames,
-        text: &StructText<'_>,
-    ) -> Result<(), TextKind>
+    fn add_named_struct(&mut self, own: &OwnNames, text: &StructText<'_>) -> Result<(), TextKind>
         requires due { IsDue self.old (struct_form text.now) }
         requires few { length text.now.parameters.items ≤ most_bytes }
         requires own { AreOwn (map parameter_of text.now.parameters.items) own.now }
@@ -343,7 +339,12 @@ impl Reader {
         if !judged.known {
             return Err(TextKind::Unknown);
         }
-        if redeclares(own, &self.structs.names, text.name, text.parameters.as_slice()) {
+        if redeclares(
+            own,
+            &self.structs.names,
+            text.name,
+            text.parameters.as_slice(),
+        ) {
             return Err(TextKind::Duplicate);
         }
         if !judged.fits {
@@ -378,10 +379,7 @@ impl Reader {
 
     // Adds what stands at the next point. DRAFT: not written yet. It answers want of memory, which
     // its contract lets any body do.
-    fn add_statement(
-        &mut self,
-        statement: &Statement<&[u8], TypeText<'_>>,
-    ) -> Result<(), TextKind>
+    fn add_statement(&mut self, statement: &Statement<&[u8], TypeText<'_>>) -> Result<(), TextKind>
         requires { IsDue self.old (form_of (lines.At statement.now)) }
         ensures taken { OnOk result
             (IsTaken (said_by self.old) (form_of (lines.At statement.now)) self.new) }
