@@ -1,24 +1,19 @@
 -- Right sides and lines: tokens begin with one of each at most.
-use Rattle.std.proofs.Common.{◌≡◌, ℕ, ◌<◌, ◌^◌, Bool, true, false, cond, eqb, List, [], ◌∷◌, ◌++◌, length, map, refl, sym, ap, ◌∙◌, subst, append_assoc, arith, Option, Some, None}
-use Rattle.std.specs.List.{AllByRecursion, flat_map}
+use Rattle.std.proofs.Common.{◌≡◌, ℕ, ◌<◌, true, false, cond, eqb, List, [], ◌∷◌, ◌++◌, refl, sym, ap, ◌∙◌, subst, arith, Option, Some, None}
+use Rattle.std.specs.List.{flat_map}
 use Rattle.std.specs.Prelude.{codes}
 use Rattle.std.specs.Str.{bytes_eq}
 use Rattle.std.specs.Fmt.{decimal}
-use Rattle.nll_text.specs.Tokens.{Token, word, region, sign, arrow}
-use Rattle.nll_types.specs.Places.{PlacePath}
-use Rattle.nll_types.specs.Operands.{Operand, constant, copied, moved}
-use Rattle.nll_type_grammar.specs.WrittenTypes.{Name, WrittenType, WrittenTypes, tuple, spelled}
-use Rattle.nll_mir_grammar.specs.MirForms.{IsSmall, WrittenParameter, spelled_projection, spelled_place, spelled_operand, spelled_exits, spelled_wheres, spelled_parameters, drop_mark, block_word, parted, in_parentheses}
-use Rattle.nll_mir_grammar.specs.MirForms as forms
-use Rattle.nll_mir_grammar.specs.Grammars.{Grammar, Begins, HasNone, IsOne, IsNotNext, behind, empty, pair, many, commas, parentheses, by_kind, MayFollowLast, MayFollowAll}
-use Rattle.nll_mir_grammar.specs.Parts.{regions, any_words, names, prefixed, numbers, variables, block_names, projections, places, operands, types, tuples, arguments, mutabilities, drop_marks, parameters, parameter_lists, bounds, bound_lists, block_lists, exits, MayFollowMark}
-use Rattle.nll_mir_grammar.specs.Kinds.{borrows, makes, results, signatures, structs, Right, value, borrowed, made, called, RightParts, right_sides, rights, Behind, tails, keyword_name, LineParts, line_grammars, lines, parts_of, IsLine, IsRightSide}
+use Rattle.nll_text.specs.Tokens.{Token, word, sign, arrow}
+use Rattle.nll_types.specs.Operands.{constant, copied, moved}
+use Rattle.nll_mir_grammar.specs.MirForms.{spelled_projection, block_word}
+use Rattle.nll_mir_grammar.specs.Grammars.{Begins, HasNone, IsOne, IsNotNext, behind, pair, parentheses, MayFollowAll}
+use Rattle.nll_mir_grammar.specs.Parts.{regions, any_words, names, variables, places, operands, types, tuples, arguments, mutabilities, drop_marks, parameter_lists, bounds, bound_lists, block_lists, exits}
+use Rattle.nll_mir_grammar.specs.Kinds.{borrows, makes, results, signatures, structs, Right, value, borrowed, made, called, RightParts, right_sides, rights, tails, keyword_name, LineParts, line_grammars, lines}
 use Rattle.nll_mir_grammar.specs.declared.keyword.Keyword.{Keyword}
 use Rattle.nll_mir_grammar.specs.declared.keyword.Keyword.TheVariants as words
-use Rattle.nll_statements.specs.Statements.{Statement, assign, borrow, make, read, live, dead, nop, goto, switch, drop, call, return, stop}
-use Rattle.nll_mir_grammar.specs.MirForms.{Form, universal, outlives, further, struct_line, variable, blocks, block, at_point, end, spelled_form, IsWritable, IsSpelled}
-use Rattle.nll_mir_grammar.proofs.GrammarLemmas.{tail_same, head_same, append_nil, pair_found, behind_found, signs_apart, signs_differ, behind_one, behind_none, behind_other, behind_back, Joins, pair_one, pair_none, pair_none_behind, IsBefore, parentheses_one, all_before, empty_one, kinds_one}
-use Rattle.nll_mir_grammar.proofs.PartLemmas.{words_apart, regions_join, words_join, names_join, variables_join, any_bounds, blocks_one, no_projection_left, regions_one, any_words_one, names_one, prefixed_one, places_one, operands_one, types_one, tuples_one, mark_one, parameter_lists_one, bound_lists_one, block_lists_one, exits_one, operands_listable, arguments_listable, bounds_before, no_projection, operands_before, places_before, mark_before}
+use Rattle.nll_mir_grammar.proofs.GrammarLemmas.{head_same, signs_apart, signs_differ, behind_one, behind_none, Joins, pair_one, parentheses_one, all_before, empty_one, kinds_one}
+use Rattle.nll_mir_grammar.proofs.PartLemmas.{words_apart, regions_join, words_join, names_join, variables_join, any_bounds, blocks_one, regions_one, any_words_one, names_one, prefixed_one, places_one, operands_one, types_one, tuples_one, mark_one, parameter_lists_one, bound_lists_one, block_lists_one, exits_one, operands_listable, arguments_listable, bounds_before, no_projection, operands_before, mark_before}
 
 -- ---- what stands behind what
 

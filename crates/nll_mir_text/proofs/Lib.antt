@@ -6,8 +6,10 @@ pub mod GrownLemmas
 pub mod LawLemmas
 pub mod NeitherLemmas
 pub mod OwnLemmas
+pub mod PointLemmas
 pub mod SaidLemmas
 pub mod ShapeLemmas
 pub mod SoundLemmas
+pub mod StatingLemmas
 pub mod StructLemmas
 pub mod TextLemmas

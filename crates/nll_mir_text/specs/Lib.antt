@@ -3,3 +3,4 @@ pub mod MirFaults
 pub mod MirText
 pub mod MirReading
 pub mod Declaring
+pub mod Stating

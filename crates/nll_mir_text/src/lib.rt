@@ -5,12 +5,16 @@
 
 mod fields;
 mod judging;
+mod judging_types;
+mod knowing;
 mod laws;
 mod limits;
+mod meaning;
 mod mir;
 mod own_names;
 mod parameters;
 mod reader;
+mod stating;
 mod tables;
 mod text;
 

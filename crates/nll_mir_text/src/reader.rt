@@ -1,6 +1,7 @@
 //! The reader of the lines of a MIR text: what they say so far.
 
-ghost use Rattle.std.specs.Prelude.{◌≡◌, ◌⊎◌, ◌↔◌, ◌≤◌, ℕ, [], length, map, Some, None, true, false};
+ghost use Rattle.std.specs.Prelude.{◌≡◌, ◌⊎◌, ◌↔◌, ◌≤◌, ℕ, [], length, map, Some, None, true};
+ghost use Rattle.std.specs.Prelude.{false};
 ghost use Rattle.std.specs.Prelude.{IsTrue, IfOk, IfErr, OnOk, OnErr};
 ghost use Rattle.nll_problem.specs.Limits.{most_bytes, most_regions};
 ghost use Rattle.nll_reading.specs.Names.{number_of};
@@ -15,6 +16,7 @@ ghost use Rattle.nll_mir_text.specs.MirReading.{said_by, IsReady, HasTexts};
 ghost use Rattle.nll_mir_text.specs.MirReading.{IsDue, IsTaken, IsRefused, ReadsLine};
 ghost use Rattle.nll_mir_text.specs.MirReading.{struct_form, scope_in, IsOfType};
 ghost use Rattle.nll_mir_text.specs.Declaring.{AreJudged, AreOwn, own_scope};
+ghost use Rattle.nll_mir_text.specs.Stating.{as_written, IsOfPoint};
 ghost use Rattle.nll_body.specs.Parts.{body_of};
 ghost use Rattle.nll_mir_text.specs.MirText.{body_said, mir};
 ghost use Rattle.nll_mir_grammar.specs.declared.line.Line.TheVariants as lines;
@@ -22,14 +24,17 @@ ghost use Rattle.nll_reading.specs.Text.{IsFaulty};
 
 use crate::fields::{JudgedFields, declaration, judge_fields};
 use crate::judging::{JudgedType, judge_type, type_meant};
+use crate::knowing::targets_are_blocks;
 use crate::limits::{MAX_STRUCTS, MAX_VARIABLES};
+use crate::meaning::statement_meant;
 use crate::own_names::{OwnNames, gather_names, redeclares};
 use crate::parameters::kinds;
+use crate::stating::{JudgedPoint, add_point, judge_point};
 use crate::tables::{Points, Regions, StructNames, Variables};
 use indexmap::IndexSet;
 use nll_body::BodyParts;
 use nll_mir_grammar::{Line, StructText, line_of};
-use nll_problem::{Kind, MAX_POINTS, MAX_REGIONS, MAX_UNIVERSALS};
+use nll_problem::{Kind, MAX_EDGES, MAX_POINTS, MAX_REGIONS, MAX_UNIVERSALS};
 use nll_reading::{MAX_TEXT, Names, TextKind};
 use nll_sets::Memory;
 use nll_statements::Statement;
@@ -377,16 +382,58 @@ impl Reader {
         Ok(())
     }
 
-    // Adds what stands at the next point. DRAFT: not written yet. It answers want of memory, which
-    // its contract lets any body do.
-    fn add_statement(&mut self, statement: &Statement<&[u8], TypeText<'_>>) -> Result<(), TextKind>
+    // Adds what stands at the next point, unless it has a fault by what was judged of it.
+    fn add_judged(
+        &mut self,
+        judged: JudgedPoint,
+        statement: &Statement<&[u8], TypeText<'_>>,
+    ) -> Result<(), TextKind>
+        requires due { IsDue self.old (form_of (lines.At statement.now)) }
+        requires judged { IsOfPoint (said_by self.old) (as_written statement.now) judged }
+        ensures taken { OnOk result
+            (IsTaken (said_by self.old) (form_of (lines.At statement.now)) self.new) }
+        ensures refused { IfErr result
+            (IsRefused (said_by self.old) (form_of (lines.At statement.now))) }
+    {
+        if !judged.known {
+            return Err(TextKind::Unknown);
+        }
+        if !targets_are_blocks(self.alloc, self.points.blocks, statement)? {
+            return Err(TextKind::Range);
+        }
+        if !judged.fits {
+            return Err(TextKind::Shape);
+        }
+        if !judged.small {
+            return Err(TextKind::TypeSize);
+        }
+        if self.points.statements.len() >= MAX_POINTS as usize {
+            return Err(TextKind::Limit(Kind::Points));
+        }
+        let edges = self.points.edges + statement.edges(self.alloc)?;
+        if edges > MAX_EDGES {
+            return Err(TextKind::Limit(Kind::Edges));
+        }
+        let meant = statement_meant(self.alloc, &self.regions, &self.structs, statement)?;
+        add_point(&mut self.points, meant, edges)?;
+        self.reached = 7;
+        Ok(())
+    }
+
+    // Adds what stands at the next point.
+    fn add_statement(
+        &mut self,
+        statement: &Statement<&[u8], TypeText<'_>>,
+    ) -> Result<(), TextKind>
         requires { IsDue self.old (form_of (lines.At statement.now)) }
         ensures taken { OnOk result
             (IsTaken (said_by self.old) (form_of (lines.At statement.now)) self.new) }
         ensures refused { IfErr result
             (IsRefused (said_by self.old) (form_of (lines.At statement.now))) }
     {
-        Err(TextKind::Memory)
+        let variables = &mut self.variables;
+        let judged = judge_point(self.alloc, &self.regions, &self.structs, variables, statement)?;
+        self.add_judged(judged, statement)
     }
 
     // Takes in a line of a form, unless something is wrong with it.

@@ -1,7 +1,7 @@
 -- What stands at a point of a body: a statement or a terminator.
 -- Source: RFC 2094 speaks of MIR; the forms are project's choice, and docs/FORMATS.md says the same
 -- in words.
-use Rattle.std.specs.Prelude.{ℕ, Bool, true, false, List, Option, map}
+use Rattle.std.specs.Prelude.{ℕ, Bool, true, false, List, [], ◌∷◌, ◌++◌, Option, map}
 use Rattle.nll_types.specs.Places.{PlacePath}
 use Rattle.nll_types.specs.Operands.{Operand}
 
@@ -63,3 +63,9 @@ map_statement f g (call p args t wheres b unwind) =
     call p (map (λ a. (a.0, g a.1)) args) (g t) (map (λ w. (f w.0, f w.1)) wheres) b unwind
 map_statement f g return = return
 map_statement f g stop = stop
+
+-- the types that are written in it, in order
+abbrev pub types_written : {R T : Type 0} → Statement R T → List T
+types_written (make p t ops) = t ∷ []
+types_written (call p args t wheres b unwind) = map (λ a. a.1) args ++ t ∷ []
+types_written _ = []

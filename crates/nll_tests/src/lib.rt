@@ -1,4 +1,4 @@
-//! Tests of sets, problems, solving, types and lines of texts, by their public calls alone.
+//! Tests of sets, problems, solving, cuts, types and lines of texts, by their public calls alone.
 //! Expected values are found by hand from the definitions. The plain solver, `rounds`, is a second
 //! body of `solve`'s contract.
 //!
@@ -15,6 +15,8 @@ mod building;
 mod calls;
 #[cfg(test)]
 mod comparing;
+#[cfg(test)]
+mod cuts;
 #[cfg(test)]
 mod graphs;
 #[cfg(test)]
