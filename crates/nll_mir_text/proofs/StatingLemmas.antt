@@ -87,10 +87,3 @@ fused (t ∷ ts) = ap (λ ss. shape_of (tree t) ∷ ss) (fused ts)
 -- the numbers of shapes are those of the variables' types, as the table grows
 pub have_shapes : (old new : List Node) (is : List ℕ) (ts : List Ty) → Extends old new → AreShapes old is ts → HaveShapes new is (map tree ts)
 have_shapes old new is ts e h = shapes_later old new is (map tree ts) e h.below (h.same ∙ fused ts)
-
--- they are still those once the table has grown
-pub shapes_grown : (old new : List Node) (is : List ℕ) (ts : List Ty) → Extends old new → AreShapes old is ts → AreShapes new is ts
-shapes_grown old new is ts e h = record {
-  below = below_later old new is e h.below;
-  same = have_shapes old new is ts e h ∙ sym (fused ts);
-}

@@ -8,7 +8,7 @@ use Rattle.nll_sets.specs.Runs.{no_run, first_of, last_of, IsInRuns, IsRunFrom, 
 use Rattle.nll_sets.specs.RunLists.{Joins, run_has, runs_have, run_flags, HoldsRuns}
 use Rattle.nll_sets.specs.declared.run.Run.{Run}
 
-has_between : (run : Run) (x : ℕ) → run_has run x ≡ true → (run.first ≤ x) × (x ≤ run.last)
+pub has_between : (run : Run) (x : ℕ) → run_has run x ≡ true → (run.first ≤ x) × (x ≤ run.last)
 has_between run x h = search rules
 
 between_has : (run : Run) (x : ℕ) → run.first ≤ x → x ≤ run.last → run_has run x ≡ true

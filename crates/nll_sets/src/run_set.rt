@@ -1,10 +1,10 @@
 //! Sets of elements as lists of runs.
 
-ghost use Rattle.std.specs.Prelude.{◌≡◌, ℕ, ◌≤◌, ◌<◌, true, false, not, length, slice_set};
+ghost use Rattle.std.specs.Prelude.{◌≡◌, ℕ, ◌+◌, ◌≤◌, ◌<◌, true, false, not, length, slice_set};
 ghost use Rattle.std.specs.Prelude.{replicate, IfOk, IsOk, IsOkAnd, OnOk, OnErr, IfSome, IfNone};
 ghost use Rattle.nll_sets.specs.ElementSet.{flag, elements};
 ghost use Rattle.nll_sets.specs.Runs.{first_of, last_of, run_of, IsRunFrom, IsRunCount, MakeUp};
-ghost use Rattle.nll_sets.specs.Runs.{Fills, IsWithin, Touches};
+ghost use Rattle.nll_sets.specs.Runs.{Fills, IsWithin, Touches, numbers};
 
 use crate::element::Element;
 use crate::element_set::ElementSet;
@@ -104,7 +104,9 @@ impl RunSet {
         ensures fit { (k : ℕ) → k < length result.now
             → (first_of result.now k ≤ last_of result.now k)
             × (last_of result.now k < length self.now) }
+        ensures room { (k : ℕ) → k < length result.now → last_of result.now k + 1 < 4294967296 }
         ensures count { IsRunCount self.now (length result.now) }
+        ensures listed { numbers result.now ≡ elements self.now }
     {
         self.runs.as_slice()
     }

@@ -10,6 +10,7 @@ ghost use Rattle.nll_types.specs.Table.{IsOver, Extends, AreBelow, all_at};
 ghost use Rattle.nll_types.specs.Table.{shape_in, shape_over, shapes_in};
 ghost use Rattle.nll_types.specs.Types.{TypeTree};
 ghost use Rattle.nll_types.specs.Views.{tree};
+ghost use Rattle.nll_types.specs.declared.place.Projection.TheVariants.{Field as field};
 
 use crate::memo::{FieldUse, part_once};
 use crate::node::Node;
@@ -117,6 +118,36 @@ impl TypeTable {
         Ok(number)
     }
 
+    /// The shape of a part of a tuple or of a field of a struct, where there is one.
+    ///
+    /// # Cost
+    /// That of a look-up after the first time (not proved).
+    pub fn part(
+        &mut self,
+        alloc: Global,
+        number: usize,
+        place: usize,
+    ) -> Result<Option<usize>, Memory>
+        requires { number < length self.old.shapes }
+        ensures structs { self.new.structs ≡ self.old.structs }
+        ensures extends { Extends self.old.shapes self.new.shapes }
+        ensures within { IfOk result (λ o. IfSome o (λ i. i < length self.new.shapes)) }
+        ensures at { IfOk result (λ o. option_map (shape_in self.new.shapes) o
+            ≡ behind_shape (structs_of self.old.structs) (field place)
+            (shape_in self.old.shapes number)) }
+    {
+        let structs = &self.structs;
+        let made = part_once(
+            alloc,
+            structs,
+            &mut self.shapes,
+            &mut self.fields,
+            number,
+            place,
+        )?;
+        Ok(made)
+    }
+
     /// The shape behind one projection, where there is one.
     ///
     /// # Cost
@@ -138,15 +169,7 @@ impl TypeTable {
         match projection {
             Projection::Deref => Ok(target(&self.shapes, number)),
             Projection::Field(place) => {
-                let (structs, place) = (&self.structs, place as usize);
-                let made = part_once(
-                    alloc,
-                    structs,
-                    &mut self.shapes,
-                    &mut self.fields,
-                    number,
-                    place,
-                )?;
+                let made = self.part(alloc, number, place as usize)?;
                 Ok(made)
             }
         }

@@ -2,7 +2,7 @@ use Rattle.std.proofs.Common.{◌≡◌, length, map, sym, ap, ◌∙◌, subst,
 use Rattle.nll_types.specs.Declarations.{structs_of}
 use Rattle.nll_mir_text.specs.MirReading.{AreKinds}
 use Rattle.nll_mir_text.specs.declared.tables.Variables.{Variables}
-use Rattle.nll_mir_text.proofs.StatingLemmas.{shapes_grown}
+use Rattle.nll_mir_text.proofs.ShapeLemmas.{shapes_extended}
 use Rattle.nll_mir_text.proofs.PointLemmas.{judged_same}
 use Rattle.nll_mir_text.proofs.reader.Reader.add_statement.Goals as goal
 
@@ -24,7 +24,7 @@ add_judged-requires-clause-due c =
         kinds = subst (λ ds. AreKinds (map (λ ks. ks.items) c.args.self.now.structs.kinds.items) (structs_of ds)) (sym e.structs) r.kinds;
         few_structs = omega (arith, ap length e.structs, r.few_structs);
         few_variables = omega (arith, ap length types, r.few_variables);
-        shapes = rw (types, numbers) (shapes_grown _ _ _ _ e.extends r.shapes);
+        shapes = rw (types, numbers) (shapes_extended _ _ _ _ e.extends r.shapes);
         few_blocks = r.few_blocks;
         no_start = r.no_start;
         starts = r.starts;

@@ -1,0 +1,20 @@
+use Rattle.std.proofs.Common.{◌≡◌, ◌<◌, ℕ, Contains, slice_index, [], subst, sym, arith, length, ◌∙◌}
+use borrow.Author.Count.{below_more}
+use Rattle.std.proofs.lemmas.List.Elements.{Contains-get_or}
+use Rattle.std.proofs.lemmas.List.{get_or_read}
+use Rattle.nll_live.specs.Marks.{IsMarked}
+use Rattle.nll_live.proofs.MarkLemmas.{marks_append, marks_weaker, marked_within}
+use Rattle.nll_live.proofs.SearchLemmas.{search_first, search_step, search_last}
+use Rattle.nll_live.proofs.search.search_back.Goals as goal
+
+pub loop-point-preserved : goal.loop-point-preserved
+loop-point-preserved c =
+    let step = marks_weaker _ (Contains c.args.ends.now) _ _ _ _ _ (λ p h. subst (Contains c.args.ends.now) (sym h) (Contains-get_or c.args.ends.now c.loop-point.point-index 0 c.loop-point-test.true)) c.in_ok-visit.ensures.marks in
+    record {
+      marks = marks_append _ _ _ _ _ _ _ _ c.loop-point.invariant.marks step;
+      found = c.in_ok-visit.ensures.found;
+      all = below_more _ _ (λ k h. step.kept _ (c.loop-point.invariant.all k h)) c.in_ok-visit.ensures.all;
+    }
+
+pub loop-place-init : goal.loop-place-init
+loop-place-init c = search_first _ _ _ _ _ _ _ (rw c.requires.nothing at c.loop-point.invariant.marks) c.loop-point.invariant.found (λ k h. c.loop-point.invariant.all k (omega arith))

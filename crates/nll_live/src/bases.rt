@@ -1,0 +1,99 @@
+//! The base elements that liveness gives regions.
+
+ghost use Rattle.std.specs.Prelude.{◌≡◌, ◌↔◌, ◌<◌, ℕ, [], length, AllPairs, Contains, IfOk, OnOk};
+ghost use Rattle.nll_problem.specs.Problem.{IsEarlier};
+ghost use Rattle.nll_live.specs.Live.{AsksForUse, AsksForDrop, IsBaseOf};
+ghost use Rattle.nll_live.specs.LiveSets.{AreLiveSets};
+ghost use Rattle.nll_live.specs.Stretches.{Covers, Gains};
+
+use crate::live_sets::LiveSets;
+use crate::stretch::Stretch;
+use crate::stretches::{pairs_of, push_all};
+use nll_body::Body;
+use nll_problem::RegionId;
+use nll_sets::Memory;
+use std::alloc::Global;
+
+/// The base elements of regions that come of the liveness of variables, each once, ascending by
+/// region, then by point.
+///
+/// # Errors
+/// - `Memory`.
+///
+/// # Cost
+/// For each region of a variable's type the runs of points where the variable is live, sorting all
+/// these, and the pairs that come out (not proved).
+///
+/// # Source
+/// RFC 2094, "Liveness" and "Drop".
+pub fn bases(
+    alloc: Global,
+    body: &Body,
+    sets: &LiveSets,
+) -> Result<Vec<(RegionId, u32)>, Memory>
+    requires { AreLiveSets body.now sets.now }
+    ensures each { IfOk result (λ v. (r p : ℕ) → Contains v.items (r, p) ↔ IsBaseOf body.now r p) }
+    ensures ascending { IfOk result (λ v. AllPairs IsEarlier v.items) }
+{
+    let mut stretches = Vec::new(alloc);
+    let told = push_variables(alloc, body, sets, &mut stretches);
+    let pairs = pairs_of(alloc, &mut stretches);
+    drop(stretches);
+    told.and(pairs)
+}
+
+// Puts the stretches that each variable asks for into an empty list.
+fn push_variables(
+    alloc: Global,
+    body: &Body,
+    sets: &LiveSets,
+    stretches: &mut Vec<Stretch>,
+) -> Result<(), Memory>
+    requires sets { AreLiveSets body.now sets.now }
+    requires nothing { stretches.old.items ≡ [] }
+    ensures { OnOk result ((r p : ℕ) → Covers stretches.new.items r p ↔ IsBaseOf body.now r p) }
+{
+    for variable in 0..body.variables() {
+        push_uses(alloc, body, sets, variable as u32, stretches)?;
+        push_drops(alloc, body, sets, variable as u32, stretches)?;
+    }
+    Ok(())
+}
+
+// Puts the stretches that a variable asks for where it is use-live behind the others.
+fn push_uses(
+    alloc: Global,
+    body: &Body,
+    sets: &LiveSets,
+    variable: u32,
+    stretches: &mut Vec<Stretch>,
+) -> Result<(), Memory>
+    requires sets { AreLiveSets body.now sets.now }
+    requires variable { variable < length body.now.variables }
+    ensures { OnOk result (Gains (AsksForUse body.now variable)
+        stretches.old.items stretches.new.items) }
+{
+    let regions = body.var_regions(alloc, variable)?;
+    let told = push_all(stretches, regions.as_slice(), sets.use_runs(variable));
+    drop(regions);
+    told
+}
+
+// Puts the stretches that a variable asks for where it is drop-live behind the others.
+fn push_drops(
+    alloc: Global,
+    body: &Body,
+    sets: &LiveSets,
+    variable: u32,
+    stretches: &mut Vec<Stretch>,
+) -> Result<(), Memory>
+    requires sets { AreLiveSets body.now sets.now }
+    requires variable { variable < length body.now.variables }
+    ensures { OnOk result (Gains (AsksForDrop body.now variable)
+        stretches.old.items stretches.new.items) }
+{
+    let regions = body.var_drop_regions(alloc, variable)?;
+    let told = push_all(stretches, regions.as_slice(), sets.drop_runs(variable));
+    drop(regions);
+    told
+}

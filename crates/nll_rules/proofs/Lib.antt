@@ -1,0 +1,4 @@
+pub mod PairLemmas
+pub mod SubtypeLemmas
+pub mod ReborrowLemmas
+pub mod StatementLemmas

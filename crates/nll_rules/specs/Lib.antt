@@ -1,0 +1,6 @@
+pub mod Positions
+pub mod Subtyping
+pub mod Reborrows
+pub mod Asking
+pub mod Pairs
+pub mod Walks

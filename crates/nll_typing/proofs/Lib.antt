@@ -1,0 +1,4 @@
+pub mod JudgedLemmas
+pub mod FoundLemmas
+pub mod PartLemmas
+pub mod CallLemmas

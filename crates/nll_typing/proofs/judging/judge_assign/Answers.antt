@@ -1,0 +1,8 @@
+use Rattle.nll_typing.proofs.FoundLemmas.{found_later, shapes_later}
+use Rattle.nll_typing.proofs.judging.judge_assign.Goals as goal
+
+pub returns-clause-judged : goal.returns-clause-judged
+returns-clause-judged c = λ types h.
+    let first = c.in_ok-source.ensures.found types h in
+    let second = (rw c.operand_found.ensures.structs at c.in_ok-target.ensures.found) types (shapes_later _ _ _ types c.operand_found.ensures.extends c.requires h) in
+    (rw c.shapes.ensures at c.agree.ensures) _ _ _ _ (found_later _ _ _ _ _ c.place_found.ensures.extends c.in_ok-source.ensures.within first) second
