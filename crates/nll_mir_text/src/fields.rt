@@ -11,7 +11,7 @@ ghost use Rattle.nll_mir_grammar.specs.Lines.{parameter_of};
 ghost use Rattle.nll_mir_grammar.specs.Tuples.{IsTuple, parts};
 ghost use Rattle.nll_naming.specs.Naming.{all_meant};
 ghost use Rattle.nll_mir_text.specs.MirSaid.{regions_in, types_in};
-ghost use Rattle.nll_mir_text.specs.MirFaults as faults;
+ghost use Rattle.nll_typing.specs.Typing as typing;
 ghost use Rattle.nll_mir_text.specs.Declaring.{AreJudged, own_scope};
 
 use crate::own_names::OwnNames;
@@ -52,7 +52,7 @@ fn are_small(shapes: &Shapes, parts: &[usize]) -> bool
 fn has_small_parts(shapes: &Shapes, shape: usize) -> bool
     requires { shape < length shapes.now }
     ensures { (ts : TypeTrees) → shape_in shapes.now shape ≡ tuple_shape (shapes_of ts)
-        → result ≡ faults.are_small ts }
+        → result ≡ typing.are_small ts }
 {
     match shapes.node(shape) {
         Node::Tuple(parts) => are_small(shapes, parts.as_slice()),
@@ -129,9 +129,11 @@ pub fn declaration(
 ) -> Result<Declaration, Memory>
     requires { length own.now.regions < 2 ^ 32 }
     ensures regions { IfOk result (λ d.
-        d.regions.items ≡ map (λ p. p.1) (regions_in (map parameter_of text.now.parameters.items))) }
+        d.regions.items ≡ map (λ p. p.1)
+        (regions_in (map parameter_of text.now.parameters.items))) }
     ensures types { IfOk result (λ d.
-        d.types.items ≡ map (λ p. p.1) (types_in (map parameter_of text.now.parameters.items))) }
+        d.types.items ≡ map (λ p. p.1)
+        (types_in (map parameter_of text.now.parameters.items))) }
     ensures has_drop { IfOk result (λ d. d.has_drop ≡ text.now.has_drop) }
     ensures fields { IfOk result (λ d. trees d.fields.items
         ≡ all_meant (own_scope own.now structs.now) (parts (written text.now.fields))) }

@@ -1,6 +1,7 @@
 //! The reader of the lines of a MIR text: what they say so far.
 
-ghost use Rattle.std.specs.Prelude.{◌≡◌, ◌⊎◌, ◌↔◌, ◌≤◌, ℕ, [], length, map, Some, None, true, false};
+ghost use Rattle.std.specs.Prelude.{◌≡◌, ◌⊎◌, ◌↔◌, ◌≤◌, ℕ, [], length, map, Some, None, true};
+ghost use Rattle.std.specs.Prelude.{false};
 ghost use Rattle.std.specs.Prelude.{IsTrue, IfOk, IfErr, OnOk, OnErr};
 ghost use Rattle.nll_problem.specs.Limits.{most_bytes, most_regions};
 ghost use Rattle.nll_reading.specs.Names.{number_of};
