@@ -25,9 +25,8 @@ fn take_twice<M: Mail>(
 // A growth that was posted is taken, once.
 #[test]
 fn post_then_take(rt: HostRuntime) -> Result<(), Fail> {
-    let growth = numbered(7);
-    let told = take_twice(rt.alloc(), &QueueMail::new(rt), growth)?;
-    assert_eq!(rt; told, (Some(growth), None, 1));
+    let told = take_twice(rt.alloc(), &QueueMail::new(rt), numbered(7))?;
+    assert_eq!(rt; told, (Some(numbered(7)), None, 1));
     Ok(())
 }
 

@@ -1,3 +1,4 @@
+pub mod CallLemmas
 pub mod DeclaringLemmas
 pub mod FaultLemmas
 pub mod FormLemmas

@@ -1,7 +1,7 @@
 -- What is judged of types and of statements.
 use Rattle.std.proofs.Common.{◌≡◌, ℕ, ◌+◌, ◌<◌, ◌≤◌, Bool, true, false, List, [], ◌∷◌, ◌++◌, length, map, refl, sym, ap, ◌∙◌, subst, arith}
 use Rattle.std.specs.Prelude.{◌&&◌, nat_lt}
-use Rattle.std.specs.List.{list_all}
+use Rattle.std.specs.List.{list_all, flat_map}
 use Rattle.std.specs.Borrow.{Bor}
 use Rattle.std.proofs.lemmas.List.{append-nil, append_assoc, map_push, length-map}
 use Rattle.std.proofs.lemmas.List.Folds.{list_all-append, list_all-map}
@@ -12,15 +12,16 @@ use Rattle.nll_types.specs.Views.{tree}
 use Rattle.nll_types.specs.declared.node.Node.{Node}
 use Rattle.nll_types.specs.declared.ty.Ty.{Ty}
 use Rattle.nll_types.proofs.ShapingLemmas.{below_push}
+use Rattle.nll_type_grammar.specs.WrittenTypes.{Name}
 use Rattle.nll_type_grammar.specs.TypeTexts.{written}
 use Rattle.nll_type_grammar.specs.declared.type_text.TypeNode.{TypeNode}
-use Rattle.nll_naming.specs.Naming.{Scope, is_known, has_arguments, meant}
+use Rattle.nll_naming.specs.Naming.{Scope, is_among, is_known, has_arguments, meant}
 use Rattle.nll_typing.specs.Judging.{HaveShapes}
 use Rattle.nll_typing.proofs.FoundLemmas.{below_later, shapes_later}
 use Rattle.nll_mir_text.specs.declared.judging.JudgedType.{JudgedType}
 use Rattle.nll_mir_text.specs.declared.judging_types.JudgedTypes.{JudgedTypes}
 use Rattle.nll_mir_text.specs.MirReading.{AreShapes, IsOfType}
-use Rattle.nll_mir_text.specs.Stating.{AreOfTypes, AddsTypes}
+use Rattle.nll_mir_text.specs.Stating.{is_bound, AreOfTypes, AddsTypes}
 
 and_true : (b : Bool) → (b && true) ≡ b
 and_true true = refl
@@ -28,6 +29,18 @@ and_true false = refl
 
 all_push : {X : Type 0} (p : X → Bool) (xs : List X) (x : X) → list_all p (xs ++ x ∷ []) ≡ (list_all p xs && p x)
 all_push p xs x = list_all-append p xs (x ∷ []) ∙ ap (λ b. list_all p xs && b) (and_true (p x))
+
+-- ---- bounds
+
+and_assoc : (a b c : Bool) → ((a && b) && c) ≡ (a && (b && c))
+and_assoc true b c = refl
+and_assoc false b c = refl
+
+-- the names in bounds, one after another
+pub names_of_bounds : (names : List Name) (ws : List (Bor (List ℕ) × Bor (List ℕ))) → list_all (is_bound names) ws ≡ list_all (is_among names) (map (λ r. r.now) (flat_map (λ w. w.0 ∷ w.1 ∷ []) ws))
+names_of_bounds names [] = refl
+names_of_bounds names (w ∷ ws) =
+    ap (λ b. is_bound names w && b) (names_of_bounds names ws) ∙ and_assoc (is_among names w.0.now) (is_among names w.1.now) _
 
 -- ---- written types
 
@@ -47,6 +60,15 @@ module _ (s : Scope) where
           ∙ (ap (λ x. map shape_of (map meaning ts) ++ x ∷ []) o.shape
           ∙ (sym (map_push shape_of (map meaning ts) (meaning t)) ∙ ap (map shape_of) (sym (map_push meaning ts t))))));
       }
+
+  -- no type is told of yet
+  pub none_told : (ns : List Node) (j : JudgedTypes) → j.known ≡ true → j.fit ≡ true → j.shapes.items ≡ [] → AreOfTypes s ns [] j
+  none_told ns j known fit shapes = record {
+    known = known;
+    fit = fit;
+    within = subst (λ is. AreBelow (length ns) is) (sym shapes) (λ k h. absurd (omega arith));
+    same = ap (map (shape_in ns)) shapes;
+  }
 
   -- none is told of, in front of these
   pub adds_none : (ns : List Node) (j : JudgedTypes) → AddsTypes s [] ns j ns j

@@ -1,21 +1,24 @@
 -- What is judged of the statements of a body.
 -- Source: project's choice. Only private contracts cite this file.
-use Rattle.std.specs.Prelude.{◌≡◌, ℕ, Bool, true, false, List, [], ◌++◌, map, length}
+use Rattle.std.specs.Prelude.{◌≡◌, ℕ, Bool, true, false, ◌&&◌, List, [], ◌++◌, map, length}
 use Rattle.std.specs.List.{list_all}
 use Rattle.std.specs.Borrow.{Bor}
 use Rattle.nll_reading.specs.Names.{number_of}
 use Rattle.nll_types.specs.Types.{TypeTree}
+use Rattle.nll_types.specs.Operands.{Operand, operand_of}
 use Rattle.nll_types.specs.Table.{AreBelow}
 use Rattle.nll_types.specs.Declarations.{structs_of}
 use Rattle.nll_types.specs.Views.{tree}
 use Rattle.nll_types.specs.declared.node.Node.{Node}
+use Rattle.nll_types.specs.declared.operand.Operand.{Operand as KeptOperand}
+use Rattle.nll_types.specs.declared.ty.Ty.{Ty}
 use Rattle.nll_type_grammar.specs.WrittenTypes.{Name, WrittenType}
 use Rattle.nll_type_grammar.specs.TypeTexts.{written}
 use Rattle.nll_type_grammar.specs.declared.type_text.TypeNode.{TypeNode}
 use Rattle.nll_statements.specs.Statements.{Statement, map_statement}
 use Rattle.nll_statements.specs.Kept.{statement_of}
 use Rattle.nll_statements.specs.declared.statement.Statement.{Statement as Kept}
-use Rattle.nll_naming.specs.Naming.{Scope, is_known, has_arguments, meant}
+use Rattle.nll_naming.specs.Naming.{Scope, is_among, is_known, has_arguments, meant}
 use Rattle.nll_typing.specs.Typing.{types_are_small}
 use Rattle.nll_typing.specs.Judging.{HaveShapes}
 use Rattle.nll_mir_text.specs.declared.tables.Regions.{Regions}
@@ -33,6 +36,22 @@ as_written i = map_statement (λ r. r.now) written (statement_of i)
 -- and as it is meant, where names mean this
 abbrev pub meant_in : Scope → Statement Name WrittenType → Statement ℕ TypeTree
 meant_in s i = map_statement (number_of s.regions) (meant s) i
+
+-- the numbers of a bound's two regions
+abbrev pub bound_numbers : List Name → Bor (List ℕ) × Bor (List ℕ) → ℕ × ℕ
+bound_numbers names w = (number_of names w.0.now, number_of names w.1.now)
+
+-- an argument of a call of the code, with its type as a tree
+abbrev pub argument_kept : KeptOperand × Ty → Operand × TypeTree
+argument_kept a = (operand_of a.0, tree a.1)
+
+-- an argument of a call as it is meant, where names mean this
+abbrev pub argument_in : Scope → KeptOperand × List TypeNode → Operand × TypeTree
+argument_in s a = (operand_of a.0, meant s (written a.1))
+
+-- both names of a bound are among these
+abbrev pub is_bound : List Name → Bor (List ℕ) × Bor (List ℕ) → Bool
+is_bound names w = is_among names w.0.now && is_among names w.1.now
 
 -- what lines say of names, structs and variables, as these tables have it
 abbrev pub declared_by : Regions → StructNames → Variables → Said

@@ -1,11 +1,12 @@
 //! Whether the names and the variables in a statement are declared, and its targets are blocks.
 
-ghost use Rattle.std.specs.Prelude.{◌≡◌, ◌∷◌, [], map, nat_lt, IfOk};
-ghost use Rattle.std.specs.List.{flat_map, list_all};
+ghost use Rattle.std.specs.Prelude.{◌≡◌, map, nat_lt, IfOk};
+ghost use Rattle.std.specs.List.{list_all};
 ghost use Rattle.nll_statements.specs.Effects.{targets};
 ghost use Rattle.nll_statements.specs.Kept.{statement_of};
 ghost use Rattle.nll_statements.specs.Written.{regions_written, variables_written};
 ghost use Rattle.nll_naming.specs.Naming.{is_among};
+ghost use Rattle.nll_mir_text.specs.Stating.{is_bound};
 
 use nll_reading::Names;
 use nll_sets::Memory;
@@ -60,16 +61,19 @@ fn is_region(names: &Names, name: &[u8]) -> bool
     names.number_of(name).is_some()
 }
 
+// Whether both names in a bound are regions'.
+fn bound_known(names: &Names, bound: &(&[u8], &[u8])) -> bool
+    ensures { result ≡ is_bound names.now bound.now }
+{
+    is_region(names, bound.0) & is_region(names, bound.1)
+}
+
 // Whether the names in the bounds of a call are regions'.
 fn bounds_known(names: &Names, bounds: &[(&[u8], &[u8])]) -> bool
-    ensures { result ≡ list_all (is_among names.now)
-        (map (λ r. r.now) (flat_map (λ w. w.0 ∷ w.1 ∷ []) bounds.now)) }
+    ensures { result ≡ list_all (is_bound names.now) bounds.now }
 {
     for bound in bounds {
-        if !is_region(names, bound.0) {
-            return false;
-        }
-        if !is_region(names, bound.1) {
+        if !bound_known(names, bound) {
             return false;
         }
     }

@@ -12,7 +12,8 @@ ghost use Rattle.nll_statements.specs.Statements as statements;
 ghost use Rattle.nll_statements.specs.Statements.{map_statement};
 ghost use Rattle.nll_naming.specs.Naming.{meant};
 ghost use Rattle.nll_mir_text.specs.MirReading.{scope_in, statement_kept};
-ghost use Rattle.nll_mir_text.specs.Stating.{as_written, meant_in};
+ghost use Rattle.nll_mir_text.specs.Stating.{as_written, meant_in, bound_numbers};
+ghost use Rattle.nll_mir_text.specs.Stating.{argument_kept, argument_in};
 
 use crate::judging::type_meant;
 use crate::tables::{Regions, StructNames};
@@ -34,6 +35,14 @@ fn region_meant(regions: &Regions, name: &[u8]) -> RegionId
     }
 }
 
+// A bound of a call.
+fn bound_meant(regions: &Regions, bound: &(&[u8], &[u8])) -> (RegionId, RegionId)
+    requires { length regions.now.names ≤ most_regions }
+    ensures { result ≡ bound_numbers regions.now.names bound.now }
+{
+    (region_meant(regions, bound.0), region_meant(regions, bound.1))
+}
+
 // The bounds of a call.
 fn bounds_meant(
     alloc: Global,
@@ -41,13 +50,11 @@ fn bounds_meant(
     bounds: &[(&[u8], &[u8])],
 ) -> Result<Vec<(RegionId, RegionId)>, Memory>
     requires { length regions.now.names ≤ most_regions }
-    ensures { IfOk result (λ v. v.items
-        ≡ map (λ w. (number_of regions.now.names w.0.now, number_of regions.now.names w.1.now))
-        bounds.now) }
+    ensures { IfOk result (λ v. v.items ≡ map (bound_numbers regions.now.names) bounds.now) }
 {
     let mut meant = Vec::with_capacity(alloc, bounds.len())?;
     for bound in bounds {
-        meant.push((region_meant(regions, bound.0), region_meant(regions, bound.1)))?;
+        meant.push(bound_meant(regions, bound))?;
     }
     Ok(meant)
 }
@@ -61,9 +68,8 @@ fn argument_meant(
 ) -> Result<(Operand, Ty), Memory>
     requires none { structs.now.none ≡ [] }
     requires few { length regions.now.names ≤ most_regions }
-    ensures operand { IfOk result (λ a. operand_of a.0 ≡ operand_of argument.now.0) }
-    ensures type { IfOk result (λ a. tree a.1
-        ≡ meant (scope_in regions.now structs.now) (written argument.now.1)) }
+    ensures { IfOk result (λ a. argument_kept a
+        ≡ argument_in (scope_in regions.now structs.now) argument.now) }
 {
     let operand = copy_operand(alloc, &argument.0)?;
     let ty = type_meant(alloc, regions, structs, &argument.1)?;
@@ -79,9 +85,8 @@ fn arguments_meant(
 ) -> Result<Vec<(Operand, Ty)>, Memory>
     requires none { structs.now.none ≡ [] }
     requires few { length regions.now.names ≤ most_regions }
-    ensures { IfOk result (λ v. map (λ a. (operand_of a.0, tree a.1)) v.items
-        ≡ map (λ a. (operand_of a.0, meant (scope_in regions.now structs.now) (written a.1)))
-        arguments.now) }
+    ensures { IfOk result (λ v. map argument_kept v.items
+        ≡ map (argument_in (scope_in regions.now structs.now)) arguments.now) }
 {
     let mut meant = Vec::with_capacity(alloc, arguments.len())?;
     for argument in arguments {
@@ -127,7 +132,7 @@ fn made_meant(
     requires none { structs.now.none ≡ [] }
     requires few { length regions.now.names ≤ most_regions }
     ensures place { IfOk result (λ m. path_of m.place ≡ path_of made.now.place) }
-    ensures type { IfOk result (λ m. tree m.ty
+    ensures meaning { IfOk result (λ m. tree m.ty
         ≡ meant (scope_in regions.now structs.now) (written made.now.ty)) }
     ensures operands { IfOk result (λ m. map operand_of m.operands.items
         ≡ map operand_of made.now.operands.items) }

@@ -65,7 +65,7 @@ pub fn add_point(
     statement: Statement<RegionId, Ty>,
     edges: usize,
 ) -> Result<(), Memory>
-    ensures { OnOk result (points.new ≡ record points.old {
+    ensures others { OnOk result (points.new ≡ record points.old {
         statements = points.new.statements; edges = edges;
         owes = not (is_terminator (statement_of statement)) }) }
     ensures statements { OnOk result
