@@ -65,11 +65,12 @@ pub fn add_point(
     statement: Statement<RegionId, Ty>,
     edges: usize,
 ) -> Result<(), Memory>
-    ensures others { OnOk result (points.new ≡ record points.old {
-        statements = points.new.statements; edges = edges;
-        owes = not (is_terminator (statement_of statement)) }) }
+    ensures blocks { points.new.blocks ≡ points.old.blocks }
+    ensures starts { points.new.starts ≡ points.old.starts }
     ensures statements { OnOk result
         (points.new.statements.items ≡ points.old.statements.items ++ statement ∷ []) }
+    ensures edges { OnOk result (points.new.edges ≡ edges) }
+    ensures owes { OnOk result (points.new.owes ≡ not (is_terminator (statement_of statement))) }
 {
     let ends = statement.is_terminator();
     points.statements.push(statement)?;
