@@ -128,9 +128,10 @@ impl Body {
         self.labels.regions()
     }
 
-    /// How many variables there are.
+    /// How many variables there are; they are numbered from 0.
     pub fn variables(&self) -> usize
-        ensures { result ≡ length self.now.variables }
+        ensures value { result ≡ length self.now.variables }
+        ensures sound { IsSound self.now }
     {
         self.variables.len()
     }

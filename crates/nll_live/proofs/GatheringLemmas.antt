@@ -1,15 +1,15 @@
 -- Points in lists, one list a variable.
-use Rattle.std.proofs.Common.{◌≡◌, ◌⊎◌, ◌↔◌, ℕ, ◌+◌, ◌<◌, ◌≤◌, List, [], ◌∷◌, ◌++◌, Contains, length, get_or, set, replicate, take, Option, Some, None, slice_get, inl, inr, refl, sym, ap, ◌∙◌, subst, ⊎_elim, arith, length-replicate, get_or-replicate}
+use Rattle.std.proofs.Common.{◌≡◌, ◌⊎◌, ◌↔◌, ℕ, ◌+◌, ◌<◌, ◌≤◌, List, [], ◌∷◌, ◌++◌, Contains, length, get_or, set, replicate, take, Option, Some, None, slice_get, inl, inr, refl, sym, ap, ◌∙◌, subst, ⊎_elim, arith}
 use Rattle.std.proofs.lemmas.Bool.{cases_lt, cases_eq}
-use Rattle.std.proofs.lemmas.List.{get_or-set_same, get_or-set_other, get_or_past, length-set, take_more}
+use Rattle.std.proofs.lemmas.List.{length-replicate, get_or-replicate, get_or-set_same, get_or-set_other, get_or_past, length-set, take_more}
 use Rattle.std.proofs.lemmas.List.Elements.{Contains-push, Contains-push_cases, Contains-append_left}
 use Rattle.std.proofs.lemmas.Option.{slice_get_cases, slice_get_within}
 use Rattle.nll_problem.specs.Rows.{row_at, with_item}
 use Rattle.nll_types.specs.Types.{TypeTree}
 use Rattle.nll_statements.specs.Statements.{Statement}
-use Rattle.nll_statements.specs.Effects.{variables_used, dropped}
+use Rattle.nll_statements.specs.Effects.{variables_used, defined, dropped}
 use Rattle.nll_body.specs.Bodies.{BodyText, StandsAt}
-use Rattle.nll_live.specs.Live.{UsesAt, DropsAt}
+use Rattle.nll_live.specs.Live.{UsesAt, DropsAt, DefinesAt}
 use Rattle.nll_live.specs.Gathering.{IsListed, Lists, AreListed}
 
 pub contains_none : {X : Type 0} (x : X) → Contains [] x → ⊥
@@ -126,6 +126,23 @@ module _ (body : BodyText) (p : ℕ) (within : p < length body.points) where
   -- or none
   pub no_drop : ((i : Statement ℕ TypeTree) → StandsAt body p i → None ≡ dropped i) → (x : ℕ) → DropsAt body x p → ⊥
   no_drop is x h = none_some x (is h.0 h.1 ∙ h.2)
+    where
+      none_some : (a : ℕ) → None ≡ Some a → ⊥
+      none_some a e = cc
+
+  -- the variable that it defines
+  pub definition_is : (y : ℕ) → ((i : Statement ℕ TypeTree) → StandsAt body p i → Some y ≡ defined i) → (x : ℕ) → (y ≡ x) ↔ DefinesAt body x p
+  definition_is y is x = (
+    λ h. let here = something_stands body p within in (here.0, here.1, sym (is here.0 here.1) ∙ ap Some h),
+    λ h. some_same y x (is h.0 h.1 ∙ h.2),
+  )
+    where
+      some_same : (a b : ℕ) → Some a ≡ Some b → a ≡ b
+      some_same a b e = cc
+
+  -- or none
+  pub no_definition : ((i : Statement ℕ TypeTree) → StandsAt body p i → None ≡ defined i) → (x : ℕ) → DefinesAt body x p → ⊥
+  no_definition is x h = none_some x (is h.0 h.1 ∙ h.2)
     where
       none_some : (a : ℕ) → None ≡ Some a → ⊥
       none_some a e = cc

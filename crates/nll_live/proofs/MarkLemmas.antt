@@ -1,11 +1,13 @@
 -- Marks, and the list of the points that are marked.
-use Rattle.std.proofs.Common.{◌≡◌, ◌⊎◌, ℕ, ◌+◌, ◌<◌, ◌≤◌, List, [], ◌∷◌, ◌++◌, length, get_or, set, refl, sym, ap, ◌∙◌, subst, arith, ⊎_elim, Contains, inl, inr, true, false}
+use Rattle.std.proofs.Common.{◌≡◌, ◌⊎◌, ◌↔◌, ℕ, ◌+◌, ◌<◌, ◌≤◌, List, [], ◌∷◌, ◌++◌, length, get_or, set, refl, sym, ap, ◌∙◌, subst, arith, ⊎_elim, Contains, inl, inr, true, false}
 use Rattle.std.specs.Prelude.{slice_index, sum_by, ◌==◌, if◌then◌else◌}
 use Rattle.std.proofs.lemmas.Bool.{cases_lt, cases_eq, eq-eqb, eqb-true, false_from_ne_true}
 use Rattle.std.proofs.lemmas.List.{get_or_append_left, length-append, get_or_default, get_or_past}
 use Rattle.std.proofs.Math.Seq.{get_or-append_seam}
 use Rattle.std.proofs.lemmas.List.{get_or-set_same, get_or-set_other, length-set}
 use Rattle.std.proofs.lemmas.List.Sums.{sum_by-set}
+use Rattle.std.specs.List.Sorted.{IsPermutation}
+use Rattle.std.proofs.lemmas.List.Sorted.{Contains-permutation, IsPermutation-sym}
 use Rattle.nll_live.specs.Marks.{IsMarked, unmarked, AreFound, Marks}
 
 eqb-same : (n : ℕ) → (n == n) ≡ true
@@ -95,3 +97,7 @@ at_each P xs each p c = subst P (get_or_default xs c.0 0 p c.1 ∙ c.2) (each c.
 
 pub contains_at : (xs : List ℕ) (p : ℕ) → (k : ℕ) × (k < length xs) × (slice_index xs k ≡ p) → Contains xs p
 contains_at xs p k = (k.0, k.1, get_or_default xs k.0 p 0 k.1 ∙ k.2)
+
+-- what a list contains, another order of it does
+pub contains_moved : (xs ys : List ℕ) → IsPermutation xs ys → (p : ℕ) → Contains ys p ↔ Contains xs p
+contains_moved xs ys moved p = (Contains-permutation ys xs p (IsPermutation-sym xs ys moved), Contains-permutation xs ys p moved)

@@ -1,8 +1,8 @@
 -- Sets of points, one a variable.
-use Rattle.std.proofs.Common.{◌≡◌, ◌⊎◌, ◌↔◌, ℕ, ◌+◌, ◌<◌, ◌≤◌, Bool, true, false, List, [], ◌∷◌, ◌++◌, Contains, length, get_or, set, replicate, take, inl, inr, refl, sym, ap, ◌∙◌, subst, ⊎_elim, arith, length-append, length-replicate, get_or-replicate}
-use Rattle.std.specs.Prelude.{slice_index_or}
+use Rattle.std.proofs.Common.{◌≡◌, ◌⊎◌, ◌↔◌, ℕ, ◌+◌, ◌<◌, ◌≤◌, Bool, true, false, List, [], ◌∷◌, ◌++◌, Contains, length, get_or, set, replicate, take, inl, inr, Result, Ok, Err, refl, sym, ap, ◌∙◌, subst, ⊎_elim, arith, length-append}
+use Rattle.std.specs.Prelude.{slice_index_or, IfOk}
 use Rattle.std.proofs.lemmas.Bool.{cases_lt, cases_eq, false≢true}
-use Rattle.std.proofs.lemmas.List.{get_or-set_same, get_or-set_other, get_or_append_left, get_or_push, get_or_past, length-set, take_more}
+use Rattle.std.proofs.lemmas.List.{length-replicate, get_or-replicate, get_or-set_same, get_or-set_other, get_or_append_left, get_or_push, get_or_past, length-set, take_more}
 use Rattle.std.proofs.lemmas.List.Elements.{Contains-push, Contains-push_cases, Contains-append_left}
 use Rattle.nll_sets.specs.ElementSet.{flag}
 use Rattle.nll_body.specs.Bodies.{BodyText}
@@ -11,6 +11,11 @@ use Rattle.nll_live.specs.Gathering.{IsListed, AreListed}
 use Rattle.nll_live.specs.LiveSets.{IsIn, AreSetsOf}
 use Rattle.nll_live.proofs.GatheringLemmas.{contains_none, listed_within}
 use Rattle.nll_live.proofs.WalkLemmas.{live_same}
+
+-- what holds of a value, where there is one, is of any larger kind
+pub if_ok : {T E : Type 0} (r : Result T E) (P Q : T → Type 0) → ((x : T) → P x → Q x) → IfOk r P → IfOk r Q
+if_ok (Ok x) P Q f h = f x h
+if_ok (Err e) P Q f h = tt
 
 -- ---- the set of a list
 

@@ -38,12 +38,12 @@ gains_as a b old new same f r p = (
 pub gains_one : (s : Stretch) (old : List Stretch) → Gains (IsOn s) old (old ++ s ∷ [])
 gains_one s old r p = (
   λ h. ⊎_elim
-      (λ there. inl (h.0, there, h.2))
-      (λ is. inr (subst (λ t. IsOn t r p) (sym is) h.2))
+      (λ there. inl (h.0, there, h.2, h.3, h.4))
+      (λ is. inr (subst (λ t. IsOn t r p) (sym is) (h.2, h.3, h.4)))
       (Contains-push_cases old s h.0 h.1),
   ⊎_elim
-      (λ h. (h.0, Contains-append_left old (s ∷ []) h.0 h.1, h.2))
-      (λ h. (s, Contains-push old s, h)),
+      (λ h. (h.0, Contains-append_left old (s ∷ []) h.0 h.1, h.2, h.3, h.4))
+      (λ h. (s, Contains-push old s, h.0, h.1, h.2)),
 )
 
 -- p is in one of the first runs
@@ -56,13 +56,13 @@ runs_step region runs n old mid s of begins ends f =
     gains_as (λ r p. ((region ≡ r) × IsInFirst runs n p) ⊎ IsOn s r p) (λ r p. (region ≡ r) × IsInFirst runs (n + 1) p) old (mid ++ s ∷ [])
     (λ r p. (
       ⊎_elim
-          (λ h. (h.0, (h.1.0, omega (arith, h.1.1), h.1.2)))
+          (λ h. (h.0, (h.1.0, omega (arith, h.1.1), h.1.2, h.1.3)))
           (λ h. (sym of ∙ h.0, (n, omega arith, omega (arith, h.1, begins), omega (arith, h.2, ends)))),
       λ h. ⊎_elim
-          (λ low. inl (h.0, (h.1.0, low, h.1.2)))
+          (λ low. inl (h.0, (h.1.0, low, h.1.2, h.1.3)))
           (λ high.
             let same : h.1.0 ≡ n = omega (arith, high, h.1.1) in
-            let is = subst (λ k. (first_of runs k ≤ p) × (p ≤ last_of runs k)) same h.1.2 in
+            let is = subst (λ k. (first_of runs k ≤ p) × (p ≤ last_of runs k)) same (h.1.2, h.1.3) in
             inr (of ∙ h.0, omega (arith, is.0, begins), omega (arith, is.1, ends)))
           (cases_lt h.1.0 n),
     ))
@@ -91,8 +91,8 @@ regions_step regions kind n old mid new within f g =
 -- stretches in another order cover the same
 pub covers_moved : (xs ys : List Stretch) → IsPermutation xs ys → (r p : ℕ) → Covers ys r p ↔ Covers xs r p
 covers_moved xs ys moved r p = (
-  λ h. (h.0, Contains-permutation ys xs h.0 (IsPermutation-sym xs ys moved) h.1, h.2),
-  λ h. (h.0, Contains-permutation xs ys h.0 moved h.1, h.2),
+  λ h. (h.0, Contains-permutation ys xs h.0 (IsPermutation-sym xs ys moved) h.1, h.2, h.3, h.4),
+  λ h. (h.0, Contains-permutation xs ys h.0 moved h.1, h.2, h.3, h.4),
 )
 
 -- ---- order
@@ -116,47 +116,43 @@ stretches_rise xs sorted i j d low within = not_after (get_or xs i d) (get_or xs
 
 -- ---- pairs
 
-module _ (xs : List Stretch) (sorted : IsSorted stretch_cmp xs) (n : ℕ) (s : Stretch) (within : n < length xs) (is : s ≡ get_or xs n s) (pairs : List (ℕ × ℕ)) (each : (r p : ℕ) → Contains pairs (r, p) ↔ Covers (take n xs) r p) where
-  -- the next stretch comes next
-  pub comes_next : ComesNext s pairs
-  comes_next r q h = by ((each r q).0 h)
-    where
-      by : Covers (take n xs) r q → (r < s.region) ⊎ ((r ≡ s.region) × ((p : ℕ) → s.first ≤ p → p ≤ q → Contains pairs (r, p)))
-      by c =
-          let j = c.1.0 in
-          let low : j < n = omega (arith, c.1.1, length-take n xs) in
-          let at : get_or xs j c.0 ≡ c.0 = sym (get_or-take n xs j c.0 low) ∙ c.1.2 in
-          ⊎_elim
-              (λ before. inl (omega (arith, before, c.2.0)))
-              (λ same. inr (sym c.2.0 ∙ same.0, λ p first last. (each r p).1 (c.0, c.1, c.2.0, omega (arith, first, same.1), omega (arith, last, c.2.2))))
-              (order j at low)
-        where
-          order : (j : ℕ) → get_or xs j c.0 ≡ c.0 → j < n → (c.0.region < s.region) ⊎ ((c.0.region ≡ s.region) × (c.0.first ≤ s.first))
-          order j at low = subst (λ (t : Stretch). (t.region < s.region) ⊎ ((t.region ≡ s.region) × (t.first ≤ s.first))) at
-              (subst (λ (t : Stretch). ((get_or xs j c.0).region < t.region) ⊎ (((get_or xs j c.0).region ≡ t.region) × ((get_or xs j c.0).first ≤ t.first))) (here c.0)
-              (stretches_rise xs sorted j n c.0 (omega (arith, low)) within))
+module _ (xs : List Stretch) (sorted : IsSorted stretch_cmp xs) (n : ℕ) (s : Stretch) (within : n < length xs) (is : s ≡ get_or xs n s) where
+  -- an earlier stretch is of an earlier region, or begins no later
+  earlier : (t : Stretch) → Contains (take n xs) t → (t.region < s.region) ⊎ ((t.region ≡ s.region) × (t.first ≤ s.first))
+  earlier t h =
+      let j = h.0 in
+      let low : j < n = omega (arith, h.1, length-take n xs) in
+      let at : get_or xs j t ≡ t = sym (get_or-take n xs j t low) ∙ h.2 in
+      let here : get_or xs n t ≡ s = get_or_default xs n t s within ∙ sym is in
+      subst (λ (u : Stretch). (u.region < s.region) ⊎ ((u.region ≡ s.region) × (u.first ≤ s.first))) at
+      (subst (λ (u : Stretch). ((get_or xs j t).region < u.region) ⊎ (((get_or xs j t).region ≡ u.region) × ((get_or xs j t).first ≤ u.first))) here
+      (stretches_rise xs sorted j n t (omega (arith, low)) within))
 
-          here : (d : Stretch) → get_or xs n d ≡ s
-          here d = any_default xs n d s within ∙ sym is
+  module _ (pairs : List (ℕ × ℕ)) (each : (r p : ℕ) → Contains pairs (r, p) ↔ Covers (take n xs) r p) where
+    -- the next stretch comes next
+    pub comes_next : ComesNext s pairs
+    comes_next r q h =
+        let c = (each r q).0 h in
+        ⊎_elim
+            (λ before. inl (omega (arith, before, c.2)))
+            (λ same. inr (sym c.2 ∙ same.0, λ p first last. (each r p).1 (c.0, c.1, c.2, omega (arith, first, same.1), omega (arith, last, c.4))))
+            (earlier c.0 c.1)
 
-          any_default : (ys : List Stretch) (k : ℕ) (d e : Stretch) → k < length ys → get_or ys k d ≡ get_or ys k e
-          any_default ys k d e h = get_or_default ys k d e h
+    more : take (n + 1) xs ≡ take n xs ++ s ∷ []
+    more = take_more xs n s within ∙ ap (λ t. take n xs ++ t ∷ []) (sym is)
 
-  -- and its pairs are those of one stretch more
-  pub pairs_step : (new : List (ℕ × ℕ)) → GetsStretch s pairs new → (r p : ℕ) → Contains new (r, p) ↔ Covers (take (n + 1) xs) r p
-  pairs_step new gets r p = (
-    λ h. subst (λ ys. Covers ys r p) (sym more) (⊎_elim
-        (λ old. let c = (each r p).0 old in (c.0, Contains-append_left (take n xs) (s ∷ []) c.0 c.1, c.2))
-        (λ on. (s, Contains-push (take n xs) s, on))
-        ((gets r p).0 h)),
-    λ c. (gets r p).1 (by (subst (λ ys. Covers ys r p) more c)),
-  )
-    where
-      more : take (n + 1) xs ≡ take n xs ++ s ∷ []
-      more = take_more xs n s within ∙ ap (λ t. take n xs ++ t ∷ []) (sym is)
-
-      by : Covers (take n xs ++ s ∷ []) r p → Contains pairs (r, p) ⊎ IsOn s r p
-      by c = ⊎_elim
-          (λ there. inl ((each r p).1 (c.0, there, c.2)))
-          (λ is_new. inr (subst (λ t. IsOn t r p) (sym is_new) c.2))
-          (Contains-push_cases (take n xs) s c.0 c.1)
+    -- and its pairs are those of one stretch more
+    pub pairs_step : (new : List (ℕ × ℕ)) → GetsStretch s pairs new → (r p : ℕ) → Contains new (r, p) ↔ Covers (take (n + 1) xs) r p
+    pairs_step new gets r p = (
+      λ h. subst (λ ys. Covers ys r p) (sym more) (⊎_elim
+          (λ old. let c = (each r p).0 old in (c.0, Contains-append_left (take n xs) (s ∷ []) c.0 c.1, c.2, c.3, c.4))
+          (λ on. (s, Contains-push (take n xs) s, on.0, on.1, on.2))
+          ((gets r p).0 h)),
+      λ c. (gets r p).1 (by (subst (λ ys. Covers ys r p) more c)),
+    )
+      where
+        by : Covers (take n xs ++ s ∷ []) r p → Contains pairs (r, p) ⊎ IsOn s r p
+        by c = ⊎_elim
+            (λ there. inl ((each r p).1 (c.0, there, c.2, c.3, c.4)))
+            (λ is_new. inr (subst (λ t. IsOn t r p) (sym is_new) (c.2, c.3, c.4)))
+            (Contains-push_cases (take n xs) s c.0 c.1)

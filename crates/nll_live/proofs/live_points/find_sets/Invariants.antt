@@ -2,7 +2,7 @@ use Rattle.std.proofs.Common.{◌≡◌, ◌≤◌, ℕ, length, map, slice_inde
 use Rattle.nll_live.specs.Live.{IsLive}
 use Rattle.nll_live.specs.Gathering.{IsListed}
 use Rattle.nll_live.proofs.SetLemmas.{AreSetsUpTo}
-use Rattle.nll_live.proofs.liveness.find_sets.Given as goal
+use Rattle.nll_live.proofs.live_points.find_sets.Given as goal
 
 abbrev pub invariant-loop-variable : goal.invariant-loop-variable
 invariant-loop-variable l = record {

@@ -100,7 +100,7 @@ fn find_sets(
     ensures { OnOk result (AreSetsOf body.now
         (λ x. IsLive body.now (IsListed (map (λ list. list.items) lists.now) x) x) sets.new.items) }
 {
-    for variable in 0..lists.len() {
+    for variable in 0..body.variables() {
         let list = lists[variable].as_slice();
         let set = find_set(alloc, body, variable as u32, list, marks, found)?;
         sets.push(set)?;
@@ -131,20 +131,20 @@ fn find_set(
     let points = body.points();
     found.clear();
     search_back(marks, variable + 1, found, body, variable, list)?;
-    let set = set_of(alloc, points, found)?;
+    // What is put into a set at its end costs least.
+    found.sort_unstable();
+    let set = set_of(alloc, points, found.as_slice())?;
     Ok(set)
 }
 
-// The set of these points. It sorts them, since what is put in at the end costs least.
-fn set_of(alloc: Global, len: u32, points: &mut Vec<u32>) -> Result<RunSet, Memory>
-    requires { (k : ℕ) → k < length points.old.items → slice_index points.old.items k < len }
+// The set of these points.
+fn set_of(alloc: Global, len: u32, points: &[u32]) -> Result<RunSet, Memory>
+    requires { (k : ℕ) → k < length points.now → slice_index points.now k < len }
     ensures width { IfOk result (λ set. length set ≡ len) }
-    ensures each { IfOk result (λ set. (p : ℕ)
-        → (flag set p ≡ true) ↔ Contains points.old.items p) }
+    ensures each { IfOk result (λ set. (p : ℕ) → (flag set p ≡ true) ↔ Contains points.now p) }
 {
-    points.sort_unstable();
     let mut set = RunSet::empty(alloc, len)?;
-    for point in points.as_slice() {
+    for point in points {
         set.insert(Element(*point))?;
     }
     Ok(set)
