@@ -1,7 +1,7 @@
 -- Points that a search has found: marked, and in a list.
 -- Source: project's choice. Private contracts alone cite this file.
 use Rattle.std.specs.Prelude.{◌≡◌, ◌⊎◌, ℕ, ◌+◌, ◌<◌, ◌≤◌, ◌==◌, List, length}
-use Rattle.std.specs.Prelude.{if◌then◌else◌, slice_index, sum_by, Contains}
+use Rattle.std.specs.Prelude.{if◌then◌else◌, slice_index, sum_by}
 
 -- the point was marked in this turn
 abbrev pub IsMarked : List ℕ → ℕ → ℕ → Type 0

@@ -14,5 +14,5 @@ mod stretch;
 mod stretches;
 
 pub use base_elements::bases;
-pub use live_sets::LiveSets;
 pub use live_points::liveness;
+pub use live_sets::LiveSets;
