@@ -1,7 +1,7 @@
 //! The pairs of a region and a point that stretches stand for.
 
-ghost use Rattle.std.specs.Prelude.{◌≡◌, ◌↔◌, ◌-◌, ◌^◌, ◌<◌, ◌≤◌, ℕ, [], length, AllPairs, Contains};
-ghost use Rattle.std.specs.Prelude.{IfOk, OnOk};
+ghost use Rattle.std.specs.Prelude.{◌≡◌, ◌↔◌, ◌-◌, ◌^◌, ◌<◌, ◌≤◌, ℕ, [], length};
+ghost use Rattle.std.specs.Prelude.{AllPairs, Contains, IfOk, OnOk};
 ghost use Rattle.std.specs.List.Sorted.{IsPermutation, IsSorted};
 ghost use Rattle.nll_problem.specs.Problem.{IsEarlier};
 ghost use Rattle.nll_sets.specs.Runs.{IsInRuns, last_of};
