@@ -1,9 +1,9 @@
 -- Points in lists, one list a variable.
-use Rattle.std.proofs.Common.{◌≡◌, ◌⊎◌, ◌↔◌, ℕ, ◌+◌, ◌<◌, ◌≤◌, List, [], ◌∷◌, ◌++◌, Contains, length, get_or, set, replicate, take, Option, Some, None, slice_get, inl, inr, refl, sym, ap, ◌∙◌, subst, ⊎_elim, arith}
+use Rattle.std.proofs.Common.{◌≡◌, ◌⊎◌, ◌↔◌, ℕ, ◌+◌, ◌<◌, ◌≤◌, List, [], ◌∷◌, ◌++◌, Contains, length, get_or, replicate, take, Some, None, slice_get, inl, inr, refl, sym, ap, ◌∙◌, subst, ⊎_elim, arith}
 use Rattle.std.proofs.lemmas.Bool.{cases_lt, cases_eq}
 use Rattle.std.proofs.lemmas.List.{length-replicate, get_or-replicate, get_or-set_same, get_or-set_other, get_or_past, length-set, take_more}
 use Rattle.std.proofs.lemmas.List.Elements.{Contains-push, Contains-push_cases, Contains-append_left}
-use Rattle.std.proofs.lemmas.Option.{slice_get_cases, slice_get_within}
+use Rattle.std.proofs.lemmas.Option.{slice_get_cases}
 use Rattle.nll_problem.specs.Rows.{row_at, with_item}
 use Rattle.nll_types.specs.Types.{TypeTree}
 use Rattle.nll_statements.specs.Statements.{Statement}
@@ -54,18 +54,18 @@ pub lists_append : (a b : ℕ → Type 0) (p : ℕ) (old mid new : List (List �
 lists_append a b p old mid new f g = record {
   counted = g.counted ∙ f.counted;
   each = λ x q h.
-    let within : x < length mid = omega (arith, h, g.counted) in (
-      λ listed. ⊎_elim
-          (λ before. ⊎_elim inl (λ now. inr (inl now.0, now.1)) ((f.each x q within).0 before))
-          (λ now. inr (inr now.0, now.1))
-          ((g.each x q h).0 listed),
-      ⊎_elim
-          (λ listed. (g.each x q h).1 (inl ((f.each x q within).1 (inl listed))))
-          (λ now. ⊎_elim
-          (λ first. (g.each x q h).1 (inl ((f.each x q within).1 (inr (first, now.1)))))
-          (λ second. (g.each x q h).1 (inr (second, now.1)))
-          now.0),
-    );
+      let within : x < length mid = omega (arith, h, g.counted) in (
+        λ listed. ⊎_elim
+            (λ before. ⊎_elim inl (λ now. inr (inl now.0, now.1)) ((f.each x q within).0 before))
+            (λ now. inr (inr now.0, now.1))
+            ((g.each x q h).0 listed),
+        ⊎_elim
+            (λ listed. (g.each x q h).1 (inl ((f.each x q within).1 (inl listed))))
+            (λ now. ⊎_elim
+            (λ first. (g.each x q h).1 (inl ((f.each x q within).1 (inr (first, now.1)))))
+            (λ second. (g.each x q h).1 (inr (second, now.1)))
+            now.0),
+      );
 }
 
 -- the same variables, said otherwise
@@ -164,16 +164,16 @@ pub listed_step : (count : ℕ) (holds : ℕ → ℕ → Type 0) (n : ℕ) (old 
 listed_step count holds n old new f g = record {
   counted = g.counted ∙ f.counted;
   each = λ x p h.
-    let within : x < length new = omega (arith, h, g.counted, f.counted) in (
-      λ listed. ⊎_elim
-          (λ before. let was = (f.each x p h).0 before in (was.0, omega (arith, was.1)))
-          (λ now. (subst (holds x) (sym now.1) now.0, omega (arith, now.1)))
-          ((g.each x p within).0 listed),
-      λ h2. (g.each x p within).1 (⊎_elim
-          (λ low. inl ((f.each x p h).1 (h2.0, low)))
-          (λ high. let same : p ≡ n = omega (arith, high, h2.1) in inr (subst (holds x) same h2.0, same))
-          (cases_lt p n)),
-    );
+      let within : x < length new = omega (arith, h, g.counted, f.counted) in (
+        λ listed. ⊎_elim
+            (λ before. let was = (f.each x p h).0 before in (was.0, omega (arith, was.1)))
+            (λ now. (subst (holds x) (sym now.1) now.0, omega (arith, now.1)))
+            ((g.each x p within).0 listed),
+        λ h2. (g.each x p within).1 (⊎_elim
+            (λ low. inl ((f.each x p h).1 (h2.0, low)))
+            (λ high. let same : p ≡ n = omega (arith, high, h2.1) in inr (subst (holds x) same h2.0, same))
+            (cases_lt p n)),
+      );
 }
 
 -- no list has a point for a variable that isn't there

@@ -1,5 +1,5 @@
 -- How far a search has come.
-use Rattle.std.proofs.Common.{◌≡◌, ◌↔◌, ℕ, ◌+◌, ◌<◌, ◌≤◌, List, [], length, refl, sym, ◌∙◌, subst, arith, ⊎_elim, Contains}
+use Rattle.std.proofs.Common.{◌↔◌, ℕ, ◌+◌, ◌<◌, ◌≤◌, List, [], length, sym, subst, arith, Contains}
 use Rattle.std.specs.Prelude.{slice_index}
 use borrow.Author.Count.{below_more}
 use Rattle.std.proofs.lemmas.List.Elements.{Contains-get_or}
@@ -36,7 +36,7 @@ module _ (body : BodyText) (x turn : ℕ) (ends first : List ℕ) where
   search_step marks list place next longer h s put found covers = record {
     more = marks_append _ turn first marks next [] list longer s.more
         (marks_weaker _ (IsLive body (Contains ends) x) turn marks next list longer
-            (λ p c. live_before body (Contains ends) x p (slice_index list place) c (s.more.cause place (omega arith) h)) put);
+        (λ p c. live_before body (Contains ends) x p (slice_index list place) c (s.more.cause place (omega arith) h)) put);
     found = found;
     within = omega (arith, put.longer);
     begun = λ p c. put.kept p (s.begun p c);
@@ -46,10 +46,11 @@ module _ (body : BodyText) (x turn : ℕ) (ends first : List ℕ) where
   }
 
   pub search_last : (marks list : List ℕ) (place : ℕ) → length list ≤ place → Searching body x turn ends first marks list place → (p : ℕ) → Contains list p ↔ IsLive body (Contains ends) x p
-  search_last marks list place h s p =
-      ( at_each (IsLive body (Contains ends) x) list (λ k l. s.more.cause k (omega arith) l) p,
-        λ live. contains_at list p (s.found.listed p (live_inside body (Contains ends) x (IsMarked marks turn) s.begun
-            (λ q r m step. let at = s.found.listed r m in s.closed at.0 (omega (arith, at.1)) q (subst (GoesOnUndefined body x q) (sym at.2) step)) p live)) )
+  search_last marks list place h s p = (
+    at_each (IsLive body (Contains ends) x) list (λ k l. s.more.cause k (omega arith) l) p,
+    λ live. contains_at list p (s.found.listed p (live_inside body (Contains ends) x (IsMarked marks turn) s.begun
+        (λ q r m step. let at = s.found.listed r m in s.closed at.0 (omega (arith, at.1)) q (subst (GoesOnUndefined body x q) (sym at.2) step)) p live)),
+  )
 
 -- ---- points that go on to a point
 

@@ -1,6 +1,7 @@
 //! The base elements that liveness gives regions.
 
-ghost use Rattle.std.specs.Prelude.{◌≡◌, ◌↔◌, ◌<◌, ℕ, [], length, AllPairs, Contains, IfOk, OnOk};
+ghost use Rattle.std.specs.Prelude.{◌≡◌, ◌↔◌, ◌^◌, ◌<◌, ℕ, [], length, AllPairs, Contains};
+ghost use Rattle.std.specs.Prelude.{IfOk, OnOk};
 ghost use Rattle.nll_problem.specs.Problem.{IsEarlier};
 ghost use Rattle.nll_live.specs.Live.{AsksForUse, AsksForDrop, IsBaseOf};
 ghost use Rattle.nll_live.specs.LiveSets.{AreLiveSets};
@@ -26,20 +27,32 @@ use std::alloc::Global;
 ///
 /// # Source
 /// RFC 2094, "Liveness" and "Drop".
-pub fn bases(
-    alloc: Global,
-    body: &Body,
-    sets: &LiveSets,
-) -> Result<Vec<(RegionId, u32)>, Memory>
+pub fn bases(alloc: Global, body: &Body, sets: &LiveSets) -> Result<Vec<(RegionId, u32)>, Memory>
     requires { AreLiveSets body.now sets.now }
     ensures each { IfOk result (λ v. (r p : ℕ) → Contains v.items (r, p) ↔ IsBaseOf body.now r p) }
     ensures ascending { IfOk result (λ v. AllPairs IsEarlier v.items) }
 {
     let mut stretches = Vec::new(alloc);
-    let told = push_variables(alloc, body, sets, &mut stretches);
-    let pairs = pairs_of(alloc, &mut stretches);
+    let pairs = pairs_asked_for(alloc, body, sets, &mut stretches);
     drop(stretches);
-    told.and(pairs)
+    pairs
+}
+
+// The base elements. The empty list is for its own use.
+fn pairs_asked_for(
+    alloc: Global,
+    body: &Body,
+    sets: &LiveSets,
+    stretches: &mut Vec<Stretch>,
+) -> Result<Vec<(RegionId, u32)>, Memory>
+    requires sets { AreLiveSets body.now sets.now }
+    requires nothing { stretches.old.items ≡ [] }
+    ensures each { IfOk result (λ v. (r p : ℕ) → Contains v.items (r, p) ↔ IsBaseOf body.now r p) }
+    ensures ascending { IfOk result (λ v. AllPairs IsEarlier v.items) }
+{
+    push_variables(alloc, body, sets, stretches)?;
+    let pairs = pairs_of(alloc, stretches)?;
+    Ok(pairs)
 }
 
 // Puts the stretches that each variable asks for into an empty list.
@@ -70,6 +83,7 @@ fn push_uses(
 ) -> Result<(), Memory>
     requires sets { AreLiveSets body.now sets.now }
     requires variable { variable < length body.now.variables }
+    requires few { length body.now.points < 2 ^ 32 }
     ensures { OnOk result (Gains (AsksForUse body.now variable)
         stretches.old.items stretches.new.items) }
 {
@@ -89,6 +103,7 @@ fn push_drops(
 ) -> Result<(), Memory>
     requires sets { AreLiveSets body.now sets.now }
     requires variable { variable < length body.now.variables }
+    requires few { length body.now.points < 2 ^ 32 }
     ensures { OnOk result (Gains (AsksForDrop body.now variable)
         stretches.old.items stretches.new.items) }
 {

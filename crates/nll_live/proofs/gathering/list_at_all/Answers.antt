@@ -1,4 +1,3 @@
-use Rattle.std.proofs.Common.{◌≡◌}
 use Rattle.nll_live.proofs.GatheringLemmas.{lists_step}
 use Rattle.nll_live.proofs.gathering.list_at_all.Goals as goal
 

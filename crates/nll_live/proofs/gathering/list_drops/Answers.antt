@@ -1,4 +1,4 @@
-use Rattle.std.proofs.Common.{◌≡◌, length}
+use Rattle.std.proofs.Common.{length}
 use Rattle.nll_live.specs.Live.{DropsAt}
 use Rattle.nll_live.proofs.GatheringLemmas.{listed_step}
 use Rattle.nll_live.proofs.gathering.list_drops.Goals as goal

@@ -1,4 +1,4 @@
-use Rattle.std.proofs.Common.{◌≡◌, List, ◌++◌, ℕ, Contains, ap, sym, ◌∙◌}
+use Rattle.std.proofs.Common.{List, ◌++◌, ℕ, Contains, ap, ◌∙◌}
 use Rattle.nll_statements.specs.Effects.{variables_used}
 use Rattle.nll_live.specs.Live.{UsesAt}
 use Rattle.nll_live.proofs.GatheringLemmas.{lists_as, uses_are}

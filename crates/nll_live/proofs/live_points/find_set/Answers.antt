@@ -1,4 +1,4 @@
-use Rattle.std.proofs.Common.{◌≡◌, ◌↔◌, ◌<◌, ℕ, List, Contains, length, slice_index, sym, subst}
+use Rattle.std.proofs.Common.{◌↔◌, ◌<◌, ℕ, List, Contains, slice_index, sym, subst}
 use Rattle.std.proofs.lemmas.List.Elements.{Contains-get_or}
 use Rattle.nll_live.specs.Live.{IsLive}
 use Rattle.nll_live.proofs.MarkLemmas.{contains_moved}

@@ -1,4 +1,4 @@
-use Rattle.std.proofs.Common.{◌≡◌, ◌↔◌, ◌<◌, ◌≤◌, ◌+◌, ℕ, Bool, true, List, length, map, Contains, subst, sym, ◌∙◌, arith}
+use Rattle.std.proofs.Common.{◌≡◌, ◌↔◌, ◌+◌, ℕ, true, length, map, Contains, subst, sym, ◌∙◌, arith}
 use Rattle.nll_problem.specs.Rows.{row_at}
 use Rattle.nll_problem.proofs.RowLemmas.{row_here}
 use Rattle.nll_sets.specs.ElementSet.{flag}

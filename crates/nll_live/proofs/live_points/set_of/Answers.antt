@@ -1,4 +1,4 @@
-use Rattle.std.proofs.Common.{◌≡◌, ◌↔◌, ℕ, List, Bool, true, Contains, subst, sym, arith}
+use Rattle.std.proofs.Common.{◌≡◌, ◌↔◌, ℕ, List, true, Contains, subst, arith}
 use Rattle.std.proofs.lemmas.List.{take_all}
 use Rattle.nll_sets.specs.ElementSet.{flag}
 use Rattle.nll_live.proofs.SetLemmas.{holds_step}

@@ -1,4 +1,3 @@
-use Rattle.std.proofs.Common.{ℕ}
 use Rattle.nll_live.proofs.SetLemmas.{Holds}
 use Rattle.nll_live.proofs.live_points.set_of.Given as goal
 

@@ -1,4 +1,3 @@
-use Rattle.std.proofs.Common.{◌≡◌}
 use Rattle.std.proofs.lemmas.Bool.{eq-eqb, eqb-true}
 use Rattle.nll_live.proofs.GatheringLemmas.{definition_is}
 use Rattle.nll_live.proofs.search.defines.Goals as goal

@@ -1,8 +1,7 @@
-use Rattle.std.proofs.Common.{◌≡◌, ◌<◌, ℕ, Contains, slice_index, [], subst, sym, arith, length, ◌∙◌}
+use Rattle.std.proofs.Common.{◌<◌, Contains, subst, sym, arith, length}
 use borrow.Author.Count.{below_more}
 use Rattle.std.proofs.lemmas.List.Elements.{Contains-get_or}
 use Rattle.std.proofs.lemmas.List.{get_or_read}
-use Rattle.nll_live.specs.Marks.{IsMarked}
 use Rattle.nll_live.proofs.MarkLemmas.{marks_append, marks_weaker, marked_within}
 use Rattle.nll_live.proofs.SearchLemmas.{search_first, search_step, search_last}
 use Rattle.nll_live.proofs.search.search_back.Goals as goal

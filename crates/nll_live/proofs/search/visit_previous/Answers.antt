@@ -1,5 +1,4 @@
-use Rattle.std.proofs.Common.{◌≡◌, Contains}
-use Rattle.nll_live.specs.Live.{DefinesAt, GoesOnUndefined}
+use Rattle.nll_live.specs.Live.{GoesOnUndefined}
 use Rattle.nll_live.proofs.MarkLemmas.{marks_weaker}
 use Rattle.nll_live.proofs.SearchLemmas.{going_on, going_within}
 use Rattle.nll_live.proofs.search.visit_previous.Goals as goal
