@@ -23,7 +23,7 @@ none_in_empty n x h =
     false≢true (sym (get_or-replicate n x false false within) ∙ h)
 
 -- what stands at the place where a list has x
-contains_at : (xs : List ℕ) (x : ℕ) (h : Contains xs x) → get_or xs h.0 0 ≡ x
+pub contains_at : (xs : List ℕ) (x : ℕ) (h : Contains xs x) → get_or xs h.0 0 ≡ x
 contains_at xs x h = get_or_default xs h.0 0 x h.1 ∙ h.2
 
 -- what holds of the elements of a list, place by place, holds of each that it contains
