@@ -1,15 +1,49 @@
 -- A frontier goes on from an element, and is again what walks reach.
-use Rattle.std.proofs.Common.{◌≡◌, ◌≢◌, ◌⊎◌, ◌↔◌, ℕ, ◌+◌, ◌<◌, ◌≤◌, Bool, true, false, List, [], ◌∷◌, ◌++◌, Contains, AllPairs, length, get_or, refl, sym, ap, ◌∙◌, subst, inl, inr, ⊎_elim, arith}
+use Rattle.std.proofs.Common.{◌≡◌, ◌≢◌, ◌⊎◌, ◌↔◌, ℕ, zero, suc, ◌+◌, ◌<◌, ◌≤◌, Bool, true, false, List, [], ◌∷◌, ◌++◌, Contains, AllPairs, length, get_or, Result, Ok, Err, refl, sym, ap, ◌∙◌, subst, inl, inr, ⊎_elim, arith}
 use Rattle.std.specs.Prelude.{⊤}
-use Rattle.std.proofs.lemmas.Bool.{cases_eq, false≢true}
+use Rattle.std.specs.List.Sorted.{IsBinarySearchResult}
+use Rattle.std.specs.Ordering.{nat_cmp}
+use Rattle.std.specs.Result.{is_ok}
+use Rattle.std.proofs.lemmas.Bool.{cases_eq, cases_lt, false≢true}
+use Rattle.std.proofs.lemmas.List.Sorted.{searched}
 use Rattle.std.proofs.lemmas.List.{get_or_default}
 use Rattle.nll_sets.specs.ElementSet.{flag}
 use Rattle.nll_problem.specs.Graph.{Graph, IsStep}
 use Rattle.nll_problem.specs.Walks.{Reaches}
 use Rattle.nll_problem.proofs.WalkLemmas.{reaches_first, reaches_starts, reaches_more, reaches_carries, reaches_weaker}
 use Rattle.nll_core.specs.Search.{Search, LeadsTo, IsIn, IsStepInside, Adds, Visits, IsPending, Spreads}
-use Rattle.nll_core.specs.Frontiers.{Frontier, ReachesFrom, IsFrontierIn, IsOtherOf, ListsNew, IsReachable, IsClosedBut, Resumes}
+use Rattle.nll_core.specs.Frontiers.{Frontier, ReachesFrom, IsFrontierIn, IsOtherOf, ListsNew, IsReachable, IsClosedBut, Resumes, IsAscending}
 use Rattle.nll_core.proofs.SearchLemmas.{adds_append, adds_weaker, contains_at, contains_from, leads_first, leads_carries}
+
+-- ---- where walks begin
+
+ascending_le : (xs : List ℕ) → IsAscending xs → (i j : ℕ) → i ≤ j → j < length xs → get_or xs i 0 ≤ get_or xs j 0
+ascending_le xs up i j l h = ⊎_elim
+    (λ same. subst (λ k. get_or xs i 0 ≤ get_or xs k 0) same (omega arith))
+    (λ other. (let a = up i j 0 (omega arith) h in omega arith))
+    (cases_eq i j)
+
+-- a binary search finds a number just where it is there
+pub found_in : (xs : List ℕ) (x : ℕ) → IsAscending xs → (r : Result ℕ ℕ) → IsBinarySearchResult (λ y. nat_cmp y x) xs r → (is_ok r ≡ true) ↔ Contains xs x
+found_in xs x up (Ok at) is =
+    let m = searched xs x (Ok at) is (ascending_le xs up) in
+    (λ h. contains_from xs x at m.0 m.1, λ h. refl)
+found_in xs x up (Err at) is =
+    let m = searched xs x (Err at) is (ascending_le xs up) in (
+      λ h. absurd (false≢true h),
+      λ h. absurd (⊎_elim
+          (λ low. (let a = m.1 h.0 low in omega (arith, a, contains_at xs x h)))
+          (λ high. (let a = m.2 h.0 high h.1 in omega (arith, a, contains_at xs x h)))
+          (cases_lt h.0 at)),
+    )
+
+-- a number that isn't the first one is there where it is behind it
+pub behind_first : (first x : ℕ) (xs : List ℕ) → x ≢ first → Contains xs x ↔ Contains (first ∷ xs) x
+behind_first first x xs other = (λ h. (suc h.0, omega (arith, h.1), h.2), back)
+  where
+    back : Contains (first ∷ xs) x → Contains xs x
+    back (zero, l, h) = absurd (other (sym h))
+    back (suc k, l, h) = (k, omega arith, h)
 
 -- ---- one visit, and what it spreads to
 
@@ -111,3 +145,14 @@ module _ (g : Graph) (set : List Bool) (e : ℕ) (f : Frontier) (inside : IsIn s
           (λ at. (e, at, reaches_first g (IsIn set) e inside))
           (λ (w : (x : ℕ) × IsIn f.reached x × IsStep g x e). let t = more w.0 w.1 in (t.0, t.1, reaches_more g (IsIn set) t.0 w.0 e t.2 w.2 inside))
           can
+
+-- ---- more room
+
+module _ (old new : List Bool) (same : (x : ℕ) → flag new x ≡ flag old x) where
+  -- a frontier with more room is of the same walks
+  pub frontier_widened : (g : Graph) (inside : ℕ → Type 0) (starts : List ℕ) → ((x : ℕ) → IsIn old x ↔ ReachesFrom g inside starts x) → (x : ℕ) → IsIn new x ↔ ReachesFrom g inside starts x
+  frontier_widened g inside starts h x = (λ k. (h x).0 (sym (same x) ∙ k), λ k. same x ∙ (h x).1 k)
+
+  -- and a list has what is new after it just where it had what is new before
+  pub lists_widened : (last : List Bool) (before after : List ℕ) → ListsNew new last before after → ListsNew old last before after
+  lists_widened last before after w = (w.0, w.1, λ x. (λ h. (((w.2 x).0 h).0, sym (same x) ∙ ((w.2 x).0 h).1), λ h. (w.2 x).1 (h.0, same x ∙ h.1)), w.3)

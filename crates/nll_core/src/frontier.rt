@@ -74,12 +74,13 @@ impl Frontier {
         out: &mut Vec<Element>,
     ) -> Result<(), Memory>
         requires width { length (S.flags seen.now) ≡ element_count graph.now }
-        requires fits { length self.old.reached ≤ element_count graph.now }
+        requires fits
+            { self.old.refused ≡ false → length self.old.reached ≤ element_count graph.now }
         requires element { IsIn (S.flags seen.now) element }
         requires reached { self.old.refused ≡ false
             → IsFrontierIn graph.now (IsOtherOf (S.flags seen.now) element) self.old }
         ensures starts { self.new.starts ≡ self.old.starts }
-        ensures fits { length self.new.reached ≤ element_count graph.now }
+        ensures fits { OnOk result (length self.new.reached ≤ element_count graph.now) }
         ensures reached { OnOk result
             (IsFrontierIn graph.now (IsIn (S.flags seen.now)) self.new) }
         ensures out { OnOk result
@@ -168,7 +169,7 @@ fn resume<S: ElementSet>(
     ensures out { OnOk result
         (ListsNew search.old.reached search.new.reached out.old.items out.new.items) }
     ensures err { OnErr result (out.new.items ≡ out.old.items) }
-    ensures width { length search.new.reached ≡ length search.old.reached }
+    ensures width { OnOk result (length search.new.reached ≡ length search.old.reached) }
 {
     search.visit(element)?;
     search.spread(&Inside { graph, set: seen }, 0)?;

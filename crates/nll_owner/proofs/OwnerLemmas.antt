@@ -1,10 +1,11 @@
 -- What an owner has after a step.
 use Rattle.std.proofs.Common.{◌≡◌, ◌≢◌, ◌↔◌, ℕ, zero, suc, max, ◌+◌, ◌*◌, ◌^◌, ◌<◌, ◌≤◌, Bool, true, false, not, cond, List, [], ◌∷◌, ◌++◌, length, map, set, replicate, Contains, AllPairs, get_or, take, drop, eqb, refl, sym, ap, ◌∙◌, subst, inl, inr, ◌⊎◌, ⊎_elim, arith, append-nil, append_assoc, length-append, ◌||◌}
-use Rattle.std.specs.List.{filter}
+use Rattle.std.specs.List.{filter, sum, sum_by}
 use Rattle.std.specs.Prelude.{Result, Ok, Err, OnOk, OnErr, is_ok, slice_get, Some}
 use Rattle.std.proofs.lemmas.Bool.{cases_eq, cases_lt, false≢true, true≢false, not-false}
 use Rattle.std.proofs.lemmas.List.{get_or-map, length-map, map-set, get_or_default, take-append-le, take-append-drop, get_or-set_same, get_or-set_other, length-set, length-replicate}
-use Rattle.std.proofs.lemmas.List.Elements.{Contains-append_left, Contains-push, Contains-push_cases, filter-append}
+use Rattle.std.proofs.lemmas.List.Elements.{All-from_get_or, Contains-append_left, Contains-push, Contains-push_cases, filter-append}
+use Rattle.std.proofs.lemmas.List.Sums.{sum_by-le}
 use Rattle.std.proofs.lemmas.List.Quantifiers.{all_pairs_push}
 use Rattle.std.proofs.lemmas.List.Filters.{length-filter_more}
 use Rattle.std.proofs.lemmas.Nat.{mul-le}
@@ -643,3 +644,14 @@ filter_le {X} p (x ∷ xs) = go (p x) (filter_le p xs)
     go : (b : Bool) → length (filter p xs) ≤ length xs → length (cond b (x ∷ filter p xs) (filter p xs)) ≤ suc (length xs)
     go true h = omega arith
     go false h = omega arith
+
+-- how much was given out in all is a number of 64 bits
+pub given_sum : (o : Owner) → IsSound o → sum o.given ≤ 8796093022208
+given_sum o s =
+    let total = sum_by-le (λ (n : ℕ). n) 137438953472 o.given (All-from_get_or (λ (n : ℕ). n ≤ 137438953472) o.given 0 (λ j l. low j)) in
+    let few : length o.given ≤ 64 = omega (arith, s.receivers, s.cut.cut.owner_limit) in
+    let most = mul-le (length o.given) 137438953472 64 137438953472 few (omega arith) in
+    omega (arith, total, most)
+  where
+    low : (j : ℕ) → get_or o.given j 0 ≤ 137438953472
+    low j = omega (arith, s.given j, filter_le (λ (g : Growth). reads o.problem o.cut j g.region) o.log, s.few, pair_small o.problem s.problem)

@@ -3,6 +3,8 @@
 ghost use Rattle.std.specs.Prelude.{◌≡◌, ◌⊎◌, ◌↔◌, ℕ, ◌+◌, ◌<◌, ◌≤◌, ◌^◌, true, false, max, [], Some};
 ghost use Rattle.std.specs.Prelude.{Err, Contains, length, take, slice_get, slice_set, IsTrue, map};
 ghost use Rattle.std.specs.Prelude.{replicate, IfOk, OnOk, OnErr, IfSome, IfNone};
+ghost use Rattle.std.specs.Prelude.{min, ◌-◌};
+ghost use Rattle.std.specs.List.{sum, sum_by};
 ghost use Rattle.nll_problem.specs.Graph.{element_count};
 ghost use Rattle.nll_cut.specs.Partition.{owner_of, reads};
 ghost use Rattle.nll_mail.specs.declared.growth.Growth.{Growth};
@@ -252,6 +254,28 @@ impl<'q> Knowledge<'q> {
         ensures short { length result.now < 2 ^ 37 }
     {
         &self.log
+    }
+
+    /// How many growths were given out.
+    pub fn given_count(&self) -> u64
+        ensures { result ≡ sum self.now.given }
+    {
+        let mut count = 0u64;
+        for given in &self.given {
+            count += *given;
+        }
+        count
+    }
+
+    /// How many growths were received; the largest number of the type where there were more.
+    pub fn received_count(&self) -> u64
+        ensures { result ≡ min (sum_by length self.now.received) (2 ^ 64 - 1) }
+    {
+        let mut count = 0u64;
+        for list in &self.received {
+            count = count.saturating_add(list.len() as u64);
+        }
+        count
     }
 
     /// What was received from an owner, in the order of receipt.

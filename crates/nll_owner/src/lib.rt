@@ -14,4 +14,4 @@ mod settling;
 
 pub use error::OwnerError;
 pub use laws::{settled_owners_agree, sound_owners_are_right};
-pub use owner::Owner;
+pub use owner::{Counts, Owner};

@@ -2,7 +2,8 @@
 
 ghost use Rattle.std.specs.Prelude.{◌≡◌, ◌⊎◌, ◌↔◌, ◌+◌, ◌<◌, ◌≤◌, ◌^◌, true, false, max, Some, Err};
 ghost use Rattle.std.specs.Prelude.{length, slice_get, slice_set, IsTrue, IfOk, OnOk, OnErr, IfSome};
-ghost use Rattle.std.specs.Prelude.{IfNone};
+ghost use Rattle.std.specs.Prelude.{IfNone, min, ◌-◌};
+ghost use Rattle.std.specs.List.{sum, sum_by};
 ghost use Rattle.nll_problem.specs.Graph.{element_count};
 ghost use Rattle.nll_owner.specs.Logs.{IsPrefix};
 ghost use Rattle.nll_owner.specs.Owner.{IsSound, IsDone, IsReady, Has, Passes, part_for, given_to};
@@ -18,6 +19,15 @@ use nll_problem::{Problem, RegionId};
 use nll_sets::Element;
 use std::alloc::Global;
 use std::marker::Model;
+
+/// How many growths an owner has grown, has given out, and has received. A number that is too large
+/// for its type stands as the largest.
+#[derive(Clone, Copy, Debug, PartialEq, Eq)]
+pub struct Counts {
+    pub grown: u64,
+    pub given: u64,
+    pub received: u64,
+}
 
 /// An owner of some regions of a problem. It keeps their values, and copies of the regions that it
 /// reads; it writes down each growth of its own regions, and hands each other owner the growths of
@@ -185,6 +195,20 @@ impl<'q> Owner<'q> {
         ensures { IsTrue result ↔ Has self.now region element }
     {
         self.knowledge.has(region, element)
+    }
+
+    /// How many growths there were.
+    pub fn counts(&self) -> Counts
+        ensures grown { result.grown ≡ length self.now.log }
+        ensures given { result.given ≡ sum self.now.given }
+        ensures received
+            { result.received ≡ min (sum_by length self.now.received) (2 ^ 64 - 1) }
+    {
+        Counts {
+            grown: self.knowledge.entries().len() as u64,
+            given: self.knowledge.given_count(),
+            received: self.knowledge.received_count(),
+        }
     }
 
     /// All growths of the own regions so far, in the order of their ranks.

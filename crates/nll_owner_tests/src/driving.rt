@@ -4,6 +4,7 @@ ghost use Rattle.std.specs.Prelude.{◌≡◌, length};
 use super::problems::{Written, problem_of};
 use nll_core::{BuildError, Element, Problem, RegionId};
 use nll_cut::{Cut, CutError};
+use nll_mail::Growth;
 use nll_owner::{Owner, OwnerError};
 use std::alloc::{AllocError, Global};
 
@@ -210,5 +211,63 @@ fn driven_round(
     let cut = Cut::round(alloc, problem.regions(), owners)?;
     let told = driven_over(alloc, problem, &cut, turns);
     drop(cut);
+    told
+}
+
+// Hands a growth to an owner that is ready for it, and writes what it answers.
+fn write_answer(out: &mut String, owner: &mut Owner, growth: Growth) -> Result<(), AllocError> {
+    if !owner.is_broken() && !owner.is_loaded() {
+        return out.push_str("not ready|");
+    }
+    if !owner.passes(1, &growth) {
+        return out.push_str("wrong|");
+    }
+    let told = owner.receive(1, growth);
+    write!(out, "{told:?}|")
+}
+
+// Hands growths of the region 1 to an owner, the first of the highest rank.
+fn write_last_answers(out: &mut String, owner: &mut Owner) -> Result<(), AllocError> {
+    for (element, rank) in [(1, 1 << 62), (0, 1), (0, 1)] {
+        let growth = Growth {
+            region: RegionId(1),
+            element: Element(element),
+            rank,
+        };
+        write_answer(out, owner, growth)?;
+    }
+    let next = owner.outgoing(1);
+    write!(out, "{next:?}|")
+}
+
+// What the first of two owners answers to them, and what it has for the other then.
+fn last_answers_over(alloc: Global, problem: &Problem, cut: &Cut) -> Result<String, Stop>
+    requires { length cut.now.list ≡ problem.now.regions }
+{
+    let mut out = String::new(alloc);
+    let _owners = cut.owners();
+    let mut owner = Owner::new(alloc, problem, cut, 0)?;
+    let loaded = owner.load();
+    let written = write_last_answers(&mut out, &mut owner);
+    drop(owner);
+    loaded?;
+    written?;
+    Ok(out)
+}
+
+// The same, where the regions of a problem are dealt in turns.
+fn last_answers_round(alloc: Global, problem: &Problem) -> Result<String, Stop> {
+    let cut = Cut::round(alloc, problem.regions(), 2)?;
+    let told = last_answers_over(alloc, problem, &cut);
+    drop(cut);
+    told
+}
+
+/// What the first of two owners of a problem answers, once it is loaded, to a growth of the highest
+/// rank, to one that asks it to grow, and to that one again; and what it has for the other then.
+pub fn answers_at_the_last_rank(alloc: Global, written: Written) -> Result<String, Stop> {
+    let problem = problem_of(alloc, written)?;
+    let told = last_answers_round(alloc, &problem);
+    drop(problem);
     told
 }

@@ -1,6 +1,6 @@
 //! Owners that are driven by all orders of turns that are named here come to the same values.
 use super::driving::Turn::{Hand, Load};
-use super::driving::{Turn, driven};
+use super::driving::{Stop, Turn, driven};
 use super::problems::{BY_TURNS, FILLED_HOLE, REACHED, Written};
 use std::process::Abort;
 
@@ -45,10 +45,58 @@ const THREE_BACK: &[Turn] = &[
     Hand(0, 1),
 ];
 
-// Drives owners, and compares the values with what they are to be.
-fn compare(rt: &impl Abort + AllocGlobal, written: Written, owners: u16, turns: &[Turn], want: &str) {
-    match driven(rt.alloc(), written, owners, turns) {
-        Ok(text) => assert!(rt; text.as_str().starts_with(want), "{text}"),
-        Err(stop) => assert!(rt; false, "{stop:?}"),
+// Problems, how many owners there are, what they have in the end (the value of each region, and what
+// each owner has grown, given and received), and orders of turns that come to it.
+type Row = (Written, u16, &'static str, &'static [&'static [Turn]]);
+
+const ROWS: &[Row] = &[
+    (REACHED, 1, "0: 0 1 2 3|1: 1 2|2: 1 2|8 0 0|", &[&[Load(0)]]),
+    (
+        REACHED,
+        2,
+        "0: 0 1 2 3|1: 1 2|2: 1 2|6 0 2|2 2 0|",
+        &[TWO, TWO_LATE, TWO_FAST],
+    ),
+    (
+        REACHED,
+        3,
+        "0: 0 1 2 3|1: 1 2|2: 1 2|4 0 0|2 2 0|2 0 2|",
+        &[THREE, THREE_BACK],
+    ),
+    (
+        BY_TURNS,
+        2,
+        "0: 0 1 2|1: 0 1|2: 0 1|5 2 2|2 2 2|",
+        &[TWO, TWO_LATE, TWO_FAST],
+    ),
+    (FILLED_HOLE, 1, "0: 0 1 2 3|1: 0 1 2|2: 0 1 2|3: 1|11 0 0|", &[&[Load(0)]]),
+    (
+        FILLED_HOLE,
+        2,
+        "0: 0 1 2 3|1: 0 1 2|2: 0 1 2|3: 1|7 0 3|4 3 0|",
+        &[TWO, TWO_LATE, TWO_FAST],
+    ),
+    (
+        FILLED_HOLE,
+        3,
+        "0: 0 1 2 3|1: 0 1 2|2: 0 1 2|3: 1|5 1 0|3 3 1|3 0 3|",
+        &[THREE, THREE_BACK],
+    ),
+];
+
+// Drives the owners of a problem, and compares what they have in the end.
+fn compare(rt: &impl Abort, told: Result<String, Stop>, want: &str) {
+    match told {
+        Ok(text) => assert!(rt; text.as_str() == want, "{text} for {want}"),
+        Err(stop) => assert!(rt; false, "{stop:?} for {want}"),
+    }
+}
+
+#[test]
+fn driven_owners_come_to_the_least_values(rt: HostRuntime) {
+    for (written, owners, want, orders) in ROWS {
+        for turns in *orders {
+            compare(&rt, driven(rt.alloc(), *written, *owners, turns), want);
+        }
     }
 }
