@@ -1,12 +1,15 @@
 -- Regions that are dealt by a rule, and the size of blocks.
-use Rattle.std.proofs.Common.{◌≡◌, ◌≢◌, ℕ, zero, suc, ◌+◌, ◌*◌, ◌/◌, ◌%◌, ◌<◌, ◌≤◌, Bool, true, false, List, [], ◌∷◌, map, length, get_or, refl, sym, ap, ◌∙◌, subst, ⊎_elim, ◌⊎◌, arith}
+use Rattle.std.proofs.Common.{◌≡◌, ◌≢◌, ℕ, zero, suc, ◌+◌, ◌*◌, ◌/◌, ◌%◌, ◌<◌, ◌≤◌, Bool, true, false, not, eqb, ltb, leb, List, [], ◌∷◌, map, length, get_or, refl, sym, ap, ◌∙◌, subst, ⊎_elim, ◌⊎◌, arith}
+use Rattle.std.specs.Prelude.{Option, None, Some, nat_le, if◌then◌else◌}
+use Rattle.std.proofs.lemmas.Bool.{eq-eqb, cases_lt, and_parts, ltb-true, leb-true}
+use Rattle.nll_cut.specs.declared.error.CutError.TheVariants.{Owners, Length}
 use Rattle.std.specs.List.{range_with_len, position}
-use Rattle.core.specs.Int.{div_ceil}
+use Rattle.std.specs.Int.{div_ceil}
 use Rattle.std.proofs.lemmas.List.FromFn.{length-map-range_with_len, get_or-map-range_with_len}
 use Rattle.std.proofs.lemmas.Nat.{mul-le, div_below}
 use Rattle.std.proofs.lemmas.Grind.{div_ceil_times}
 use Rattle.nll_problem.specs.Limits.{most_owners}
-use Rattle.nll_cut.specs.Partition.{Cut, Deals, IsBlockSize, IsSound, cut_of, owner_of}
+use Rattle.nll_cut.specs.Partition.{Cut, Deals, IsBlockSize, IsSound, cut_of, owner_of, may_be_count, list_error, stranger_error}
 
 -- ---- what a list of owners by a rule says
 
@@ -25,10 +28,11 @@ module _ (regions count : ℕ) (rule : ℕ → ℕ) (list : List ℕ) (is : list
     owned = λ r h. subst (λ x. x < count) (sym (dealt.by_rule r (subst (λ n. r < n) dealt.region_count h))) (within r (subst (λ n. r < n) dealt.region_count h));
   }
 
--- ---- blocks
+-- so many owners are some, and within the limit
+pub count_bounds : (count : ℕ) → may_be_count count ≡ true → (0 < count) × (count ≤ most_owners)
+count_bounds count may = let parts = and_parts (ltb 0 count) (leb count most_owners) may in (ltb-true 0 count parts.0, leb-true count most_owners parts.1)
 
-below_or_not : (a b : ℕ) → (a < b) ⊎ (b ≤ a)
-below_or_not a b = search arith
+-- ---- blocks
 
 -- the least size of blocks
 pub block_size : (regions count : ℕ) → 0 < count → IsBlockSize regions count (div_ceil regions count)
@@ -42,7 +46,7 @@ block_size regions count some =
           let apart : (other + 1) * count ≡ other * count + count = grind arith in
           absurd (omega (arith, tight.1)))
           (λ (no : div_ceil regions count ≤ other). no)
-          (below_or_not other (div_ceil regions count));
+          (cases_lt other (div_ceil regions count));
     }
 
 -- blocks of a size that holds all regions have owners
@@ -57,3 +61,12 @@ block_within regions count size r is h =
     some_size : (size : ℕ) → regions ≤ size * count → 0 < size
     some_size zero room = absurd (omega arith)
     some_size (suc n) room = omega arith
+
+-- ---- the error that is due of a list
+
+-- with a good number of owners and entries the error is that of the first entry that names no owner
+pub entries_due : (regions count : ℕ) (list : List ℕ) (found : Option ℕ) → may_be_count count ≡ true → length list ≡ regions → found ≡ position (nat_le count) list
+    → list_error regions count list ≡ stranger_error found
+entries_due regions count list found may size is =
+    ap (λ b. if not b then Some Owners else if not (eqb (length list) regions) then Some Length else stranger_error (position (nat_le count) list)) may
+    ∙ (ap (λ b. if not b then Some Length else stranger_error (position (nat_le count) list)) (eq-eqb _ _ size) ∙ ap stranger_error (sym is))

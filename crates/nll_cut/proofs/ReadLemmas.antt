@@ -1,10 +1,10 @@
 -- The test of what is read, what it tells, and how a table of readers grows to it.
 use Rattle.std.proofs.Common.{◌≡◌, ◌≢◌, ◌↔◌, ℕ, zero, suc, ◌+◌, ◌<◌, ◌≤◌, Bool, true, false, not, ◌&&◌, ◌||◌, List, [], ◌∷◌, length, Contains, get_or, set, take, replicate, eqb, refl, sym, ap, ◌∙◌, subst, inl, inr, ◌⊎◌, ⊎_elim, arith, length-set}
 use Rattle.std.specs.List.{list_any}
-use Rattle.std.proofs.lemmas.Bool.{eqb-true, eqb-false, eq-eqb, ne_eqb, cases_eq, and_parts, and_from, not-true, not_from_false, true≢false}
-use Rattle.std.proofs.lemmas.List.{get_or-set_same, get_or-set_other}
+use Rattle.std.proofs.lemmas.Bool.{eqb-true, eqb-false, eq-eqb, ne_eqb, cases_eq, and_parts, and_from, and_right, not-true, not_from_false, true≢false}
+use Rattle.std.proofs.lemmas.List.{get_or-set_same, get_or-set_other, get_or-replicate, length-replicate}
 use Rattle.std.proofs.lemmas.List.Folds.{list_any_more, Any-from_list_any, list_any-from_Any}
-use Rattle.nll_problem.specs.Problem.{Problem}
+use Rattle.nll_problem.specs.Problem.{Problem, IsSound}
 use Rattle.nll_problem.specs.declared.constraint.Constraint.{Constraint}
 use Rattle.nll_cut.specs.Partition.{Cut, owner_of, Reads, reads, makes_read}
 use Rattle.nll_cut.specs.Readers.{is_read, regions_read, with_read, HasRegions, TellsReaders}
@@ -30,7 +30,18 @@ reads_tells q c owner r = (to, from)
         (not_from_false _ (ne_eqb (owner_of c r) owner h.0))
         (list_any-from_Any (makes_read c owner r) q.constraints (at.0, k, at.1, at.2, and_from (eqb (owner_of c k.sup) owner) (eqb k.sub r) (eq-eqb _ _ h.1.2) (eq-eqb _ _ h.1.3)))
 
+-- a constraint of the problem is between regions of its cut
+pub in_cut : (q : Problem) (c : Cut) (constraints : List Constraint) (i : ℕ) (k : Constraint) → IsSound q → length c.list ≡ q.regions → constraints ≡ q.constraints → i < length constraints → k ≡ get_or constraints i k
+    → (k.sup < length c.list) × (k.sub < length c.list)
+in_cut q c constraints i k sound size same within at =
+    let regions = sound.constraint_regions k (subst (λ xs. Contains xs k) same (i, within, sym at)) in
+    (omega (arith, regions.0), omega (arith, regions.1))
+
 -- ---- a table of readers
+
+-- owners that read nothing have their sets
+pub none_regions : (n m : ℕ) → HasRegions (replicate n (replicate m false)) m
+none_regions n m owner h = ap length (get_or-replicate n owner (replicate m false) [] (omega (arith, length-replicate n (replicate m false)))) ∙ length-replicate m false
 
 -- one constraint more, which lets no owner read more
 adds_nothing : (n a s t : Bool) → (s ≡ true → t ≡ true → n ≡ false) → (n && a) ≡ (n && (a || (s && t)))

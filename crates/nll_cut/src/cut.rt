@@ -1,7 +1,8 @@
 //! Which owner has which region.
 
-ghost use Rattle.std.specs.Prelude.{◌≡◌, ◌<◌, ◌≤◌, ◌*◌, ◌/◌, ◌%◌, ℕ, List, map, length, IfOk};
-ghost use Rattle.std.specs.List.{range_with_len};
+ghost use Rattle.std.specs.Prelude.{◌≡◌, ◌<◌, ◌/◌, ◌%◌, ℕ, map, length, nat_le, slice_index_or};
+ghost use Rattle.std.specs.Prelude.{IfOk, IfNone};
+ghost use Rattle.std.specs.List.{position, range_with_len};
 ghost use Rattle.nll_cut.specs.Partition.{Answers, Deals, IsBlockSize, IsSound, cut_of};
 ghost use Rattle.nll_cut.specs.Partition.{list_error, may_be_count, owner_of, owners_error, reads};
 ghost use Rattle.nll_cut.specs.Readers.{is_read};
@@ -94,7 +95,7 @@ impl Cut {
         if list.len() != regions as usize {
             return Err(CutError::Length);
         }
-        if let Some(index) = list.iter().position(|owner| *owner >= owners) {
+        if let Some(index) = first_stranger(owners, list) {
             return Err(CutError::NoSuchOwner(index as u32));
         }
         let list = Vec::from_slice(alloc, list)?;
@@ -130,8 +131,9 @@ impl Cut {
         ensures { IfOk result (λ readers. (owner region : ℕ)
             → is_read readers owner region ≡ reads problem.now self.now owner region) }
     {
-        let mut readers = Readers::none(alloc, self.owners, problem.regions())?;
-        for constraint in problem.constraints() {
+        let mut readers = Readers::none(alloc, self.owners(), problem.regions())?;
+        let constraints = problem.constraints();
+        for constraint in constraints {
             let reader = self.owner_of(constraint.sup);
             if self.owner_of(constraint.sub) != reader {
                 readers.enter(reader, constraint.sub);
@@ -146,6 +148,15 @@ fn is_owner_count(owners: u16) -> bool
     ensures { result ≡ may_be_count owners }
 {
     0 < owners && owners <= MAX_OWNERS
+}
+
+// The index of the first entry of a list that names no owner.
+fn first_stranger(owners: u16, list: &[u16]) -> Option<usize>
+    ensures first { result ≡ position (nat_le owners) list.now }
+    ensures none { IfNone result ((index : ℕ)
+        → index < length list.now → slice_index_or list.now index owners < owners) }
+{
+    list.iter().position(|owner| *owner >= owners)
 }
 
 // The owners of so many regions, in turns.

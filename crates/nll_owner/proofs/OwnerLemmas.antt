@@ -3,9 +3,10 @@ use Rattle.std.proofs.Common.{◌≡◌, ◌≢◌, ◌↔◌, ℕ, zero, suc, m
 use Rattle.std.specs.List.{filter, sum, sum_by}
 use Rattle.std.specs.Prelude.{Result, Ok, Err, OnOk, OnErr, is_ok, slice_get, Some}
 use Rattle.std.proofs.lemmas.Bool.{cases_eq, cases_lt, false≢true, true≢false, not-false}
-use Rattle.std.proofs.lemmas.List.{get_or-map, length-map, map-set, get_or_default, take-append-le, take-append-drop, get_or-set_same, get_or-set_other, length-set, length-replicate}
+use Rattle.std.proofs.lemmas.List.{get_or-map, length-map, map-set, get_or_default, get_or-replicate, get_or_past, take-append-le, take-append-drop, get_or-set_same, get_or-set_other, length-set, length-replicate}
 use Rattle.std.proofs.lemmas.List.Elements.{All-from_get_or, Contains-append_left, Contains-push, Contains-push_cases, filter-append}
-use Rattle.std.proofs.lemmas.List.Sums.{sum_by-le}
+use Rattle.std.proofs.lemmas.List.Sums.{sum_by-le, count_by-le-length}
+use Rattle.std.proofs.lemmas.List.Folds.{sum_by-replicate}
 use Rattle.std.proofs.lemmas.List.Quantifiers.{all_pairs_push}
 use Rattle.std.proofs.lemmas.List.Filters.{length-filter_more}
 use Rattle.std.proofs.lemmas.Nat.{mul-le}
@@ -15,13 +16,14 @@ use Rattle.nll_problem.specs.Problem.{Problem, IsBase, IsSound as IsSoundProblem
 use Rattle.nll_problem.specs.Walks.{Reaches}
 use Rattle.nll_core.specs.Search.{missing}
 use Rattle.nll_core.specs.Growing.{missing_pairs, Gains, Tells as ValuesTells}
-use Rattle.nll_core.specs.Values.{set_of, holds, IsHeld, IsShaped, with_element}
+use Rattle.nll_core.specs.Values.{set_of, holds, IsHeld, IsShaped, with_element, empty_values}
 use Rattle.nll_problem.specs.declared.constraint.Constraint.{Constraint}
 use Rattle.nll_problem.proofs.WalkLemmas.{reaches_weaker, reaches_starts, reaches_inside}
 use Rattle.nll_core.proofs.SearchLemmas.{flag_within}
 use Rattle.nll_core.proofs.GrowingLemmas.{nothing_held, held_one, gains_one, tells_one}
 use Rattle.nll_core.proofs.SolverLemmas.{shaped_gains, shaped_empty}
-use Rattle.nll_cut.specs.Partition.{Cut, owner_of, reads}
+use Rattle.nll_cut.specs.Partition.{Cut, owner_of, reads, IsSound as IsSoundCut}
+use Rattle.nll_cut.specs.Readers.{is_read}
 use Rattle.nll_cut.proofs.ReadLemmas.{reads_tells}
 use Rattle.nll_mail.specs.declared.growth.Growth.{Growth}
 use Rattle.nll_owner.specs.Logs.{IsWellFormed, part, IsPrefix, IsKnown, IsKnownBefore, list_of, IsWellSupported, IsSaturated, IsCutOf}
@@ -655,3 +657,69 @@ given_sum o s =
   where
     low : (j : ℕ) → get_or o.given j 0 ≤ 137438953472
     low j = omega (arith, s.given j, filter_le (λ (g : Growth). reads o.problem o.cut j g.region) o.log, s.few, pair_small o.problem s.problem)
+
+-- ---- an owner that has done nothing yet
+
+module _ (q : Problem) (c : Cut) (i : ℕ) (problem : IsSoundProblem q) (cut : IsSoundCut c) (regions : length c.list ≡ q.regions) (me : i < c.owners) where
+  no_growth : (g : Growth) → Contains [] g → ⊥
+  no_growth g h = omega (arith, h.1)
+
+  none_received : (j : ℕ) → received_from (first_owner q c i) j ≡ []
+  none_received j = ⊎_elim
+      (λ within. get_or-replicate c.owners j [] [] within)
+      (λ past. get_or_past (replicate c.owners []) j [] (omega (arith, past, length-replicate {A = List Growth} c.owners [])))
+      (cases_lt j c.owners)
+
+  none_heard : (j : ℕ) (g : Growth) → Contains (received_from (first_owner q c i) j) g → ⊥
+  none_heard j g h = no_growth g (subst (λ (xs : List Growth). Contains xs g) (none_received j) h)
+
+  zero_at : (j : ℕ) → ◌≡◌ {A = ℕ} (get_or (replicate c.owners 0) j 0) 0
+  zero_at j = ⊎_elim
+      (λ within. get_or-replicate c.owners j 0 0 within)
+      (λ past. get_or_past (replicate c.owners 0) j 0 (omega (arith, past, length-replicate {A = ℕ} c.owners 0)))
+      (cases_lt j c.owners)
+
+  has_nothing : (r e : ℕ) → Has (first_owner q c i) r e → ⊥
+  has_nothing r e h = ⊎_elim
+      (λ own. no_growth h.0 (subst (λ (xs : List Growth). Contains xs h.0) (list_own c i [] (received_from (first_owner q c i)) r own) h.1))
+      (λ other. none_heard (owner_of c r) h.0 (subst (λ (xs : List Growth). Contains xs h.0) (list_other c i [] (received_from (first_owner q c i)) r other) h.1))
+      (cases_eq (owner_of c r) i)
+
+  pub first_sound : IsSound (first_owner q c i)
+  first_sound = record {
+    problem = problem;
+    cut = record { cut = cut; regions = regions };
+    me = me;
+    well_formed = record { own = λ g h. absurd (no_growth g h); once = λ j k d l h. absurd (omega (arith, h)); rising = λ j k d l h. absurd (omega (arith, h)) };
+    supported = λ g h. absurd (no_growth g h);
+    based = λ h. absurd (false≢true h);
+    elements = λ g h. absurd (no_growth g h);
+    few = omega arith;
+    senders = length-replicate c.owners [];
+    heard = λ j g h. absurd (none_heard j g h);
+    own_ranks = λ g h. absurd (no_growth g h);
+    heard_ranks = λ j g h. absurd (none_heard j g h);
+    top = inl refl;
+    steps = λ g h. absurd (no_growth g h);
+    receivers = length-replicate c.owners 0;
+    given = λ j. omega (arith, zero_at j);
+  }
+
+  pub first_kept : (readers : List (List Bool)) → ((j r : ℕ) → is_read readers j r ≡ reads q c j r) → IsKept (first_owner q c i) (empty_values q) (replicate c.owners 0) readers
+  first_kept readers read = record {
+    sound = first_sound;
+    shaped = shaped_empty q;
+    held = λ r e. (λ h. absurd (nothing_held q.regions (element_count q.graph) r e h), λ h. absurd (has_nothing r e h));
+    room = omega (arith, most);
+    places = length-replicate c.owners 0;
+    within = λ j. omega (arith, zero_at j);
+    given = λ j. zero_at j ∙ sym (ap (λ (k : ℕ). length (part q c j (take {A = Growth} k []))) (zero_at j));
+    read = read;
+  }
+    where
+      most : missing_pairs (empty_values q) ≤ pair_count q
+      most =
+          let rows = sum_by-replicate missing q.regions (replicate (element_count q.graph) false) in
+          let row : missing (replicate (element_count q.graph) false) ≤ element_count q.graph = omega (arith, count_by-le-length not (replicate (element_count q.graph) false), length-replicate {A = Bool} (element_count q.graph) false) in
+          let all = mul-le q.regions (missing (replicate (element_count q.graph) false)) q.regions (element_count q.graph) (omega arith) row in
+          omega (arith, rows, all)

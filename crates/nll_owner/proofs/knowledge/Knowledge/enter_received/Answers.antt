@@ -63,14 +63,14 @@ returns-in_err-insert-clause-sound c =
 pub invariant_of-self-2 : goal.invariant_of-self-2
 invariant_of-self-2 c =
     let a = goal.at.invariant_of-self-2 c in
-    rw (pushed a.After-push_reserved, c.in_ok-insert.ensures.ok) (told_kept _ _ _ _ c.self.invariant c.args.from c.args.growth (rw (← c.self.view_is) at c.requires))
+    rw (pushed a.After-push_reserved, c.in_ok-insert.ensures.ok, c.max-clock.ensures) (told_kept _ _ _ _ c.self.invariant c.args.from c.args.growth (rw (← c.self.view_is) at c.requires))
 
 pub returns-clause-ok : goal.returns-clause-ok
 returns-clause-ok c =
     let d = (goal.at.returns-clause-ok c).After-push_reserved in
-    rw (← c.self.view_is, pushed d) refl
+    rw (← c.self.view_is, pushed d, c.max-clock.ensures) refl
 
 pub returns-clause-sound : goal.returns-clause-sound
 returns-clause-sound c =
     let a = goal.at.returns-clause-sound c in
-    rw (pushed a.After-push_reserved) (told_sound _ _ _ _ c.self.invariant c.args.from c.args.growth (rw (← c.self.view_is) at c.requires))
+    rw (pushed a.After-push_reserved, c.max-clock.ensures) (told_sound _ _ _ _ c.self.invariant c.args.from c.args.growth (rw (← c.self.view_is) at c.requires))
