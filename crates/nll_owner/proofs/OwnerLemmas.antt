@@ -1,11 +1,11 @@
 -- What an owner has after a step.
-use Rattle.std.proofs.Common.{◌≡◌, ◌≢◌, ◌↔◌, ℕ, zero, suc, max, ◌+◌, ◌*◌, ◌^◌, ◌<◌, ◌≤◌, Bool, true, false, not, cond, List, [], ◌∷◌, ◌++◌, length, map, set, replicate, Contains, AllPairs, get_or, take, drop, eqb, refl, sym, ap, ◌∙◌, subst, inl, inr, ◌⊎◌, ⊎_elim, arith, append-nil, append_assoc, length-append, ◌||◌}
+use Rattle.std.proofs.Common.{◌≡◌, ◌≢◌, ◌↔◌, ℕ, zero, suc, max, min, ◌+◌, ◌*◌, ◌^◌, ◌<◌, ◌≤◌, Bool, true, false, not, cond, List, [], ◌∷◌, ◌++◌, length, map, set, replicate, Contains, AllPairs, get_or, take, drop, eqb, refl, sym, ap, ◌∙◌, subst, inl, inr, ◌⊎◌, ⊎_elim, arith, append-nil, append_assoc, length-append, ◌||◌}
 use Rattle.std.specs.List.{filter, sum, sum_by}
 use Rattle.std.specs.Prelude.{Result, Ok, Err, OnOk, OnErr, is_ok, slice_get, Some}
 use Rattle.std.proofs.lemmas.Bool.{cases_eq, cases_lt, false≢true, true≢false, not-false}
 use Rattle.std.proofs.lemmas.List.{get_or-map, length-map, map-set, get_or_default, get_or-replicate, get_or_past, take-append-le, take-append-drop, get_or-set_same, get_or-set_other, length-set, length-replicate}
 use Rattle.std.proofs.lemmas.List.Elements.{All-from_get_or, Contains-append_left, Contains-push, Contains-push_cases, filter-append}
-use Rattle.std.proofs.lemmas.List.Sums.{sum_by-le, count_by-le-length}
+use Rattle.std.proofs.lemmas.List.Sums.{sum_by-le, sum_by_more, count_by-le-length}
 use Rattle.std.proofs.lemmas.List.Folds.{sum_by-replicate}
 use Rattle.std.proofs.lemmas.List.Quantifiers.{all_pairs_push}
 use Rattle.std.proofs.lemmas.List.Filters.{length-filter_more}
@@ -723,3 +723,11 @@ module _ (q : Problem) (c : Cut) (i : ℕ) (problem : IsSoundProblem q) (cut : I
           let row : missing (replicate (element_count q.graph) false) ≤ element_count q.graph = omega (arith, count_by-le-length not (replicate (element_count q.graph) false), length-replicate {A = Bool} (element_count q.graph) false) in
           let all = mul-le q.regions (missing (replicate (element_count q.graph) false)) q.regions (element_count q.graph) (omega arith) row in
           omega (arith, rows, all)
+
+-- one more list is counted
+pub count_more : {V : Type 0} (f : V → List Growth) (lists : List V) (i : ℕ) (v : V) (count : ℕ) → i < length lists → v ≡ get_or lists i v → count ≡ min (sum_by length (take i (map f lists))) 18446744073709551615
+    → min (count + length (f v)) 18446744073709551615 ≡ min (sum_by length (take (i + 1) (map f lists))) 18446744073709551615
+count_more {V} f lists i v count within is so_far =
+    let more = sum_by_more {X = List Growth} length (map f lists) i (f v) (omega (arith, within, length-map lists f)) in
+    let item : length (get_or (map f lists) i (f v)) ≡ length (f v) = ap length (get_or-map f lists i v (f v) within) ∙ ap (λ (w : V). length (f w)) (sym is) in
+    omega (arith, so_far, more, item)
