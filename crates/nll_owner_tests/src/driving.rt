@@ -6,7 +6,7 @@ use nll_core::{BuildError, Element, Problem, RegionId};
 use nll_cut::{Cut, CutError};
 use nll_mail::Growth;
 use nll_owner::{Owner, OwnerError};
-use std::alloc::{AllocError, Global};
+use std::alloc::{AllocError, AllocFailed, Global};
 
 /// A turn of the thread.
 #[derive(Clone, Copy)]
@@ -50,6 +50,12 @@ impl From<OwnerError> for Stop {
 
 impl From<AllocError> for Stop {
     fn from(_: AllocError) -> Stop {
+        Stop::Memory
+    }
+}
+
+impl<T: Drop> From<AllocFailed<T>> for Stop {
+    fn from(_: AllocFailed<T>) -> Stop {
         Stop::Memory
     }
 }
