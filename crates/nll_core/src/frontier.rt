@@ -10,7 +10,7 @@ ghost use Rattle.nll_core.specs.Frontiers.{IsClosedBut, Resumes, first_frontier}
 
 use crate::reachability::Inside;
 use crate::search::Search;
-use nll_problem::Graph;
+use nll_problem::{Graph, Predecessors};
 use nll_sets::{Element, ElementSet, Memory, RunSet};
 use std::alloc::Global;
 use std::marker::Model;
@@ -69,10 +69,12 @@ impl Frontier {
     pub fn grow<S: ElementSet>(
         &mut self,
         graph: &Graph,
+        previous: &Predecessors<'_>,
         seen: &S,
         element: Element,
         out: &mut Vec<Element>,
     ) -> Result<(), Memory>
+        requires previous { previous.now ≡ graph.now }
         requires width { length (S.flags seen.now) ≡ element_count graph.now }
         requires fits
             { self.old.refused ≡ false → length self.old.reached ≤ element_count graph.now }
@@ -92,7 +94,7 @@ impl Frontier {
             return Err(refusal);
         }
         self.search.widen(graph.points() + graph.universals());
-        if !self.can_reach(graph, element) {
+        if !self.can_reach(graph, previous, element) {
             return Ok(());
         }
         let told = resume(graph, seen, &mut self.search, element, out);
@@ -101,7 +103,13 @@ impl Frontier {
     }
 
     // Whether an element can be reached, once walks may go through it.
-    fn can_reach(&self, graph: &Graph, element: Element) -> bool
+    fn can_reach(
+        &self,
+        graph: &Graph,
+        previous: &Predecessors<'_>,
+        element: Element,
+    ) -> bool
+        requires previous { previous.now ≡ graph.now }
         requires width { element_count graph.now ≤ length self.now.reached }
         requires element { element < element_count graph.now }
         ensures { IsTrue result ↔ IsReachable graph.now self.now element }
@@ -109,7 +117,7 @@ impl Frontier {
         if self.is_start(element) {
             return true;
         }
-        self.is_next(graph, element)
+        self.is_next(graph, previous, element)
     }
 
     // Whether a walk begins at an element.
@@ -123,14 +131,15 @@ impl Frontier {
     }
 
     // Whether a step leads to an element from one that is reached.
-    fn is_next(&self, graph: &Graph, element: Element) -> bool
+    fn is_next(&self, graph: &Graph, previous: &Predecessors<'_>, element: Element) -> bool
+        requires previous { previous.now ≡ graph.now }
         requires width { element_count graph.now ≤ length self.now.reached }
         requires element { element < element_count graph.now }
         ensures { IsTrue result
             ↔ ((x : ℕ) × IsIn self.now.reached x × IsStep graph.now x element) }
     {
         if element.0 < graph.points() {
-            self.has_one(graph.previous_of(element.0))
+            self.has_one(previous.previous_of(element.0))
         } else {
             self.has_one(graph.returns())
         }

@@ -2,6 +2,7 @@
 
 ghost use Rattle.std.specs.Prelude.{◌≡◌, ◌↔◌, ◌+◌, ◌<◌, ◌≤◌, ℕ, [], length, map, slice_index, true};
 ghost use Rattle.std.specs.Prelude.{Contains, IfOk, OnOk};
+ghost use Rattle.nll_body.specs.Bodies.{IsGraphOf};
 ghost use Rattle.nll_problem.specs.Rows.{row_at};
 ghost use Rattle.nll_sets.specs.ElementSet.{flag};
 ghost use Rattle.nll_live.specs.Gathering.{IsListed};
@@ -12,6 +13,7 @@ use crate::gathering::{drops_by_variable, uses_by_variable};
 use crate::live_sets::LiveSets;
 use crate::search::search_back;
 use nll_body::Body;
+use nll_problem::Predecessors;
 use nll_sets::{Element, ElementSet, Memory, RunSet};
 use std::alloc::Global;
 
@@ -29,8 +31,23 @@ use std::alloc::Global;
 pub fn liveness(alloc: Global, body: &Body) -> Result<LiveSets, Memory>
     ensures { IfOk result (AreLiveSets body.now) }
 {
-    let uses = use_live_sets(alloc, body)?;
-    match drop_live_sets(alloc, body) {
+    let previous = Predecessors::of(alloc, body.graph())?;
+    let sets = both_sets(alloc, body, &previous);
+    drop(previous);
+    sets
+}
+
+// The same, over the predecessors of the body's points.
+fn both_sets(
+    alloc: Global,
+    body: &Body,
+    previous: &Predecessors<'_>,
+) -> Result<LiveSets, Memory>
+    requires { IsGraphOf body.now previous.now }
+    ensures { IfOk result (AreLiveSets body.now) }
+{
+    let uses = use_live_sets(alloc, body, previous)?;
+    match drop_live_sets(alloc, body, previous) {
         Ok(drops) => Ok(LiveSets::of(uses, drops)),
         Err(memory) => {
             drop(uses);
@@ -40,27 +57,43 @@ pub fn liveness(alloc: Global, body: &Body) -> Result<LiveSets, Memory>
 }
 
 // For each variable the points where it is use-live.
-fn use_live_sets(alloc: Global, body: &Body) -> Result<Vec<RunSet>, Memory>
+fn use_live_sets(
+    alloc: Global,
+    body: &Body,
+    previous: &Predecessors<'_>,
+) -> Result<Vec<RunSet>, Memory>
+    requires { IsGraphOf body.now previous.now }
     ensures { IfOk result (λ sets. AreSetsOf body.now (IsUseLive body.now) sets.items) }
 {
     let lists = uses_by_variable(alloc, body)?;
-    let sets = live_sets(alloc, body, lists.as_slice());
+    let sets = live_sets(alloc, body, previous, lists.as_slice());
     drop(lists);
     sets
 }
 
 // For each variable the points where it is drop-live.
-fn drop_live_sets(alloc: Global, body: &Body) -> Result<Vec<RunSet>, Memory>
+fn drop_live_sets(
+    alloc: Global,
+    body: &Body,
+    previous: &Predecessors<'_>,
+) -> Result<Vec<RunSet>, Memory>
+    requires { IsGraphOf body.now previous.now }
     ensures { IfOk result (λ sets. AreSetsOf body.now (IsDropLive body.now) sets.items) }
 {
     let lists = drops_by_variable(alloc, body)?;
-    let sets = live_sets(alloc, body, lists.as_slice());
+    let sets = live_sets(alloc, body, previous, lists.as_slice());
     drop(lists);
     sets
 }
 
 // For each variable the points from which a walk leads to one of its list.
-fn live_sets(alloc: Global, body: &Body, lists: &[Vec<u32>]) -> Result<Vec<RunSet>, Memory>
+fn live_sets(
+    alloc: Global,
+    body: &Body,
+    previous: &Predecessors<'_>,
+    lists: &[Vec<u32>],
+) -> Result<Vec<RunSet>, Memory>
+    requires shown { IsGraphOf body.now previous.now }
     requires counted { length lists.now ≡ length body.now.variables }
     requires points { (x p : ℕ) → IsListed (map (λ list. list.items) lists.now) x p
         → p < length body.now.points }
@@ -70,7 +103,7 @@ fn live_sets(alloc: Global, body: &Body, lists: &[Vec<u32>]) -> Result<Vec<RunSe
     let mut marks = Vec::from_elem(alloc, 0, body.points() as usize)?;
     let mut found = Vec::new(alloc);
     let mut sets = Vec::new(alloc);
-    let told = find_sets(alloc, body, lists, &mut marks, &mut found, &mut sets);
+    let told = find_sets(alloc, body, previous, lists, &mut marks, &mut found, &mut sets);
     drop(marks);
     drop(found);
     match told {
@@ -86,11 +119,13 @@ fn live_sets(alloc: Global, body: &Body, lists: &[Vec<u32>]) -> Result<Vec<RunSe
 fn find_sets(
     alloc: Global,
     body: &Body,
+    previous: &Predecessors<'_>,
     lists: &[Vec<u32>],
     marks: &mut Vec<u32>,
     found: &mut Vec<u32>,
     sets: &mut Vec<RunSet>,
 ) -> Result<(), Memory>
+    requires shown { IsGraphOf body.now previous.now }
     requires counted { length lists.now ≡ length body.now.variables }
     requires points { (x p : ℕ) → IsListed (map (λ list. list.items) lists.now) x p
         → p < length body.now.points }
@@ -102,7 +137,7 @@ fn find_sets(
 {
     for variable in 0..body.variables() {
         let list = lists[variable].as_slice();
-        let set = find_set(alloc, body, variable as u32, list, marks, found)?;
+        let set = find_set(alloc, body, previous, variable as u32, list, marks, found)?;
         sets.push(set)?;
     }
     Ok(())
@@ -113,11 +148,13 @@ fn find_sets(
 fn find_set(
     alloc: Global,
     body: &Body,
+    previous: &Predecessors<'_>,
     variable: u32,
     list: &[u32],
     marks: &mut Vec<u32>,
     found: &mut Vec<u32>,
 ) -> Result<RunSet, Memory>
+    requires shown { IsGraphOf body.now previous.now }
     requires variable { variable < length body.now.variables }
     requires points { (p : ℕ) → Contains list.now p → p < length body.now.points }
     requires width { length marks.old.items ≡ length body.now.points }
@@ -130,7 +167,7 @@ fn find_set(
 {
     let points = body.points();
     found.clear();
-    search_back(marks, variable + 1, found, body, variable, list)?;
+    search_back(marks, variable + 1, found, body, previous, variable, list)?;
     // What is put into a set at its end costs least.
     found.sort_unstable();
     let set = set_of(alloc, points, found.as_slice())?;

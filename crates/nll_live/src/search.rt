@@ -7,8 +7,10 @@ ghost use Rattle.std.specs.Prelude.{◌≡◌, ◌≢◌, ◌↔◌, ◌<◌, �
 ghost use Rattle.std.specs.Prelude.{IsTrue, OnOk};
 ghost use Rattle.nll_live.specs.Live.{DefinesAt, GoesOnUndefined, IsLive};
 ghost use Rattle.nll_live.specs.Marks.{AreFound, IsMarked, Marks};
+ghost use Rattle.nll_body.specs.Bodies.{IsGraphOf};
 
 use nll_body::Body;
+use nll_problem::Predecessors;
 use nll_sets::Memory;
 
 /// Puts the points from which a walk leads to one of these, on which no point before the last
@@ -18,9 +20,11 @@ pub(crate) fn search_back(
     turn: u32,
     list: &mut Vec<u32>,
     body: &Body,
+    previous: &Predecessors<'_>,
     variable: u32,
     ends: &[u32],
 ) -> Result<(), Memory>
+    requires shown { IsGraphOf body.now previous.now }
     requires width { length marks.old.items ≡ length body.now.points }
     requires fresh { (p : ℕ) → slice_index marks.old.items p < turn }
     requires nothing { list.old.items ≡ [] }
@@ -38,7 +42,7 @@ pub(crate) fn search_back(
     while place < list.len() {
         let point = list[place];
         place += 1;
-        visit_previous(marks, turn, list, body, variable, point)?;
+        visit_previous(marks, turn, list, body, previous, variable, point)?;
     }
     Ok(())
 }
@@ -49,9 +53,11 @@ fn visit_previous(
     turn: u32,
     list: &mut Vec<u32>,
     body: &Body,
+    previous: &Predecessors<'_>,
     variable: u32,
     point: u32,
 ) -> Result<(), Memory>
+    requires shown { IsGraphOf body.now previous.now }
     requires some { 0 < turn }
     requires found { AreFound marks.old.items turn list.old.items }
     requires width { length marks.old.items ≡ length body.now.points }
@@ -62,7 +68,7 @@ fn visit_previous(
     ensures all { OnOk result ((p : ℕ) → GoesOnUndefined body.now variable p point
         → IsMarked marks.new.items turn p) }
 {
-    let points = body.graph().previous_of(point);
+    let points = previous.previous_of(point);
     visit_all(marks, turn, list, body, variable, points)?;
     Ok(())
 }

@@ -3,7 +3,7 @@ use Rattle.nll_core.proofs.frontier.Frontier.is_next.Goals as goal
 
 pub has_one-requires : goal.has_one-requires
 has_one-requires c = λ x h.
-    let range = c.points.ensures.sound.edges_in_range x c.element.inside.0 ((c.previous_of.ensures.each x).0 h) in
+    let range = c.points.ensures.sound.edges_in_range x c.element.inside.0 ((rw c.requires.previous at c.previous_of.ensures.each x).0 h) in
     omega (arith, range.0, c.requires.width)
 
 pub has_one-requires-else-element-points : goal.has_one-requires-else-element-points
@@ -13,8 +13,8 @@ has_one-requires-else-element-points c = λ x h.
 
 pub returns-then-element-points : goal.returns-then-element-points
 returns-then-element-points c = rw (← c.element.view_is) (
-  λ h. let w = c.has_one.ensures.0 h in (w.0, w.1, inl ((c.previous_of.ensures.each w.0).0 w.2)),
-  λ w. c.has_one.ensures.1 (w.0, w.1, (c.previous_of.ensures.each w.0).1 (⊎_elim
+  λ h. let w = c.has_one.ensures.0 h in (w.0, w.1, inl ((rw c.requires.previous at c.previous_of.ensures.each w.0).0 w.2)),
+  λ w. c.has_one.ensures.1 (w.0, w.1, (rw c.requires.previous at c.previous_of.ensures.each w.0).1 (⊎_elim
       (λ next. next)
       (λ ends. absurd (let low = ends.1.0 in omega (arith, low, c.if-element-points.true, c.points.ensures.value)))
       w.2)),
