@@ -1,9 +1,9 @@
 -- What the reports print: the elements of a set as a list, and lines one after another.
-use Rattle.std.proofs.Common.{◌≡◌, ◌⊎◌, ◌↔◌, ℕ, zero, suc, ◌+◌, ◌-◌, ◌<◌, ◌≤◌, Bool, true, false, List, [], ◌∷◌, ◌++◌, All, AllPairs, Contains, get_or, length, take, inl, inr, ⊎_elim, refl, sym, ap, ◌∙◌, subst, arith}
+use Rattle.std.proofs.Common.{◌≡◌, ◌⊎◌, ◌↔◌, ℕ, zero, suc, ◌+◌, ◌-◌, ◌<◌, ◌≤◌, Bool, true, false, List, [], ◌∷◌, ◌++◌, All, AllPairs, Contains, drop, get_or, length, length-drop, take, inl, inr, ⊎_elim, refl, sym, ap, ◌∙◌, subst, arith}
 use Rattle.std.specs.List.{flat_map, range_with_len}
 use Rattle.std.proofs.lemmas.Bool.{cases_lt, false≢true}
 use Rattle.std.proofs.lemmas.Grind.{flat_map-append}
-use Rattle.std.proofs.lemmas.List.{append-nil, append_assoc, flat_map_more, take_more}
+use Rattle.std.proofs.lemmas.List.{append-nil, append_assoc, drop_more, flat_map_more, get_or-take, take_more}
 use Rattle.std.proofs.lemmas.List.Elements.{Contains-append_cases, Contains-append_right, Contains-get_or, Contains-push_cases}
 use Rattle.std.proofs.lemmas.List.Kept.{AllPairs-cons}
 use Rattle.nll_sets.specs.ElementSet.{flag, elements, elements_from}
@@ -66,6 +66,22 @@ elements_are_listed values r = record {
 range_more : (a n : ℕ) → range_with_len a (suc n) ≡ range_with_len a n ++ (a + n) ∷ []
 range_more a zero = let same : a ≡ a + 0 = omega arith in ap (λ (x : ℕ). x ∷ []) same
 range_more a (suc n) = let same : a + 1 + n ≡ a + suc n = omega arith in ap (λ xs. a ∷ xs) (range_more (a + 1) n ∙ ap (λ (x : ℕ). range_with_len (a + 1) n ++ x ∷ []) same)
+
+-- the parts of the line of a region, one behind another
+pub line_put : (out name elements a b c d e : List ℕ) → a ≡ out ++ 39 ∷ [] → b ≡ a ++ name → c ≡ b ++ 58 ∷ [] → d ≡ c ++ elements → e ≡ d ++ 10 ∷ []
+    → e ≡ out ++ ((39 ∷ name) ++ 58 ∷ [] ++ elements ++ 10 ∷ [])
+line_put out name elements a b c d e quote named colon printed ended = simp (append_assoc, ended, printed, colon, named, quote)
+
+-- a sign in front of digits that end a row of the same signs
+pub signed : (sign start : ℕ) (row new digits : List ℕ) → 0 < start → 0 < length digits → get_or row (start - 1) 0 ≡ sign
+    → take start new ≡ take start row → drop start new ≡ digits → drop (start - 1) new ≡ sign ∷ digits
+signed sign start row new digits some long is front back =
+    let next : start - 1 + 1 ≡ start = omega (arith, some) in
+    let before : start - 1 < start = omega (arith, some) in
+    let within : start - 1 < length new = omega (arith, long, some, ap length back, length-drop start new) in
+    drop_more new (start - 1) 0 within
+    ∙ ap (λ (x : ℕ). x ∷ drop (start - 1 + 1) new) (sym (get_or-take start new (start - 1) 0 before) ∙ ap (λ xs. get_or xs (start - 1) 0) front ∙ get_or-take start row (start - 1) 0 before ∙ is)
+    ∙ ap (λ (xs : List ℕ). sign ∷ xs) (ap (λ n. drop n new) next ∙ back)
 
 -- what is printed of a run, with one number more
 pub run_more : (print : ℕ → List ℕ) (first number : ℕ) (old now new : List ℕ) → first ≤ number

@@ -25,9 +25,8 @@ fn take_twice<M: Mail>(
 // A growth that was posted is taken, once.
 #[test]
 fn post_then_take(rt: HostRuntime) -> Result<(), Fail> {
-    let growth = numbered(7);
-    let told = take_twice(rt.alloc(), &QueueMail::new(rt), growth)?;
-    assert_eq!(rt; told, (Some(growth), None, 1));
+    let told = take_twice(rt.alloc(), &QueueMail::new(rt), numbered(7))?;
+    assert_eq!(rt; told, (Some(numbered(7)), None, 1));
     Ok(())
 }
 
@@ -79,7 +78,11 @@ fn post_and_take<M: Mail>(
     let in_order = take_some::<M>(&mut receiver, growths, refused);
     let settled = M::settle(M::close(sender), receiver);
     let refusals = u64::from(refused.is_some());
-    Ok((came_back, in_order, M::count(&settled).saturating_add(refusals)))
+    Ok((
+        came_back,
+        in_order,
+        M::count(&settled).saturating_add(refusals),
+    ))
 }
 
 // Growths come in the order in which they were posted. With an allocation refused (rt try --test
