@@ -128,9 +128,10 @@ impl Body {
         self.labels.regions()
     }
 
-    /// How many variables there are.
+    /// How many variables there are; they are numbered from 0.
     pub fn variables(&self) -> usize
-        ensures { result ≡ length self.now.variables }
+        ensures value { result ≡ length self.now.variables }
+        ensures sound { IsSound self.now }
     {
         self.variables.len()
     }
@@ -161,7 +162,8 @@ impl Body {
     pub fn var_type(&self, variable: u32) -> &Ty
         requires { variable < length self.now.variables }
         ensures value { HasType self.now variable (tree result.now) }
-        ensures well_formed { IsWellFormed self.now.structs (length self.now.names) 0 (tree result.now) }
+        ensures well_formed { IsWellFormed self.now.structs (length self.now.names) 0
+            (tree result.now) }
     {
         &self.variables[variable as usize]
     }

@@ -1,6 +1,6 @@
 -- Regions that are dealt by a rule, and the size of blocks.
-use Rattle.std.proofs.Common.{◌≡◌, ◌≢◌, ℕ, zero, suc, ◌+◌, ◌*◌, ◌/◌, ◌%◌, ◌<◌, ◌≤◌, Bool, true, false, not, eqb, ltb, leb, List, [], ◌∷◌, map, length, get_or, refl, sym, ap, ◌∙◌, subst, ⊎_elim, ◌⊎◌, arith}
-use Rattle.std.specs.Prelude.{Option, None, Some, nat_le, if◌then◌else◌}
+use Rattle.std.proofs.Common.{◌≡◌, ℕ, zero, suc, ◌+◌, ◌*◌, ◌/◌, ◌<◌, ◌≤◌, true, not, eqb, ltb, leb, List, map, length, get_or, refl, sym, ap, ◌∙◌, subst, ⊎_elim, arith}
+use Rattle.std.specs.Prelude.{Option, Some, nat_le, if◌then◌else◌}
 use Rattle.std.proofs.lemmas.Bool.{eq-eqb, cases_lt, and_parts, ltb-true, leb-true}
 use Rattle.nll_cut.specs.declared.error.CutError.TheVariants.{Owners, Length}
 use Rattle.std.specs.List.{range_with_len, position}
@@ -9,7 +9,7 @@ use Rattle.std.proofs.lemmas.List.FromFn.{length-map-range_with_len, get_or-map-
 use Rattle.std.proofs.lemmas.Nat.{mul-le, div_below}
 use Rattle.std.proofs.lemmas.Grind.{div_ceil_times}
 use Rattle.nll_problem.specs.Limits.{most_owners}
-use Rattle.nll_cut.specs.Partition.{Cut, Deals, IsBlockSize, IsSound, cut_of, owner_of, may_be_count, list_error, stranger_error}
+use Rattle.nll_cut.specs.Partition.{Deals, IsBlockSize, IsSound, cut_of, may_be_count, list_error, stranger_error}
 
 -- ---- what a list of owners by a rule says
 

@@ -1,7 +1,7 @@
 -- The test of what is read, what it tells, and how a table of readers grows to it.
-use Rattle.std.proofs.Common.{◌≡◌, ◌≢◌, ◌↔◌, ℕ, zero, suc, ◌+◌, ◌<◌, ◌≤◌, Bool, true, false, not, ◌&&◌, ◌||◌, List, [], ◌∷◌, length, Contains, get_or, set, take, replicate, eqb, refl, sym, ap, ◌∙◌, subst, inl, inr, ◌⊎◌, ⊎_elim, arith, length-set}
+use Rattle.std.proofs.Common.{◌≡◌, ◌≢◌, ◌↔◌, ℕ, ◌+◌, ◌<◌, Bool, true, false, not, ◌&&◌, ◌||◌, List, [], length, Contains, get_or, set, take, replicate, eqb, refl, sym, ap, ◌∙◌, subst, ⊎_elim, arith, length-set}
 use Rattle.std.specs.List.{list_any}
-use Rattle.std.proofs.lemmas.Bool.{eqb-true, eqb-false, eq-eqb, ne_eqb, cases_eq, and_parts, and_from, and_right, not-true, not_from_false, true≢false}
+use Rattle.std.proofs.lemmas.Bool.{eqb-true, eqb-false, eq-eqb, ne_eqb, cases_eq, and_parts, and_from, not-true, not_from_false, true≢false}
 use Rattle.std.proofs.lemmas.List.{get_or-set_same, get_or-set_other, get_or-replicate, length-replicate}
 use Rattle.std.proofs.lemmas.List.Folds.{list_any_more, Any-from_list_any, list_any-from_Any}
 use Rattle.nll_problem.specs.Problem.{Problem, IsSound}
@@ -81,8 +81,8 @@ module _ (c : Cut) (readers : List (List Bool)) (constraints : List Constraint) 
     regions = so_far.regions;
     each = λ owner r. so_far.each owner r
         ∙ (adds_nothing (not (eqb (owner_of c r) owner)) (before owner r) (eqb (owner_of c k.sup) owner) (eqb k.sub r)
-            (λ s t. ap not (eq-eqb (owner_of c r) owner (ap (owner_of c) (sym (eqb-true _ _ t)) ∙ (own ∙ eqb-true _ _ s))))
-            ∙ ap (λ b. not (eqb (owner_of c r) owner) && b) (sym (one_more owner r)));
+        (λ s t. ap not (eq-eqb (owner_of c r) owner (ap (owner_of c) (sym (eqb-true _ _ t)) ∙ (own ∙ eqb-true _ _ s))))
+        ∙ ap (λ b. not (eqb (owner_of c r) owner) && b) (sym (one_more owner r)));
   }
 
   -- a constraint that lets an owner read a region of another
@@ -99,7 +99,7 @@ module _ (c : Cut) (readers : List (List Bool)) (constraints : List Constraint) 
     each_row : (o : ℕ) → o < length readers → length (regions_read (with_read readers reader k.sub) o) ≡ length c.list
     each_row o h = ⊎_elim
         (λ (same : o ≡ reader). subst (λ x. length (regions_read (with_read readers reader k.sub) x) ≡ length c.list) (sym same)
-            (ap length row_here ∙ (length-set (regions_read readers reader) k.sub true ∙ so_far.regions reader there)))
+        (ap length row_here ∙ (length-set (regions_read readers reader) k.sub true ∙ so_far.regions reader there)))
         (λ other. ap length (row_other o other) ∙ so_far.regions o h)
         (cases_eq o reader)
 
@@ -119,15 +119,15 @@ module _ (c : Cut) (readers : List (List Bool)) (constraints : List Constraint) 
     told_here : is_read (with_read readers reader k.sub) reader k.sub ≡ (not (eqb (owner_of c k.sub) reader) && after reader k.sub)
     told_here = flag_here
         ∙ (adds_one (not (eqb (owner_of c k.sub) reader)) (before reader k.sub) (eqb (owner_of c k.sup) reader) (eqb k.sub k.sub)
-            (not_from_false _ (ne_eqb (owner_of c k.sub) reader apart)) (eq-eqb _ _ (sym is)) (eq-eqb _ _ refl)
+        (not_from_false _ (ne_eqb (owner_of c k.sub) reader apart)) (eq-eqb _ _ (sym is)) (eq-eqb _ _ refl)
         ∙ ap (λ b. not (eqb (owner_of c k.sub) reader) && b) (sym (one_more reader k.sub)))
 
     told : (o r : ℕ) → is_read (with_read readers reader k.sub) o r ≡ (not (eqb (owner_of c r) o) && after o r)
     told o r = ⊎_elim
         (λ (same : o ≡ reader). ⊎_elim
-            (λ (this : r ≡ k.sub). subst (λ (x : ℕ × ℕ). is_read (with_read readers reader k.sub) x.0 x.1 ≡ (not (eqb (owner_of c x.1) x.0) && after x.0 x.1)) (λ j. (sym same j, sym this j)) told_here)
-            (λ (other : r ≢ k.sub). others o r (λ _ t. other (sym t)) (subst (λ x. is_read (with_read readers reader k.sub) x r ≡ is_read readers x r) (sym same) (flag_other r other)))
-            (cases_eq r k.sub))
+        (λ (this : r ≡ k.sub). subst (λ (x : ℕ × ℕ). is_read (with_read readers reader k.sub) x.0 x.1 ≡ (not (eqb (owner_of c x.1) x.0) && after x.0 x.1)) (λ j. (sym same j, sym this j)) told_here)
+        (λ (other : r ≢ k.sub). others o r (λ _ t. other (sym t)) (subst (λ x. is_read (with_read readers reader k.sub) x r ≡ is_read readers x r) (sym same) (flag_other r other)))
+        (cases_eq r k.sub))
         (λ (other : o ≢ reader). others o r (λ s _. other (sym s ∙ sym is)) (ap (λ row. get_or row r false) (row_other o other)))
         (cases_eq o reader)
 

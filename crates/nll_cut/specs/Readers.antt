@@ -28,7 +28,8 @@ HasRegions readers regions =
 
 -- the readers have a set of the cut's regions for each owner, and tell who reads what by these
 -- constraints
-pub record TellsReaders (c : Cut) (readers : List (List Bool)) (constraints : List Constraint) : Type 0 where
+pub record TellsReaders (c : Cut) (readers : List (List Bool)) (constraints : List Constraint)
+    : Type 0 where
   pub owners : length readers ≡ c.owners
   pub regions : HasRegions readers (length c.list)
   pub each : (owner r : ℕ) → is_read readers owner r

@@ -1,15 +1,14 @@
 -- What variables ask for.
-use Rattle.std.proofs.Common.{◌≡◌, ◌⊎◌, ◌↔◌, ℕ, ◌+◌, ◌<◌, ◌≤◌, Bool, true, List, Contains, length, Some, None, slice_get, get_or, inl, inr, sym, ◌∙◌, subst, ⊎_elim, arith}
+use Rattle.std.proofs.Common.{◌≡◌, ◌⊎◌, ◌↔◌, ℕ, ◌+◌, ◌<◌, ◌≤◌, Bool, List, Contains, length, Some, None, slice_get, get_or, inl, inr, subst, ⊎_elim, arith}
 use Rattle.std.specs.Prelude.{slice_index_or, []}
 use Rattle.std.proofs.lemmas.Bool.{cases_lt}
 use Rattle.std.proofs.lemmas.Option.{slice_get_cases, slice_get_within}
 use Rattle.nll_sets.specs.Runs.{IsInRuns, MakeUp}
 use Rattle.nll_sets.specs.declared.run.Run.{Run}
-use Rattle.nll_types.specs.Types.{TypeTree, HasRegion}
-use Rattle.nll_types.specs.DropRegions.{IsDropRegion}
+use Rattle.nll_types.specs.Types.{TypeTree}
 use Rattle.nll_body.specs.Bodies.{BodyText, HasType}
-use Rattle.nll_live.specs.Live.{IsUseLive, IsDropLive, AsksForUse, AsksForDrop, IsBaseOf}
-use Rattle.nll_live.specs.LiveSets.{IsIn, AreSetsOf}
+use Rattle.nll_live.specs.Live.{AsksForUse, AsksForDrop, IsBaseOf}
+use Rattle.nll_live.specs.LiveSets.{AreSetsOf}
 use Rattle.nll_live.specs.Stretches.{Covers, Gains}
 use Rattle.nll_live.specs.declared.stretch.Stretch.{Stretch}
 use Rattle.nll_live.proofs.StretchLemmas.{gains_as}

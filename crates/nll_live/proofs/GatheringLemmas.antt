@@ -1,15 +1,15 @@
 -- Points in lists, one list a variable.
-use Rattle.std.proofs.Common.{◌≡◌, ◌⊎◌, ◌↔◌, ℕ, ◌+◌, ◌<◌, ◌≤◌, List, [], ◌∷◌, ◌++◌, Contains, length, get_or, set, replicate, take, Option, Some, None, slice_get, inl, inr, refl, sym, ap, ◌∙◌, subst, ⊎_elim, arith, length-replicate, get_or-replicate}
+use Rattle.std.proofs.Common.{◌≡◌, ◌⊎◌, ◌↔◌, ℕ, ◌+◌, ◌<◌, ◌≤◌, List, [], ◌∷◌, ◌++◌, Contains, length, get_or, replicate, take, Some, None, slice_get, inl, inr, refl, sym, ap, ◌∙◌, subst, ⊎_elim, arith}
 use Rattle.std.proofs.lemmas.Bool.{cases_lt, cases_eq}
-use Rattle.std.proofs.lemmas.List.{get_or-set_same, get_or-set_other, get_or_past, length-set, take_more}
+use Rattle.std.proofs.lemmas.List.{length-replicate, get_or-replicate, get_or-set_same, get_or-set_other, get_or_past, length-set, take_more}
 use Rattle.std.proofs.lemmas.List.Elements.{Contains-push, Contains-push_cases, Contains-append_left}
-use Rattle.std.proofs.lemmas.Option.{slice_get_cases, slice_get_within}
+use Rattle.std.proofs.lemmas.Option.{slice_get_cases}
 use Rattle.nll_problem.specs.Rows.{row_at, with_item}
 use Rattle.nll_types.specs.Types.{TypeTree}
 use Rattle.nll_statements.specs.Statements.{Statement}
-use Rattle.nll_statements.specs.Effects.{variables_used, dropped}
+use Rattle.nll_statements.specs.Effects.{variables_used, defined, dropped}
 use Rattle.nll_body.specs.Bodies.{BodyText, StandsAt}
-use Rattle.nll_live.specs.Live.{UsesAt, DropsAt}
+use Rattle.nll_live.specs.Live.{UsesAt, DropsAt, DefinesAt}
 use Rattle.nll_live.specs.Gathering.{IsListed, Lists, AreListed}
 
 pub contains_none : {X : Type 0} (x : X) → Contains [] x → ⊥
@@ -54,18 +54,18 @@ pub lists_append : (a b : ℕ → Type 0) (p : ℕ) (old mid new : List (List �
 lists_append a b p old mid new f g = record {
   counted = g.counted ∙ f.counted;
   each = λ x q h.
-    let within : x < length mid = omega (arith, h, g.counted) in (
-      λ listed. ⊎_elim
-          (λ before. ⊎_elim inl (λ now. inr (inl now.0, now.1)) ((f.each x q within).0 before))
-          (λ now. inr (inr now.0, now.1))
-          ((g.each x q h).0 listed),
-      ⊎_elim
-          (λ listed. (g.each x q h).1 (inl ((f.each x q within).1 (inl listed))))
-          (λ now. ⊎_elim
-          (λ first. (g.each x q h).1 (inl ((f.each x q within).1 (inr (first, now.1)))))
-          (λ second. (g.each x q h).1 (inr (second, now.1)))
-          now.0),
-    );
+      let within : x < length mid = omega (arith, h, g.counted) in (
+        λ listed. ⊎_elim
+            (λ before. ⊎_elim inl (λ now. inr (inl now.0, now.1)) ((f.each x q within).0 before))
+            (λ now. inr (inr now.0, now.1))
+            ((g.each x q h).0 listed),
+        ⊎_elim
+            (λ listed. (g.each x q h).1 (inl ((f.each x q within).1 (inl listed))))
+            (λ now. ⊎_elim
+            (λ first. (g.each x q h).1 (inl ((f.each x q within).1 (inr (first, now.1)))))
+            (λ second. (g.each x q h).1 (inr (second, now.1)))
+            now.0),
+      );
 }
 
 -- the same variables, said otherwise
@@ -130,6 +130,23 @@ module _ (body : BodyText) (p : ℕ) (within : p < length body.points) where
       none_some : (a : ℕ) → None ≡ Some a → ⊥
       none_some a e = cc
 
+  -- the variable that it defines
+  pub definition_is : (y : ℕ) → ((i : Statement ℕ TypeTree) → StandsAt body p i → Some y ≡ defined i) → (x : ℕ) → (y ≡ x) ↔ DefinesAt body x p
+  definition_is y is x = (
+    λ h. let here = something_stands body p within in (here.0, here.1, sym (is here.0 here.1) ∙ ap Some h),
+    λ h. some_same y x (is h.0 h.1 ∙ h.2),
+  )
+    where
+      some_same : (a b : ℕ) → Some a ≡ Some b → a ≡ b
+      some_same a b e = cc
+
+  -- or none
+  pub no_definition : ((i : Statement ℕ TypeTree) → StandsAt body p i → None ≡ defined i) → (x : ℕ) → DefinesAt body x p → ⊥
+  no_definition is x h = none_some x (is h.0 h.1 ∙ h.2)
+    where
+      none_some : (a : ℕ) → None ≡ Some a → ⊥
+      none_some a e = cc
+
 -- ---- all points
 
 -- no point yet
@@ -147,16 +164,16 @@ pub listed_step : (count : ℕ) (holds : ℕ → ℕ → Type 0) (n : ℕ) (old 
 listed_step count holds n old new f g = record {
   counted = g.counted ∙ f.counted;
   each = λ x p h.
-    let within : x < length new = omega (arith, h, g.counted, f.counted) in (
-      λ listed. ⊎_elim
-          (λ before. let was = (f.each x p h).0 before in (was.0, omega (arith, was.1)))
-          (λ now. (subst (holds x) (sym now.1) now.0, omega (arith, now.1)))
-          ((g.each x p within).0 listed),
-      λ h2. (g.each x p within).1 (⊎_elim
-          (λ low. inl ((f.each x p h).1 (h2.0, low)))
-          (λ high. let same : p ≡ n = omega (arith, high, h2.1) in inr (subst (holds x) same h2.0, same))
-          (cases_lt p n)),
-    );
+      let within : x < length new = omega (arith, h, g.counted, f.counted) in (
+        λ listed. ⊎_elim
+            (λ before. let was = (f.each x p h).0 before in (was.0, omega (arith, was.1)))
+            (λ now. (subst (holds x) (sym now.1) now.0, omega (arith, now.1)))
+            ((g.each x p within).0 listed),
+        λ h2. (g.each x p within).1 (⊎_elim
+            (λ low. inl ((f.each x p h).1 (h2.0, low)))
+            (λ high. let same : p ≡ n = omega (arith, high, h2.1) in inr (subst (holds x) same h2.0, same))
+            (cases_lt p n)),
+      );
 }
 
 -- no list has a point for a variable that isn't there

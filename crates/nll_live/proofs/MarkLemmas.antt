@@ -1,12 +1,14 @@
 -- Marks, and the list of the points that are marked.
-use Rattle.std.proofs.Common.{◌≡◌, ◌⊎◌, ℕ, ◌+◌, ◌<◌, ◌≤◌, List, [], ◌∷◌, ◌++◌, length, get_or, set, refl, sym, ap, ◌∙◌, subst, arith, ⊎_elim, Contains, inl, inr, true, false}
-use Rattle.std.specs.Prelude.{slice_index, sum_by, ◌==◌, if◌then◌else◌}
+use Rattle.std.proofs.Common.{◌≡◌, ◌↔◌, ℕ, ◌<◌, List, [], ◌∷◌, ◌++◌, length, set, refl, sym, ap, ◌∙◌, subst, arith, ⊎_elim, Contains, inl, inr, true, false}
+use Rattle.std.specs.Prelude.{slice_index, ◌==◌, if◌then◌else◌}
 use Rattle.std.proofs.lemmas.Bool.{cases_lt, cases_eq, eq-eqb, eqb-true, false_from_ne_true}
 use Rattle.std.proofs.lemmas.List.{get_or_append_left, length-append, get_or_default, get_or_past}
 use Rattle.std.proofs.Math.Seq.{get_or-append_seam}
 use Rattle.std.proofs.lemmas.List.{get_or-set_same, get_or-set_other, length-set}
 use Rattle.std.proofs.lemmas.List.Sums.{sum_by-set}
-use Rattle.nll_live.specs.Marks.{IsMarked, unmarked, AreFound, Marks}
+use Rattle.std.specs.List.Sorted.{IsPermutation}
+use Rattle.std.proofs.lemmas.List.Sorted.{Contains-permutation, IsPermutation-sym}
+use Rattle.nll_live.specs.Marks.{IsMarked, AreFound, Marks}
 
 eqb-same : (n : ℕ) → (n == n) ≡ true
 eqb-same n = eq-eqb n n refl
@@ -44,7 +46,12 @@ marks_append kind turn a b c xs ys zs p q = record {
 -- what is of a kind is of any larger kind
 pub marks_weaker : (kind other : ℕ → Type 0) (turn : ℕ) (a b xs ys : List ℕ) → ((p : ℕ) → kind p → other p) → Marks kind turn a b xs ys → Marks other turn a b xs ys
 marks_weaker kind other turn a b xs ys f p = record {
-  width = p.width; kept = p.kept; others = p.others; longer = p.longer; front = p.front; count = p.count;
+  width = p.width;
+  kept = p.kept;
+  others = p.others;
+  longer = p.longer;
+  front = p.front;
+  count = p.count;
   cause = λ k l h. f _ (p.cause k l h);
 }
 
@@ -81,7 +88,7 @@ module _ (turn : ℕ) (marks list : List ℕ) (point : ℕ) (within : point < le
     listed = λ p h. ⊎_elim
         (λ e. (length list, omega (arith, length-append list (point ∷ [])), get_or-append_seam list point [] 0 ∙ sym e))
         (λ n. let old = are.listed p (sym (get_or-set_other marks point p turn 0 (λ e. n e)) ∙ h) in
-            (old.0, (let l = old.1 in omega (arith, length-append list (point ∷ []))), get_or_append_left list (point ∷ []) 0 old.0 old.1 ∙ old.2))
+        (old.0, (let l = old.1 in omega (arith, length-append list (point ∷ []))), get_or_append_left list (point ∷ []) 0 old.0 old.1 ∙ old.2))
         (cases_eq p point);
   }
 
@@ -95,3 +102,7 @@ at_each P xs each p c = subst P (get_or_default xs c.0 0 p c.1 ∙ c.2) (each c.
 
 pub contains_at : (xs : List ℕ) (p : ℕ) → (k : ℕ) × (k < length xs) × (slice_index xs k ≡ p) → Contains xs p
 contains_at xs p k = (k.0, k.1, get_or_default xs k.0 p 0 k.1 ∙ k.2)
+
+-- what a list contains, another order of it does
+pub contains_moved : (xs ys : List ℕ) → IsPermutation xs ys → (p : ℕ) → Contains ys p ↔ Contains xs p
+contains_moved xs ys moved p = (Contains-permutation ys xs p (IsPermutation-sym xs ys moved), Contains-permutation xs ys p moved)

@@ -1,11 +1,12 @@
 -- Pairs of a region and a point that are put behind others.
-use Rattle.std.proofs.Common.{◌≡◌, ◌⊎◌, ◌↔◌, ℕ, ◌+◌, ◌-◌, ◌<◌, ◌≤◌, List, [], ◌∷◌, ◌++◌, AllPairs, Contains, length, get_or, inl, inr, refl, sym, ap, ◌∙◌, subst, ⊎_elim, arith}
-use Rattle.std.proofs.lemmas.Bool.{cases_lt}
+use Rattle.std.proofs.Common.{◌≡◌, ◌⊎◌, ℕ, zero, suc, ◌+◌, ◌-◌, ◌<◌, ◌≤◌, false, List, [], ◌∷◌, ◌++◌, AllPairs, Contains, length, get_or, inl, inr, refl, sym, ap, ◌∙◌, subst, ⊎_elim, arith}
+use Rattle.std.specs.Prelude.{◌==◌}
+use Rattle.std.proofs.lemmas.Bool.{cases_lt, false≢true}
 use Rattle.std.proofs.lemmas.List.{get_or_default}
 use Rattle.std.proofs.lemmas.List.Elements.{Contains-get_or, Contains-push, Contains-push_cases, Contains-append_left}
 use Rattle.std.proofs.lemmas.List.Quantifiers.{all_pairs_push}
 use Rattle.nll_problem.specs.Problem.{IsEarlier}
-use Rattle.nll_live.specs.Stretches.{IsOn, GetsPoints, GetsStretch, ComesNext, AreSmall}
+use Rattle.nll_live.specs.Stretches.{GetsPoints, GetsStretch, ComesNext, AreSmall}
 use Rattle.nll_live.specs.declared.stretch.Stretch.{Stretch}
 
 -- all pairs come before this one
@@ -73,30 +74,50 @@ module _ (region first end : ℕ) (old : List (ℕ × ℕ)) where
 
 -- ---- the last pair
 
-module _ (pairs : List (ℕ × ℕ)) (ascending : AllPairs IsEarlier pairs) (region : ℕ) (last : (r p : ℕ) → Contains pairs (r, p) → r ≤ region) (r q : ℕ) (some : 0 < length pairs) (is : ◌≡◌ {A = ℕ × ℕ} (get_or pairs (length pairs - 1) (r, q)) (r, q)) where
+pub positive : (n : ℕ) → false ≡ (n == 0) → 0 < n
+positive zero h = absurd (false≢true h)
+positive (suc n) h = omega arith
+
+module _ (pairs : List (ℕ × ℕ)) (ascending : AllPairs IsEarlier pairs) (region : ℕ) (last : (r p : ℕ) → Contains pairs (r, p) → r ≤ region) (some : 0 < length pairs) where
+  -- what stands last
+  abbrev pub at_end : ℕ × ℕ → ℕ × ℕ
+  at_end d = get_or pairs (length pairs - 1) d
+
+  last_there : (d : ℕ × ℕ) → Contains pairs (at_end d)
+  last_there d = Contains-get_or pairs (length pairs - 1) d (omega (arith, some))
+
   -- a pair is the last, or comes before it
-  pub last_or_before : (a b : ℕ) → Contains pairs (a, b) → (◌≡◌ {A = ℕ × ℕ} (a, b) (r, q)) ⊎ IsEarlier (a, b) (r, q)
-  last_or_before a b h = ⊎_elim
-      (λ low. inr (subst (λ (x : ℕ × ℕ). IsEarlier x (r, q)) (get_or_default pairs h.0 (r, q) (a, b) h.1 ∙ h.2) (subst (IsEarlier (get_or pairs h.0 (r, q))) is (ascending h.0 (length pairs - 1) (r, q) low (omega (arith, some))))))
-      (λ high. inl (sym h.2 ∙ (get_or_default pairs h.0 (a, b) (r, q) h.1 ∙ (ap (λ k. get_or pairs k (r, q)) (omega (arith, high, h.1)) ∙ is))))
+  last_or_before : (d : ℕ × ℕ) (a b : ℕ) → Contains pairs (a, b) → (◌≡◌ {A = ℕ × ℕ} (a, b) (at_end d)) ⊎ IsEarlier (a, b) (at_end d)
+  last_or_before d a b h = ⊎_elim
+      (λ low. inr (subst (λ (x : ℕ × ℕ). IsEarlier x (at_end d)) (get_or_default pairs h.0 d (a, b) h.1 ∙ h.2) (ascending h.0 (length pairs - 1) d low (omega (arith, some)))))
+      (λ high. inl (sym h.2 ∙ (get_or_default pairs h.0 (a, b) d h.1 ∙ ap (λ k. get_or pairs k d) (omega (arith, high, h.1)))))
       (cases_lt h.0 (length pairs - 1))
 
-  pub last_there : Contains pairs (r, q)
-  last_there = (length pairs - 1, omega (arith, some), is)
+  same_end : (d e : ℕ × ℕ) → at_end d ≡ at_end e
+  same_end d e = get_or_default pairs (length pairs - 1) d e (omega (arith, some))
 
   -- the pairs of its region end with it
-  pub above_last : r ≡ region → (p : ℕ) → Contains pairs (region, p) → p < q + 1
-  above_last same p h = ⊎_elim
-      (λ one. omega (arith, pair_right region p r q one))
-      (⊎_elim (λ low. absurd (omega (arith, low, same))) (λ on. omega (arith, on.1)))
-      (last_or_before region p h)
+  pub above_last : (d e : ℕ × ℕ) → (at_end d).0 ≡ region → (p : ℕ) → Contains pairs (region, p) → p < (at_end e).1 + 1
+  above_last d e same p h =
+      let of : (at_end e).0 ≡ region = ap (λ (x : ℕ × ℕ). x.0) (same_end e d) ∙ same in
+      ⊎_elim
+      (λ one. omega (arith, ap (λ (x : ℕ × ℕ). x.1) one))
+      (⊎_elim (λ low. absurd (omega (arith, low, of))) (λ on. omega (arith, on.1)))
+      (last_or_before e region p h)
 
   -- and there are none of a later region
-  pub none_later : (r ≡ region → ⊥) → (p : ℕ) → Contains pairs (region, p) → ⊥
-  none_later other p h = ⊎_elim
-      (λ one. other (sym (pair_left region p r q one)))
-      (⊎_elim (λ low. other (omega (arith, low, last r q last_there))) (λ on. other (sym on.0)))
-      (last_or_before region p h)
+  pub none_later : (d : ℕ × ℕ) → ((at_end d).0 ≡ region → ⊥) → (p : ℕ) → Contains pairs (region, p) → ⊥
+  none_later d other p h = ⊎_elim
+      (λ one. other (sym (ap (λ (x : ℕ × ℕ). x.0) one)))
+      (⊎_elim (λ low. absurd (omega (arith, low, last (at_end d).0 (at_end d).1 (last_there d)))) (λ on. other (sym on.0)))
+      (last_or_before d region p h)
+
+  pub last_small : AreSmall pairs → (d : ℕ × ℕ) → (at_end d).1 < 4294967295
+  last_small small d = small (at_end d).0 (at_end d).1 (last_there d)
+
+  -- a point below that is no later than one of the pairs
+  pub last_reached : (d e : ℕ × ℕ) → (at_end d).0 ≡ region → (p : ℕ) → p < (at_end e).1 + 1 → (q : ℕ) × (p ≤ q) × Contains pairs (region, q)
+  last_reached d e same p low = ((at_end e).1, omega (arith, low), subst (λ r. Contains pairs (r, (at_end e).1)) (ap (λ (x : ℕ × ℕ). x.0) (same_end e d) ∙ same) (last_there e))
 
 -- ---- one stretch
 

@@ -1,17 +1,15 @@
 -- Stretches, what they cover, and the pairs that they stand for.
-use Rattle.std.proofs.Common.{◌≡◌, ◌⊎◌, ◌↔◌, ℕ, ◌+◌, ◌-◌, ◌<◌, ◌≤◌, true, false, List, [], ◌∷◌, ◌++◌, AllPairs, Contains, length, get_or, take, inl, inr, refl, sym, ap, ◌∙◌, subst, ⊎_elim, arith, Ordering, Less, Equal, Greater, nat_cmp, is_lt, IsSorted, get_or-take, length-take}
+use Rattle.std.proofs.Common.{◌≡◌, ◌⊎◌, ◌↔◌, ℕ, ◌+◌, ◌<◌, ◌≤◌, false, List, [], ◌∷◌, ◌++◌, Contains, length, get_or, take, inl, inr, sym, ap, ◌∙◌, subst, ⊎_elim, arith, Ordering, Less, Equal, Greater, nat_cmp, is_lt, IsSorted, get_or-take, length-take}
 use Rattle.std.specs.Ordering.{MatchOrdering, ordering_then}
 use Rattle.std.specs.Cmp.{IsTotalOrder, then_total, on_total, nat_cmp_total, ranks}
 use Rattle.std.specs.List.Sorted.{IsPermutation}
 use Rattle.std.proofs.lemmas.Bool.{cases_lt, false≢true}
 use Rattle.std.proofs.lemmas.List.{take_more, get_or_default}
-use Rattle.std.proofs.lemmas.List.Elements.{Contains-get_or, Contains-push, Contains-push_cases, Contains-append_left}
-use Rattle.std.proofs.lemmas.List.Quantifiers.{all_pairs_push}
+use Rattle.std.proofs.lemmas.List.Elements.{Contains-push, Contains-push_cases, Contains-append_left}
 use Rattle.std.proofs.lemmas.List.Sorted.{sorted_far, ranks_by, Contains-permutation, IsPermutation-sym}
-use Rattle.nll_problem.specs.Problem.{IsEarlier}
-use Rattle.nll_sets.specs.Runs.{IsInRuns, first_of, last_of}
+use Rattle.nll_sets.specs.Runs.{first_of, last_of}
 use Rattle.nll_sets.specs.declared.run.Run.{Run}
-use Rattle.nll_live.specs.Stretches.{IsOn, Covers, Gains, GetsPoints, GetsStretch, ComesNext, AreSmall, stretch_cmp}
+use Rattle.nll_live.specs.Stretches.{IsOn, Covers, Gains, GetsStretch, ComesNext, stretch_cmp}
 use Rattle.nll_live.specs.declared.stretch.Stretch.{Stretch}
 use Rattle.nll_live.proofs.GatheringLemmas.{contains_none}
 
@@ -56,14 +54,14 @@ runs_step region runs n old mid s of begins ends f =
     gains_as (λ r p. ((region ≡ r) × IsInFirst runs n p) ⊎ IsOn s r p) (λ r p. (region ≡ r) × IsInFirst runs (n + 1) p) old (mid ++ s ∷ [])
     (λ r p. (
       ⊎_elim
-          (λ h. (h.0, (h.1.0, omega (arith, h.1.1), h.1.2)))
+          (λ h. (h.0, (h.1.0, omega (arith, h.1.1), h.1.2, h.1.3)))
           (λ h. (sym of ∙ h.0, (n, omega arith, omega (arith, h.1, begins), omega (arith, h.2, ends)))),
       λ h. ⊎_elim
-          (λ low. inl (h.0, (h.1.0, low, h.1.2)))
+          (λ low. inl (h.0, (h.1.0, low, h.1.2, h.1.3)))
           (λ high.
-            let same : h.1.0 ≡ n = omega (arith, high, h.1.1) in
-            let is = subst (λ k. (first_of runs k ≤ p) × (p ≤ last_of runs k)) same h.1.2 in
-            inr (of ∙ h.0, omega (arith, is.0, begins), omega (arith, is.1, ends)))
+          let same : h.1.0 ≡ n = omega (arith, high, h.1.1) in
+          let is = subst (λ k. (first_of runs k ≤ p) × (p ≤ last_of runs k)) same (h.1.2, h.1.3) in
+          inr (of ∙ h.0, omega (arith, is.0, begins), omega (arith, is.1, ends)))
           (cases_lt h.1.0 n),
     ))
     (gains_append (λ r p. (region ≡ r) × IsInFirst runs n p) (IsOn s) old mid (mid ++ s ∷ []) f (gains_one s mid))
@@ -75,16 +73,15 @@ runs_first region runs old = gains_none (λ r p. (region ≡ r) × IsInFirst run
 pub regions_first : (regions : List ℕ) (kind : ℕ → Type 0) (old : List Stretch) → Gains (λ r p. Contains (take 0 regions) r × kind p) old old
 regions_first regions kind old = gains_none (λ r p. Contains [] r × kind p) old (λ r p h. contains_none r h.0)
 
-pub regions_step : (regions : List ℕ) (kind : ℕ → Type 0) (n : ℕ) (old mid new : List Stretch) → n < length regions → Gains (λ r p. Contains (take n regions) r × kind p) old mid → Gains (λ r p. (get_or regions n 0 ≡ r) × kind p) mid new → Gains (λ r p. Contains (take (n + 1) regions) r × kind p) old new
-regions_step regions kind n old mid new within f g =
-    let e = get_or regions n 0 in
-    let more = take_more regions n 0 within in
+pub regions_step : (regions : List ℕ) (kind : ℕ → Type 0) (n e : ℕ) (old mid new : List Stretch) → n < length regions → e ≡ get_or regions n e → Gains (λ r p. Contains (take n regions) r × kind p) old mid → Gains (λ r p. (e ≡ r) × kind p) mid new → Gains (λ r p. Contains (take (n + 1) regions) r × kind p) old new
+regions_step regions kind n e old mid new within is f g =
+    let more : take (n + 1) regions ≡ take n regions ++ e ∷ [] = take_more regions n e within ∙ ap (λ x. take n regions ++ x ∷ []) (sym is) in
     gains_as (λ r p. (Contains (take n regions) r × kind p) ⊎ ((e ≡ r) × kind p)) (λ r p. Contains (take (n + 1) regions) r × kind p) old new
     (λ r p. (
       ⊎_elim
           (λ h. (subst (λ xs. Contains xs r) (sym more) (Contains-append_left (take n regions) (e ∷ []) r h.0), h.1))
           (λ h. (subst (λ xs. Contains xs r) (sym more) (subst (Contains (take n regions ++ e ∷ [])) h.0 (Contains-push (take n regions) e)), h.1)),
-      λ h. ⊎_elim (λ there. inl (there, h.1)) (λ is. inr (is, h.1)) (Contains-push_cases (take n regions) e r (subst (λ xs. Contains xs r) more h.0)),
+      λ h. ⊎_elim (λ there. inl (there, h.1)) (λ same. inr (same, h.1)) (Contains-push_cases (take n regions) e r (subst (λ xs. Contains xs r) more h.0)),
     ))
     (gains_append (λ r p. Contains (take n regions) r × kind p) (λ r p. (e ≡ r) × kind p) old mid new f g)
 
@@ -116,47 +113,43 @@ stretches_rise xs sorted i j d low within = not_after (get_or xs i d) (get_or xs
 
 -- ---- pairs
 
-module _ (xs : List Stretch) (sorted : IsSorted stretch_cmp xs) (n : ℕ) (s : Stretch) (within : n < length xs) (is : s ≡ get_or xs n s) (pairs : List (ℕ × ℕ)) (each : (r p : ℕ) → Contains pairs (r, p) ↔ Covers (take n xs) r p) where
-  -- the next stretch comes next
-  pub comes_next : ComesNext s pairs
-  comes_next r q h = by ((each r q).0 h)
-    where
-      by : Covers (take n xs) r q → (r < s.region) ⊎ ((r ≡ s.region) × ((p : ℕ) → s.first ≤ p → p ≤ q → Contains pairs (r, p)))
-      by c =
-          let j = c.1.0 in
-          let low : j < n = omega (arith, c.1.1, length-take n xs) in
-          let at : get_or xs j c.0 ≡ c.0 = sym (get_or-take n xs j c.0 low) ∙ c.1.2 in
-          ⊎_elim
-              (λ before. inl (omega (arith, before, c.2.0)))
-              (λ same. inr (sym c.2.0 ∙ same.0, λ p first last. (each r p).1 (c.0, c.1, c.2.0, omega (arith, first, same.1), omega (arith, last, c.2.2))))
-              (order j at low)
-        where
-          order : (j : ℕ) → get_or xs j c.0 ≡ c.0 → j < n → (c.0.region < s.region) ⊎ ((c.0.region ≡ s.region) × (c.0.first ≤ s.first))
-          order j at low = subst (λ (t : Stretch). (t.region < s.region) ⊎ ((t.region ≡ s.region) × (t.first ≤ s.first))) at
-              (subst (λ (t : Stretch). ((get_or xs j c.0).region < t.region) ⊎ (((get_or xs j c.0).region ≡ t.region) × ((get_or xs j c.0).first ≤ t.first))) (here c.0)
-              (stretches_rise xs sorted j n c.0 (omega (arith, low)) within))
+module _ (xs : List Stretch) (sorted : IsSorted stretch_cmp xs) (n : ℕ) (s : Stretch) (within : n < length xs) (is : s ≡ get_or xs n s) where
+  -- an earlier stretch is of an earlier region, or begins no later
+  earlier : (t : Stretch) → Contains (take n xs) t → (t.region < s.region) ⊎ ((t.region ≡ s.region) × (t.first ≤ s.first))
+  earlier t h =
+      let j = h.0 in
+      let low : j < n = omega (arith, h.1, length-take n xs) in
+      let at : get_or xs j t ≡ t = sym (get_or-take n xs j t low) ∙ h.2 in
+      let here : get_or xs n t ≡ s = get_or_default xs n t s within ∙ sym is in
+      subst (λ (u : Stretch). (u.region < s.region) ⊎ ((u.region ≡ s.region) × (u.first ≤ s.first))) at
+      (subst (λ (u : Stretch). ((get_or xs j t).region < u.region) ⊎ (((get_or xs j t).region ≡ u.region) × ((get_or xs j t).first ≤ u.first))) here
+      (stretches_rise xs sorted j n t (omega (arith, low)) within))
 
-          here : (d : Stretch) → get_or xs n d ≡ s
-          here d = any_default xs n d s within ∙ sym is
+  module _ (pairs : List (ℕ × ℕ)) (each : (r p : ℕ) → Contains pairs (r, p) ↔ Covers (take n xs) r p) where
+    -- the next stretch comes next
+    pub comes_next : ComesNext s pairs
+    comes_next r q h =
+        let c = (each r q).0 h in
+        ⊎_elim
+        (λ before. inl (omega (arith, before, c.2.0)))
+        (λ same. inr (sym c.2.0 ∙ same.0, λ p first last. (each r p).1 (c.0, c.1, (c.2.0, omega (arith, first, same.1), omega (arith, last, c.2.2)))))
+        (earlier c.0 c.1)
 
-          any_default : (ys : List Stretch) (k : ℕ) (d e : Stretch) → k < length ys → get_or ys k d ≡ get_or ys k e
-          any_default ys k d e h = get_or_default ys k d e h
+    more : take (n + 1) xs ≡ take n xs ++ s ∷ []
+    more = take_more xs n s within ∙ ap (λ t. take n xs ++ t ∷ []) (sym is)
 
-  -- and its pairs are those of one stretch more
-  pub pairs_step : (new : List (ℕ × ℕ)) → GetsStretch s pairs new → (r p : ℕ) → Contains new (r, p) ↔ Covers (take (n + 1) xs) r p
-  pairs_step new gets r p = (
-    λ h. subst (λ ys. Covers ys r p) (sym more) (⊎_elim
-        (λ old. let c = (each r p).0 old in (c.0, Contains-append_left (take n xs) (s ∷ []) c.0 c.1, c.2))
-        (λ on. (s, Contains-push (take n xs) s, on))
-        ((gets r p).0 h)),
-    λ c. (gets r p).1 (by (subst (λ ys. Covers ys r p) more c)),
-  )
-    where
-      more : take (n + 1) xs ≡ take n xs ++ s ∷ []
-      more = take_more xs n s within ∙ ap (λ t. take n xs ++ t ∷ []) (sym is)
-
-      by : Covers (take n xs ++ s ∷ []) r p → Contains pairs (r, p) ⊎ IsOn s r p
-      by c = ⊎_elim
-          (λ there. inl ((each r p).1 (c.0, there, c.2)))
-          (λ is_new. inr (subst (λ t. IsOn t r p) (sym is_new) c.2))
-          (Contains-push_cases (take n xs) s c.0 c.1)
+    -- and its pairs are those of one stretch more
+    pub pairs_step : (new : List (ℕ × ℕ)) → GetsStretch s pairs new → (r p : ℕ) → Contains new (r, p) ↔ Covers (take (n + 1) xs) r p
+    pairs_step new gets r p = (
+      λ h. subst (λ ys. Covers ys r p) (sym more) (⊎_elim
+          (λ old. let c = (each r p).0 old in (c.0, Contains-append_left (take n xs) (s ∷ []) c.0 c.1, c.2))
+          (λ on. (s, Contains-push (take n xs) s, on))
+          ((gets r p).0 h)),
+      λ c. (gets r p).1 (by (subst (λ ys. Covers ys r p) more c)),
+    )
+      where
+        by : Covers (take n xs ++ s ∷ []) r p → Contains pairs (r, p) ⊎ IsOn s r p
+        by c = ⊎_elim
+            (λ there. inl ((each r p).1 (c.0, there, c.2)))
+            (λ is_new. inr (subst (λ t. IsOn t r p) (sym is_new) c.2))
+            (Contains-push_cases (take n xs) s c.0 c.1)

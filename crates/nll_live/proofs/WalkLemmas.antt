@@ -1,9 +1,9 @@
 -- Walks to the uses or drops of a variable.
-use Rattle.std.proofs.Common.{◌≡◌, ◌↔◌, ℕ, ◌<◌, List, [], ◌∷◌, length, refl, sym, subst}
+use Rattle.std.proofs.Common.{ℕ, ◌<◌, List, [], ◌∷◌, length, refl, sym, subst}
 use Rattle.std.specs.Prelude.{⊤}
 use Rattle.std.proofs.lemmas.Option.{slice_get_within}
 use Rattle.nll_problem.specs.Walks.{IsWalk}
-use Rattle.nll_body.specs.Bodies.{BodyText, GoesOn}
+use Rattle.nll_body.specs.Bodies.{BodyText}
 use Rattle.nll_live.specs.Live.{GoesOnUndefined, IsLive}
 
 module _ (body : BodyText) (ends : ℕ → Type 0) (x : ℕ) where

@@ -1,6 +1,6 @@
 -- How points are listed by the variables that they use or drop.
 -- Source: project's choice. Private contracts alone cite this file.
-use Rattle.std.specs.Prelude.{◌≡◌, ◌⊎◌, ◌↔◌, ℕ, ◌<◌, List, [], length, Contains, slice_index_or}
+use Rattle.std.specs.Prelude.{◌≡◌, ◌⊎◌, ◌↔◌, ℕ, ◌<◌, List, length, Contains}
 use Rattle.nll_problem.specs.Rows.{row_at}
 
 -- p is in the list of x
@@ -15,6 +15,6 @@ pub record Lists (kind : ℕ → Type 0) (p : ℕ) (old new : List (List ℕ)) :
 
 -- There are so many lists, and each has the points below n of which this holds.
 pub record AreListed (count : ℕ) (holds : ℕ → ℕ → Type 0) (n : ℕ) (lists : List (List ℕ)) : Type 0
-    where
-  pub counted : length lists ≡ count
-  pub each : (x p : ℕ) → x < count → IsListed lists x p ↔ (holds x p × (p < n))
+  where
+    pub counted : length lists ≡ count
+    pub each : (x p : ℕ) → x < count → IsListed lists x p ↔ (holds x p × (p < n))

@@ -1,7 +1,7 @@
 -- Where a variable is live, and where a region must hold for it.
 -- Source: RFC 2094, "Liveness" and "Drop". The code searches backwards from uses and drops; this
 -- speaks of walks.
-use Rattle.std.specs.Prelude.{◌≡◌, ◌⊎◌, ℕ, ⊤}
+use Rattle.std.specs.Prelude.{◌⊎◌, ℕ, List, ⊤}
 use Rattle.nll_problem.specs.Walks.{IsWalk}
 use Rattle.nll_types.specs.Types.{TypeTree, HasRegion}
 use Rattle.nll_types.specs.DropRegions.{IsDropRegion}

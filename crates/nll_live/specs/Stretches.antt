@@ -1,9 +1,8 @@
 -- Stretches of points at which regions must hold, and the pairs that they stand for.
 -- Source: project's choice. Private contracts alone cite this file.
-use Rattle.std.specs.Prelude.{◌≡◌, ◌⊎◌, ◌↔◌, ℕ, ◌<◌, ◌≤◌, List, Contains}
+use Rattle.std.specs.Prelude.{◌≡◌, ◌⊎◌, ◌↔◌, ℕ, ◌-◌, ◌^◌, ◌<◌, ◌≤◌, List, Contains}
 use Rattle.std.specs.Ordering.{nat_cmp, ordering_then}
 use Rattle.std.specs.declared.cmp.Ordering.{Ordering}
-use Rattle.nll_problem.specs.Problem.{IsEarlier}
 use Rattle.nll_live.specs.declared.stretch.Stretch.{Stretch}
 
 -- the stretch is of the region, and p lies in it

@@ -1,7 +1,7 @@
 //! Where each variable is live.
 
 ghost use Rattle.std.specs.Prelude.{◌≡◌, ◌↔◌, ◌<◌, ℕ, [], length, slice_index_or, IsTrue};
-ghost use Rattle.nll_sets.specs.Runs.{MakeUp};
+ghost use Rattle.nll_sets.specs.Runs.{MakeUp, last_of};
 ghost use Rattle.nll_live.specs.LiveSets.{IsIn};
 
 use nll_sets::{Element, ElementSet, Run, RunSet};
@@ -56,6 +56,8 @@ impl LiveSets {
     pub(crate) fn use_runs(&self, variable: u32) -> &[Run]
         requires { variable < length self.now.uses }
         ensures make_up { MakeUp result.now (slice_index_or self.now.uses variable []) }
+        ensures within { (k : ℕ) → k < length result.now
+            → last_of result.now k < length (slice_index_or self.now.uses variable []) }
     {
         self.uses[variable as usize].as_runs()
     }
@@ -64,6 +66,8 @@ impl LiveSets {
     pub(crate) fn drop_runs(&self, variable: u32) -> &[Run]
         requires { variable < length self.now.drops }
         ensures make_up { MakeUp result.now (slice_index_or self.now.drops variable []) }
+        ensures within { (k : ℕ) → k < length result.now
+            → last_of result.now k < length (slice_index_or self.now.drops variable []) }
     {
         self.drops[variable as usize].as_runs()
     }

@@ -28,8 +28,6 @@ pub(crate) fn search_back(
         → slice_index ends.now k < length body.now.points }
     ensures width { OnOk result (length marks.new.items ≡ length body.now.points) }
     ensures fresh { OnOk result ((p : ℕ) → slice_index marks.new.items p ≤ turn) }
-    ensures within { OnOk result ((k : ℕ) → k < length list.new.items
-        → slice_index list.new.items k < length body.now.points) }
     ensures each { OnOk result ((p : ℕ)
         → Contains list.new.items p ↔ IsLive body.now (Contains ends.now) variable p) }
 {

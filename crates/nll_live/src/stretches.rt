@@ -1,7 +1,7 @@
 //! The pairs of a region and a point that stretches stand for.
 
-ghost use Rattle.std.specs.Prelude.{◌≡◌, ◌⊎◌, ◌×◌, ◌-◌, ◌^◌, ◌<◌, ◌≤◌, ℕ, length, AllPairs, Contains};
-ghost use Rattle.std.specs.Prelude.{IfOk, OnOk, ◌↔◌};
+ghost use Rattle.std.specs.Prelude.{◌≡◌, ◌↔◌, ◌-◌, ◌^◌, ◌<◌, ◌≤◌, ℕ, [], length};
+ghost use Rattle.std.specs.Prelude.{AllPairs, Contains, IfOk, OnOk};
 ghost use Rattle.std.specs.List.Sorted.{IsPermutation, IsSorted};
 ghost use Rattle.nll_problem.specs.Problem.{IsEarlier};
 ghost use Rattle.nll_sets.specs.Runs.{IsInRuns, last_of};
@@ -100,7 +100,8 @@ fn push_stretch(pairs: &mut Vec<(RegionId, u32)>, stretch: Stretch) -> Result<()
     ensures small { OnOk result (AreSmall pairs.new.items) }
 {
     let next = next_point(pairs.as_slice(), stretch.region);
-    push_points(pairs, stretch.region, stretch.first.max(next), stretch.end)
+    push_points(pairs, stretch.region, stretch.first.max(next), stretch.end)?;
+    Ok(())
 }
 
 // The number behind the points that the pairs have of a region which none of them is behind.
@@ -112,10 +113,11 @@ fn next_point(pairs: &[(RegionId, u32)], region: RegionId) -> u32
     ensures reached { (p : ℕ) → p < result
         → (q : ℕ) × (p ≤ q) × Contains pairs.now (region, q) }
 {
-    match pairs.last() {
-        Some(pair) if pair.0.0 == region.0 => pair.1 + 1,
-        _ => 0,
+    if pairs.is_empty() {
+        return 0;
     }
+    let (last, point) = pairs[pairs.len() - 1];
+    if last == region { point + 1 } else { 0 }
 }
 
 // Puts the pairs of a region and the points from one up to another behind the others, which they

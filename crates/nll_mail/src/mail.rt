@@ -50,11 +50,16 @@ pub trait Mail: Sync {
     ghost all_sent: { Self.Closed → List Growth };
     /// The closed sender and the receiver are the ends of one mailbox.
     ghost closes: { Self.Closed → Self.R → Type 0 };
-    /// From whom to whom a settled mailbox went, what was sent and what was received through it,
-    /// and what was left.
+    /// From whom to whom a settled mailbox went.
     ghost post_ends: { Self.Post → ℕ × ℕ };
+
+    /// What was sent through a settled mailbox, in order.
     ghost post_sent: { Self.Post → List Growth };
+
+    /// What was received through it, in order.
     ghost post_received: { Self.Post → List Growth };
+
+    /// What was left in it, in order.
     ghost post_rest: { Self.Post → List Growth };
 
     /// The two ends of a new mailbox, through which nothing was sent.
@@ -78,7 +83,8 @@ pub trait Mail: Sync {
         ensures ok { OnOk result (sent sender.new ≡ sent sender.old ++ growth ∷ []) }
         ensures refused { IfErr result (λ error. returned error ≡ growth) }
         ensures unchanged { IfErr result (λ _. sent sender.new ≡ sent sender.old) }
-        ensures pair { (receiver : Self.R) → pairs sender.old receiver → pairs sender.new receiver };
+        ensures pair { (receiver : Self.R)
+            → pairs sender.old receiver → pairs sender.new receiver };
 
     /// Takes the growth at the front of the mailbox; none where none is found there.
     fn take(receiver: &mut Self::R) -> Option<Growth>

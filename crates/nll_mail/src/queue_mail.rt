@@ -2,7 +2,7 @@
 //!
 //! A queue under a rule: what was sent is what was received and, behind it, what the queue holds.
 //! A push is the one step of a post, a pop the one step of a take. The sender's pass of the queue
-//! knows what was sent, the receiver's what was received, and `settle` puts the two passes together.
+//! knows what was sent, the receiver's what was received; `settle` puts the two passes together.
 
 ghost use Rattle.std.specs.Prelude.{◌≡◌, ◌<◌, ◌++◌, List, [], ◌∷◌, length, true, false};
 ghost use Rattle.std.specs.Prelude.{IfOk, OnOk, IfErr, IfSome, IfNone};
@@ -173,7 +173,7 @@ pub struct QueuePost {
     ghost counted: { count ≡ length pass.me.view.client.received },
 }
 
-#[tactic(auto, using(crate::proofs::OrderLemmas::posts, crate::proofs::OrderLemmas::takes, crate::proofs::OrderLemmas::splits, crate::proofs::OrderLemmas::joins, crate::proofs::OrderLemmas::totals, crate::proofs::OrderLemmas::begins))]
+#[tactic(auto, using(crate::proofs::OrderLemmas::steps))]
 impl<R: Wait + Copy + Send + Sync> Mail for QueueMail<R> {
     ghost use Rattle.std.specs.Prelude.{◌≡◌, length, drop};
     ghost use Rattle.std.specs.Arc.{arc_value};

@@ -78,7 +78,11 @@ fn post_and_take<M: Mail>(
     let in_order = take_some::<M>(&mut receiver, growths, refused);
     let settled = M::settle(M::close(sender), receiver);
     let refusals = u64::from(refused.is_some());
-    Ok((came_back, in_order, M::count(&settled).saturating_add(refusals)))
+    Ok((
+        came_back,
+        in_order,
+        M::count(&settled).saturating_add(refusals),
+    ))
 }
 
 // Growths come in the order in which they were posted. With an allocation refused (rt try --test

@@ -68,13 +68,13 @@ module _ (regions : Regions) (structs : StructNames) (variables : Variables) (i 
   knows_is declared names types d n t =
       let f : Bor (List ℕ) → Name = λ r. r.now in
       let declared_is : declared ≡ list_all (λ x. nat_lt x (length (map tree variables.types.items))) (variables_written (as_written i)) =
-        d ∙ (ap (λ m. list_all (λ x. nat_lt x m) (variables_written (statement_of i))) (sym (length-map variables.types.items tree))
-        ∙ ap (list_all (λ x. nat_lt x (length (map tree variables.types.items)))) (sym (same_variables f written (statement_of i)))) in
+      d ∙ (ap (λ m. list_all (λ x. nat_lt x m) (variables_written (statement_of i))) (sym (length-map variables.types.items tree))
+      ∙ ap (list_all (λ x. nat_lt x (length (map tree variables.types.items)))) (sym (same_variables f written (statement_of i)))) in
       let names_are : names ≡ list_all (is_among regions.names) (regions_written (as_written i)) =
-        n ∙ ap (list_all (is_among regions.names)) (sym (regions_mapped f written (statement_of i))) in
+      n ∙ ap (list_all (is_among regions.names)) (sym (regions_mapped f written (statement_of i))) in
       let types_are : types ≡ list_all (is_known scope) (types_written (as_written i)) =
-        t ∙ (sym (list_all-map (is_known scope) written (types_written (statement_of i)))
-        ∙ ap (list_all (is_known scope)) (sym (types_mapped f written (statement_of i)))) in
+      t ∙ (sym (list_all-map (is_known scope) written (types_written (statement_of i)))
+      ∙ ap (list_all (is_known scope)) (sym (types_mapped f written (statement_of i)))) in
       rw (declared_is, names_are, types_are) refl
 
   fits_is : (types agree : Bool)
@@ -84,10 +84,10 @@ module _ (regions : Regions) (structs : StructNames) (variables : Variables) (i 
   fits_is types agree t a =
       let f : Bor (List ℕ) → Name = λ r. r.now in
       let types_are : types ≡ list_all (has_arguments scope) (types_written (as_written i)) =
-        t ∙ (sym (list_all-map (has_arguments scope) written (types_written (statement_of i)))
-        ∙ ap (list_all (has_arguments scope)) (sym (types_mapped f written (statement_of i)))) in
+      t ∙ (sym (list_all-map (has_arguments scope) written (types_written (statement_of i)))
+      ∙ ap (list_all (has_arguments scope)) (sym (types_mapped f written (statement_of i)))) in
       let agree_is : agree ≡ types_agree (structs_of variables.table.structs) (map tree variables.types.items) (statement_meant declared_in (as_written i)) =
-        a ∙ ap (types_agree (structs_of variables.table.structs) (map tree variables.types.items)) same_meaning in
+      a ∙ ap (types_agree (structs_of variables.table.structs) (map tree variables.types.items)) same_meaning in
       rw (types_are, agree_is) refl
 
   -- what is judged of the statement
@@ -105,11 +105,11 @@ module _ (regions : Regions) (structs : StructNames) (variables : Variables) (i 
     known = known ∙ knows_is declared names types_known d n k;
     fits = fits ∙ fits_is types_fit judged.fits t e.fits;
     fits_small = λ fit.
-      let agreed : types_agree (structs_of variables.table.structs) (map tree variables.types.items) meant_at_once ≡ true =
+        let agreed : types_agree (structs_of variables.table.structs) (map tree variables.types.items) meant_at_once ≡ true =
         sym e.fits ∙ second types_fit judged.fits (sym fits ∙ fit) in
-      small ∙ (e.fits_small
-      ∙ (ap (λ b. b && types_are_small (structs_of variables.table.structs) (map tree variables.types.items) meant_at_once) agreed
-      ∙ ap (types_are_small (structs_of variables.table.structs) (map tree variables.types.items)) same_meaning));
+        small ∙ (e.fits_small
+        ∙ (ap (λ b. b && types_are_small (structs_of variables.table.structs) (map tree variables.types.items) meant_at_once) agreed
+        ∙ ap (types_are_small (structs_of variables.table.structs) (map tree variables.types.items)) same_meaning));
   }
 
 -- what is judged of the statement stands, where the types and the structs are the same

@@ -55,10 +55,10 @@ module _ (s : Scope) where
         fit = fit ∙ (ap (λ x. x && one.fits) b.fit ∙ (ap (λ x. list_all (λ u. has_arguments s (written u)) ts && x) o.fits ∙ sym (all_push (λ u. has_arguments s (written u)) ts t)));
         within = subst (λ is. AreBelow (length new) is) (sym shapes) (below_push (length new) one.shape before.shapes.items (below_later old new before.shapes.items e b.within) o.within);
         same = ap (map (shape_in new)) shapes
-          ∙ (map_push (shape_in new) before.shapes.items one.shape
-          ∙ (ap (λ xs. xs ++ shape_in new one.shape ∷ []) earlier
-          ∙ (ap (λ x. map shape_of (map meaning ts) ++ x ∷ []) o.shape
-          ∙ (sym (map_push shape_of (map meaning ts) (meaning t)) ∙ ap (map shape_of) (sym (map_push meaning ts t))))));
+            ∙ (map_push (shape_in new) before.shapes.items one.shape
+            ∙ (ap (λ xs. xs ++ shape_in new one.shape ∷ []) earlier
+            ∙ (ap (λ x. map shape_of (map meaning ts) ++ x ∷ []) o.shape
+            ∙ (sym (map_push shape_of (map meaning ts) (meaning t)) ∙ ap (map shape_of) (sym (map_push meaning ts t))))));
       }
 
   -- no type is told of yet

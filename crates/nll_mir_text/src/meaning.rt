@@ -40,7 +40,10 @@ fn bound_meant(regions: &Regions, bound: &(&[u8], &[u8])) -> (RegionId, RegionId
     requires { length regions.now.names ≤ most_regions }
     ensures { result ≡ bound_numbers regions.now.names bound.now }
 {
-    (region_meant(regions, bound.0), region_meant(regions, bound.1))
+    (
+        region_meant(regions, bound.0),
+        region_meant(regions, bound.1),
+    )
 }
 
 // The bounds of a call.
@@ -206,7 +209,13 @@ pub fn statement_meant(
     match statement {
         Statement::Assign(place, operand) => assignment(alloc, place, operand),
         Statement::Borrow(place, region, mutable, source) => {
-            borrow(alloc, place, region_meant(regions, *region), *mutable, source)
+            borrow(
+                alloc,
+                place,
+                region_meant(regions, *region),
+                *mutable,
+                source,
+            )
         }
         Statement::Make(made) => {
             let made = made_meant(alloc, regions, structs, made)?;

@@ -421,10 +421,7 @@ impl Reader {
     }
 
     // Adds what stands at the next point.
-    fn add_statement(
-        &mut self,
-        statement: &Statement<&[u8], TypeText<'_>>,
-    ) -> Result<(), TextKind>
+    fn add_statement(&mut self, statement: &Statement<&[u8], TypeText<'_>>) -> Result<(), TextKind>
         requires { IsDue self.old (form_of (lines.At statement.now)) }
         ensures taken { OnOk result
             (IsTaken (said_by self.old) (form_of (lines.At statement.now)) self.new) }
@@ -432,7 +429,13 @@ impl Reader {
             (IsRefused (said_by self.old) (form_of (lines.At statement.now))) }
     {
         let variables = &mut self.variables;
-        let judged = judge_point(self.alloc, &self.regions, &self.structs, variables, statement)?;
+        let judged = judge_point(
+            self.alloc,
+            &self.regions,
+            &self.structs,
+            variables,
+            statement,
+        )?;
         self.add_judged(judged, statement)
     }
 

@@ -1,4 +1,5 @@
 pub mod PairLemmas
 pub mod SubtypeLemmas
+pub mod FormLemmas
 pub mod ReborrowLemmas
 pub mod StatementLemmas

@@ -49,11 +49,11 @@ kept p t regions a none = (λ c. inr (c, λ b q f. absurd (none b q f)), ⊎_eli
 
 past_is : (p : Projection) (t : TypeTree) (regions : List ℕ) (a : ℕ) → Contains (past p t regions) a ↔ (((m : Bool) × First p t a m) ⊎ (Contains regions a × FirstOpen p t))
 past_is Deref (reference r true u) regions a =
-    ( λ c. ⊎_elim (λ d. inr (d, λ b q f. (let e = f.2 in cc))) (λ e. inl (true, refl, u, ap (λ (z : ℕ). reference z true u) e)) (Contains-push_cases regions r a c),
-      ⊎_elim (λ f. (let e : r ≡ a = (let d = f.3 in cc) in subst (λ (z : ℕ). Contains (regions ++ r ∷ []) z) e (Contains-push regions r))) (λ c. Contains-append_left regions (r ∷ []) a c.0) )
+    ( λ c. ⊎_elim (λ d. inr (d, λ b q f. (let e = f.2 in cc))) (λ e. inl (true, (refl, u, ap (λ (z : ℕ). reference z true u) e))) (Contains-push_cases regions r a c),
+      ⊎_elim (λ f. (let e : r ≡ a = (let d = f.1.2 in cc) in subst (λ (z : ℕ). Contains (regions ++ r ∷ []) z) e (Contains-push regions r))) (λ c. Contains-append_left regions (r ∷ []) a c.0) )
 past_is Deref (reference r false u) regions a =
-    ( λ c. inl (false, refl, u, ap (λ (z : ℕ). reference z false u) (⊎_elim (λ d. absurd (let l = d.1 in omega arith)) (λ e. e) (Contains-push_cases [] r a c))),
-      ⊎_elim (λ f. (let e : r ≡ a = (let d = f.3 in cc) in subst (λ (z : ℕ). Contains (r ∷ []) z) e (Contains-push [] r))) (λ c. absurd (let e : false ≡ true = c.1 r false (refl, u, refl) in cc)) )
+    ( λ c. inl (false, (refl, u, ap (λ (z : ℕ). reference z false u) (⊎_elim (λ d. absurd (let l = d.1 in omega arith)) (λ e. e) (Contains-push_cases [] r a c)))),
+      ⊎_elim (λ f. (let e : r ≡ a = (let d = f.1.2 in cc) in subst (λ (z : ℕ). Contains (r ∷ []) z) e (Contains-push [] r))) (λ c. absurd (let e : false ≡ true = c.1 r false (refl, u, refl) in cc)) )
 past_is Deref int regions a = kept Deref int regions a (λ b q f. (let e = f.2 in cc))
 past_is Deref (parameter k) regions a = kept Deref (parameter k) regions a (λ b q f. (let e = f.2 in cc))
 past_is Deref (tuple ts) regions a = kept Deref (tuple ts) regions a (λ b q f. (let e = f.2 in cc))

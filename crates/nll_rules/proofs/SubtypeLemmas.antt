@@ -1,6 +1,7 @@
 -- What a subtyping asks, layer by layer.
-use Rattle.std.proofs.Common.{◌≡◌, ℕ, zero, suc, ◌+◌, ◌<◌, ◌≤◌, List, [], ◌∷◌, length, refl, sym, ap, ◌∙◌, subst, arith, ⊎_elim, inl, inr, ◌↔◌, ◌⊎◌, Bool, Some}
+use Rattle.std.proofs.Common.{◌≡◌, ℕ, zero, suc, ◌+◌, ◌<◌, ◌≤◌, List, [], ◌∷◌, length, refl, sym, ap, ◌∙◌, subst, arith, ⊎_elim, inl, inr, ◌↔◌, ◌⊎◌, Bool, true, false, Some}
 use Rattle.std.specs.Prelude.{slice_get, min}
+use Rattle.std.specs.Bool.{beq}
 use Rattle.nll_types.specs.Types.{TypeTree, TypeTrees, int, parameter, reference, tuple, named, none, more, type_at}
 use Rattle.nll_types.specs.Structs.{Struct, struct_at}
 use Rattle.nll_types.specs.declared.parameter.Parameter.{Parameter}
@@ -27,6 +28,18 @@ asked_as s t a b x p h = subst (λ (z : Sign). IsAsked z a b x) p h
 
 asked_of : (s : Sign) (a b c e : ℕ) (x : ℕ × ℕ) → a ≡ c → b ≡ e → IsAsked s a b x → IsAsked s c e x
 asked_of s a b c e x q r h = subst (λ (z : ℕ). IsAsked s z e x) q (subst (λ (z : ℕ). IsAsked s a z x) r h)
+
+pub same_flag : (a b : Bool) → beq a b ≡ true → a ≡ b
+same_flag true true h = refl
+same_flag false false h = refl
+same_flag true false h = absurd (let e : false ≡ true = h in cc)
+same_flag false true h = absurd (let e : false ≡ true = h in cc)
+
+pub other_flag : (a b : Bool) → beq a b ≡ false → a ≡ b → ⊥
+other_flag true true h e = (let d : true ≡ false = h in cc)
+other_flag false false h e = (let d : true ≡ false = h in cc)
+other_flag true false h e = cc
+other_flag false true h e = cc
 
 -- ---- types of different forms
 

@@ -130,12 +130,7 @@ const ROWS: &[Row] = &[
 ];
 
 // The cut of a row.
-fn cut_of(
-    alloc: Global,
-    regions: u32,
-    owners: u16,
-    deal: Deal,
-) -> Result<Cut, CutError> {
+fn cut_of(alloc: Global, regions: u32, owners: u16, deal: Deal) -> Result<Cut, CutError> {
     match deal {
         Deal::Round => Cut::round(alloc, regions, owners),
         Deal::Blocks => Cut::blocks(alloc, regions, owners),
@@ -202,11 +197,15 @@ const READERS: &[(&[Call], u16, &str)] = &[
     (TWO_REGIONS, 2, "0 reads 1|1 reads 2|2 reads|"),
     (TWO_REGIONS, 3, "0 reads|1 reads 2|2 reads 1|3 reads|"),
     (THREE_REGIONS, 2, "0 reads 3|1 reads 0|2 reads|"),
-    (THREE_REGIONS, 4, "0 reads 3|1 reads|2 reads 0|3 reads 0|4 reads|"),
+    (
+        THREE_REGIONS,
+        4,
+        "0 reads 3|1 reads|2 reads 0|3 reads 0|4 reads|",
+    ),
 ];
 
-// An owner reads the regions of others that its constraints read, none of its own, and a number past
-// the owners reads nothing.
+// An owner reads the regions of others that its constraints read, and none of its own; a number
+// past the owners reads nothing.
 #[test]
 fn tells_who_reads(rt: HostRuntime) {
     for (calls, owners, want) in READERS {
@@ -220,7 +219,8 @@ fn tells_who_reads(rt: HostRuntime) {
 fn prints_refusals(rt: HostRuntime) -> Result<(), AllocError> {
     let (owners, length, entry) = (CutError::Owners, CutError::Length, CutError::NoSuchOwner(4));
     let text = format!(in rt.alloc(); "{owners}|{length}|{entry}|{}", CutError::Memory)?;
-    let want = "no owner, or too many|not an owner for each region|no such owner at 4|out of memory";
+    let want =
+        "no owner, or too many|not an owner for each region|no such owner at 4|out of memory";
     compare(&rt, "errors of cuts", Ok(text), want);
     assert!(rt; CutError::from(AllocError) == CutError::Memory);
     assert!(rt; CutError::from(AllocFailed { value: 1u8 }) == CutError::Memory);

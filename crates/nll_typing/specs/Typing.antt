@@ -1,7 +1,7 @@
 -- Which types a statement or terminator asks to be equal when regions are forgotten, and how large
 -- its types may be.
--- Source: RFC 2094, "Subtyping" and "Reborrow constraints" (the types that are related); the table is
--- project's choice, and docs/FORMATS.md says the same in words.
+-- Source: RFC 2094, "Subtyping" and "Reborrow constraints" (the types that are related); the table
+-- is project's choice, and docs/FORMATS.md says the same in words.
 use Rattle.std.specs.Prelude.{ℕ, Bool, true, false, ◌&&◌, List, [], ◌∷◌, ◌++◌, map}
 use Rattle.std.specs.Prelude.{Option, Some, None, is_some}
 use Rattle.std.specs.List.{list_all}

@@ -1,4 +1,4 @@
-use Rattle.std.proofs.Common.{◌≡◌, ℕ, ◌+◌, ◌-◌, ◌<◌, ◌≤◌, Contains, length}
+use Rattle.std.proofs.Common.{ℕ, ◌+◌, ◌-◌, ◌<◌, Contains, length}
 use Rattle.std.specs.Prelude.{slice_index}
 use Rattle.nll_live.specs.Marks.{IsMarked, AreFound, Marks, unmarked}
 use Rattle.nll_live.proofs.SearchLemmas.{Searching}

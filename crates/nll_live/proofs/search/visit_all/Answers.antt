@@ -1,4 +1,4 @@
-use Rattle.std.proofs.Common.{◌≡◌, ◌<◌, ℕ, Contains, slice_index, subst, sym, arith, length}
+use Rattle.std.proofs.Common.{Contains, subst, sym, arith}
 use borrow.Author.Count.{below_more}
 use Rattle.std.proofs.lemmas.List.Elements.{Contains-get_or}
 use Rattle.nll_live.specs.Live.{DefinesAt}

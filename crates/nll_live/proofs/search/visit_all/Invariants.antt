@@ -1,4 +1,4 @@
-use Rattle.std.proofs.Common.{◌≡◌, ℕ, ◌<◌, Contains}
+use Rattle.std.proofs.Common.{ℕ, ◌<◌, Contains}
 use Rattle.std.specs.Prelude.{slice_index}
 use Rattle.nll_live.specs.Live.{DefinesAt}
 use Rattle.nll_live.specs.Marks.{IsMarked, AreFound, Marks}

@@ -18,8 +18,8 @@ returns-clause-judged c =
     let variables = rw (sym numbers) at (have_shapes _ _ _ _ c.in_ok-types.ensures.extends c.requires.shapes) in
     let types = rw (sym shapes) at t.same in
     let judged = c.in_ok-judged.ensures.judged (map tree c.args.variables.now.types.items)
-      (λ (r : Bor (List ℕ)). number_of c.args.regions.now.names r.now)
-      (λ (t : List TypeNode). meant (scope_in c.args.regions.now c.args.structs.now) (written t)) variables types in
+    (λ (r : Bor (List ℕ)). number_of c.args.regions.now.names r.now)
+    (λ (t : List TypeNode). meant (scope_in c.args.regions.now c.args.structs.now) (written t)) variables types in
     point_judged c.args.regions.now c.args.structs.now c.args.variables.now c.args.statement.now
     c.in_ok-declared.declared c.regions_known-regions.result c.in_ok-types.types.known c.in_ok-types.types.fit c.in_ok-judged.judged _ refl refl refl
     (rw count at c.in_ok-declared.ensures)

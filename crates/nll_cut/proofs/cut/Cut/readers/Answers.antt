@@ -1,5 +1,4 @@
-use Rattle.std.proofs.Common.{◌≡◌, ◌+◌, ◌<◌, ℕ, length, take, subst, sym, ◌∙◌, arith}
-use Rattle.nll_cut.specs.Partition.{owner_of}
+use Rattle.std.proofs.Common.{◌+◌, ◌<◌, ℕ, length, take, subst, sym, ◌∙◌, arith}
 use Rattle.nll_cut.specs.Readers.{TellsReaders}
 use Rattle.nll_cut.proofs.ReadLemmas.{in_cut, tells_own, tells_other}
 use Rattle.nll_cut.proofs.cut.Cut.readers.Goals as goal
@@ -37,9 +36,9 @@ loop-constraint-preserved c =
     elim c.if-owner_of-reader.branch [
       | then-owner_of-reader w ↦ subst (λ readers. TellsReaders cut readers (take (i + 1) constraints)) (sym (w.readers-is ∙ w.enter.ensures))
           (tells_other cut c.loop-constraint.readers constraints i k c.loop-constraint-test.true c.constraint-item.is c.loop-constraint.invariant
-              reader.result reader.ensures.value (subst (λ n. n < cut.owners) (sym reader.ensures.value) (reader.ensures.sound.owned k.sup both.0)) both.1
-              (λ same. w.if-owner_of-reader.true (c.owner_of.ensures.value ∙ same)))
+          reader.result reader.ensures.value (subst (λ n. n < cut.owners) (sym reader.ensures.value) (reader.ensures.sound.owned k.sup both.0)) both.1
+          (λ same. w.if-owner_of-reader.true (c.owner_of.ensures.value ∙ same)))
       | else-owner_of-reader w ↦ subst (λ readers. TellsReaders cut readers (take (i + 1) constraints)) (sym w.readers-is)
           (tells_own cut c.loop-constraint.readers constraints i k c.loop-constraint-test.true c.constraint-item.is c.loop-constraint.invariant
-              (sym c.owner_of.ensures.value ∙ (w.if-owner_of-reader.false ∙ reader.ensures.value)))
+          (sym c.owner_of.ensures.value ∙ (w.if-owner_of-reader.false ∙ reader.ensures.value)))
     ]

@@ -1,4 +1,4 @@
-use Rattle.std.proofs.Common.{◌≡◌, ℕ, ◌%◌, true, arith, rules}
+use Rattle.std.proofs.Common.{◌≡◌, ◌%◌, true, rules}
 use Rattle.nll_cut.specs.Partition.{may_be_count}
 use Rattle.nll_cut.proofs.DealLemmas.{dealt, sound_dealt, count_bounds}
 use Rattle.std.proofs.lemmas.Nat.{mod_below}

@@ -67,13 +67,13 @@ returns-clause-taken c =
     let e = c.in_ok-add_point.ensures in
     let few : length (map statement_kept kept.items) < most_points = omega (arith, c.len.ensures, kept.ok.0, length-map kept.items statement_kept, c.if-len.false) in
     let stand : map statement_kept c.add_point.new.points.statements.items ≡ map statement_kept kept.items ++ statement_meant s i ∷ [] =
-      ap (map statement_kept) e.statements ∙ (map_push statement_kept kept.items c.in_ok-meant.meant
-      ∙ ap (λ (m : Statement ℕ TypeTree). map statement_kept kept.items ++ m ∷ []) c.in_ok-meant.ensures) in
+    ap (map statement_kept) e.statements ∙ (map_push statement_kept kept.items c.in_ok-meant.meant
+    ∙ ap (λ (m : Statement ℕ TypeTree). map statement_kept kept.items ++ m ∷ []) c.in_ok-meant.ensures) in
     let counted : c.add_point.new.points.edges ≡ edge_count (map statement_kept c.add_point.new.points.statements.items) =
-      omega (arith, e.edges, r.edges, c.in_ok-edges.ensures.edges, edges_written c.args.statement.now, edges_more s (map statement_kept kept.items) i, ap edge_count stand) in
+    omega (arith, e.edges, r.edges, c.in_ok-edges.ensures.edges, edges_written c.args.statement.now, edges_more s (map statement_kept kept.items) i, ap edge_count stand) in
     record {
       fine = no_fault s i c.requires.due.order known blocks (sym c.requires.judged.fits ∙ c.if-not-judged-2.false) (sym (c.requires.judged.fits_small c.if-not-judged-2.false) ∙ c.if-not-judged-3.false) few
-        (omega (arith, c.in_ok-edges.ensures.edges, edges_written c.args.statement.now, r.edges, c.if-edges-gt-MAX_EDGES.false));
+          (omega (arith, c.in_ok-edges.ensures.edges, edges_written c.args.statement.now, r.edges, c.if-edges-gt-MAX_EDGES.false));
       says = point_said s i _ _ _ _ e.blocks (ap (λ v. v.items) e.starts) stand (e.owes ∙ ap not (ends_same s i c.in_ok-meant.meant c.in_ok-meant.ensures));
       ready = record {
         static = r.static;

@@ -1,6 +1,0 @@
-use Rattle.std.proofs.Common.{ℕ}
-use Rattle.nll_live.proofs.SetLemmas.{Holds}
-use Rattle.nll_live.proofs.liveness.set_of.Given as goal
-
-abbrev pub invariant-loop-point : goal.invariant-loop-point
-invariant-loop-point l = Holds l.points.items l.point-index l.len l.set
