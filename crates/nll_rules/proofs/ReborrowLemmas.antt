@@ -1,5 +1,5 @@
 -- The references on which a reborrow rests, one projection after another.
-use Rattle.std.proofs.Common.{◌≡◌, ℕ, zero, suc, ◌+◌, ◌<◌, ◌≤◌, Bool, true, false, List, [], ◌∷◌, ◌++◌, length, map, take, drop, get_or, refl, sym, ap, ◌∙◌, subst, arith, ⊎_elim, inl, inr, ◌↔◌, ◌⊎◌, Contains, Option, Some, None}
+use Rattle.std.proofs.Common.{◌≡◌, ℕ, zero, suc, ◌+◌, ◌-◌, ◌<◌, ◌≤◌, Bool, true, false, List, [], ◌∷◌, ◌++◌, length, map, take, drop, get_or, refl, sym, ap, ◌∙◌, subst, arith, ⊎_elim, inl, inr, ◌↔◌, ◌⊎◌, Contains, Option, Some, None}
 use Rattle.std.specs.Prelude.{slice_get, option_map, option_and_then, unwrap_or}
 use Rattle.std.proofs.Math.Seq.{drop-cons}
 use Rattle.std.proofs.lemmas.List.Elements.{Contains-push, Contains-push_cases, Contains-append_left}
@@ -9,7 +9,10 @@ use Rattle.nll_types.specs.Places.{PlacePath, behind, behind_all, type_of}
 use Rattle.nll_types.specs.declared.place.Projection.{Projection}
 use Rattle.nll_types.specs.declared.place.Projection.TheVariants.{Deref, Field}
 use Rattle.nll_rules.specs.Reborrows.{GoesThrough, RestsOn}
+use Rattle.nll_types.specs.Views.{tree}
+use Rattle.nll_types.specs.declared.ty.Ty.{Ty}
 use Rattle.nll_rules.specs.Walks.{cross, past, rests}
+use Rattle.nll_rules.proofs.SubtypeLemmas.{form}
 
 -- ---- from a type that may be there
 
@@ -145,3 +148,43 @@ pub step_on : (structs : List Struct) (ps : List Projection) (n : ℕ) (d p : Pr
     → behind structs p t ≡ Some u → rests structs (drop n ps) t regions ≡ rests structs (drop (n + 1) ps) u (past p t regions)
 step_on structs ps n d p t u regions l is e =
     step structs ps n d p t regions l is ∙ ap (λ (o : Option TypeTree). unwrap_or (option_map (λ u. rests structs (drop (n + 1) ps) u (past p t regions)) o) (past p t regions)) e
+
+-- ---- where the walk ends
+
+pub deref_ends : (structs : List Struct) (ps : List Projection) (n : ℕ) (d : Projection) (t : TypeTree) (regions : List ℕ) → n < length ps → get_or ps n d ≡ Deref
+    → (form t ≡ 2 → ⊥) → rests structs (drop n ps) t regions ≡ regions
+deref_ends structs ps n d int regions l is differs = step_none structs ps n d Deref int regions l is refl
+deref_ends structs ps n d (parameter k) regions l is differs = step_none structs ps n d Deref (parameter k) regions l is refl
+deref_ends structs ps n d (reference r m t) regions l is differs = absurd (differs refl)
+deref_ends structs ps n d (tuple ts) regions l is differs = step_none structs ps n d Deref (tuple ts) regions l is refl
+deref_ends structs ps n d (named s rs ts) regions l is differs = step_none structs ps n d Deref (named s rs ts) regions l is refl
+
+pub no_field : (structs : List Struct) (k : ℕ) (t : TypeTree) → (form t ≡ 3 → ⊥) → (form t ≡ 4 → ⊥) → behind structs (Field k) t ≡ None
+no_field structs k int a b = refl
+no_field structs k (parameter j) a b = refl
+no_field structs k (reference r m t) a b = refl
+no_field structs k (tuple ts) a b = absurd (a refl)
+no_field structs k (named s rs ts) a b = absurd (b refl)
+
+-- what is left to walk
+abbrev pub left : List Projection → Option (Ty × ℕ) → ℕ
+left ps None = 0
+left ps (Some r) = (length ps - r.1) + 1
+
+-- what is walked so far
+abbrev pub Walked : List Struct → List Projection → TypeTree → List ℕ → List ℕ → Option (Ty × ℕ) → Type 0
+Walked structs ps t old now None = rests structs ps t old ≡ now
+Walked structs ps t old now (Some r) = (rests structs ps t old ≡ rests structs (drop r.1 ps) (tree r.0) now) × (r.1 ≤ length ps)
+
+-- ---- from the variable
+
+pub get_mapped : {X Y : Type 0} (f : X → Y) (xs : List X) (k : ℕ) (x : X) → slice_get xs k ≡ Some x → slice_get (map f xs) k ≡ Some (f x)
+get_mapped f [] k x e = absurd cc
+get_mapped {X} f (y ∷ xs) zero x e = ap (λ o. option_map f o) e
+get_mapped f (y ∷ xs) (suc k) x e = get_mapped f xs k x e
+
+pub rests_from : (structs : List Struct) (variables : List TypeTree) (p : PlacePath) (o : Option TypeTree) (regions : List ℕ) → slice_get variables p.variable ≡ o
+    → regions ≡ unwrap_or (option_map (λ u. rests structs p.projections u []) o) [] → (a : ℕ) → Contains regions a ↔ RestsOn structs variables p a
+rests_from structs variables p o regions e r a =
+    subst (λ (z : List ℕ). Contains z a ↔ RestsOn structs variables p a) (ap (λ (o : Option TypeTree). unwrap_or (option_map (λ u. rests structs p.projections u []) o) []) e ∙ sym r)
+    (rests_on_is structs variables p a)

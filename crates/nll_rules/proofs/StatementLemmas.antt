@@ -1,6 +1,7 @@
 -- What statements ask, form by form.
-use Rattle.std.proofs.Common.{◌≡◌, ℕ, ◌+◌, ◌<◌, ◌≤◌, Bool, List, length, map, refl, sym, ap, ◌∙◌, subst, arith, ⊎_elim, inl, inr, ◌↔◌, ◌⊎◌, Contains, Option, Some, None}
+use Rattle.std.proofs.Common.{◌≡◌, ℕ, ◌+◌, ◌<◌, ◌≤◌, Bool, List, [], ◌∷◌, ◌++◌, length, map, refl, sym, ap, ◌∙◌, subst, arith, ⊎_elim, inl, inr, ◌↔◌, ◌⊎◌, Contains, Option, Some, None}
 use Rattle.std.specs.Prelude.{slice_get, option_map}
+use Rattle.std.proofs.lemmas.List.Elements.{Contains-push, Contains-push_cases, Contains-append_left, Contains-append_right, Contains-append_cases}
 use Rattle.nll_types.specs.Types.{TypeTree, reference}
 use Rattle.nll_types.specs.Structs.{Struct}
 use Rattle.nll_types.specs.Places.{PlacePath, type_of, behind}
@@ -10,7 +11,8 @@ use Rattle.nll_statements.specs.Statements.{assign, borrow, make, call}
 use Rattle.nll_rules.specs.Subtyping.{SubtypeAsks}
 use Rattle.nll_rules.specs.Reborrows.{RestsOn}
 use Rattle.nll_rules.specs.Asking.{Asks}
-use Rattle.nll_rules.specs.Pairs.{AtOne, BothAsk, PartAsks, InputAsks, OneOutlives}
+use Rattle.nll_rules.specs.Pairs.{AddsPairs, AtOne, BothAsk, PartAsks, InputAsks, OneOutlives}
+use Rattle.nll_rules.proofs.PairLemmas.{adds_none}
 use Rattle.nll_rules.proofs.SubtypeLemmas.{get_below}
 
 some_is : {X : Type 0} (a b : X) → Some a ≡ Some b → a ≡ b
@@ -73,3 +75,34 @@ input_at structs variables args n op u x e =
 
 pub inputs_within : (structs : List Struct) (variables : List TypeTree) (args : List (Operand × TypeTree)) (n k : ℕ) (x : ℕ × ℕ) → length args ≤ n → InputAsks structs variables args k x → k < n
 inputs_within structs variables args n k x le p = (let l = get_below args k (p.0, p.1) p.2 in omega arith)
+
+-- ---- pairs of a row
+
+pub both_none : (structs : List Struct) (one : Option TypeTree) (x : ℕ × ℕ) → BothAsk structs one None x → ⊥
+both_none structs one x b = (let e = b.3 in cc)
+
+pub none_both : (structs : List Struct) (other : Option TypeTree) (x : ℕ × ℕ) → BothAsk structs None other x → ⊥
+none_both structs other x b = (let e = b.2 in cc)
+
+pub both_there : (structs : List Struct) (t u : TypeTree) (x : ℕ × ℕ) → SubtypeAsks structs t u x ↔ BothAsk structs (Some t) (Some u) x
+both_there structs t u x =
+    ( λ h. (t, u, refl, refl, h),
+      λ b. subst (λ (z : TypeTree). SubtypeAsks structs z u x) (sym (some_is t b.0 b.2)) (subst (λ (z : TypeTree). SubtypeAsks structs b.0 z x) (sym (some_is u b.1 b.3)) b.4) )
+
+-- the pairs that are put behind the others are those
+pub adds_list : (old new pairs : List (ℕ × ℕ)) → new ≡ old ++ pairs → AddsPairs (Contains pairs) old new
+adds_list old new pairs e = rw e (record { each = λ x. (Contains-append_cases old pairs x, ⊎_elim (Contains-append_left old pairs x) (Contains-append_right old pairs x)) })
+
+pub outlives_none : (r : ℕ) (old : List (ℕ × ℕ)) → AddsPairs (OneOutlives [] r) old old
+outlives_none r old = adds_none _ old (λ x w. (let l = w.0.1 in absurd (omega arith)))
+
+pub outlives_more : (xs : List ℕ) (y r : ℕ) (old now next : List (ℕ × ℕ)) → next ≡ now ++ (y, r) ∷ [] → AddsPairs (OneOutlives xs r) old now → AddsPairs (OneOutlives (xs ++ y ∷ []) r) old next
+outlives_more xs y r old now next e h = rw e (record { each = λ x.
+    ( λ c. ⊎_elim (λ d. ⊎_elim inl (λ o. inr (Contains-append_left xs (y ∷ []) x.0 o.0, o.1)) ((h.each x).0 d)) (λ p. inr (here x p)) (Contains-push_cases now (y, r) x c),
+      ⊎_elim (λ o. Contains-append_left now ((y, r) ∷ []) x ((h.each x).1 (inl o)))
+      (λ o. ⊎_elim (λ d. Contains-append_left now ((y, r) ∷ []) x ((h.each x).1 (inr (d, o.1)))) (λ p. last x p o.1) (Contains-push_cases xs y x.0 o.0)) ) })
+  where
+    here : (x : ℕ × ℕ) → (y, r) ≡ x → OneOutlives (xs ++ y ∷ []) r x
+    here x p = subst (OneOutlives (xs ++ y ∷ []) r) p (Contains-push xs y, refl)
+    last : (x : ℕ × ℕ) → y ≡ x.0 → x.1 ≡ r → Contains (now ++ (y, r) ∷ []) x
+    last x p q = subst (Contains (now ++ (y, r) ∷ [])) (let d : (y, r) ≡ (x.0, x.1) = cc in d) (Contains-push now (y, r))
