@@ -106,3 +106,14 @@ outlives_more xs y r old now next e h = rw e (record { each = λ x.
     here x p = subst (OneOutlives (xs ++ y ∷ []) r) p (Contains-push xs y, refl)
     last : (x : ℕ × ℕ) → y ≡ x.0 → x.1 ≡ r → Contains (now ++ (y, r) ∷ []) x
     last x p q = subst (Contains (now ++ (y, r) ∷ [])) (let d : (y, r) ≡ (x.0, x.1) = cc in d) (Contains-push now (y, r))
+
+-- ---- the code's calls
+
+pub arguments_seen : {W T : Type 0} (op : W → Operand) (h : T → TypeTree) (xs : List (W × T))
+    → map {B = Operand × TypeTree} (λ x. (op x.0, h x.1)) xs ≡ map {B = Operand × TypeTree} (λ a. (a.0, h a.1)) (map {B = Operand × T} (λ x. (op x.0, x.1)) xs)
+arguments_seen op h [] = refl
+arguments_seen op h (x ∷ xs) = ap (λ as'. (op x.0, h x.1) ∷ as') (arguments_seen op h xs)
+
+pub pairs_seen : (ws : List (ℕ × ℕ)) → ws ≡ map {B = ℕ × ℕ} (λ w. (w.0, w.1)) ws
+pairs_seen [] = refl
+pairs_seen (w ∷ ws) = ap (λ zs. w ∷ zs) (pairs_seen ws)

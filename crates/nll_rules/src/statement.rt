@@ -89,6 +89,26 @@ fn ask_one(
     }
 }
 
+// Puts what a subtyping asks behind the others, where the first type is there.
+fn ask_before(
+    structs: &Structs,
+    one: &Option<Ty>,
+    other: &Ty,
+    asked: &mut Vec<(RegionId, RegionId)>,
+) -> Result<(), Memory>
+    ensures { OnOk result (AddsPairs
+        (BothAsk (structs_of structs.now) (option_map tree one.now) (Some (tree other.now)))
+        asked.old.items asked.new.items) }
+{
+    match one {
+        Some(one) => {
+            subtyping(structs, one, other, asked)?;
+            Ok(())
+        }
+        None => Ok(()),
+    }
+}
+
 // Puts what a subtyping asks behind the others, where both types are there.
 fn ask_both(
     structs: &Structs,
@@ -166,13 +186,8 @@ fn ask_input(
         asked.old.items asked.new.items) }
 {
     let one = operand_type(alloc, structs, variables, &argument.0)?;
-    match one {
-        Some(one) => {
-            let told = subtyping(structs, &one, &argument.1, asked);
-            told
-        }
-        None => Ok(()),
-    }
+    let told = ask_before(structs, &one, &argument.1, asked);
+    told
 }
 
 // Puts what the operands of a call ask behind the others.
