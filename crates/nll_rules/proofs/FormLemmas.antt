@@ -62,9 +62,10 @@ no_region structs outer t u asked w = ⊎_elim
     (λ (e : (k : ℕ) × (t ≡ Parameter k)). rw (ap tree e.1 ∙ tree_parameter e.0) (adds_none _ asked (parameter_asks structs outer e.0 (tree u)))) w
 
 pub no_parts : (t : Ty) → (t ≡ Int) ⊎ (((k : ℕ) × (t ≡ Parameter k)) ⊎ IsReference t) → (form (tree t) ≡ 3 → ⊥) × (form (tree t) ≡ 4 → ⊥)
-no_parts t w = (λ e. from 3 e (λ l. omega arith) , λ e. from 4 e (λ l. omega arith))
+no_parts t w = (λ e. from 3 e (λ l. omega arith), λ e. from 4 e (λ l. omega arith))
   where
     small : form (tree t) < 3
     small = ⊎_elim (λ h. (let f = int_form t h in omega arith)) (⊎_elim (λ h. (let f = parameter_form t h in omega arith)) (λ h. (let f = reference_form t h.0 h.1 h.2 h.3 in omega arith))) w
+
     from : (n : ℕ) → form (tree t) ≡ n → (n < 3 → ⊥) → ⊥
     from n e big = big (let l = small in omega arith)

@@ -43,12 +43,7 @@ fn operand_type(
 }
 
 // The type of a part of a tuple or of a field of a struct, where it has one.
-fn part_type(
-    alloc: Global,
-    structs: &Structs,
-    ty: &Ty,
-    place: usize,
-) -> Result<Option<Ty>, Memory>
+fn part_type(alloc: Global, structs: &Structs, ty: &Ty, place: usize) -> Result<Option<Ty>, Memory>
     ensures { IfOk result (λ o. option_map tree o
         ≡ behind (structs_of structs.now) (field place) (tree ty.now)) }
 {
@@ -166,7 +161,15 @@ fn ask_parts(
         (map operand_of operands.now))) asked.old.items asked.new.items) }
 {
     for place in 0..operands.len() {
-        ask_part(alloc, structs, variables, ty, &operands[place], place, asked)?;
+        ask_part(
+            alloc,
+            structs,
+            variables,
+            ty,
+            &operands[place],
+            place,
+            asked,
+        )?;
     }
     Ok(())
 }
@@ -277,11 +280,7 @@ fn reference_type(
         (type_of (structs_of structs.now) (map tree variables.now) (path_of place.now))) }
 {
     match place_type(alloc, structs, variables, place)? {
-        Some(target) => Ok(Some(Ty::Reference(
-            region,
-            mutable,
-            Box::new(alloc, target)?,
-        ))),
+        Some(target) => Ok(Some(Ty::Reference(region, mutable, Box::new(alloc, target)?))),
         None => Ok(None),
     }
 }
@@ -376,7 +375,9 @@ pub fn asks(
         }
         Statement::Borrow(place, region, mutable, borrowed) => {
             let (region, mutable) = (*region, *mutable);
-            ask_borrow(alloc, structs, variables, place, region, mutable, borrowed, asked)?;
+            ask_borrow(
+                alloc, structs, variables, place, region, mutable, borrowed, asked,
+            )?;
             Ok(())
         }
         Statement::Make(made) => {

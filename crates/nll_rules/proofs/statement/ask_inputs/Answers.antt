@@ -1,4 +1,4 @@
-use Rattle.std.proofs.Common.{◌≡◌, ◌<◌, ◌≤◌, List, length, map, refl, arith}
+use Rattle.std.proofs.Common.{◌<◌, ◌≤◌, length, map, refl, arith}
 use Rattle.std.proofs.lemmas.List.{length-map}
 use Rattle.std.proofs.lemmas.Option.{slice_get_read}
 use Rattle.nll_types.specs.Declarations.{structs_of}
@@ -9,7 +9,6 @@ use Rattle.nll_rules.proofs.PairLemmas.{below_none, below_more, below_all}
 use Rattle.nll_rules.proofs.ReborrowLemmas.{get_mapped}
 use Rattle.nll_rules.proofs.StatementLemmas.{input_at, inputs_within}
 use Rattle.nll_rules.proofs.statement.ask_inputs.Goals as goal
-
 
 pub loop-place-init : goal.loop-place-init
 loop-place-init c = below_none _ _
