@@ -1,12 +1,14 @@
 -- What the reports print: the elements of a set as a list, and lines one after another.
-use Rattle.std.proofs.Common.{◌≡◌, ◌⊎◌, ◌↔◌, ℕ, zero, suc, ◌+◌, ◌<◌, Bool, true, false, List, [], ◌∷◌, ◌++◌, All, AllPairs, Contains, get_or, length, inl, inr, ⊎_elim, refl, sym, ap, ◌∙◌, subst, arith}
+use Rattle.std.proofs.Common.{◌≡◌, ◌⊎◌, ◌↔◌, ℕ, zero, suc, ◌+◌, ◌-◌, ◌<◌, ◌≤◌, Bool, true, false, List, [], ◌∷◌, ◌++◌, All, AllPairs, Contains, drop, get_or, length, length-drop, take, inl, inr, ⊎_elim, refl, sym, ap, ◌∙◌, subst, arith}
 use Rattle.std.specs.List.{flat_map, range_with_len}
 use Rattle.std.proofs.lemmas.Bool.{cases_lt, false≢true}
 use Rattle.std.proofs.lemmas.Grind.{flat_map-append}
-use Rattle.std.proofs.lemmas.List.{append-nil, get_or_past}
+use Rattle.std.proofs.lemmas.List.{append-nil, append_assoc, drop_more, flat_map_more, get_or-take, take_more}
 use Rattle.std.proofs.lemmas.List.Elements.{Contains-append_cases, Contains-append_right, Contains-get_or, Contains-push_cases}
 use Rattle.std.proofs.lemmas.List.Kept.{AllPairs-cons}
 use Rattle.nll_sets.specs.ElementSet.{flag, elements, elements_from}
+use Rattle.nll_sets.specs.Runs.{no_run, numbers, numbers_of}
+use Rattle.nll_sets.specs.declared.run.Run.{Run}
 use Rattle.nll_core.specs.Values.{set_of, IsHeld}
 use Rattle.nll_problem.specs.Problem.{Problem, IsSound, end_of}
 use Rattle.nll_problem.specs.Faults.{AreFaults}
@@ -54,13 +56,6 @@ pub element_is_held : (flags : List Bool) (e : ℕ) → Contains (elements flags
 element_is_held flags e h =
     let w = listed_is_set 0 flags e h in let at : w.0 ≡ e = omega (arith, w.1) in subst (λ i. flag flags i ≡ true) at w.2
 
--- and so below the length of its flags
-pub element_within : (flags : List Bool) (e : ℕ) → Contains (elements flags) e → e < length flags
-element_within flags e h = ⊎_elim
-    (λ below. below)
-    (λ past. absurd (false≢true (sym (get_or_past flags e false past) ∙ element_is_held flags e h)))
-    (cases_lt e (length flags))
-
 -- the elements of a region's set list what the region holds
 pub elements_are_listed : (values : List (List Bool)) (r : ℕ) → IsListed (IsHeld values r) (elements (set_of values r))
 elements_are_listed values r = record {
@@ -71,6 +66,45 @@ elements_are_listed values r = record {
 range_more : (a n : ℕ) → range_with_len a (suc n) ≡ range_with_len a n ++ (a + n) ∷ []
 range_more a zero = let same : a ≡ a + 0 = omega arith in ap (λ (x : ℕ). x ∷ []) same
 range_more a (suc n) = let same : a + 1 + n ≡ a + suc n = omega arith in ap (λ xs. a ∷ xs) (range_more (a + 1) n ∙ ap (λ (x : ℕ). range_with_len (a + 1) n ++ x ∷ []) same)
+
+-- the parts of the line of a region, one behind another
+pub line_put : (out name elements a b c d e : List ℕ) → a ≡ out ++ 39 ∷ [] → b ≡ a ++ name → c ≡ b ++ 58 ∷ [] → d ≡ c ++ elements → e ≡ d ++ 10 ∷ []
+    → e ≡ out ++ ((39 ∷ name) ++ 58 ∷ [] ++ elements ++ 10 ∷ [])
+line_put out name elements a b c d e quote named colon printed ended = simp (append_assoc, ended, printed, colon, named, quote)
+
+-- a sign in front of digits that end a row of the same signs
+pub signed : (sign start : ℕ) (row new digits : List ℕ) → 0 < start → 0 < length digits → get_or row (start - 1) 0 ≡ sign
+    → take start new ≡ take start row → drop start new ≡ digits → drop (start - 1) new ≡ sign ∷ digits
+signed sign start row new digits some long is front back =
+    let next : start - 1 + 1 ≡ start = omega (arith, some) in
+    let before : start - 1 < start = omega (arith, some) in
+    let within : start - 1 < length new = omega (arith, long, some, ap length back, length-drop start new) in
+    drop_more new (start - 1) 0 within
+    ∙ ap (λ (x : ℕ). x ∷ drop (start - 1 + 1) new) (sym (get_or-take start new (start - 1) 0 before) ∙ ap (λ xs. get_or xs (start - 1) 0) front ∙ get_or-take start row (start - 1) 0 before ∙ is)
+    ∙ ap (λ (xs : List ℕ). sign ∷ xs) (ap (λ n. drop n new) next ∙ back)
+
+-- what is printed of a run, with one number more
+pub run_more : (print : ℕ → List ℕ) (first number : ℕ) (old now new : List ℕ) → first ≤ number
+    → now ≡ old ++ flat_map print (range_with_len first (number - first)) → new ≡ now ++ print number
+    → new ≡ old ++ flat_map print (range_with_len first (number + 1 - first))
+run_more print first number old now new low printed more =
+    let n : ℕ = number - first in
+    let on : suc n ≡ number + 1 - first = omega (arith, low) in
+    let last : first + n ≡ number = omega (arith, low) in
+    more ∙ ap (λ xs. xs ++ print number) printed ∙ flat_map_more print old (range_with_len first n) number
+    ∙ ap (λ (xs : List ℕ). old ++ flat_map print xs) (ap (λ (k : ℕ). range_with_len first n ++ k ∷ []) (sym last) ∙ sym (range_more first n) ∙ ap (range_with_len first) on)
+
+-- what is printed of runs, with one run more
+pub runs_more : (print : ℕ → List ℕ) (runs : List Run) (k : ℕ) (old now new : List ℕ) → k < length runs
+    → now ≡ old ++ flat_map print (numbers (take k runs)) → new ≡ now ++ flat_map print (numbers_of (get_or runs k no_run))
+    → new ≡ old ++ flat_map print (numbers (take (k + 1) runs))
+runs_more print runs k old now new within printed more =
+    let run = get_or runs k no_run in
+    let front = numbers (take k runs) in
+    let all : numbers (take (k + 1) runs) ≡ front ++ numbers_of run = ap numbers (take_more runs k no_run within) ∙ flat_map-append numbers_of (take k runs) (run ∷ []) ∙ ap (λ (xs : List ℕ). front ++ xs) (append-nil (numbers_of run)) in
+    more ∙ ap (λ (xs : List ℕ). xs ++ flat_map print (numbers_of run)) printed
+    ∙ append_assoc old (flat_map print front) (flat_map print (numbers_of run))
+    ∙ ap (λ (xs : List ℕ). old ++ xs) (sym (flat_map-append print front (numbers_of run)) ∙ ap (flat_map print) (sym all))
 
 -- one line more
 pub lines_more : (line : ℕ → List ℕ) (n : ℕ) → flat_map line (range_with_len 0 (n + 1)) ≡ flat_map line (range_with_len 0 n) ++ line n

@@ -1,15 +1,18 @@
 //! The report of values.
 
-ghost use Rattle.std.specs.Prelude.{◌≡◌, ◌<◌, ◌≤◌, ◌++◌, ◌∷◌, ◌+◌, length, IfOk, OnOk};
-ghost use Rattle.std.specs.Prelude.{string_bytes};
+ghost use Rattle.std.specs.Prelude.{◌≡◌, ℕ, ◌<◌, ◌≤◌, ◌++◌, ◌∷◌, ◌+◌, length, IfOk, OnOk};
+ghost use Rattle.std.specs.Fmt.{decimal};
+ghost use Rattle.std.specs.List.{flat_map};
 ghost use Rattle.nll_sets.specs.ElementSet.{elements};
+ghost use Rattle.nll_sets.specs.Runs.{first_of, last_of, numbers, numbers_of};
 ghost use Rattle.nll_core.specs.Values.{IsHeld, IsShaped, set_of};
 ghost use Rattle.nll_answer.specs.Report.{IsValuesReport, element_text, point_text, value_line};
+ghost use Rattle.nll_answer.specs.Report.{end_text};
 
-use nll_core::{Element, Memory, Problem, RegionId, Values};
+use itoa::write_digits;
+use nll_core::{Element, Memory, Problem, RegionId, Run, Values};
 use nll_mir::{Labels, PointName};
-use std::alloc::{AllocError, Global};
-use std::fmt::Write;
+use std::alloc::Global;
 
 /// Prints the report of values: a line for each region.
 ///
@@ -28,65 +31,119 @@ pub fn values_text(
     ensures { IfOk result (λ bytes.
         IsValuesReport problem.now labels.now (IsHeld values.now) bytes.items) }
 {
-    let mut out = String::new(alloc);
+    let mut out = Vec::new(alloc);
     let points = problem.points();
     for number in 0..problem.regions() {
         push_line(&mut out, labels, values, points, RegionId(number))?;
     }
-    Ok(out.into_bytes())
+    Ok(out)
 }
 
 // Puts the line of a region at the end.
 fn push_line(
-    out: &mut String,
+    out: &mut Vec<u8>,
     labels: &Labels,
     values: &Values,
     points: u32,
     region: RegionId,
-) -> Result<(), AllocError>
+) -> Result<(), Memory>
     requires region { region < length values.now }
     requires named { region < length labels.now.names }
     requires ends { length (set_of values.now region) ≤ points + length labels.now.names }
-    ensures { OnOk result (string_bytes out.new ≡ string_bytes out.old
+    ensures { OnOk result (out.new.items ≡ out.old.items
         ++ value_line labels.now points region (elements (set_of values.now region))) }
 {
-    let name = labels.region(region);
-    write!(out, "'{name}:")?;
-    for element in values.iter(region) {
-        push_element(out, labels, points, element)?;
+    out.extend_from_slice(b"'")?;
+    out.extend_from_slice(labels.region(region).as_bytes())?;
+    out.extend_from_slice(b":")?;
+    push_runs(out, labels, points, values.runs(region))?;
+    out.extend_from_slice(b"\n")?;
+    Ok(())
+}
+
+// Puts the elements of runs at the end, each after a space.
+fn push_runs(
+    out: &mut Vec<u8>,
+    labels: &Labels,
+    points: u32,
+    runs: &[Run],
+) -> Result<(), Memory>
+    requires fit { (k : ℕ) → k < length runs.now → (first_of runs.now k ≤ last_of runs.now k)
+        × (last_of runs.now k < points + length labels.now.names) }
+    requires room { (k : ℕ) → k < length runs.now → last_of runs.now k + 1 < 4294967296 }
+    ensures { OnOk result (out.new.items ≡ out.old.items
+        ++ flat_map (λ e. 32 ∷ element_text labels.now points e) (numbers runs.now)) }
+{
+    for run in runs {
+        push_run(out, labels, points, *run)?;
     }
-    out.push_str("\n")?;
+    Ok(())
+}
+
+// Puts the elements of a run at the end, each after a space.
+fn push_run(out: &mut Vec<u8>, labels: &Labels, points: u32, run: Run) -> Result<(), Memory>
+    requires proper { run.first ≤ run.last }
+    requires within { run.last < points + length labels.now.names }
+    requires room { run.last + 1 < 4294967296 }
+    ensures { OnOk result (out.new.items ≡ out.old.items
+        ++ flat_map (λ e. 32 ∷ element_text labels.now points e) (numbers_of run)) }
+{
+    for number in run.first..run.last + 1 {
+        push_element(out, labels, points, Element(number))?;
+    }
     Ok(())
 }
 
 // Puts an element at the end, after a space.
 fn push_element(
-    out: &mut String,
+    out: &mut Vec<u8>,
     labels: &Labels,
     points: u32,
     element: Element,
-) -> Result<(), AllocError>
+) -> Result<(), Memory>
     requires { element < points + length labels.now.names }
-    ensures { OnOk result (string_bytes out.new
-        ≡ string_bytes out.old ++ 32 ∷ element_text labels.now points element) }
+    ensures { OnOk result (out.new.items
+        ≡ out.old.items ++ 32 ∷ element_text labels.now points element) }
 {
     if element.0 < points {
-        push_point(out, labels.point(element.0))?;
+        push_point(out, labels.point(element.0))
     } else {
-        let name = labels.region(RegionId(element.0 - points));
-        write!(out, " end('{name})")?;
+        push_end(out, labels, RegionId(element.0 - points))
     }
+}
+
+// Puts the end of a universal region at the end, after a space.
+fn push_end(out: &mut Vec<u8>, labels: &Labels, region: RegionId) -> Result<(), Memory>
+    requires { region < length labels.now.names }
+    ensures { OnOk result (out.new.items ≡ out.old.items ++ 32 ∷ end_text labels.now region) }
+{
+    out.extend_from_slice(b" end('")?;
+    out.extend_from_slice(labels.region(region).as_bytes())?;
+    out.extend_from_slice(b")")?;
     Ok(())
 }
 
 // Puts a point at the end, after a space.
-fn push_point(out: &mut String, point: PointName) -> Result<(), AllocError>
-    ensures { OnOk result (string_bytes out.new
-        ≡ string_bytes out.old ++ 32 ∷ point_text point) }
+fn push_point(out: &mut Vec<u8>, point: PointName) -> Result<(), Memory>
+    ensures { OnOk result (out.new.items ≡ out.old.items ++ 32 ∷ point_text point) }
 {
     match point {
-        PointName::Number(number) => write!(out, " {number}")?,
-        PointName::Block(block, place) => write!(out, " bb{block}/{place}")?,
+        PointName::Number(number) => push_number(out, b' ', number),
+        PointName::Block(block, place) => {
+            out.extend_from_slice(b" b")?;
+            push_number(out, b'b', block)?;
+            push_number(out, b'/', place)
+        }
     }
+}
+
+// Puts a sign and a number at the end.
+fn push_number(out: &mut Vec<u8>, sign: u8, number: u32) -> Result<(), Memory>
+    ensures { OnOk result (out.new.items ≡ out.old.items ++ sign ∷ decimal number) }
+{
+    // A number of 32 bits has ten digits at most.
+    let mut text = [sign; 11];
+    let start = write_digits(number as u64, &mut text, 11);
+    out.extend_from_slice(&text[start - 1..])?;
     Ok(())
 }

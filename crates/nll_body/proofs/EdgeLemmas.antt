@@ -1,5 +1,5 @@
 -- What adding an edge answers, and how many targets there are.
-use Rattle.std.proofs.Common.{◌≡◌, ◌⊎◌, ◌↔◌, ℕ, ◌+◌, ◌<◌, ◌≤◌, Bool, true, false, cond, not, ◌&&◌, List, [], ◌∷◌, ◌++◌, Contains, length, None, Some, inl, inr, refl, sym, ap, ◌∙◌, subst, ⊎_elim, arith, length-append, suc, nat_eq, get_or, take, drop}
+use Rattle.std.proofs.Common.{◌≡◌, ◌⊎◌, ℕ, ◌+◌, ◌<◌, ◌≤◌, Bool, true, false, cond, List, [], ◌∷◌, ◌++◌, Contains, length, Some, inl, inr, refl, sym, ap, ◌∙◌, subst, ⊎_elim, arith, length-append, suc, nat_eq, get_or, take, drop}
 use Rattle.std.specs.Prelude.{◌==◌, slice_get}
 use Rattle.std.specs.List.{fold, list_any}
 use Rattle.std.proofs.lemmas.Bool.{false≢true}
@@ -98,9 +98,9 @@ targets_step starts p front b q old mid new before adds same at = record {
     λ h. (adds.each (r, s)).1 (⊎_elim
         (λ there. inl ((before.next r s).1 (inl there)))
         (λ led. ⊎_elim
-            (λ in_front. inl ((before.next r s).1 (inr (led.0, (led.1.0, in_front, led.1.2)))))
-            (λ is. inr (pair p q r s (sym led.0) (some_same q s (sym at ∙ (ap (slice_get starts) is ∙ led.1.2)))))
-            (Contains-push_cases front b led.1.0 led.1.1))
+        (λ in_front. inl ((before.next r s).1 (inr (led.0, (led.1.0, in_front, led.1.2)))))
+        (λ is. inr (pair p q r s (sym led.0) (some_same q s (sym at ∙ (ap (slice_get starts) is ∙ led.1.2)))))
+        (Contains-push_cases front b led.1.0 led.1.1))
         h),
   );
   counted = by (list_any (λ c. nat_eq b c) front) refl;

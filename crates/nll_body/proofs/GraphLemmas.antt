@@ -1,10 +1,10 @@
 -- What the graph has after some of the points, and after all.
-use Rattle.std.proofs.Common.{◌≡◌, ◌⊎◌, ℕ, ◌+◌, ◌<◌, ◌≤◌, List, [], Contains, length, Some, slice_get, take, inl, inr, refl, sym, ap, ◌∙◌, subst, ⊎_elim, arith, get_or, map}
+use Rattle.std.proofs.Common.{◌≡◌, ℕ, ◌+◌, ◌<◌, ◌≤◌, List, [], Contains, length, Some, slice_get, inl, inr, refl, sym, ap, ◌∙◌, subst, ⊎_elim, arith, get_or, map}
 use Rattle.std.proofs.lemmas.Bool.{cases_lt}
 use Rattle.std.specs.Prelude.{option_map}
 use Rattle.std.proofs.lemmas.Option.{get_or_from_slice_get, slice_get_within, slice_get_read, slice_get-map}
 use Rattle.std.proofs.lemmas.List.Sums.{sum_by_more, sum_by_more_le}
-use Rattle.nll_problem.specs.Graph.{Graph, IsNext, IsReturn}
+use Rattle.nll_problem.specs.Graph.{Graph}
 use Rattle.nll_problem.specs.GraphBuilding.{bare_graph}
 use Rattle.nll_problem.specs.Limits.{most_edges}
 use Rattle.nll_types.specs.Types.{TypeTree}
@@ -45,9 +45,9 @@ points_step starts count stand k i old new has at adds = record {
     λ h. (adds.next p q).1 (⊎_elim
         (λ low. inl ((has.next p q).1 (low, h.1, h.2, h.3)))
         (λ high.
-          let same : p ≡ k = omega (arith, high, h.0) in
-          let what : h.1 ≡ i = some_same h.1 i (sym h.2 ∙ ap (slice_get stand) same ∙ at) in
-          inr (same, subst (λ j. LeavesTo starts k j q) what (subst (λ r. LeavesTo starts r h.1 q) same h.3)))
+        let same : p ≡ k = omega (arith, high, h.0) in
+        let what : h.1 ≡ i = some_same h.1 i (sym h.2 ∙ ap (slice_get stand) same ∙ at) in
+        inr (same, subst (λ j. LeavesTo starts k j q) what (subst (λ r. LeavesTo starts r h.1 q) same h.3)))
         (cases_lt p k)),
   );
   returns = λ p. (
@@ -58,14 +58,14 @@ points_step starts count stand k i old new has at adds = record {
     λ h. (adds.returns p).1 (⊎_elim
         (λ low. inl ((has.returns p).1 (low, h.1)))
         (λ high.
-          let same : p ≡ k = omega (arith, high, h.0) in
-          inr (same, some_same i return (sym at ∙ ap (slice_get stand) (sym same) ∙ h.1)))
+        let same : p ≡ k = omega (arith, high, h.0) in
+        inr (same, some_same i return (sym at ∙ ap (slice_get stand) (sym same) ∙ h.1)))
         (cases_lt p k)),
   );
   counted =
-    let more = sum_by_more edges_from stand k i (slice_get_within stand k i at) in
-    let last : get_or stand k i ≡ i = get_or_from_slice_get stand k i i at in
-    omega (arith, adds.counted, has.counted, more, ap edges_from last);
+      let more = sum_by_more edges_from stand k i (slice_get_within stand k i at) in
+      let last : get_or stand k i ≡ i = get_or_from_slice_get stand k i i at in
+      omega (arith, adds.counted, has.counted, more, ap edges_from last);
 }
 
 -- there is room for the edges of one point more

@@ -1,8 +1,8 @@
 -- What a point adds to the graph.
-use Rattle.std.proofs.Common.{◌≡◌, ◌⊎◌, ℕ, ◌+◌, Bool, true, false, List, [], ◌++◌, Contains, length, inl, inr, refl, sym, ap, ◌∙◌, subst, ⊎_elim, arith}
+use Rattle.std.proofs.Common.{◌≡◌, ℕ, ◌+◌, true, false, List, [], ◌++◌, Contains, inl, inr, refl, sym, ap, ◌∙◌, subst, ⊎_elim, arith}
 use Rattle.std.proofs.lemmas.Bool.{false≢true}
 use Rattle.nll_problem.specs.Answers.{AddsFact}
-use Rattle.nll_problem.specs.Graph.{Graph, IsNext}
+use Rattle.nll_problem.specs.Graph.{Graph}
 use Rattle.nll_types.specs.Types.{TypeTree}
 use Rattle.nll_types.specs.Views.{tree}
 use Rattle.nll_types.specs.declared.ty.Ty.{Ty}
@@ -10,7 +10,7 @@ use Rattle.nll_statements.specs.Statements.{Statement, is_terminator, map_statem
 use Rattle.nll_statements.specs.Effects.{targets}
 use Rattle.nll_statements.specs.Kept.{statement_of}
 use Rattle.nll_statements.specs.declared.statement.Statement.{Statement as Kept}
-use Rattle.nll_body.specs.Edges.{LeadsTo, LeavesTo, edges_from}
+use Rattle.nll_body.specs.Edges.{LeadsTo}
 use Rattle.nll_body.specs.Making.{AddsTargets, AddsEdges, AddsPoint}
 use Rattle.nll_body.specs.Views.{meant}
 use Rattle.nll_body.proofs.EdgeLemmas.{one_more, pair, pair_left, pair_right}

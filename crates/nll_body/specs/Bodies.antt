@@ -1,6 +1,6 @@
 -- A body: what a MIR text means, its points and its graph.
 -- Source: RFC 2094 speaks of MIR; the numbering of points is project's choice.
-use Rattle.std.specs.Prelude.{◌≡◌, ◌⊎◌, ◌↔◌, ℕ, ◌+◌, false, true, List, map, length, Contains}
+use Rattle.std.specs.Prelude.{◌≡◌, ◌⊎◌, ◌↔◌, ℕ, ◌+◌, false, List, length, Contains}
 use Rattle.std.specs.Prelude.{Some, slice_get}
 use Rattle.nll_problem.specs.Graph.{Graph, IsNext, IsReturn}
 use Rattle.nll_reading.specs.Labels.{Labels, blocks}
@@ -20,6 +20,10 @@ pub record BodyText : Type 0 where
   pub variables : List TypeTree
   pub starts : List ℕ
   pub points : List (Statement ℕ TypeTree)
+
+-- the variable has this type
+abbrev pub HasType : BodyText → ℕ → TypeTree → Type 0
+HasType body x t = slice_get body.variables x ≡ Some t
 
 -- this statement or terminator stands at p
 abbrev pub StandsAt : BodyText → ℕ → Statement ℕ TypeTree → Type 0

@@ -1,8 +1,7 @@
 -- The edges that leave the points of a body.
 -- Source: project's choice.
-use Rattle.std.specs.Prelude.{◌≡◌, ◌⊎◌, ℕ, ◌+◌, ◌==◌, false, List, [], length, Contains, Some}
-use Rattle.std.specs.Prelude.{if◌then◌else◌, slice_get, sum_by}
-use Rattle.indexmap.specs.IndexSet.{insert_all}
+pub use Rattle.nll_statements.specs.Edges.{edges_from, edge_count}
+use Rattle.std.specs.Prelude.{◌≡◌, ◌⊎◌, ℕ, ◌+◌, false, List, Contains, Some, slice_get}
 use Rattle.nll_statements.specs.Statements.{Statement, is_terminator}
 use Rattle.nll_statements.specs.Effects.{targets}
 
@@ -15,12 +14,3 @@ LeadsTo starts blocks q = (b : ℕ) × Contains blocks b × (slice_get starts b 
 abbrev pub LeavesTo : {R T : Type 0} → List ℕ → ℕ → Statement R T → ℕ → Type 0
 LeavesTo starts p i q =
     ((is_terminator i ≡ false) × (q ≡ p + 1)) ⊎ LeadsTo starts (targets i) q
-
--- how many edges leave the point where the statement or terminator stands
-abbrev pub edges_from : {R T : Type 0} → Statement R T → ℕ
-edges_from i =
-    if is_terminator i then length (insert_all (λ b c. b == c) [] (targets i)) else 1
-
--- how many edges leave these points
-abbrev pub edge_count : {R T : Type 0} → List (Statement R T) → ℕ
-edge_count points = sum_by edges_from points

@@ -14,7 +14,7 @@ pub record AddsTargets (starts : List ℕ) (p : ℕ) (blocks : List ℕ) (old ne
   pub others : new ≡ record old { edges = new.edges }
   pub next : (r q : ℕ) → IsNext new r q ↔ (IsNext old r q ⊎ ((r ≡ p) × LeadsTo starts blocks q))
   pub counted :
-    length new.edges ≤ length old.edges + length (insert_all (λ b c. b == c) [] blocks)
+      length new.edges ≤ length old.edges + length (insert_all (λ b c. b == c) [] blocks)
 
 -- The graph got the edges that leave p, where this stands.
 pub record AddsEdges {R T : Type 0} (starts : List ℕ) (p : ℕ) (i : Statement R T) (old new : Graph)

@@ -1,7 +1,8 @@
 -- What holds of each body.
 -- Source: project's choice.
-use Rattle.std.specs.Prelude.{◌≡◌, ◌<◌, ◌≤◌, ℕ, List, length, All, Contains}
-use Rattle.nll_problem.specs.Limits.{most_points, most_edges, most_universals}
+use Rattle.std.specs.Prelude.{◌<◌, ◌≤◌, ℕ, length, All, Contains}
+use Rattle.nll_problem.specs.Limits.{most_points, most_edges, most_universals, most_regions}
+use Rattle.nll_problem.specs.Limits.{most_variables}
 use Rattle.nll_reading.specs.Labels.{AreFirstPoints}
 use Rattle.nll_types.specs.Types.{TypeTree}
 use Rattle.nll_types.specs.Structs.{AreInOrder, IsWellFormed}
@@ -10,8 +11,9 @@ use Rattle.nll_statements.specs.Effects.{targets}
 use Rattle.nll_body.specs.Bodies.{BodyText, StandsAt, GoesOn}
 use Rattle.nll_body.specs.Edges.{edge_count}
 
--- The points and their graph keep to the limits, each edge leads to a point, each target is one of
--- the blocks, and the types of the variables keep to what is declared.
+-- The points, the regions and the variables keep to the limits, each edge leads to a point, each
+-- target is one of the blocks, the outlives pairs are of universal regions, and the types of the
+-- variables keep to what is declared.
 pub record IsSound (body : BodyText) : Type 0 where
   pub some_point : 0 < length body.points
   pub point_limit : length body.points ≤ most_points
@@ -19,6 +21,10 @@ pub record IsSound (body : BodyText) : Type 0 where
   pub some_universal : 0 < body.universals
   pub universal_limit : body.universals ≤ most_universals
   pub all_universals : body.universals ≤ length body.names
+  pub region_limit : length body.names ≤ most_regions
+  pub variable_limit : length body.variables ≤ most_variables
+  pub known_universals : (a b : ℕ) → Contains body.outlives (a, b)
+      → (a < body.universals) × (b < body.universals)
   pub first_points : AreFirstPoints body.starts
   pub in_range : (p q : ℕ) → GoesOn body p q → q < length body.points
   pub blocks : (p b : ℕ) (i : Statement ℕ TypeTree) → StandsAt body p i → Contains (targets i) b

@@ -1,15 +1,16 @@
 //! A body, with its graph and its labels.
 
-ghost use Rattle.std.specs.Prelude.{◌≡◌, ◌<◌, ◌++◌, length, IfErr, IfOk, OnOk, Some};
-ghost use Rattle.std.specs.Prelude.{ℕ, slice_get};
+ghost use Rattle.std.specs.Prelude.{◌≡◌, ◌≢◌, ◌↔◌, ◌<◌, ◌++◌, ℕ, length, Some};
+ghost use Rattle.std.specs.Prelude.{AllPairs, Contains, IfErr, IfOk, OnOk};
 ghost use Rattle.nll_types.specs.Declarations.{structs_of};
+ghost use Rattle.nll_types.specs.DropRegions.{IsDropRegion};
 ghost use Rattle.nll_types.specs.Places.{type_of, path_of};
 ghost use Rattle.nll_types.specs.Structs.{IsWellFormed};
-ghost use Rattle.nll_types.specs.Types.{TypeTree};
+ghost use Rattle.nll_types.specs.Types.{TypeTree, HasRegion};
 ghost use Rattle.nll_types.specs.Views.{tree};
 ghost use Rattle.nll_statements.specs.Effects.{variables_used, defined, dropped};
 ghost use Rattle.nll_statements.specs.Statements.{Statement as standing};
-ghost use Rattle.nll_body.specs.Bodies.{IsGraphOf, StandsAt, labels_of};
+ghost use Rattle.nll_body.specs.Bodies.{HasType, IsGraphOf, StandsAt, labels_of};
 ghost use Rattle.nll_body.specs.Parts.{body_of};
 ghost use Rattle.nll_body.specs.Sound.{IsSound};
 ghost use Rattle.nll_body.specs.Views.{meant};
@@ -17,7 +18,7 @@ ghost use Rattle.nll_body.specs.Views.{meant};
 use crate::edges::graph_of;
 use crate::parts::BodyParts;
 use crate::statement::Stmt;
-use nll_problem::{BuildError, Graph};
+use nll_problem::{BuildError, Graph, RegionId};
 use nll_reading::Labels;
 use nll_sets::Memory;
 use nll_types::{Place, Structs, Ty, place_type, types_of_places_are_well_formed};
@@ -36,14 +37,15 @@ pub struct Body {
 }
 
 impl Model for Body {
-    ghost use Rattle.std.specs.Coded.{codes};
+    ghost use Rattle.std.specs.Coded.{codes, Coded};
     ghost use Rattle.nll_body.specs.Bodies.{BodyText};
     ghost use Rattle.nll_body.specs.Kept.{kept_body, IsKept};
-    ghost use Rattle.nll_body.specs.TypeCodes.{tree_code, trees_code};
+    ghost use Rattle.nll_body.specs.TypeCodes.{Step, tree_code, trees_code};
 
     ghost Value = { BodyText };
 
-    ghost coded = { Prim.hlevel (codes, tree_code, trees_code) };
+    ghost coded = { let step : Coded Step = Prim.hlevel codes in
+        Prim.hlevel (codes, tree_code step, trees_code step) };
 
     ghost view = { λ b.
         kept_body b.labels b.outlives.items b.structs b.variables.items b.points.items b.graph };
@@ -126,9 +128,10 @@ impl Body {
         self.labels.regions()
     }
 
-    /// How many variables there are.
+    /// How many variables there are; they are numbered from 0.
     pub fn variables(&self) -> usize
-        ensures { result ≡ length self.now.variables }
+        ensures value { result ≡ length self.now.variables }
+        ensures sound { IsSound self.now }
     {
         self.variables.len()
     }
@@ -158,11 +161,44 @@ impl Body {
     /// The type of a variable.
     pub fn var_type(&self, variable: u32) -> &Ty
         requires { variable < length self.now.variables }
-        ensures value { slice_get self.now.variables variable ≡ Some (tree result.now) }
-        ensures well_formed
-            { IsWellFormed self.now.structs (length self.now.names) 0 (tree result.now) }
+        ensures value { HasType self.now variable (tree result.now) }
+        ensures well_formed { IsWellFormed self.now.structs (length self.now.names) 0
+            (tree result.now) }
     {
         &self.variables[variable as usize]
+    }
+
+    /// The regions that are written in the type of a variable, each once.
+    ///
+    /// # Errors
+    /// `Memory` alone.
+    pub fn var_regions(&self, alloc: Global, variable: u32) -> Result<Vec<RegionId>, Memory>
+        requires { variable < length self.now.variables }
+        ensures each { IfOk result (λ v. (t : TypeTree) → HasType self.now variable t
+            → (r : ℕ) → Contains v.items r ↔ HasRegion t r) }
+        ensures once { IfOk result (λ v. AllPairs (λ q r. q ≢ r) v.items) }
+    {
+        let ty = self.var_type(variable);
+        let regions = self.structs.regions(alloc, ty)?;
+        Ok(regions)
+    }
+
+    /// The drop regions of the type of a variable, each once.
+    ///
+    /// # Errors
+    /// `Memory` alone.
+    ///
+    /// # Source
+    /// RFC 2094, "Drop".
+    pub fn var_drop_regions(&self, alloc: Global, variable: u32) -> Result<Vec<RegionId>, Memory>
+        requires { variable < length self.now.variables }
+        ensures each { IfOk result (λ v. (t : TypeTree) → HasType self.now variable t
+            → (r : ℕ) → Contains v.items r ↔ IsDropRegion self.now.structs t r) }
+        ensures once { IfOk result (λ v. AllPairs (λ q r. q ≢ r) v.items) }
+    {
+        let ty = self.var_type(variable);
+        let regions = self.structs.drop_regions(alloc, ty)?;
+        Ok(regions)
     }
 
     /// The type of a place that has one.

@@ -8,3 +8,4 @@ pub mod WalkingLemmas
 pub mod RunValueLemmas
 pub mod WorklistLemmas
 pub mod OrderLemmas
+pub mod FrontierLemmas

@@ -23,7 +23,7 @@ none_in_empty n x h =
     false≢true (sym (get_or-replicate n x false false within) ∙ h)
 
 -- what stands at the place where a list has x
-contains_at : (xs : List ℕ) (x : ℕ) (h : Contains xs x) → get_or xs h.0 0 ≡ x
+pub contains_at : (xs : List ℕ) (x : ℕ) (h : Contains xs x) → get_or xs h.0 0 ≡ x
 contains_at xs x h = get_or_default xs h.0 0 x h.1 ∙ h.2
 
 -- what holds of the elements of a list, place by place, holds of each that it contains
@@ -150,7 +150,7 @@ module _ (step : ℕ → ℕ → Type 0) where
   leads_more x y z h goes = (h.0 ++ z ∷ [], walk_more step (λ _. ⊤) x h.0 y z h.1 goes tt)
 
   -- what holds of the first and goes along each step holds of the last
-  leads_carries : (holds : ℕ → Type 0) → ((x y : ℕ) → holds x → step x y → holds y) → (x y : ℕ) → holds x → LeadsTo step x y → holds y
+  pub leads_carries : (holds : ℕ → Type 0) → ((x y : ℕ) → holds x → step x y → holds y) → (x y : ℕ) → holds x → LeadsTo step x y → holds y
   leads_carries holds along x y here h = walk_carries step (λ _. ⊤) holds (λ a b k s _. along a b k s) x h.0 y here h.1
 
 -- from an element of the set, walks inside it and walks by the steps that lead into it reach the same

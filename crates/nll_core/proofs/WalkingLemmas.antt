@@ -7,9 +7,9 @@ use Rattle.nll_sets.specs.ElementSet.{flag}
 use Rattle.nll_problem.specs.Graph.{Graph, element_count, IsNext, IsStep, IsSound, IsEnd}
 use Rattle.nll_problem.specs.Walks.{Reaches}
 use Rattle.nll_core.specs.Search.{missing, IsIn}
-use Rattle.nll_sets.specs.Runs.{no_run, IsInRuns, IsWithin, Fills}
-use Rattle.nll_core.specs.Lines.{IsJump}
-use Rattle.nll_core.specs.Walking.{IsLineClosed, IsStretch, Grows, IsJumpedTo, IsFollowed, AreOfPoints, IsLedTo, IsSpread, FillsFrom, constraint_at, no_constraint, PointsAscend, IsLedFrom, AreLedFrom}
+use Rattle.nll_sets.specs.Runs.{no_run, IsInRuns, IsWithin, IsRunFrom, Fills}
+use Rattle.nll_core.specs.Lines.{IsJump, IsLineEnd}
+use Rattle.nll_core.specs.Walking.{IsLineClosed, IsStretch, IsGap, Grows, IsJumpedTo, IsFollowed, AreOfPoints, IsLedTo, IsSpread, FillsFrom, constraint_at, no_constraint, PointsAscend, IsLedFrom, AreLedFrom}
 use Rattle.nll_sets.specs.declared.run.Run.{Run}
 use Rattle.nll_problem.specs.declared.constraint.Constraint.{Constraint}
 use Rattle.nll_problem.proofs.WalkLemmas.{reaches_first, reaches_more, reaches_starts, reaches_carries, reaches_inside}
@@ -123,6 +123,24 @@ module _ (g : Graph) (sub : List Bool) where
       let before = line_reaches p k (λ x a b. inside x a (omega (arith, b))) (λ x a b. line x a (omega (arith, b))) in
       let same : p + k + 1 ≡ p + suc k = omega arith in
       subst (Reaches g (IsIn sub) p) same (reaches_more g (IsIn sub) p (p + k) (p + k + 1) before (inl (line (p + k) (omega arith) (omega arith))) (inside (p + k + 1) (omega arith) (omega arith)))
+
+  -- up to where a line, a run of `sub` and what is new go on, there is a stretch
+  pub stretch_of : (reached : List Bool) (point e last : ℕ) (inside run : Run) → IsLineEnd g point e → IsRunFrom sub point inside → inside.first ≤ point → last ≤ e → last ≤ inside.last → (last ≡ e) ⊎ (last ≡ inside.last) → IsGap reached point last run → IsStretch g sub reached point run
+  stretch_of reached point e last inside run line from before low high either gap = record {
+    first = gap.first;
+    proper = gap.proper;
+    points = omega (arith, gap.most, low, line.point);
+    inside = λ x a b. from.all x (omega (arith, a, before)) (omega (arith, b, gap.most, high));
+    line = λ x a b. line.line x a (omega (arith, b, gap.most, low));
+    new = gap.new point (omega arith) gap.proper;
+    closing = λ next in_sub. ⊎_elim
+        (λ here. ⊎_elim
+        (λ ends. absurd (line.last (subst (λ y. IsNext g y (y + 1)) (here ∙ ends) next)))
+        (λ ends. absurd (false≢true (sym from.end ∙ subst (λ y. IsIn sub (y + 1)) (here ∙ ends) in_sub)))
+        either)
+        (λ more. more)
+        gap.closing;
+  }
 
   pub grows_stretch : (old new : List Bool) (before : List Run) (point : ℕ) (run : Run) → IsStretch g sub old point run → Fills old new run → Grows g sub (Reaches g (IsIn sub) point) old new before (before ++ run ∷ [])
   grows_stretch old new before point run s f =

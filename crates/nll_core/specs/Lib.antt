@@ -6,3 +6,4 @@ pub mod Lines
 pub mod Walking
 pub mod Worklist
 pub mod Order
+pub mod Frontiers

@@ -2,12 +2,13 @@
 //! The problem is that of `nll_problem`, the sets are those of `nll_sets`; both are found here too.
 //!
 //! Reading order: `values`, `bases`, `lines` (with `line_ends`, `jumps`), `stretches`, `walk`,
-//! `pairs`, `meeting`, `order`, `solver`; `search`, `reachability`, `outliving`, `fault_check`.
+//! `pairs`, `meeting`, `order`, `solver`; `search`, `reachability`, `frontier`, `outliving`, `fault_check`.
 //! The definitions are in specs/.
 #![tactic(auto)]
 
 mod bases;
 mod fault_check;
+mod frontier;
 mod jumps;
 mod line_ends;
 mod lines;
@@ -25,6 +26,7 @@ mod walk;
 
 pub use bases::base_values;
 pub use fault_check::faults;
+pub use frontier::Frontier;
 pub use nll_problem::{
     BuildError, Constraint, Graph, Kind, MAX_CONSTRAINTS, MAX_EDGES, MAX_POINTS, MAX_REGIONS,
     MAX_UNIVERSALS, Problem, ProblemBuilder, RegionId,

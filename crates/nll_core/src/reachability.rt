@@ -10,11 +10,11 @@ use nll_problem::Graph;
 use nll_sets::{Element, ElementSet, Memory};
 use std::alloc::Global;
 
-// The steps of a graph that lead into a set.
+/// The steps of a graph that lead into a set.
 #[derive(Drop)]
-struct Inside<'a, S: ElementSet> {
-    graph: &'a Graph,
-    set: &'a S,
+pub struct Inside<'a, S: ElementSet> {
+    pub graph: &'a Graph,
+    pub set: &'a S,
     ghost width: { length (S.flags set.now) ≡ element_count graph.now },
 }
 

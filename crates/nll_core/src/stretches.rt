@@ -9,50 +9,62 @@ ghost use Rattle.nll_problem.specs.Walks.{Reaches};
 ghost use Rattle.nll_sets.specs.Runs.{IsInRuns, IsWithin};
 ghost use Rattle.nll_core.specs.Lines.{IsJump};
 ghost use Rattle.nll_core.specs.Search.{IsIn};
-ghost use Rattle.nll_core.specs.Walking.{IsStretch, Grows, IsJumpedTo, IsFollowed, AreOfPoints};
+ghost use Rattle.nll_core.specs.Walking.{IsGap, Grows, IsJumpedTo, IsFollowed, AreOfPoints};
 ghost use Rattle.nll_core.specs.Walking.{IsLineClosed, IsSpread};
 
 use crate::lines::Lines;
-use nll_sets::{Element, ElementSet, Memory, Run, RunSet};
+use nll_sets::{Memory, Run, RunSet};
 
-// The stretch from a point on that is new to the set; None where there is none.
-fn stretch(lines: &Lines, sub: &RunSet, reached: &RunSet, point: u32) -> Option<Run>
-    requires point { point < lines.now.points }
-    requires widths { lines.now.points ≤ length reached.now }
-    ensures some { IfSome result (IsStretch lines.now sub.now reached.now point) }
-    ensures none { IfNone result (IsIn sub.now point → IsIn reached.now point) }
+// The run from a point to another, as far as it is new to the set; None where the point isn't.
+fn gap(reached: &RunSet, point: u32, last: u32) -> Option<Run>
+    requires { point ≤ last }
+    ensures some { IfSome result (IsGap reached.now point last) }
+    ensures none { IfNone result (IsIn reached.now point) }
 {
-    let inside = sub.run_from(point)?;
-    if inside.first > point || reached.has(Element(point)) {
+    let Some(next) = reached.run_from(point) else {
+        return Some(Run { first: point, last });
+    };
+    if next.first <= point {
         return None;
     }
-    let most = lines.line_end(point).min(inside.last);
-    let last = match reached.run_from(point) {
-        Some(next) => most.min(next.first - 1),
-        None => most,
-    };
-    Some(Run { first: point, last })
+    Some(Run {
+        first: point,
+        last: last.min(next.first - 1),
+    })
 }
 
-/// Puts the stretch from a point into the set and into the list.
+/// Puts the stretch from a point, where it is in `sub`, into the set and into the list: as far as
+/// its line and the run of `sub` go on and it is new. Answers a number up to which each number from
+/// the point on is settled.
 pub fn enter(
     lines: &Lines,
     sub: &RunSet,
     reached: &mut RunSet,
     todo: &mut Vec<Run>,
     point: u32,
-) -> Result<(), Memory>
+) -> Result<u32, Memory>
     requires point { point < lines.now.points }
     requires widths { lines.now.points ≤ length reached.old }
     ensures grows { OnOk result (Grows lines.now sub.now (Reaches lines.now (IsIn sub.now) point)
         reached.old reached.new todo.old.items todo.new.items) }
+    ensures settled { IfOk result (λ next. IsLineClosed lines.now sub.now reached.old
+        → (x : ℕ) → point ≤ x → x < next → IsIn sub.now x → IsIn reached.new x) }
     ensures covers { OnOk result (IsIn sub.now point → IsIn reached.new point) }
 {
-    if let Some(run) = stretch(lines, sub, reached, point) {
-        reached.insert_run(run)?;
-        todo.push(run)?;
+    let points = lines.points();
+    let Some(inside) = sub.run_from(point) else {
+        return Ok(points);
+    };
+    if inside.first > point {
+        return Ok(inside.first);
     }
-    Ok(())
+    let last = lines.line_end(point).min(inside.last);
+    let Some(run) = gap(reached, point, last) else {
+        return Ok(last + 1);
+    };
+    reached.insert_run(run)?;
+    todo.push(run)?;
+    Ok(last + 1)
 }
 
 // Enters the targets of the jumps from the points of a run. Answers whether one of these is a
@@ -100,9 +112,9 @@ pub fn spread(
     requires listed { (x : ℕ) → IsInRuns todo.old.items x ↔ IsIn reached.old x }
     ensures { IfOk result (IsSpread lines.now sub.now reached.old reached.new) }
 {
-    let mut ends = false;
+    let mut ended = false;
     while let Some(run) = todo.pop() {
-        ends |= follow(lines, sub, reached, todo, run)?;
+        ended |= follow(lines, sub, reached, todo, run)?;
     }
-    Ok(ends)
+    Ok(ended)
 }

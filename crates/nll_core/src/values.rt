@@ -1,8 +1,8 @@
 //! The values of regions: a set of elements for each.
 
-ghost use Rattle.std.specs.Prelude.{◌≡◌, ℕ, ◌≤◌, ◌<◌, not, length, IfOk, OnOk, OnErr};
+ghost use Rattle.std.specs.Prelude.{◌≡◌, ℕ, ◌+◌, ◌≤◌, ◌<◌, not, length, IfOk, OnOk, OnErr};
 ghost use Rattle.nll_sets.specs.ElementSet.{elements};
-ghost use Rattle.nll_sets.specs.Runs.{IsWithin};
+ghost use Rattle.nll_sets.specs.Runs.{first_of, last_of, numbers, IsWithin};
 ghost use Rattle.nll_core.specs.Growing.{Gains, Tells};
 ghost use Rattle.nll_core.specs.Values.{set_of, holds, with_element, empty_values, IsHeld};
 
@@ -81,6 +81,18 @@ impl Values {
         ensures { result ≡ elements (set_of self.now region) }
     {
         RegionElements::of(&self.sets[region.0 as usize])
+    }
+
+    /// The runs of elements of the value of a region, ascending.
+    pub fn runs(&self, region: RegionId) -> &[Run]
+        requires { region < length self.now }
+        ensures listed { numbers result.now ≡ elements (set_of self.now region) }
+        ensures fit { (k : ℕ) → k < length result.now
+            → (first_of result.now k ≤ last_of result.now k)
+            × (last_of result.now k < length (set_of self.now region)) }
+        ensures room { (k : ℕ) → k < length result.now → last_of result.now k + 1 < 4294967296 }
+    {
+        self.sets[region.0 as usize].as_runs()
     }
 
     // The set of a region.

@@ -3,7 +3,6 @@
 ghost use Rattle.std.specs.Prelude.{◌≡◌, ℕ, ◌≤◌, ◌<◌, false, Contains, length, [], OnOk, IfOk};
 ghost use Rattle.nll_sets.specs.ElementSet.{flag};
 ghost use Rattle.nll_problem.specs.Graph.{element_count};
-ghost use Rattle.nll_problem.specs.Walks.{Reaches};
 ghost use Rattle.nll_problem.specs.declared.constraint.Constraint as spec;
 ghost use Rattle.nll_core.specs.Search.{IsIn};
 ghost use Rattle.nll_core.specs.Walking.{Grows, IsLineClosed, FillsFrom, PointsAscend, AreAtPoints};
@@ -96,38 +95,10 @@ fn enter_all(
 {
     let mut place = 0;
     while place < pair.len() {
-        let next = enter_next(lines, sub, reached, todo, pair[place].at)?;
+        let next = enter(lines, sub, reached, todo, pair[place].at)?;
         place = place_from(pair, place + 1, next);
     }
     Ok(())
-}
-
-// Enters a point. Answers a number up to which each number from the point on is settled.
-fn enter_next(
-    lines: &Lines,
-    sub: &RunSet,
-    reached: &mut RunSet,
-    todo: &mut Vec<Run>,
-    point: u32,
-) -> Result<u32, Memory>
-    requires point { point < lines.now.points }
-    requires widths { lines.now.points ≤ length reached.old }
-    requires closed { IsLineClosed lines.now sub.now reached.old }
-    ensures grows { OnOk result (Grows lines.now sub.now (Reaches lines.now (IsIn sub.now) point)
-        reached.old reached.new todo.old.items todo.new.items) }
-    ensures settled { IfOk result
-        (λ next. (x : ℕ) → point ≤ x → x < next → IsIn sub.now x → IsIn reached.new x) }
-    ensures own { OnOk result (IsIn sub.now point → IsIn reached.new point) }
-{
-    let points = lines.points();
-    let Some(run) = sub.run_from(point) else {
-        return Ok(points);
-    };
-    if run.first > point {
-        return Ok(run.first);
-    }
-    enter(lines, sub, reached, todo, point)?;
-    Ok(lines.line_end(point).min(run.last) + 1)
 }
 
 // The first place, from one on, of a constraint whose point isn't below `least`.

@@ -1,16 +1,14 @@
 -- Grammars that are made of others.
-use Rattle.std.proofs.Common.{◌≡◌, ℕ, ◌<◌, ◌≤◌, ◌+◌, ◌-◌, drop, Bool, true, false, eqb, List, [], ◌∷◌, ◌++◌, length, map, refl, sym, ap, ◌∙◌, subst, append_assoc, arith}
+use Rattle.std.proofs.Common.{◌≡◌, ℕ, ◌<◌, ◌≤◌, ◌+◌, ◌-◌, drop, false, eqb, List, [], ◌∷◌, ◌++◌, length, map, refl, sym, ap, ◌∙◌, subst, append_assoc, arith}
 use Rattle.std.specs.List.{AllByRecursion, flat_map}
-use Rattle.std.specs.Prelude.{codes}
-use Rattle.std.specs.Str.{bytes_eq}
 use Rattle.std.proofs.lemmas.Bool.{eq-eqb, false≢true}
 use Rattle.std.proofs.lemmas.List.{length-append, map-append, length-drop, length-map}
 use Rattle.std.specs.List.{drop-map}
 use Rattle.std.proofs.lemmas.Grind.{flat_map-append}
-use Rattle.nll_text.specs.Tokens.{Token, word, region, sign, arrow, view, views}
+use Rattle.nll_text.specs.Tokens.{Token, sign, view, views}
 use Rattle.nll_text.specs.declared.token.Token.{Token as InLine}
-use Rattle.nll_mir_grammar.specs.MirForms.{parted, in_parentheses}
-use Rattle.nll_mir_grammar.specs.Grammars.{Grammar, Begins, HasNone, IsOne, IsNotNext, behind, empty, pair, many, commas, parentheses, by_kind, MayFollowLast, MayFollowAll}
+use Rattle.nll_mir_grammar.specs.MirForms.{parted}
+use Rattle.nll_mir_grammar.specs.Grammars.{Grammar, Begins, HasNone, IsOne, IsNotNext, behind, empty, pair, many, commas, parentheses, by_kind, MayFollowLast}
 
 -- ---- tokens
 

@@ -1,38 +1,21 @@
 -- Right sides and lines: tokens begin with one of each at most.
-use Rattle.std.proofs.Common.{◌≡◌, ℕ, ◌<◌, ◌^◌, Bool, true, false, cond, eqb, List, [], ◌∷◌, ◌++◌, length, map, refl, sym, ap, ◌∙◌, subst, append_assoc, arith, Option, Some, None}
-use Rattle.std.specs.List.{AllByRecursion, flat_map}
+use Rattle.std.proofs.Common.{◌≡◌, ℕ, ◌<◌, true, false, cond, eqb, List, [], ◌∷◌, ◌++◌, refl, sym, ap, ◌∙◌, subst, arith, Option, Some, None}
+use Rattle.std.specs.List.{flat_map}
 use Rattle.std.specs.Prelude.{codes}
 use Rattle.std.specs.Str.{bytes_eq}
 use Rattle.std.specs.Fmt.{decimal}
-use Rattle.nll_text.specs.Tokens.{Token, word, region, sign, arrow}
-use Rattle.nll_types.specs.Places.{PlacePath}
-use Rattle.nll_types.specs.Operands.{Operand, constant, copied, moved}
-use Rattle.nll_type_grammar.specs.WrittenTypes.{Name, WrittenType, WrittenTypes, tuple, spelled}
-use Rattle.nll_mir_grammar.specs.MirForms.{IsSmall, WrittenParameter, spelled_projection, spelled_place, spelled_operand, spelled_exits, spelled_wheres, spelled_parameters, drop_mark, block_word, parted, in_parentheses}
-use Rattle.nll_mir_grammar.specs.MirForms as forms
-use Rattle.nll_mir_grammar.specs.Grammars.{Grammar, Begins, HasNone, IsOne, IsNotNext, behind, empty, pair, many, commas, parentheses, by_kind, MayFollowLast, MayFollowAll}
-use Rattle.nll_mir_grammar.specs.Parts.{regions, any_words, names, prefixed, numbers, variables, block_names, projections, places, operands, types, tuples, arguments, mutabilities, drop_marks, parameters, parameter_lists, bounds, bound_lists, block_lists, exits, MayFollowMark}
-use Rattle.nll_mir_grammar.specs.Kinds.{borrows, makes, results, signatures, structs, Right, value, borrowed, made, called, RightParts, right_sides, rights, Behind, tails, keyword_name, LineParts, line_grammars, lines, parts_of, IsLine, IsRightSide}
+use Rattle.nll_text.specs.Tokens.{Token, word, sign, arrow}
+use Rattle.nll_types.specs.Operands.{constant, copied, moved}
+use Rattle.nll_mir_grammar.specs.MirForms.{spelled_projection, block_word}
+use Rattle.nll_mir_grammar.specs.Grammars.{Begins, HasNone, IsOne, IsNotNext, behind, pair, parentheses, MayFollowAll}
+use Rattle.nll_mir_grammar.specs.Parts.{regions, any_words, names, variables, places, operands, types, tuples, arguments, mutabilities, drop_marks, parameter_lists, bounds, bound_lists, block_lists, exits}
+use Rattle.nll_mir_grammar.specs.Kinds.{borrows, makes, results, signatures, structs, Right, value, borrowed, made, called, RightParts, right_sides, rights, tails, keyword_name, LineParts, line_grammars, lines}
 use Rattle.nll_mir_grammar.specs.declared.keyword.Keyword.{Keyword}
 use Rattle.nll_mir_grammar.specs.declared.keyword.Keyword.TheVariants as words
-use Rattle.nll_statements.specs.Statements.{Statement, assign, borrow, make, read, live, dead, nop, goto, switch, drop, call, return, stop}
-use Rattle.nll_mir_grammar.specs.MirForms.{Form, universal, outlives, further, struct_line, variable, blocks, block, at_point, end, spelled_form, IsWritable, IsSpelled}
-use Rattle.nll_mir_grammar.proofs.GrammarLemmas.{tail_same, head_same, append_nil, pair_found, behind_found, signs_apart, signs_differ, behind_one, behind_none, behind_other, behind_back, Joins, pair_one, pair_none, pair_none_behind, IsBefore, parentheses_one, all_before, empty_one, kinds_one}
-use Rattle.nll_mir_grammar.proofs.PartLemmas.{words_apart, no_projection_left, regions_one, any_words_one, names_one, prefixed_one, places_one, operands_one, types_one, tuples_one, mark_one, parameter_lists_one, bound_lists_one, block_lists_one, exits_one, operands_listable, arguments_listable, bounds_before, no_projection, operands_before, places_before, mark_before}
+use Rattle.nll_mir_grammar.proofs.GrammarLemmas.{head_same, signs_apart, signs_differ, behind_one, behind_none, Joins, pair_one, parentheses_one, all_before, empty_one, kinds_one}
+use Rattle.nll_mir_grammar.proofs.PartLemmas.{words_apart, regions_join, words_join, names_join, variables_join, any_bounds, blocks_one, regions_one, any_words_one, names_one, prefixed_one, places_one, operands_one, types_one, tuples_one, mark_one, parameter_lists_one, bound_lists_one, block_lists_one, exits_one, operands_listable, arguments_listable, bounds_before, no_projection, operands_before, mark_before}
 
 -- ---- what stands behind what
-
-pub regions_join : {B : Type 0} (h : Grammar B) → Joins regions h
-regions_join h a b r k l m = tt
-
-pub words_join : {B : Type 0} (h : Grammar B) → Joins any_words h
-words_join h a b r k l m = tt
-
-pub names_join : {B : Type 0} (h : Grammar B) → Joins names h
-names_join h a b r k l m = tt
-
-pub variables_join : {B : Type 0} (h : Grammar B) → Joins variables h
-variables_join h a b r k l m = tt
 
 variable_is_no : (w : List ℕ) (x : ℕ) → bytes_eq (codes "_" ++ decimal x) w ≡ false → word (codes "_" ++ decimal x) ≡ word w → ⊥
 variable_is_no w x n e = words_apart (codes "_" ++ decimal x) w n (let f : codes "_" ++ decimal x ≡ w = cc in f)
@@ -46,10 +29,6 @@ makes_join t ops r k l m others e = signs_differ 40 60 _ _ refl e
 exits_begin : (e : ℕ × Option ℕ) (r : List Token) → (rest : List Token) × (exits.spells e ++ r ≡ arrow ∷ rest)
 exits_begin (b, None) r = (block_word b ∷ r, refl)
 exits_begin (b, Some c) r = (block_word b ∷ word (codes "unwind") ∷ block_word c ∷ r, refl)
-
-any_bounds : (vs : List (Name × Name)) → AllByRecursion bounds.IsAllowed vs
-any_bounds [] = tt
-any_bounds (v ∷ vs) = ((tt, tt), any_bounds vs)
 
 pub bounds_join : Joins bound_lists exits
 bounds_join [] e r k l m = λ others f. let g = exits_begin e r in let h : arrow ∷ g.0 ≡ word (codes "where") ∷ others = sym g.1 ∙ f in cc
@@ -218,9 +197,6 @@ pub structs_one : IsOne structs
 structs_one = pair_one names (pair parameter_lists (pair drop_marks tuples)) (names_join (pair parameter_lists (pair drop_marks tuples))) names_one
     (pair_one parameter_lists (pair drop_marks tuples) parameters_join parameter_lists_one
     (pair_one drop_marks tuples drops_join drop_marks_one tuples_one))
-
-blocks_one : IsOne block_names
-blocks_one = prefixed_one (codes "bb")
 
 variables_one : IsOne variables
 variables_one = prefixed_one (codes "_")

@@ -1,27 +1,27 @@
 -- Lines and their parts.
-use Rattle.std.proofs.Common.{◌≡◌, ◌==◌, true, false, length, ℕ, Bool, List, [], ◌∷◌, ◌++◌, map, refl, sym, ap, ◌∙◌, subst, append_assoc, Option, Some, None}
+use Rattle.std.proofs.Common.{◌≡◌, ◌==◌, true, false, length, ℕ, Bool, List, [], ◌∷◌, map, refl, sym, ap, ◌∙◌, subst, Option, Some, None}
 use Rattle.std.specs.List.{AllByRecursion}
 use Rattle.std.specs.Prelude.{codes}
-use Rattle.nll_text.specs.Tokens.{Token, word, region, sign, arrow, view, views}
+use Rattle.nll_text.specs.Tokens.{Token, word, sign, view, views}
 use Rattle.nll_text.specs.declared.token.Token.{Token as InLine}
 use Rattle.std.proofs.lemmas.Bool.{eqb-true, false≢true}
 use Rattle.std.proofs.lemmas.List.{nil_from_length}
 use Rattle.nll_types.specs.Places.{PlacePath}
 use Rattle.nll_types.specs.Operands.{Operand, constant, copied, moved}
-use Rattle.nll_type_grammar.specs.WrittenTypes.{Name, WrittenType, WrittenTypes, tuple, spelled, HasNames, IsFree}
+use Rattle.nll_type_grammar.specs.WrittenTypes.{Name, WrittenType, HasNames, IsFree}
 use Rattle.nll_types.specs.Operands.{operand_of}
 use Rattle.nll_types.specs.declared.operand.Operand.{Operand as Written}
 use Rattle.nll_type_grammar.specs.TypeTexts.{written}
 use Rattle.nll_type_grammar.specs.declared.type_text.TypeNode.{TypeNode}
 use Rattle.nll_mir_grammar.specs.Lines.{argument_of}
-use Rattle.nll_statements.specs.Statements.{Statement, assign, borrow, make, read, live, dead, nop, goto, switch, drop, call, return, stop}
-use Rattle.nll_mir_grammar.specs.MirForms.{Form, universal, outlives, further, struct_line, variable, blocks, block, at_point, end, spelled_form, spelled_place, IsWritable, IsWritableOperand, IsSpelled}
-use Rattle.nll_mir_grammar.specs.Grammars.{Grammar, Begins, HasNone, IsOne, IsNotNext, behind, empty, pair, many, commas, parentheses, by_kind}
-use Rattle.nll_mir_grammar.specs.Parts.{any_words, places, operands, types, exits, arguments, block_names, MayFollowOperand, MayFollowUnwind}
-use Rattle.nll_mir_grammar.specs.Kinds.{borrows, makes, results, signatures, Right, value, borrowed, made, called, RightParts, right_sides, rights, Behind, tails, keyword_name, LineParts, line_grammars, lines, parts_of, IsLine, IsRightSide, IsBehind, HasNoKeyword}
+use Rattle.nll_statements.specs.Statements.{assign, borrow, make, read, live, dead, nop, goto, switch, drop, call, return, stop}
+use Rattle.nll_mir_grammar.specs.MirForms.{Form, universal, outlives, further, struct_line, variable, blocks, block, at_point, end, spelled_form, IsWritable, IsWritableOperand, IsSpelled}
+use Rattle.nll_mir_grammar.specs.Grammars.{Begins, HasNone, behind, pair}
+use Rattle.nll_mir_grammar.specs.Parts.{any_words, places, operands, arguments, block_names, MayFollowOperand, MayFollowUnwind}
+use Rattle.nll_mir_grammar.specs.Kinds.{borrows, makes, signatures, value, borrowed, made, called, rights, tails, keyword_name, LineParts, line_grammars, lines, parts_of, IsLine, IsRightSide, IsBehind, HasNoKeyword}
 use Rattle.nll_mir_grammar.specs.declared.keyword.Keyword.{Keyword}
 use Rattle.nll_mir_grammar.specs.declared.keyword.Keyword.TheVariants as words
-use Rattle.nll_mir_grammar.proofs.GrammarLemmas.{append_nil, behind_found, behind_none, pair_found, tail_same, head_same}
+use Rattle.nll_mir_grammar.proofs.GrammarLemmas.{append_nil, behind_found, behind_none, pair_found, head_same}
 use Rattle.nll_mir_grammar.proofs.PartLemmas.{no_projection_left}
 use Rattle.nll_mir_grammar.proofs.KindLemmas.{lines_one, line_kind, line_kind_of, line_kind_of_name}
 

@@ -1,6 +1,6 @@
 -- The parts of a line: tokens begin with one of each at most.
-use Rattle.std.proofs.Common.{◌≡◌, ℕ, ◌<◌, ◌^◌, Bool, true, false, eqb, List, [], ◌∷◌, ◌++◌, length, map, refl, sym, ap, ◌∙◌, subst, append_assoc, arith, Option, Some, None}
-use Rattle.std.specs.List.{AllByRecursion, flat_map}
+use Rattle.std.proofs.Common.{◌≡◌, ℕ, ◌<◌, ◌^◌, Bool, true, false, eqb, List, [], ◌∷◌, ◌++◌, length, refl, sym, ap, ◌∙◌, subst, append_assoc, arith, Some, None}
+use Rattle.std.specs.List.{AllByRecursion}
 use Rattle.std.specs.Prelude.{codes}
 use Rattle.std.specs.Str.{bytes_eq}
 use Rattle.std.specs.Fmt.{decimal}
@@ -15,13 +15,13 @@ use Rattle.nll_types.specs.declared.place.Projection.TheVariants.{Deref, Field}
 use Rattle.nll_types.specs.declared.parameter.Parameter.{Parameter}
 use Rattle.nll_types.specs.declared.parameter.Sign.{Sign}
 use Rattle.nll_types.specs.declared.parameter.Sign.TheVariants.{Covariant, Invariant}
-use Rattle.nll_type_grammar.specs.WrittenTypes.{Name, WrittenType, WrittenTypes, int, reference, tuple, named, spelled, HasNames, IsFree, is_capital, BeginsWithType}
+use Rattle.nll_type_grammar.specs.WrittenTypes.{Name, WrittenType, WrittenTypes, int, reference, tuple, named, spelled}
 use Rattle.nll_type_grammar.specs.Reading.{HasNoType, IsTypeIn}
-use Rattle.nll_mir_grammar.specs.Lines.{parts}
-use Rattle.nll_mir_grammar.specs.MirForms.{IsSmall, WrittenParameter, region_parameter, type_parameter, spelled_projection, spelled_place, spelled_operand, dangling_mark, sign_token, spelled_marks, block_word}
-use Rattle.nll_mir_grammar.specs.Grammars.{Grammar, Begins, HasNone, IsOne, IsNotNext, behind, empty, pair, many, commas, parentheses, by_kind, MayFollowLast, MayFollowAll}
-use Rattle.nll_mir_grammar.specs.Parts.{regions, any_words, names, prefixed, numbers, variables, block_names, projections, places, operands, types, tuples, arguments, marks, parameter_marks, parameters, parameter_lists, bounds, bound_lists, block_lists, exits, MayFollowMark}
-use Rattle.nll_mir_grammar.proofs.GrammarLemmas.{IsSolid, inside_one, tail_same, head_same, signs_apart, signs_differ, behind_one, behind_none, behind_other, behind_back, Joins, pair_one, pairs_same, many_one, IsLoose, commas_one, IsBefore, IsListable, parentheses_one, all_before, empty_one, enclosed, first_inside}
+use Rattle.nll_mir_grammar.specs.Tuples.{parts, IsTuple}
+use Rattle.nll_mir_grammar.specs.MirForms.{WrittenParameter, region_parameter, type_parameter, spelled_place, spelled_operand, dangling_mark, sign_token, block_word}
+use Rattle.nll_mir_grammar.specs.Grammars.{Grammar, Begins, HasNone, IsOne, IsNotNext, behind, empty, pair, many, commas}
+use Rattle.nll_mir_grammar.specs.Parts.{regions, any_words, names, prefixed, variables, block_names, projections, places, operands, types, tuples, arguments, marks, parameter_marks, parameters, parameter_lists, bounds, bound_lists, block_lists, exits, MayFollowMark}
+use Rattle.nll_mir_grammar.proofs.GrammarLemmas.{IsSolid, inside_one, tail_same, head_same, signs_apart, signs_differ, behind_one, behind_none, Joins, pair_one, many_one, IsLoose, commas_one, IsBefore, IsListable, enclosed}
 use Rattle.nll_type_grammar.proofs.OneTree.{one_tree}
 
 -- the first byte of a word, or 0
@@ -78,7 +78,7 @@ projections_one ts (Field k) (Field l) r s x y =
 pub projections_loose : IsLoose projections
 projections_loose p r = tt
 
-variables_join : {B : Type 0} (h : Grammar B) → Joins variables h
+pub variables_join : {B : Type 0} (h : Grammar B) → Joins variables h
 variables_join h a b r k l m = tt
 
 -- a variable and its projections
@@ -195,11 +195,16 @@ no_tuple ts none xs rest b = none (tuple xs) rest (record { joined = b.joined; a
 pub no_tuple_open : (ts : List Token) → IsNotNext (sign 40) ts → HasNone tuples ts
 no_tuple_open ts other xs rest b = other _ b.joined
 
-pub tuple_found : (ts inner : List Token) (t : WrittenType) (rest : List Token) → ts ≡ sign 40 ∷ inner → Begins types ts t rest → Begins tuples ts (parts t) rest
-tuple_found ts inner int rest e b = absurd (let f = head_same _ _ _ _ (sym e ∙ b.joined) in cc)
-tuple_found ts inner (reference q m t) rest e b = absurd (signs_differ 40 38 _ _ refl (sym e ∙ b.joined))
-tuple_found ts inner (tuple xs) rest e b = record { joined = b.joined; allowed = b.allowed; follows = b.follows }
-tuple_found ts inner (named n args) rest e b = absurd (let f = head_same _ _ _ _ (sym e ∙ b.joined) in cc)
+pub front_is_tuple : (ts inner : List Token) (t : WrittenType) (rest : List Token) → ts ≡ sign 40 ∷ inner → Begins types ts t rest → IsTuple t
+front_is_tuple ts inner int rest e b = absurd (let f = head_same _ _ _ _ (sym e ∙ b.joined) in cc)
+front_is_tuple ts inner (reference q m t) rest e b = absurd (signs_differ 40 38 _ _ refl (sym e ∙ b.joined))
+front_is_tuple ts inner (tuple xs) rest e b = refl
+front_is_tuple ts inner (named n args) rest e b = absurd (let f = head_same _ _ _ _ (sym e ∙ b.joined) in cc)
+
+pub tuple_found : (ts : List Token) (t : WrittenType) (rest : List Token) → IsTuple t → Begins types ts t rest → Begins tuples ts (parts t) rest
+tuple_found ts t rest h b =
+    let c : Begins types ts (tuple (parts t)) rest = subst (λ (z : WrittenType). Begins types ts z rest) h b in
+    record { joined = c.joined; allowed = c.allowed; follows = c.follows }
 
 -- ---- marks
 
@@ -238,13 +243,13 @@ region_marks ts a p r b = record { joined = b.joined; allowed = (tt, tt); follow
 type_marks : (ts : List Token) (a : Name) (p : Parameter) (r : List Token) → Begins parameters ts (type_parameter a p) r → Begins (pair names parameter_marks) ts (a, p) r
 type_marks ts a p r b = record { joined = b.joined; allowed = (b.allowed, tt); follows = b.follows }
 
-regions_join : {B : Type 0} (h : Grammar B) → Joins regions h
+pub regions_join : {B : Type 0} (h : Grammar B) → Joins regions h
 regions_join h a b r k l m = tt
 
-names_join : {B : Type 0} (h : Grammar B) → Joins names h
+pub names_join : {B : Type 0} (h : Grammar B) → Joins names h
 names_join h a b r k l m = tt
 
-words_join : {B : Type 0} (h : Grammar B) → Joins any_words h
+pub words_join : {B : Type 0} (h : Grammar B) → Joins any_words h
 words_join h a b r k l m = tt
 
 pub parameters_one : IsOne parameters
@@ -324,7 +329,7 @@ bounds_one = pair_one regions (behind (sign 58) regions) (regions_join (behind (
 pub bounds_before : (t : Token) → IsBefore t bounds
 bounds_before t w r h = tt
 
-any_bounds : (ws : List (Name × Name)) → AllByRecursion bounds.IsAllowed ws
+pub any_bounds : (ws : List (Name × Name)) → AllByRecursion bounds.IsAllowed ws
 any_bounds [] = tt
 any_bounds (w ∷ ws) = ((tt, tt), any_bounds ws)
 
@@ -383,7 +388,7 @@ two_targets ts b c r x = record { joined = x.joined; allowed = x.allowed; follow
 target_of : (ts : List Token) (b c : ℕ) (r : List Token) → Begins exits ts (b, Some c) r → Begins (behind arrow block_names) ts b (word (codes "unwind") ∷ block_word c ∷ r)
 target_of ts b c r x = record { joined = x.joined; allowed = x.allowed.0; follows = tt }
 
-blocks_one : IsOne block_names
+pub blocks_one : IsOne block_names
 blocks_one = prefixed_one (codes "bb")
 
 target_one : IsOne (behind arrow block_names)

@@ -1,6 +1,6 @@
 -- Grammars: how values are spelled by tokens at the front of others.
 -- Source: project's choice. Only private contracts cite this file.
-use Rattle.std.specs.Prelude.{◌≡◌, ℕ, ◌<◌, Bool, true, false, List, [], ◌∷◌, ◌++◌, map, length}
+use Rattle.std.specs.Prelude.{◌≡◌, ◌<◌, List, [], ◌∷◌, ◌++◌, map, length}
 use Rattle.std.specs.List.{AllByRecursion, flat_map}
 use Rattle.nll_text.specs.Tokens.{Token, sign}
 use Rattle.nll_mir_grammar.specs.MirForms.{parted, in_parentheses}

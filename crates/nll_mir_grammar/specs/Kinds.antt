@@ -11,7 +11,7 @@ use Rattle.nll_mir_grammar.specs.Parts.{regions, any_words, names, numbers, vari
 use Rattle.nll_mir_grammar.specs.Parts.{places, operands, types, tuples, arguments, mutabilities}
 use Rattle.nll_mir_grammar.specs.Parts.{drop_marks, parameter_lists, bound_lists, block_lists}
 use Rattle.nll_mir_grammar.specs.Parts.{exits}
-use Rattle.nll_statements.specs.Statements.{Statement, assign, borrow, make, read, live, dead, nop}
+use Rattle.nll_statements.specs.Statements.{assign, borrow, make, read, live, dead, nop}
 use Rattle.nll_statements.specs.Statements.{goto, switch, drop, call, return, stop}
 use Rattle.nll_mir_grammar.specs.MirForms.{Form, universal, outlives, further, struct_line}
 use Rattle.nll_mir_grammar.specs.MirForms.{variable, blocks, block, at_point, end, WrittenParameter}

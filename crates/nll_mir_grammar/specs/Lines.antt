@@ -4,7 +4,7 @@ use Rattle.std.specs.Prelude.{ℕ, List, map}
 use Rattle.std.specs.Borrow.{Bor}
 use Rattle.nll_types.specs.Operands.{Operand, operand_of}
 use Rattle.nll_types.specs.declared.operand.Operand.{Operand as Written}
-use Rattle.nll_type_grammar.specs.WrittenTypes.{WrittenType, WrittenTypes, tuple, none}
+use Rattle.nll_type_grammar.specs.WrittenTypes.{WrittenType}
 use Rattle.nll_type_grammar.specs.TypeTexts.{written}
 use Rattle.nll_type_grammar.specs.declared.type_text.TypeNode.{TypeNode}
 use Rattle.nll_statements.specs.Statements.{map_statement}
@@ -13,6 +13,7 @@ use Rattle.nll_statements.specs.declared.statement.Statement.{Statement as Kept}
 use Rattle.nll_mir_grammar.specs.MirForms.{Form, universal, outlives, further, struct_line}
 use Rattle.nll_mir_grammar.specs.MirForms.{variable, blocks, block, at_point, end}
 use Rattle.nll_mir_grammar.specs.MirForms.{WrittenParameter, region_parameter, type_parameter}
+pub use Rattle.nll_mir_grammar.specs.Tuples.{parts}
 use Rattle.nll_mir_grammar.specs.declared.line.Line.{Line}
 use Rattle.nll_mir_grammar.specs.declared.line.Line.TheVariants as lines
 use Rattle.nll_mir_grammar.specs.declared.line.ParameterText.{ParameterText}
@@ -26,11 +27,6 @@ argument_of a = (operand_of a.0, written a.1)
 abbrev pub parameter_of : ParameterText → WrittenParameter
 parameter_of (parameters.Region a p) = region_parameter a.now p
 parameter_of (parameters.Type n p) = type_parameter n.now p
-
--- the types of a tuple
-abbrev pub parts : WrittenType → WrittenTypes
-parts (tuple ts) = ts
-parts _ = none
 
 -- a statement of the code as the line at its point
 abbrev pub point_form : Kept (Bor (List ℕ)) (List TypeNode) → Form

@@ -12,9 +12,9 @@ use Rattle.nll_types.specs.declared.parameter.Parameter.{Parameter}
 use Rattle.nll_types.specs.declared.parameter.Sign.{Sign}
 use Rattle.nll_type_grammar.specs.WrittenTypes.{Name, WrittenType, WrittenTypes, tuple, spelled}
 use Rattle.nll_type_grammar.specs.WrittenTypes.{mutability, HasNames, IsFree, is_capital}
-use Rattle.nll_mir_grammar.specs.Grammars.{Grammar, HasNone, IsNotNext, behind, empty, pair, many}
-use Rattle.nll_mir_grammar.specs.Grammars.{commas, parentheses, MayFollowAll}
-use Rattle.nll_mir_grammar.specs.MirForms.{variable_word, block_word, spelled_projection}
+use Rattle.nll_mir_grammar.specs.Grammars.{Grammar, HasNone, IsNotNext, behind, pair}
+use Rattle.nll_mir_grammar.specs.Grammars.{MayFollowAll}
+use Rattle.nll_mir_grammar.specs.MirForms.{block_word, spelled_projection}
 use Rattle.nll_mir_grammar.specs.MirForms.{spelled_place, spelled_operand, spelled_marks}
 use Rattle.nll_mir_grammar.specs.MirForms.{spelled_parameters, spelled_exits, spelled_wheres}
 use Rattle.nll_mir_grammar.specs.MirForms.{WrittenParameter, region_parameter, type_parameter}

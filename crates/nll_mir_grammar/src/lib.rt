@@ -20,5 +20,5 @@ mod type_front;
 mod words;
 
 pub use laws::one_form;
-pub use line::{Line, ParameterText, StructText};
+pub use line::{Line, ParameterText, StructText, TupleText};
 pub use reading::line_of;

@@ -1,8 +1,13 @@
 //! A line of a MIR text.
 
+ghost use Rattle.std.specs.Prelude.{◌≡◌};
+ghost use Rattle.nll_type_grammar.specs.TypeTexts.{written};
+ghost use Rattle.nll_mir_grammar.specs.Tuples.{IsTuple};
+
 use nll_statements::Statement;
 use nll_type_grammar::TypeText;
 use nll_types::Parameter;
+use std::marker::Model;
 
 /// A parameter of a struct, by its name.
 #[derive(Clone, Copy)]
@@ -13,6 +18,43 @@ pub enum ParameterText<'a> {
     Type(&'a [u8], Parameter),
 }
 
+/// A tuple as it is written.
+#[derive(Drop)]
+pub struct TupleText<'a> {
+    tuple: TypeText<'a>,
+}
+
+impl<'a> Model for TupleText<'a> {
+    ghost use Rattle.std.specs.Prelude.{List};
+    ghost use Rattle.nll_type_grammar.specs.TypeTexts.{written};
+    ghost use Rattle.nll_type_grammar.specs.declared.type_text.TypeNode.{TypeNode as node};
+    ghost use Rattle.nll_mir_grammar.specs.Tuples.{IsTuple};
+
+    ghost Value = { List node };
+
+    ghost view = { λ text. text.tuple };
+
+    ghost invariant = { λ text. IsTuple (written text.tuple) };
+}
+
+impl<'a> TupleText<'a> {
+    /// The tuple, as a type.
+    pub fn as_type(&self) -> &TypeText<'a>
+        ensures value { result.now ≡ self.now }
+        ensures tuple { IsTuple (written self.now) }
+    {
+        &self.tuple
+    }
+
+    // The tuple that a type is.
+    pub(crate) fn of(tuple: TypeText<'a>) -> TupleText<'a>
+        requires { IsTuple (written tuple) }
+        ensures { result ≡ tuple.entry }
+    {
+        TupleText { tuple }
+    }
+}
+
 /// A struct line.
 #[derive(Drop)]
 pub struct StructText<'a> {
@@ -20,8 +62,8 @@ pub struct StructText<'a> {
     pub parameters: Vec<ParameterText<'a>>,
     /// Whether it has a drop of its own.
     pub has_drop: bool,
-    /// The fields, as a tuple of their types.
-    pub fields: TypeText<'a>,
+    /// The types of its fields.
+    pub fields: TupleText<'a>,
 }
 
 /// A line that isn't skipped, by its form. Names lie in the text.

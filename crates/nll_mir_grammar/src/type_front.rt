@@ -4,9 +4,10 @@ ghost use Rattle.std.specs.Prelude.{IfOk, MatchOption};
 ghost use Rattle.nll_text.specs.Tokens.{views};
 ghost use Rattle.nll_type_grammar.specs.TypeTexts.{written};
 ghost use Rattle.nll_mir_grammar.specs.Grammars.{Begins, HasNone};
-ghost use Rattle.nll_mir_grammar.specs.Lines.{parts as parts_of_tuple};
 ghost use Rattle.nll_mir_grammar.specs.Parts as parts;
+ghost use Rattle.nll_mir_grammar.specs.Tuples.{parts as parts_of_tuple};
 
+use crate::line::TupleText;
 use crate::words::after_sign;
 use nll_sets::Memory;
 use nll_text::Token;
@@ -31,7 +32,7 @@ pub fn type_front<'t, 'a>(
 pub fn tuple_front<'t, 'a>(
     alloc: Global,
     tokens: &'t [Token<'a>],
-) -> Result<Option<(TypeText<'a>, &'t [Token<'a>])>, Memory>
+) -> Result<Option<(TupleText<'a>, &'t [Token<'a>])>, Memory>
     ensures { IfOk result (λ o. MatchOption o (HasNone parts.tuples (views tokens.now))
         (λ p. Begins parts.tuples (views tokens.now) (parts_of_tuple (written p.0))
         (views p.1.now))) }
@@ -40,7 +41,7 @@ pub fn tuple_front<'t, 'a>(
         return Ok(None);
     }
     match type_front(alloc, tokens)? {
-        Some((ty, rest)) => Ok(Some((ty, rest))),
+        Some((ty, rest)) => Ok(Some((TupleText::of(ty), rest))),
         None => Ok(None),
     }
 }

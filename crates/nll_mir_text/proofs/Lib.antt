@@ -1,6 +1,16 @@
+pub mod CallLemmas
+pub mod DeclaringLemmas
+pub mod FaultLemmas
 pub mod FormLemmas
 pub mod GoodFieldLemmas
+pub mod GrownLemmas
 pub mod LawLemmas
+pub mod NeitherLemmas
+pub mod OwnLemmas
+pub mod PointLemmas
 pub mod SaidLemmas
 pub mod ShapeLemmas
+pub mod SoundLemmas
+pub mod StatingLemmas
+pub mod StructLemmas
 pub mod TextLemmas

@@ -142,6 +142,10 @@ ends_said : (before : List Form) (lines : List (List ℕ)) (forms : List Form) �
 ends_said before [] forms h e = subst EndsLast (sym h) e
 ends_said before (line ∷ lines) forms h e = ends_said (before ++ h.0) lines forms h.2 (ends_fit before line h.0 h.1 e)
 
+-- the last group is reached where there is an `end` line
+pub reached_at_end : (lines : List (List ℕ)) (forms : List Form) → Says mir [] lines forms → Contains forms end → (said forms).reached ≡ 8
+reached_at_end lines forms h c = ends_said [] lines forms h (λ empty. absurd (omega (arith, empty.1))) c
+
 -- and have none where it isn't
 pub not_ended : (lines : List (List ℕ)) (forms : List Form) → Says mir [] lines forms → ((said forms).reached ≡ 8 → ⊥) → Contains forms end → ⊥
-not_ended lines forms h none c = none (ends_said [] lines forms h (λ empty. absurd (omega (arith, empty.1))) c)
+not_ended lines forms h none c = none (reached_at_end lines forms h c)

@@ -2,3 +2,5 @@ pub mod MirSaid
 pub mod MirFaults
 pub mod MirText
 pub mod MirReading
+pub mod Declaring
+pub mod Stating

@@ -1,10 +1,8 @@
 -- What is wrong with a further line of a MIR text.
 -- Source: project's choice; docs/FORMATS.md says the same in words.
 use Rattle.std.specs.Prelude.{ℕ, ◌+◌, Bool, true, false, not, ◌&&◌, ◌||◌, ◌==◌, nat_lt, nat_le}
-use Rattle.std.specs.Prelude.{if◌then◌else◌, List, [], ◌∷◌, ◌++◌, length, map, find, sum_by}
-use Rattle.std.specs.Prelude.{Option, Some, None, is_some}
-use Rattle.std.specs.List.{flat_map, list_all, list_any}
-use Rattle.indexmap.specs.IndexSet.{insert_all}
+use Rattle.std.specs.Prelude.{List, [], ◌∷◌, length, find, Option}
+use Rattle.std.specs.List.{list_all, list_any}
 use Rattle.nll_problem.specs.Limits.{most_points, most_edges, most_universals, most_regions}
 use Rattle.nll_problem.specs.Limits.{most_variables, most_structs}
 use Rattle.nll_problem.specs.declared.error.Kind.TheVariants.{Points, Edges, Universals, Regions}
@@ -14,21 +12,18 @@ use Rattle.nll_reading.specs.Kinds.{kinds}
 use Rattle.nll_reading.specs.declared.error.TextKind.{TextKind}
 use Rattle.nll_reading.specs.declared.error.TextKind.TheVariants.{Syntax, Unknown, Duplicate, Range}
 use Rattle.nll_reading.specs.declared.error.TextKind.TheVariants.{Shape, TypeSize, Limit}
-use Rattle.nll_types.specs.Types.{TypeTree, TypeTrees, int, reference, tuple, named, none, more}
-use Rattle.nll_types.specs.Structs.{Struct, struct_at, put_in_all}
-use Rattle.nll_types.specs.Places.{PlacePath, type_of, small_prefixes}
-use Rattle.nll_types.specs.Operands.{Operand, operand_type}
-use Rattle.nll_types.specs.Shapes.{same_shape, is_small}
-use Rattle.nll_type_grammar.specs.WrittenTypes.{Name, WrittenType, WrittenTypes}
-use Rattle.nll_statements.specs.Statements.{Statement, assign, borrow, make, read, live, dead, nop}
-use Rattle.nll_statements.specs.Statements.{goto, switch, drop, call, return, stop}
-use Rattle.nll_statements.specs.Statements.{is_terminator}
+use Rattle.nll_types.specs.Shapes.{is_small}
+use Rattle.nll_type_grammar.specs.WrittenTypes.{Name, WrittenType}
+use Rattle.nll_statements.specs.Statements.{Statement, types_written}
+use Rattle.nll_statements.specs.Effects.{targets}
+use Rattle.nll_statements.specs.Written.{regions_written, variables_written}
+use Rattle.nll_statements.specs.Edges.{edges_from, edge_count}
+use Rattle.nll_typing.specs.Typing.{types_agree, types_are_small, are_small}
 use Rattle.nll_mir_grammar.specs.MirForms.{WrittenParameter}
 use Rattle.nll_mir_grammar.specs.MirForms.{Form, universal, outlives, further, struct_line}
 use Rattle.nll_mir_grammar.specs.MirForms.{variable, blocks, block, at_point, end}
 use Rattle.nll_naming.specs.Naming.{is_among, is_known, are_known, has_arguments}
 use Rattle.nll_naming.specs.Naming.{have_arguments, meant, all_meant}
-use Rattle.nll_statements.specs.Effects.{target_of, sources_of, targets, operands_of}
 use Rattle.nll_mir_text.specs.MirSaid.{Said, body_scope, field_scope, regions_in, types_in, group}
 use Rattle.nll_mir_text.specs.MirSaid.{statement_meant}
 
@@ -67,25 +62,6 @@ redeclares s n ps =
 abbrev pub are_declared : Said → List ℕ → Bool
 are_declared s xs = list_all (λ x. nat_lt x (length s.variables)) xs
 
--- the written types in a statement
-abbrev pub types_written : {R T : Type 0} → Statement R T → List T
-types_written (make p t ops) = t ∷ []
-types_written (call p args t wheres b unwind) = map (λ a. a.1) args ++ t ∷ []
-types_written _ = []
-
--- the regions in a statement that stand outside types
-abbrev pub regions_written : {R T : Type 0} → Statement R T → List R
-regions_written (borrow p r m q) = r ∷ []
-regions_written (call p args t wheres b unwind) = flat_map (λ w. w.0 ∷ w.1 ∷ []) wheres
-regions_written _ = []
-
--- the variables in a statement
-abbrev pub variables_written : {R T : Type 0} → Statement R T → List ℕ
-variables_written (live x) = x ∷ []
-variables_written (dead x) = x ∷ []
-variables_written (drop x b unwind) = x ∷ []
-variables_written i = map (λ p. p.variable) (target_of i ++ sources_of i)
-
 -- each name and each variable in the statement is declared
 abbrev pub knows : Said → Statement Name WrittenType → Bool
 knows s i =
@@ -99,83 +75,7 @@ knows s i =
 abbrev pub has_targets : {R T : Type 0} → Said → Statement R T → Bool
 has_targets s i = list_all (λ b. nat_lt b s.blocks) (targets i)
 
--- how many edges leave the point where the statement or terminator stands
-abbrev pub edges_from : {R T : Type 0} → Statement R T → ℕ
-edges_from i =
-    if is_terminator i then length (insert_all (λ b c. b == c) [] (targets i)) else 1
-
--- how many edges leave these points
-abbrev pub edge_count : {R T : Type 0} → List (Statement R T) → ℕ
-edge_count points = sum_by edges_from points
-
 -- ---- types
-
--- both are there, and they are equal when regions are forgotten
-abbrev pub agree : Option TypeTree → Option TypeTree → Bool
-agree (Some t) (Some u) = same_shape t u
-agree _ _ = false
-
--- the types of the parts of a tuple, or of the fields of a struct with its arguments put in
-abbrev pub parts_of_type : List Struct → TypeTree → Option TypeTrees
-parts_of_type structs (tuple ts) = Some ts
-parts_of_type structs (named n rs ts) = Some (put_in_all rs ts (struct_at structs n).fields)
-parts_of_type structs _ = None
-
--- each type has no more nodes than a type may have
-abbrev pub are_small : TypeTrees → Bool
-are_small none = true
-are_small (more t ts) = is_small t && are_small ts
-
--- there is one operand for each type, and they agree
-abbrev pub all_agree : List (Option TypeTree) → TypeTrees → Bool
-all_agree [] none = true
-all_agree (o ∷ os) (more t ts) = agree o (Some t) && all_agree os ts
-all_agree _ _ = false
-
--- the type has parts, and they agree with the operands
-abbrev pub makes : List (Option TypeTree) → Option TypeTrees → Bool
-makes os None = false
-makes os (Some ts) = all_agree os ts
-
-module _ (structs : List Struct) (variables : List TypeTree) where
-  -- the type of a place, and of an operand
-  abbrev pub place_type : PlacePath → Option TypeTree
-  place_type p = type_of structs variables p
-
-  abbrev pub operand_types : List Operand → List (Option TypeTree)
-  operand_types ops = map (operand_type structs variables) ops
-
-  -- Each place has a type, and the types that are to be equal when regions are forgotten are.
-  abbrev pub types_agree : Statement ℕ TypeTree → Bool
-  types_agree (assign p op) = agree (operand_type structs variables op) (place_type p)
-  types_agree (borrow p r m q) = agree (referred (place_type q)) (place_type p) where
-    referred : Option TypeTree → Option TypeTree
-    referred None = None
-    referred (Some t) = Some (reference r m t)
-  types_agree (make p t ops) =
-      makes (operand_types ops) (parts_of_type structs t) && agree (Some t) (place_type p)
-  types_agree (read p) = is_some (place_type p)
-  types_agree (switch op bs) = agree (operand_type structs variables op) (Some int)
-  types_agree (call p args t wheres b unwind) =
-      list_all (λ a. agree (operand_type structs variables a.0) (Some a.1)) args
-      && agree (Some t) (place_type p)
-  types_agree _ = true
-
-  -- the types of the parts that a statement makes
-  abbrev pub parts_made : Statement ℕ TypeTree → Option TypeTrees
-  parts_made (make p t ops) = parts_of_type structs t
-  parts_made _ = None
-
-  -- Each type that is written, or is that of a place's prefix or of a part that is made, has at
-  -- most as many nodes as a type may have.
-  abbrev pub types_are_small : Statement ℕ TypeTree → Bool
-  types_are_small i =
-      list_all is_small (types_written i)
-      && list_all (small_prefixes structs variables) (target_of i ++ sources_of i)
-      && small_parts (parts_made i) where
-    small_parts : Option TypeTrees → Bool
-    small_parts None = true
-    small_parts (Some ts) = are_small ts
 
 -- the statement's types agree, and those that are written have arguments of the right kinds
 abbrev pub shapes_fit : Said → Statement Name WrittenType → Bool

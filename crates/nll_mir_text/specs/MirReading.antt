@@ -15,6 +15,7 @@ use Rattle.nll_types.specs.Views.{tree}
 use Rattle.nll_types.specs.declared.node.Node.{Node}
 use Rattle.nll_types.specs.declared.ty.Ty.{Ty}
 use Rattle.nll_statements.specs.Statements.{Statement, map_statement}
+use Rattle.nll_statements.specs.Edges.{edge_count}
 use Rattle.nll_statements.specs.Kept.{statement_of}
 use Rattle.nll_statements.specs.declared.statement.Statement.{Statement as Kept}
 use Rattle.nll_reading.specs.Reading as reading
@@ -24,7 +25,8 @@ use Rattle.nll_reading.specs.declared.error.TextKind.{TextKind}
 use Rattle.nll_reading.specs.declared.error.TextKind.TheVariants.{Memory}
 use Rattle.nll_mir_grammar.specs.MirForms.{Form, universal, outlives, further, struct_line}
 use Rattle.nll_mir_grammar.specs.MirForms.{WrittenParameter, region_parameter, type_parameter}
-use Rattle.nll_mir_grammar.specs.Lines.{parameter_of, parts}
+use Rattle.nll_mir_grammar.specs.Lines.{parameter_of}
+use Rattle.nll_mir_grammar.specs.Tuples.{parts}
 use Rattle.nll_mir_grammar.specs.declared.line.StructText.{StructText}
 use Rattle.nll_type_grammar.specs.WrittenTypes.{WrittenType}
 use Rattle.nll_type_grammar.specs.TypeTexts.{written}
@@ -33,7 +35,7 @@ use Rattle.nll_mir_text.specs.declared.tables.Regions.{Regions}
 use Rattle.nll_mir_text.specs.declared.tables.StructNames.{StructNames}
 use Rattle.nll_mir_text.specs.declared.judging.JudgedType.{JudgedType}
 use Rattle.nll_mir_text.specs.MirSaid.{Said, said, says}
-use Rattle.nll_mir_text.specs.MirFaults.{is_in_order, first_fault, edge_count}
+use Rattle.nll_mir_text.specs.MirFaults.{is_in_order, first_fault}
 use Rattle.nll_mir_text.specs.MirText.{mir}
 use Rattle.nll_mir_text.specs.declared.reader.Reader.{Reader}
 

@@ -1,11 +1,25 @@
 //! The reader of MIR texts, version 1.
-//! Read `tables`, `judging`, `reader`, then `text`; the definitions are in specs/.
+//! Read `tables`, `judging`, `own_names`, `fields`, `reader`, `text`, `mir`, then `laws`; the
+//! definitions are in specs/.
 #![tactic(auto)]
 
+mod fields;
 mod judging;
+mod judging_types;
+mod knowing;
+mod laws;
 mod limits;
+mod meaning;
+mod mir;
+mod own_names;
+mod parameters;
 mod reader;
+mod stating;
 mod tables;
 mod text;
 
+pub use laws::{
+    mir_meaning_is_sound, mir_not_both, mir_not_neither, mir_one_fault, mir_one_meaning,
+};
 pub use limits::{MAX_STRUCTS, MAX_VARIABLES};
+pub use mir::read_mir;

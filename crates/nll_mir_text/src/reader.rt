@@ -1,29 +1,42 @@
 //! The reader of the lines of a MIR text: what they say so far.
 
-ghost use Rattle.std.specs.Prelude.{◌≡◌, ◌⊎◌, ◌↔◌, ◌≤◌, ℕ, [], length, Some, true, false};
+ghost use Rattle.std.specs.Prelude.{◌≡◌, ◌⊎◌, ◌↔◌, ◌≤◌, ℕ, [], length, map, Some, None, true};
+ghost use Rattle.std.specs.Prelude.{false};
 ghost use Rattle.std.specs.Prelude.{IsTrue, IfOk, IfErr, OnOk, OnErr};
-ghost use Rattle.nll_problem.specs.Limits.{most_regions};
+ghost use Rattle.nll_problem.specs.Limits.{most_bytes, most_regions};
 ghost use Rattle.nll_reading.specs.Names.{number_of};
 ghost use Rattle.nll_type_grammar.specs.TypeTexts.{written};
 ghost use Rattle.nll_mir_grammar.specs.MirForms as forms;
-ghost use Rattle.nll_mir_grammar.specs.Lines.{form_of};
+ghost use Rattle.nll_mir_grammar.specs.Lines.{form_of, parameter_of};
+ghost use Rattle.nll_mir_grammar.specs.Tuples.{parts};
 ghost use Rattle.nll_mir_text.specs.MirSaid as specs;
 ghost use Rattle.nll_mir_text.specs.MirSaid.{said};
 ghost use Rattle.nll_mir_text.specs.MirFaults.{first_fault, is_in_order, is_universal};
 ghost use Rattle.nll_mir_text.specs.MirReading.{said_by, IsReady, HasTexts};
 ghost use Rattle.nll_mir_text.specs.MirReading.{IsDue, IsTaken, IsRefused, ReadsLine};
-ghost use Rattle.nll_mir_text.specs.MirReading.{struct_form};
-ghost use Rattle.nll_mir_text.specs.MirText.{mir};
+ghost use Rattle.nll_mir_text.specs.MirReading.{struct_form, scope_in, IsOfType};
+ghost use Rattle.nll_mir_text.specs.Declaring.{AreJudged, AreOwn, own_scope};
+ghost use Rattle.nll_mir_text.specs.Stating.{as_written, IsOfPoint};
+ghost use Rattle.nll_body.specs.Parts.{body_of};
+ghost use Rattle.nll_mir_text.specs.MirText.{body_said, mir};
 ghost use Rattle.nll_mir_grammar.specs.declared.line.Line.TheVariants as lines;
 ghost use Rattle.nll_reading.specs.Text.{IsFaulty};
 
-use crate::judging::{judge_type, type_meant};
-use crate::limits::MAX_VARIABLES;
+use crate::fields::{JudgedFields, declaration, judge_fields};
+use crate::judging::{JudgedType, judge_type, type_meant};
+use crate::knowing::targets_are_blocks;
+use crate::limits::{MAX_STRUCTS, MAX_VARIABLES};
+use crate::meaning::statement_meant;
+use crate::own_names::{OwnNames, gather_names, redeclares};
+use crate::parameters::kinds;
+use crate::stating::{JudgedPoint, add_point, judge_point};
 use crate::tables::{Points, Regions, StructNames, Variables};
 use indexmap::IndexSet;
+use nll_body::BodyParts;
 use nll_mir_grammar::{Line, StructText, line_of};
-use nll_problem::{Kind, MAX_POINTS, MAX_REGIONS, MAX_UNIVERSALS};
-use nll_reading::{Names, TextKind};
+use nll_problem::{Kind, MAX_EDGES, MAX_POINTS, MAX_REGIONS, MAX_UNIVERSALS};
+use nll_reading::{MAX_TEXT, Names, TextKind};
+use nll_sets::Memory;
 use nll_statements::Statement;
 use nll_text::{ScanError, Scanned, Token, scan_line};
 use nll_type_grammar::TypeText;
@@ -244,6 +257,24 @@ impl Reader {
     {
         let table = &mut self.variables.table;
         let judged = judge_type(self.alloc, &self.regions, &self.structs, table, text)?;
+        self.add_judged_variable(number, text, judged)
+    }
+
+    // Declares a variable whose type is judged.
+    fn add_judged_variable(
+        &mut self,
+        number: u32,
+        text: &TypeText<'_>,
+        judged: JudgedType,
+    ) -> Result<(), TextKind>
+        requires due { IsDue self.old (forms.variable number (written text.now)) }
+        requires judged { IsOfType (scope_in self.old.regions self.old.structs)
+            self.old.variables.table.shapes (written text.now) judged }
+        ensures taken { OnOk result
+            (IsTaken (said_by self.old) (forms.variable number (written text.now)) self.new) }
+        ensures refused { IfErr result
+            (IsRefused (said_by self.old) (forms.variable number (written text.now))) }
+    {
         if !judged.known {
             return Err(TextKind::Unknown);
         }
@@ -266,18 +297,130 @@ impl Reader {
         Ok(())
     }
 
-    // Declares a struct. DRAFT: not written yet. It answers want of memory, which its contract
-    // lets any body do.
+    // Declares a struct.
     fn add_struct(&mut self, text: &StructText<'_>) -> Result<(), TextKind>
         requires { IsDue self.old (struct_form text.now) }
         ensures taken { OnOk result (IsTaken (said_by self.old) (struct_form text.now) self.new) }
         ensures refused { IfErr result (IsRefused (said_by self.old) (struct_form text.now)) }
     {
-        Err(TextKind::Memory)
+        if text.parameters.len() > MAX_TEXT {
+            return Err(TextKind::Memory);
+        }
+        let own = gather_names(self.alloc, text.parameters.as_slice())?;
+        let taken = self.add_named_struct(&own, text);
+        drop(own);
+        taken
     }
 
-    // Adds what stands at the next point. DRAFT: not written yet. It answers want of memory, which
-    // its contract lets any body do.
+    // Declares a struct with these names of its own.
+    fn add_named_struct(&mut self, own: &OwnNames, text: &StructText<'_>) -> Result<(), TextKind>
+        requires due { IsDue self.old (struct_form text.now) }
+        requires few { length text.now.parameters.items ≤ most_bytes }
+        requires own { AreOwn (map parameter_of text.now.parameters.items) own.now }
+        ensures taken { OnOk result (IsTaken (said_by self.old) (struct_form text.now) self.new) }
+        ensures refused { IfErr result (IsRefused (said_by self.old) (struct_form text.now)) }
+    {
+        let table = &mut self.variables.table;
+        let fields = text.fields.as_type();
+        let judged = judge_fields(self.alloc, own, &self.structs, table, fields)?;
+        self.add_judged_struct(own, text, judged)
+    }
+
+    // Declares a struct whose fields are judged.
+    fn add_judged_struct(
+        &mut self,
+        own: &OwnNames,
+        text: &StructText<'_>,
+        judged: JudgedFields,
+    ) -> Result<(), TextKind>
+        requires due { IsDue self.old (struct_form text.now) }
+        requires few { length text.now.parameters.items ≤ most_bytes }
+        requires own { AreOwn (map parameter_of text.now.parameters.items) own.now }
+        requires judged { AreJudged (own_scope own.now self.old.structs)
+            (parts (written text.now.fields)) judged }
+        ensures taken { OnOk result (IsTaken (said_by self.old) (struct_form text.now) self.new) }
+        ensures refused { IfErr result (IsRefused (said_by self.old) (struct_form text.now)) }
+    {
+        if !judged.known {
+            return Err(TextKind::Unknown);
+        }
+        if redeclares(
+            own,
+            &self.structs.names,
+            text.name,
+            text.parameters.as_slice(),
+        ) {
+            return Err(TextKind::Duplicate);
+        }
+        if !judged.fits {
+            return Err(TextKind::Shape);
+        }
+        if !judged.small {
+            return Err(TextKind::TypeSize);
+        }
+        if self.structs.names.len() >= MAX_STRUCTS {
+            return Err(TextKind::Limit(Kind::Structs));
+        }
+        self.declare_struct(own, text)?;
+        Ok(())
+    }
+
+    // Declares a struct with which nothing is wrong.
+    fn declare_struct(&mut self, own: &OwnNames, text: &StructText<'_>) -> Result<(), Memory>
+        requires due { IsDue self.old (struct_form text.now) }
+        requires few { length text.now.parameters.items ≤ most_bytes }
+        requires own { AreOwn (map parameter_of text.now.parameters.items) own.now }
+        requires fine { first_fault (said_by self.old) (struct_form text.now) ≡ None }
+        ensures { OnOk result (IsTaken (said_by self.old) (struct_form text.now) self.new) }
+    {
+        let parameters = text.parameters.as_slice();
+        let declaration = declaration(self.alloc, own, &self.structs, text)?;
+        self.variables.table.declare(self.alloc, declaration)?;
+        let kinds = kinds(self.alloc, parameters)?;
+        self.structs.add(self.alloc, text.name, kinds)?;
+        self.reached = 4;
+        Ok(())
+    }
+
+    // Adds what stands at the next point, unless it has a fault by what was judged of it.
+    fn add_judged(
+        &mut self,
+        judged: JudgedPoint,
+        statement: &Statement<&[u8], TypeText<'_>>,
+    ) -> Result<(), TextKind>
+        requires due { IsDue self.old (form_of (lines.At statement.now)) }
+        requires judged { IsOfPoint (said_by self.old) (as_written statement.now) judged }
+        ensures taken { OnOk result
+            (IsTaken (said_by self.old) (form_of (lines.At statement.now)) self.new) }
+        ensures refused { IfErr result
+            (IsRefused (said_by self.old) (form_of (lines.At statement.now))) }
+    {
+        if !judged.known {
+            return Err(TextKind::Unknown);
+        }
+        if !targets_are_blocks(self.alloc, self.points.blocks, statement)? {
+            return Err(TextKind::Range);
+        }
+        if !judged.fits {
+            return Err(TextKind::Shape);
+        }
+        if !judged.small {
+            return Err(TextKind::TypeSize);
+        }
+        if self.points.statements.len() >= MAX_POINTS as usize {
+            return Err(TextKind::Limit(Kind::Points));
+        }
+        let edges = self.points.edges + statement.edges(self.alloc)?;
+        if edges > MAX_EDGES {
+            return Err(TextKind::Limit(Kind::Edges));
+        }
+        let meant = statement_meant(self.alloc, &self.regions, &self.structs, statement)?;
+        add_point(&mut self.points, meant, edges)?;
+        self.reached = 7;
+        Ok(())
+    }
+
+    // Adds what stands at the next point.
     fn add_statement(
         &mut self,
         statement: &Statement<&[u8], TypeText<'_>>,
@@ -288,7 +431,9 @@ impl Reader {
         ensures refused { IfErr result
             (IsRefused (said_by self.old) (form_of (lines.At statement.now))) }
     {
-        Err(TextKind::Memory)
+        let variables = &mut self.variables;
+        let judged = judge_point(self.alloc, &self.regions, &self.structs, variables, statement)?;
+        self.add_judged(judged, statement)
     }
 
     // Takes in a line of a form, unless something is wrong with it.
@@ -359,5 +504,35 @@ impl Reader {
         ensures { IsTrue result ↔ ((said_by self.now).reached ≡ 8) }
     {
         self.reached == 8
+    }
+    /// The pairs of regions of which the first is known to outlive the second.
+    pub fn outlives(&self, alloc: Global) -> Result<Vec<(u32, u32)>, Memory>
+        ensures { IfOk result (λ v. v.items ≡ (said_by self.now).outlives) }
+    {
+        let outlives = Vec::from_slice(alloc, self.regions.outlives.as_slice())?;
+        Ok(outlives)
+    }
+
+    /// The parts of the body that the lines say, of which these are the pairs of regions.
+    pub fn finish(self, outlives: Vec<(u32, u32)>) -> BodyParts
+        requires ready { IsReady self }
+        requires outlives { outlives.items ≡ (said_by self).outlives }
+        ensures { body_of result ≡ body_said (said_by self) }
+    {
+        let Reader {
+            regions,
+            variables,
+            points,
+            ..
+        } = self;
+        BodyParts {
+            names: regions.names,
+            universals: regions.universals as u32,
+            outlives,
+            structs: variables.table.into_structs(),
+            variables: variables.types,
+            starts: points.starts,
+            points: points.statements,
+        }
     }
 }

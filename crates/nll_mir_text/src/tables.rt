@@ -1,10 +1,16 @@
 //! The tables in which a reader keeps what lines say, each of one sense.
 
+ghost use Rattle.std.specs.Prelude.{◌≡◌, ◌++◌, ◌∷◌, [], false, map, OnOk};
+ghost use Rattle.std.specs.Str.{IsUtf8};
+ghost use Rattle.nll_naming.specs.Naming.{is_among};
+
 use indexmap::IndexSet;
 use nll_problem::RegionId;
 use nll_reading::Names;
+use nll_sets::Memory;
 use nll_statements::Statement;
 use nll_types::{Ty, TypeTable};
+use std::alloc::Global;
 
 /// The regions: their names, `'static` first, how many of them are universal, and which of those
 /// are known to outlive which.
@@ -23,6 +29,22 @@ pub struct StructNames {
     pub kinds: Vec<Vec<bool>>,
     /// No name at all: the type parameters that may stand in the types of a body.
     pub none: Names,
+}
+
+impl StructNames {
+    /// Adds a struct that takes arguments of these kinds.
+    pub fn add(&mut self, alloc: Global, name: &[u8], kinds: Vec<bool>) -> Result<(), Memory>
+        requires new { is_among self.old.names name.now ≡ false }
+        requires text { IsUtf8 name.now }
+        ensures names { OnOk result (self.new.names ≡ self.old.names ++ name.now ∷ []) }
+        ensures kinds { OnOk result (map (λ ks. ks.items) self.new.kinds.items
+            ≡ map (λ ks. ks.items) self.old.kinds.items ++ kinds.items ∷ []) }
+        ensures none { self.new.none ≡ self.old.none }
+    {
+        self.kinds.push(kinds)?;
+        self.names.add(alloc, name)?;
+        Ok(())
+    }
 }
 
 /// The structs, the types of the variables, and the numbers of their shapes.

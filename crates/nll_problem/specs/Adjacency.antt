@@ -1,9 +1,9 @@
--- How a graph and its builder keep edges: each point has a list of its successors, and in a
--- finished graph one of its predecessors.
+-- How a graph and its builder keep edges: each point has a list of its successors, and one of its
+-- predecessors where these are asked for.
 -- Source: project's choice. Private contracts alone cite this file.
 use Rattle.std.specs.Prelude.{◌≡◌, ◌≢◌, ◌⊎◌, ◌↔◌, ℕ, ◌+◌, ◌<◌, Bool, true, false, List, [], ◌∷◌}
 use Rattle.std.specs.Prelude.{◌++◌, map, length, Contains, AllPairs, slice_index_or}
-use Rattle.nll_problem.specs.Graph.{Graph, IsSound}
+use Rattle.nll_problem.specs.Graph.{Graph, IsNext, IsSound}
 use Rattle.nll_problem.specs.Rows.{row_at}
 use Rattle.nll_problem.specs.declared.graph_builder.TheConstants.{SCANNED}
 
@@ -29,6 +29,11 @@ pub record AreLists (points : ℕ) (lists : List (List ℕ)) : Type 0 where
 -- the lists of predecessors are those of successors, turned: p is before q just where q is after p
 abbrev pub AreTurned : List (List ℕ) → List (List ℕ) → Type 0
 AreTurned next previous = (p q : ℕ) → Contains (row_at previous q) p ↔ Contains (row_at next p) q
+
+-- There is a list for each point of the graph: its predecessors, each once.
+pub record ArePredecessors (g : Graph) (lists : List (List ℕ)) : Type 0 where
+  pub listed : AreLists g.points lists
+  pub each : (p q : ℕ) → Contains (row_at lists q) p ↔ IsNext g p q
 
 -- There is a mark for each point, set just for the return points; none of these is listed twice.
 pub record AreMarked (points : ℕ) (returns : List ℕ) (marks : List Bool) : Type 0 where

@@ -46,3 +46,12 @@ most_owners = 64
 -- the most places of a mailbox of bounded room
 abbrev pub most_places : ℕ
 most_places = 256
+
+-- the most growths that are posted through one mailbox: 2^37. All growths of a run are fewer: one at
+-- most for each region and element.
+abbrev pub most_posts : ℕ
+most_posts = 137438953472
+
+-- the highest rank of a growth: 2^62
+abbrev pub most_rank : ℕ
+most_rank = 4611686018427387904

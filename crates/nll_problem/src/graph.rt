@@ -1,9 +1,11 @@
-//! The control-flow graph of a problem, finished: flat, to be walked forwards and backwards.
+//! The control-flow graph of a problem, finished: flat.
 
 ghost use Rattle.std.specs.Prelude.{◌≡◌, ◌≢◌, ◌↔◌, ℕ, ◌<◌, Contains, AllPairs, IsTrue, IfOk};
+ghost use Rattle.nll_problem.specs.Adjacency.{ArePredecessors};
 ghost use Rattle.nll_problem.specs.Graph.{IsNext, IsReturn, IsSound};
 
 use crate::rows::Rows;
+use crate::turning::turned;
 use nll_sets::Memory;
 use std::alloc::Global;
 use std::marker::Model;
@@ -16,8 +18,6 @@ pub struct Graph {
     pub(crate) universals: u32,
     // The successors of each point.
     pub(crate) next: Rows,
-    // The predecessors of each point.
-    pub(crate) previous: Rows,
     pub(crate) returns: Vec<u32>,
     // Whether each point is a return point.
     pub(crate) marks: Vec<bool>,
@@ -25,16 +25,13 @@ pub struct Graph {
 
 impl Model for Graph {
     ghost use Rattle.nll_problem.specs.Graph as spec;
-    ghost use Rattle.nll_problem.specs.Adjacency.{graph_of, AreLists, AreTurned, IsKept};
+    ghost use Rattle.nll_problem.specs.Adjacency.{graph_of, IsKept};
 
     ghost Value = { spec.Graph };
 
     ghost view = { λ g. graph_of g.points g.universals g.next g.returns.items };
 
-    ghost invariant = { λ g.
-        IsKept g.points g.universals g.next g.returns.items g.marks.items
-        × AreLists g.points g.previous
-        × AreTurned g.next g.previous };
+    ghost invariant = { λ g. IsKept g.points g.universals g.next g.returns.items g.marks.items };
 }
 
 impl Graph {
@@ -64,16 +61,6 @@ impl Graph {
         self.next.row(point as usize)
     }
 
-    /// The predecessors of a point.
-    pub fn previous_of(&self, point: u32) -> &[u32]
-        requires { point < self.now.points }
-        ensures each { (q : ℕ) → Contains result.now q ↔ IsNext self.now q point }
-        ensures once { AllPairs (λ q r. q ≢ r) result.now }
-        ensures sound { IsSound self.now }
-    {
-        self.previous.row(point as usize)
-    }
-
     /// Whether a point is a return point.
     pub fn is_return(&self, point: u32) -> bool
         requires { point < self.now.points }
@@ -101,14 +88,19 @@ impl Graph {
         let returns = Vec::from_slice(alloc, self.returns.as_slice())?;
         let marks = Vec::from_slice(alloc, self.marks.as_slice())?;
         let next = self.next.copy(alloc)?;
-        let previous = self.previous.copy(alloc)?;
         Ok(Graph {
             points: self.points,
             universals: self.universals,
             next,
-            previous,
             returns,
             marks,
         })
+    }
+
+    // The predecessors of each point.
+    pub(crate) fn turned(&self, alloc: Global) -> Result<Rows, Memory>
+        ensures { IfOk result (ArePredecessors self.now) }
+    {
+        turned(alloc, &self.next)
     }
 }

@@ -3,8 +3,7 @@
 //! Each point has a list of its successors. A list of up to `SCANNED` successors is searched from
 //! end to end; the edges of points with longer lists also stand in a hashed index. So adding an
 //! edge takes amortised constant time, and a point with few successors costs no more than these.
-//! The room for the finished graph, its lists of predecessors included, grows with each edge; these
-//! are made at the end, of the lists of successors.
+//! The room for the finished graph grows with each edge.
 
 ghost use Rattle.std.specs.Prelude.{◌≡◌, ◌<◌, ◌≤◌, [], ◌∷◌, ◌++◌, length, OnOk, OnErr, IfOk};
 ghost use Rattle.nll_problem.specs.Adjacency.{HasEdgesTo, Indexes, IsIndexed, IsIndexedIfLong};
@@ -19,7 +18,6 @@ use crate::error::{BuildError, Kind};
 use crate::graph::Graph;
 use crate::limits::{MAX_EDGES, MAX_POINTS, MAX_UNIVERSALS};
 use crate::rows::{Rows, RowsBuilder};
-use crate::turning::TurnedRoom;
 use indexmap::IndexSet;
 use nll_sets::Memory;
 use std::alloc::Global;
@@ -41,8 +39,6 @@ pub struct GraphBuilder {
     universals: u32,
     // The successors of each point.
     next: RowsBuilder,
-    // The room of the predecessors.
-    previous: TurnedRoom,
     index: IndexSet<(u32, u32)>,
     returns: Vec<u32>,
     // Whether each point is a return point.
@@ -52,7 +48,6 @@ pub struct GraphBuilder {
 impl Model for GraphBuilder {
     ghost use Rattle.nll_problem.specs.Graph as spec;
     ghost use Rattle.nll_problem.specs.Adjacency.{graph_of, IsIndexed, IsKept};
-    ghost use Rattle.nll_problem.specs.Turning.{IsRoomOf};
 
     ghost Value = { spec.Graph };
 
@@ -60,8 +55,7 @@ impl Model for GraphBuilder {
 
     ghost invariant = { λ b.
         IsKept b.points b.universals b.next.rows b.returns.items b.marks.items
-        × IsIndexed b.next.rows b.index.keys
-        × IsRoomOf b.next.rows b.previous };
+        × IsIndexed b.next.rows b.index.keys };
 }
 
 impl GraphBuilder {
@@ -106,12 +100,10 @@ impl GraphBuilder {
         let marks = Vec::from_slice(alloc, graph.marks.as_slice())?;
         let index = index_of(alloc, graph.points, &graph.next)?;
         let next = RowsBuilder::of(alloc, &graph.next)?;
-        let previous = TurnedRoom::of(alloc, &graph.next)?;
         Ok(GraphBuilder {
             points: graph.points,
             universals: graph.universals,
             next,
-            previous,
             index,
             returns,
             marks,
@@ -188,12 +180,10 @@ impl GraphBuilder {
         ensures { result ≡ self }
     {
         let next = self.next.finish();
-        let previous = self.previous.turned(&next);
         Graph {
             points: self.points,
             universals: self.universals,
             next,
-            previous,
             returns: self.returns,
             marks: self.marks,
         }
@@ -212,12 +202,10 @@ impl GraphBuilder {
     {
         let marks = Vec::from_elem(alloc, false, points as usize)?;
         let next = RowsBuilder::new(alloc, points)?;
-        let previous = TurnedRoom::new(alloc, points)?;
         Ok(GraphBuilder {
             points,
             universals,
             next,
-            previous,
             index: IndexSet::new(alloc),
             returns: Vec::new(alloc),
             marks,
@@ -256,10 +244,8 @@ impl GraphBuilder {
         ensures err { OnErr result (self.new ≡ self.old) }
     {
         self.next.reserve(from as usize)?;
-        self.previous.reserve()?;
         index_grown(&mut self.index, from, self.next.row(from as usize), to)?;
         self.next.push_reserved(from as usize, to);
-        self.previous.push_reserved();
         Ok(())
     }
 }

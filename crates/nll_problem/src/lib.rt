@@ -1,8 +1,8 @@
 //! Problems of location-aware regions over a control-flow graph: what they are, and what they mean.
 //! It knows no text and no names.
 //!
-//! Reading order: `region`, `constraint`, `graph`, `graph_builder`, `problem`, `builder`,
-//! `constraint_index`. The definitions are in specs/.
+//! Reading order: `region`, `constraint`, `graph`, `graph_builder`, `predecessors`, `problem`,
+//! `builder`, `constraint_index`. The definitions are in specs/.
 #![tactic(auto)]
 
 mod bases;
@@ -15,6 +15,7 @@ mod graph;
 mod graph_builder;
 mod limits;
 mod outlives;
+mod predecessors;
 mod problem;
 mod region;
 mod rows;
@@ -27,5 +28,6 @@ pub use error::{BuildError, Kind};
 pub use graph::Graph;
 pub use graph_builder::GraphBuilder;
 pub use limits::{MAX_CONSTRAINTS, MAX_EDGES, MAX_POINTS, MAX_REGIONS, MAX_UNIVERSALS};
+pub use predecessors::Predecessors;
 pub use problem::Problem;
 pub use region::RegionId;

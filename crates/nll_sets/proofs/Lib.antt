@@ -3,3 +3,4 @@ pub mod ElementsLemmas
 pub mod RunListLemmas
 pub mod RunSetLemmas
 pub mod RunCountLemmas
+pub mod RunNumberLemmas

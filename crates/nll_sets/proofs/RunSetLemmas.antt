@@ -8,7 +8,7 @@ use Rattle.nll_sets.specs.Runs.{no_run, first_of, last_of, IsInRuns, IsRunFrom, 
 use Rattle.nll_sets.specs.RunLists.{Joins, run_has, runs_have, run_flags, HoldsRuns}
 use Rattle.nll_sets.specs.declared.run.Run.{Run}
 
-has_between : (run : Run) (x : ℕ) → run_has run x ≡ true → (run.first ≤ x) × (x ≤ run.last)
+pub has_between : (run : Run) (x : ℕ) → run_has run x ≡ true → (run.first ≤ x) × (x ≤ run.last)
 has_between run x h = search rules
 
 between_has : (run : Run) (x : ℕ) → run.first ≤ x → x ≤ run.last → run_has run x ≡ true
@@ -41,7 +41,7 @@ module _ (runs : List Run) (len : ℕ) (flags : List Bool) (view : run_flags run
   outside : (x : ℕ) → (IsInRuns runs x → ⊥) → runs_have runs x ≡ false
   outside x empty = false_from_ne_true _ (λ e. empty (in_runs runs x e))
 
-  flag_have : (x : ℕ) → flag flags x ≡ runs_have runs x
+  pub flag_have : (x : ℕ) → flag flags x ≡ runs_have runs x
   flag_have x = ap (λ (fs : List Bool). flag fs x) (sym view) ∙ ⊎_elim
       (λ below. get_or-map-range_with_len (runs_have runs) 0 len x x false below (omega arith))
       (λ past. get_or_past (run_flags runs len) x false (omega (arith, past, length-run_flags runs len)) ∙ sym (outside x (λ (k, l, a, b). omega (arith, b, past, h.below k l))))

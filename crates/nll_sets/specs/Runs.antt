@@ -1,7 +1,8 @@
 -- Runs of numbers, and sets that are made up of them.
 -- Source: project's choice.
-use Rattle.std.specs.Prelude.{◌≡◌, ◌⊎◌, ◌↔◌, ℕ, ◌+◌, ◌≤◌, ◌<◌, Bool, true, false}
+use Rattle.std.specs.Prelude.{◌≡◌, ◌⊎◌, ◌↔◌, ℕ, ◌+◌, ◌-◌, ◌≤◌, ◌<◌, Bool, true, false}
 use Rattle.std.specs.Prelude.{List, length, slice_index_or}
+use Rattle.std.specs.List.{flat_map, range_with_len}
 use Rattle.nll_sets.specs.ElementSet.{flag}
 use Rattle.nll_sets.specs.declared.run.Run.{Run}
 
@@ -10,6 +11,14 @@ use Rattle.nll_sets.specs.declared.run.Run.{Run}
 -- x is a number of the run: one from its first to its last
 abbrev pub IsWithin : Run → ℕ → Type 0
 IsWithin run x = (run.first ≤ x) × (x ≤ run.last)
+
+-- the numbers of the run, ascending
+abbrev pub numbers_of : Run → List ℕ
+numbers_of run = range_with_len run.first (run.last + 1 - run.first)
+
+-- the numbers of the runs of a list, run by run
+abbrev pub numbers : List Run → List ℕ
+numbers runs = flat_map numbers_of runs
 
 -- what is read past the end of a list of runs
 abbrev pub no_run : Run

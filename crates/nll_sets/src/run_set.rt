@@ -1,10 +1,11 @@
 //! Sets of elements as lists of runs.
 
-ghost use Rattle.std.specs.Prelude.{◌≡◌, ℕ, ◌≤◌, ◌<◌, true, false, not, length, slice_set};
-ghost use Rattle.std.specs.Prelude.{replicate, IfOk, IsOk, IsOkAnd, OnOk, OnErr, IfSome, IfNone};
+ghost use Rattle.std.specs.Prelude.{◌≡◌, ℕ, ◌+◌, ◌≤◌, ◌<◌, true, false, not, length, slice_set};
+ghost use Rattle.std.specs.Prelude.{replicate, max, [], IfOk, IsOk, IsOkAnd, OnOk, OnErr, IfSome};
+ghost use Rattle.std.specs.Prelude.{IfNone};
 ghost use Rattle.nll_sets.specs.ElementSet.{flag, elements};
 ghost use Rattle.nll_sets.specs.Runs.{first_of, last_of, run_of, IsRunFrom, IsRunCount, MakeUp};
-ghost use Rattle.nll_sets.specs.Runs.{Fills, IsWithin, Touches};
+ghost use Rattle.nll_sets.specs.Runs.{Fills, IsWithin, Touches, numbers};
 
 use crate::element::Element;
 use crate::element_set::ElementSet;
@@ -82,6 +83,24 @@ impl ElementSet for RunSet {
 }
 
 impl RunSet {
+    /// The empty set of no elements. Takes no memory.
+    pub fn new(alloc: Global) -> RunSet
+        ensures { result ≡ [] }
+    {
+        RunSet {
+            runs: SmallVec::new(alloc),
+            len: 0,
+        }
+    }
+
+    /// Makes room for the elements below a length. Takes no memory.
+    pub fn widen(&mut self, len: u32)
+        ensures width { length self.new ≡ max (length self.old) len }
+        ensures same { (x : ℕ) → flag self.new x ≡ flag self.old x }
+    {
+        self.len = self.len.max(len);
+    }
+
     /// The elements of the set, ascending.
     pub fn iter(&self) -> Elements<'_, RunSet>
         ensures { result ≡ elements self.now }
@@ -104,7 +123,9 @@ impl RunSet {
         ensures fit { (k : ℕ) → k < length result.now
             → (first_of result.now k ≤ last_of result.now k)
             × (last_of result.now k < length self.now) }
+        ensures room { (k : ℕ) → k < length result.now → last_of result.now k + 1 < 4294967296 }
         ensures count { IsRunCount self.now (length result.now) }
+        ensures listed { numbers result.now ≡ elements self.now }
     {
         self.runs.as_slice()
     }

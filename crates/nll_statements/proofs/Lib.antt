@@ -1,1 +1,3 @@
+pub mod EdgeLemmas
 pub mod EffectLemmas
+pub mod MapLemmas

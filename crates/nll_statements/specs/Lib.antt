@@ -1,3 +1,5 @@
 pub mod Statements
 pub mod Effects
+pub mod Written
+pub mod Edges
 pub mod Kept

@@ -31,7 +31,7 @@ impl<R, T> Statement<R, T> {
     }
 
     // The place that it writes.
-    fn target(&self) -> Option<&Place>
+    pub(crate) fn target(&self) -> Option<&Place>
         ensures { MatchOption result (target_of (statement_of self.now) ≡ [])
             (λ p. target_of (statement_of self.now) ≡ path_of p.now ∷ []) }
     {
@@ -87,7 +87,7 @@ impl<R, T> Statement<R, T> {
     }
 
     // Puts the variables of the places that it reads or borrows behind the others.
-    fn reads(&self, used: &mut Vec<u32>) -> Result<(), Memory>
+    pub(crate) fn reads(&self, used: &mut Vec<u32>) -> Result<(), Memory>
         ensures { OnOk result (used.new.items ≡ used.old.items
             ++ map (λ p. p.variable) (spec.sources_of (statement_of self.now))) }
     {

@@ -1,8 +1,12 @@
-//! What stands at the points of a body: statements and terminators, what each uses, defines and
-//! drops, and where it goes on. It knows no text and no graph.
+//! What stands at the points of a body: statements and terminators, what is written in each, what
+//! it uses, defines and drops, and where it goes on. It knows no text and no graph.
 #![tactic(auto)]
 
+mod copying;
+mod edges;
 mod effects;
 mod statement;
+mod written;
 
+pub use copying::{copy_operand, copy_operands, copy_place};
 pub use statement::{Call, Make, Statement};

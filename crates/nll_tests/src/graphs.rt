@@ -62,7 +62,7 @@ enum Then {
 // What is told of a graph.
 fn told_of(alloc: Global, graph: Graph) -> Result<String, BuildError> {
     let mut out = String::new(alloc);
-    let written = write_graph(&mut out, &graph);
+    let written = write_graph(alloc, &mut out, &graph);
     drop(graph);
     written?;
     Ok(out)

@@ -1,4 +1,4 @@
-//! Tests of sets, problems, solving, types and lines of texts, by their public calls alone.
+//! Tests of sets, problems, solving, cuts, types and lines of texts, by their public calls alone.
 //! Expected values are found by hand from the definitions. The plain solver, `rounds`, is a second
 //! body of `solve`'s contract.
 //!
@@ -16,6 +16,8 @@ mod calls;
 #[cfg(test)]
 mod comparing;
 #[cfg(test)]
+mod cuts;
+#[cfg(test)]
 mod graphs;
 #[cfg(test)]
 mod headers;
@@ -25,6 +27,10 @@ mod lines;
 mod making;
 #[cfg(test)]
 mod messages;
+#[cfg(test)]
+mod mir_lines;
+#[cfg(test)]
+mod naming;
 #[cfg(test)]
 mod sets;
 #[cfg(test)]

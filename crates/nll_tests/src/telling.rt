@@ -1,13 +1,14 @@
 //! What problems, values and sets tell, as text.
-ghost use Rattle.std.specs.Prelude.{◌<◌, length};
+ghost use Rattle.std.specs.Prelude.{◌≡◌, ◌<◌, length};
 ghost use Rattle.nll_core.specs.Values.{IsShaped, set_of};
 
 use crate::rounds::solve_by_rounds;
 use nll_core::{
-    BuildError, Constraint, Element, ElementSet, Elements, Graph, Problem, RegionId, Values,
-    faults, solve,
+    BuildError, Constraint, Element, ElementSet, Elements, Graph, Memory, Problem, RegionId,
+    Values, faults, solve,
 };
-use nll_problem::ConstraintIndex;
+use nll_cut::{Cut, CutError, Readers};
+use nll_problem::{ConstraintIndex, Predecessors};
 use std::alloc::{AllocError, Global};
 
 /// What is asked of a problem.
@@ -21,6 +22,8 @@ pub enum Asked {
     Values,
     /// Whether both solvers give it the same values.
     BothSolvers,
+    /// Who reads what, where its regions go round so many owners.
+    ReadersAmong(u16),
     /// The faults of its least values.
     Faults,
     /// What values of it that hold nothing answer where an element is put into a region's.
@@ -34,16 +37,31 @@ pub fn tell(alloc: Global, problem: &Problem, asked: Asked) -> Result<String, Bu
         Asked::Readers => readers_of(alloc, problem),
         Asked::Values => values_of(alloc, problem),
         Asked::BothSolvers => solvers_of(alloc, problem),
+        Asked::ReadersAmong(owners) => readers_among(alloc, problem, owners),
         Asked::Faults => faults_of(alloc, problem),
         Asked::Inserted(region, element) => inserted(alloc, problem, region, element),
     }
 }
 
 /// Writes the successors of each point and its predecessors, and which points return.
-pub fn write_graph(out: &mut String, graph: &Graph) -> Result<(), AllocError> {
+pub fn write_graph(alloc: Global, out: &mut String, graph: &Graph) -> Result<(), Memory> {
+    let predecessors = Predecessors::of(alloc, graph)?;
+    let written = write_points(out, graph, &predecessors);
+    drop(predecessors);
+    Ok(written?)
+}
+
+// The same, by the predecessors of the graph's points.
+fn write_points(
+    out: &mut String,
+    graph: &Graph,
+    predecessors: &Predecessors,
+) -> Result<(), AllocError>
+    requires { predecessors.now ≡ graph.now }
+{
     for point in 0..graph.points() {
         write!(out, "{point} to {:?}", graph.next_of(point))?;
-        write!(out, " from {:?}", graph.previous_of(point))?;
+        write!(out, " from {:?}", predecessors.previous_of(point))?;
         if graph.is_return(point) {
             out.push_str(" and out")?;
         }
@@ -79,9 +97,9 @@ fn write_lists(out: &mut String, problem: &Problem) -> Result<(), AllocError> {
 }
 
 // The facts of a problem.
-fn facts_of(alloc: Global, problem: &Problem) -> Result<String, AllocError> {
+fn facts_of(alloc: Global, problem: &Problem) -> Result<String, Memory> {
     let mut out = String::new(alloc);
-    write_graph(&mut out, problem.graph())?;
+    write_graph(alloc, &mut out, problem.graph())?;
     for region in 0..problem.regions() {
         write_bases(&mut out, problem, region)?;
     }
@@ -111,6 +129,54 @@ fn readers_of(alloc: Global, problem: &Problem) -> Result<String, BuildError> {
     let index = ConstraintIndex::of(alloc, problem)?;
     let written = write_readers(&mut out, &index, problem.regions());
     drop(index);
+    written?;
+    Ok(out)
+}
+
+// Writes which regions an owner reads, of those that there are and one more.
+fn write_read(
+    out: &mut String,
+    readers: &Readers,
+    owner: u16,
+    regions: u32,
+) -> Result<(), AllocError> {
+    write!(out, "{owner} reads")?;
+    for number in 0..=regions {
+        if readers.reads(owner, RegionId(number)) {
+            write!(out, " {number}")?;
+        }
+    }
+    out.push('|')
+}
+
+// Writes which regions each owner reads, and one more that there isn't.
+fn write_all_read(
+    out: &mut String,
+    readers: &Readers,
+    owners: u16,
+    regions: u32,
+) -> Result<(), AllocError> {
+    for owner in 0..=owners {
+        write_read(out, readers, owner, regions)?;
+    }
+    Ok(())
+}
+
+// The readers of a problem whose regions go round so many owners.
+fn readers_of_round(alloc: Global, problem: &Problem, owners: u16) -> Result<Readers, CutError> {
+    let cut = Cut::round(alloc, problem.regions(), owners)?;
+    let readers = cut.readers(alloc, problem);
+    drop(cut);
+    Ok(readers?)
+}
+
+// Who reads what, where the regions of a problem go round so many owners.
+fn readers_among(alloc: Global, problem: &Problem, owners: u16) -> Result<String, BuildError> {
+    let mut out = String::new(alloc);
+    let written = match readers_of_round(alloc, problem, owners) {
+        Ok(readers) => write_all_read(&mut out, &readers, owners, problem.regions()),
+        Err(error) => write!(out, "{error}"),
+    };
     written?;
     Ok(out)
 }

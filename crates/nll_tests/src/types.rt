@@ -55,9 +55,9 @@ fn write_types(out: &mut String, types: &[Ty]) -> Result<(), AllocError> {
     Ok(())
 }
 
-// Writes a type.
+/// Writes a type.
 #[cycle(writing)]
-fn write_type(out: &mut String, ty: &Ty) -> Result<(), AllocError> {
+pub fn write_type(out: &mut String, ty: &Ty) -> Result<(), AllocError> {
     match ty {
         Ty::Int => out.push_str("int"),
         Ty::Parameter(number) => write!(out, "P{number}"),

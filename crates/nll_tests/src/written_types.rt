@@ -4,7 +4,7 @@ use super::lines::write_part;
 use nll_core::BuildError;
 use nll_text::{Token, tokens_of};
 use nll_type_grammar::{
-    Argument, TypeNode, a_type_has_tokens, is_capital, one_type_at_most, type_at,
+    Argument, TypeNode, TypeText, a_type_has_tokens, is_capital, one_type_at_most, type_at,
 };
 use std::alloc::{AllocError, Global};
 
@@ -50,15 +50,21 @@ fn write_node(out: &mut String, node: &TypeNode<'_>) -> Result<(), AllocError> {
     }
 }
 
+/// Writes the nodes of a type.
+pub fn write_nodes(out: &mut String, text: &TypeText<'_>) -> Result<(), AllocError> {
+    for node in text.nodes() {
+        write_node(out, node)?;
+    }
+    Ok(())
+}
+
 // Writes how many tokens the type in front has, and its nodes.
 fn write_type(out: &mut String, alloc: Global, tokens: &[Token<'_>]) -> Result<(), BuildError> {
     match type_at(alloc, tokens)? {
         None => out.push_str("none")?,
         Some((text, count)) => {
             write!(out, "{count}: ")?;
-            for node in text.nodes() {
-                write_node(out, node)?;
-            }
+            write_nodes(out, &text)?;
         }
     }
     Ok(())

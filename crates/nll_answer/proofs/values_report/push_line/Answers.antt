@@ -1,15 +1,13 @@
-use Rattle.std.proofs.Common.{◌++◌, ◌∷◌, Contains, List, ℕ, ap, ◌∙◌, subst, sym, refl, arith}
-use Rattle.std.proofs.lemmas.List.Elements.{Contains-append_right}
-use Rattle.nll_core.specs.Values.{set_of}
-use Rattle.nll_answer.proofs.ReportLemmas.{element_within}
+use Rattle.std.proofs.Common.{◌∷◌, ◌++◌, List, ap, ◌∙◌}
+use Rattle.std.specs.List.{flat_map}
+use Rattle.nll_answer.specs.Report.{element_text}
+use Rattle.nll_answer.proofs.ReportLemmas.{line_put}
 use Rattle.nll_answer.proofs.values_report.push_line.Goals as goal
 
-pub push_element-requires : goal.push_element-requires
-push_element-requires c =
-    let yielded = c.loop-element.yielded in
-    let element = c.in-Some.element in
-    let left = element ∷ c.next.new.self in
-    let whole = c.loop-element.invariant.left ∙ ap (λ (xs : List ℕ). yielded ++ xs) c.in-Some.ensures.steps in
-    let listed : Contains (yielded ++ left) element = Contains-append_right yielded left element (0, omega arith, refl) in
-    let within = element_within (set_of c.args.values.now c.args.region) element (subst (λ xs. Contains xs element) (sym whole) listed) in
-    omega (arith, within, c.requires.ends)
+pub returns : goal.returns
+returns c =
+    line_put _ _ _ _ _ _ _ _ c.in_ok-extend_from_slice.ensures.items
+    (c.in_ok-extend_from_slice-2.ensures.items ∙ ap (λ xs. c.extend_from_slice.new.self.items ++ xs) (c.as_bytes.ensures.value ∙ c.region.ensures))
+    c.in_ok-extend_from_slice-3.ensures.items
+    (c.in_ok-push_runs.ensures ∙ ap (λ xs. c.extend_from_slice-3.new.self.items ++ flat_map (λ e. 32 ∷ element_text c.args.labels.now c.args.points e) xs) c.runs.ensures.listed)
+    c.in_ok-extend_from_slice-4.ensures.items

@@ -17,7 +17,7 @@ returns c = record {
   elements = λ r. elements (set_of c.args.values.now r);
   listed = λ r within. elements_are_listed c.args.values.now r;
   printed =
-      ap (λ bytes. bytes.items) c.into_bytes.ensures.value ∙ c.loop-number.invariant
+      c.loop-number.invariant
       ∙ ap (λ points. lines points c.loop-number.number) c.points-points.ensures.value
       ∙ ap (lines c.args.problem.now.graph.points) all;
 }

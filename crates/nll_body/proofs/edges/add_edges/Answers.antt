@@ -6,7 +6,7 @@ use Rattle.nll_body.specs.Views.{meant}
 use Rattle.nll_statements.specs.Effects.{targets}
 use Rattle.nll_body.specs.Edges.{LeadsTo}
 use Rattle.nll_body.specs.Making.{AddsTargets}
-use Rattle.nll_body.proofs.PointLemmas.{targets_listed, same_end, same_targets, statement_edge, terminator_edges}
+use Rattle.nll_body.proofs.PointLemmas.{targets_listed, same_end, statement_edge, terminator_edges}
 use Rattle.nll_body.proofs.edges.add_edges.Goals as goal
 use Rattle.nll_body.proofs.edges.add_edges.Goals.{After-as_slice}
 

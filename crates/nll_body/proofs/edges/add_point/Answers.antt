@@ -1,4 +1,3 @@
-use Rattle.std.proofs.Common.{◌≡◌}
 use Rattle.nll_body.specs.Views.{meant}
 use Rattle.nll_body.proofs.PointLemmas.{return_point}
 use Rattle.nll_body.proofs.edges.add_point.Goals as goal

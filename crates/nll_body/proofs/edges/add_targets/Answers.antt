@@ -1,4 +1,4 @@
-use Rattle.std.proofs.Common.{◌≡◌, ◌<◌, slice_index_or, length, ap, subst, sym}
+use Rattle.std.proofs.Common.{◌<◌, slice_index_or, ap, subst, sym}
 use Rattle.nll_problem.specs.Graph.{Graph}
 use Rattle.nll_body.proofs.EdgeLemmas.{item_in, next_led, next_room, next_step}
 use Rattle.nll_body.proofs.edges.add_targets.Goals as goal

@@ -6,8 +6,8 @@ use Rattle.nll_problem.specs.declared.constraint.Constraint.{Constraint}
 use Rattle.nll_core.proofs.WalkingLemmas.{contained_at, each_contained, entering_more}
 use Rattle.nll_core.proofs.walk.enter_all.Goals as goal
 
-pub enter_next-requires-clause-point : goal.enter_next-requires-clause-point
-enter_next-requires-clause-point c =
+pub enter-requires-clause-point : goal.enter-requires-clause-point
+enter-requires-clause-point c =
     let place = c.loop-place.place in
     subst (λ (k : Constraint). k.at < c.args.lines.now.points) (sym (get_or_default c.args.pair.now place c.index-pair-place.result no_constraint c.loop-place-test.true))
     (c.requires.points _ (contained_at c.args.pair.now place c.loop-place-test.true))
@@ -17,7 +17,7 @@ loop-place-preserved c =
     let place = c.loop-place.place in
     let is = ap (λ (k : Constraint). k.at) (get_or_default c.args.pair.now place c.index-pair-place.result no_constraint c.loop-place-test.true) in
     entering_more c.args.lines.now c.args.sub.now c.args.pair.now _ _ _ _ _ _ place (get_or c.args.pair.now place c.index-pair-place.result).at c.in_ok-next.next c.place_from-place.result c.requires.ascending is c.loop-place-test.true
-    c.loop-place.invariant c.in_ok-next.ensures.grows c.in_ok-next.ensures.settled c.in_ok-next.ensures.own
+    c.loop-place.invariant c.in_ok-next.ensures.grows (c.in_ok-next.ensures.settled c.loop-place.invariant.closed) c.in_ok-next.ensures.covers
     c.place_from-place.ensures.bound c.place_from-place.ensures.before
 
 pub returns-clause-covers : goal.returns-clause-covers

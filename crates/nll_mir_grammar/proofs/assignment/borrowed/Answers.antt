@@ -1,5 +1,3 @@
-use Rattle.std.proofs.Common.{◌≡◌, ◌∷◌, List}
-use Rattle.nll_text.specs.Tokens.{Token, sign, views}
 use Rattle.nll_mir_grammar.proofs.KindLemmas.{no_borrow}
 use Rattle.nll_mir_grammar.proofs.LineLemmas.{borrow_side}
 use Rattle.nll_mir_grammar.proofs.assignment.borrowed.Goals as goal

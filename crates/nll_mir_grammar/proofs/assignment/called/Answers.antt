@@ -1,8 +1,8 @@
 use Rattle.nll_mir_grammar.specs.Kinds.{signatures}
 use Rattle.nll_mir_grammar.specs.Parts as parts
 use Rattle.nll_mir_grammar.proofs.GrammarLemmas.{pair_none, pair_none_behind}
-use Rattle.nll_mir_grammar.proofs.PartLemmas.{any_words_one}
-use Rattle.nll_mir_grammar.proofs.KindLemmas.{no_call, words_join}
+use Rattle.nll_mir_grammar.proofs.PartLemmas.{any_words_one, words_join}
+use Rattle.nll_mir_grammar.proofs.KindLemmas.{no_call}
 use Rattle.nll_mir_grammar.proofs.LineLemmas.{call_side, arguments_same}
 use Rattle.nll_mir_grammar.proofs.assignment.called.Goals as goal
 

@@ -1,4 +1,3 @@
-use Rattle.std.proofs.Common.{length, ◌-◌}
 use Rattle.std.proofs.lemmas.List.{take_rest}
 use Rattle.nll_mir_grammar.specs.Parts.{block_names}
 use Rattle.nll_mir_grammar.proofs.GrammarLemmas.{reads_on}

@@ -1,8 +1,8 @@
 use Rattle.nll_mir_grammar.specs.Grammars.{pair}
 use Rattle.nll_mir_grammar.specs.Parts as parts
 use Rattle.nll_mir_grammar.proofs.GrammarLemmas.{pair_none_behind}
-use Rattle.nll_mir_grammar.proofs.PartLemmas.{names_one, parameter_lists_one}
-use Rattle.nll_mir_grammar.proofs.KindLemmas.{names_join, parameters_join, drops_join, drop_marks_one}
+use Rattle.nll_mir_grammar.proofs.PartLemmas.{names_one, names_join, parameter_lists_one}
+use Rattle.nll_mir_grammar.proofs.KindLemmas.{parameters_join, drops_join, drop_marks_one}
 use Rattle.nll_mir_grammar.proofs.lines.struct_line.Goals as goal
 
 pub returns-in_default-3 : goal.returns-in_default-3

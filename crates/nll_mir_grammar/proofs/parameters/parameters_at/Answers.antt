@@ -1,6 +1,4 @@
-use Rattle.std.proofs.Common.{map}
 use Rattle.std.proofs.lemmas.List.{take_rest, map-append}
-use Rattle.nll_mir_grammar.specs.Lines.{parameter_of}
 use Rattle.nll_mir_grammar.specs.Parts as parts
 use Rattle.nll_mir_grammar.proofs.GrammarLemmas.{commas_none, lists_on}
 use Rattle.nll_mir_grammar.proofs.PartLemmas.{parameters_listable}

@@ -5,4 +5,4 @@ pub invariant_of-result : goal.invariant_of-result
 invariant_of-result c =
     let returns : c.in_ok-returns.returns.items ≡ c.self.inside.returns.items = c.in_ok-returns.ensures.items ∙ c.as_slice.ensures.value in
     let marks : c.in_ok-marks.marks.items ≡ c.self.inside.marks.items = c.in_ok-marks.ensures.items ∙ c.as_slice-2.ensures.value in
-    rw (c.in_ok-next.ensures, c.in_ok-previous.ensures, returns, marks) c.self.invariant
+    rw (c.in_ok-next.ensures, returns, marks) c.self.invariant

@@ -5,7 +5,7 @@ use Rattle.nll_problem.proofs.graph.Graph.next_of.Goals as goal
 pub row-requires : goal.row-requires
 row-requires c =
     let point = rw (← c.self.view_is) at c.requires in
-    omega (arith, point, c.self.invariant.0.successors.listed)
+    omega (arith, point, c.self.invariant.successors.listed)
 
 pub returns-clause-each : goal.returns-clause-each
 returns-clause-each c =
@@ -14,4 +14,4 @@ returns-clause-each c =
     (λ h. exact.1 (subst (λ xs. Contains xs q) c.row.ensures h), λ h. subst (λ xs. Contains xs q) (sym c.row.ensures) (exact.0 h)))
 
 pub returns-clause-once : goal.returns-clause-once
-returns-clause-once c = subst (λ xs. AllPairs (λ q r. q ≢ r) xs) (sym c.row.ensures) (c.self.invariant.0.successors.once c.args.point)
+returns-clause-once c = subst (λ xs. AllPairs (λ q r. q ≢ r) xs) (sym c.row.ensures) (c.self.invariant.successors.once c.args.point)

@@ -14,7 +14,7 @@ kept : (c : After-push) → IsKept c.self.inside.points c.self.inside.universals
 kept c = kept_return _ _ _ _ _ c.self.invariant.0 c.args.point c.if-point-self.false (free c)
 
 pub invariant_of-self-2 : goal.invariant_of-self-2
-invariant_of-self-2 c = (rw c.in_ok-push.ensures.items (kept (goal.at.invariant_of-self-2 c).After-push), c.self.invariant.1, c.self.invariant.2)
+invariant_of-self-2 c = (rw c.in_ok-push.ensures.items (kept (goal.at.invariant_of-self-2 c).After-push), c.self.invariant.1)
 
 pub returns-clause-ok : goal.returns-clause-ok
 returns-clause-ok c =

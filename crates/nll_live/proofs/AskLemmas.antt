@@ -1,0 +1,79 @@
+-- What variables ask for.
+use Rattle.std.proofs.Common.{◌≡◌, ◌⊎◌, ◌↔◌, ℕ, ◌+◌, ◌<◌, ◌≤◌, Bool, List, Contains, length, Some, None, slice_get, get_or, inl, inr, subst, ⊎_elim, arith}
+use Rattle.std.specs.Prelude.{slice_index_or, []}
+use Rattle.std.proofs.lemmas.Bool.{cases_lt}
+use Rattle.std.proofs.lemmas.Option.{slice_get_cases, slice_get_within}
+use Rattle.nll_sets.specs.Runs.{IsInRuns, MakeUp}
+use Rattle.nll_sets.specs.declared.run.Run.{Run}
+use Rattle.nll_types.specs.Types.{TypeTree}
+use Rattle.nll_body.specs.Bodies.{BodyText, HasType}
+use Rattle.nll_live.specs.Live.{AsksForUse, AsksForDrop, IsBaseOf}
+use Rattle.nll_live.specs.LiveSets.{AreSetsOf}
+use Rattle.nll_live.specs.Stretches.{Covers, Gains}
+use Rattle.nll_live.specs.declared.stretch.Stretch.{Stretch}
+use Rattle.nll_live.proofs.StretchLemmas.{gains_as}
+use Rattle.nll_live.proofs.GatheringLemmas.{contains_none}
+
+-- each variable has a type
+pub some_type : (body : BodyText) (x : ℕ) → x < length body.variables → (t : TypeTree) × HasType body x t
+some_type body x within = by (slice_get_cases body.variables x).1
+  where
+    by : ((t : TypeTree) × (x < length body.variables) × (slice_get body.variables x ≡ Some t) × (get_or body.variables x t ≡ t)) ⊎ ((length body.variables ≤ x) × (slice_get body.variables x ≡ None)) → (t : TypeTree) × HasType body x t
+    by (inl h) = (h.0, h.2)
+    by (inr h) = absurd (omega (arith, h.0))
+
+-- a variable asks for its regions where it is live
+pub asked : (body : BodyText) (x : ℕ) (regions : List ℕ) (runs : List Run) (wants : TypeTree → ℕ → Type 0) (live : ℕ → Type 0) (old new : List Stretch) → x < length body.variables
+    → ((t : TypeTree) → HasType body x t → (r : ℕ) → Contains regions r ↔ wants t r) → ((p : ℕ) → IsInRuns runs p ↔ live p)
+    → Gains (λ r p. Contains regions r × IsInRuns runs p) old new
+    → Gains (λ r p. (t : TypeTree) × HasType body x t × live p × wants t r) old new
+asked body x regions runs wants live old new within each in_runs =
+    gains_as (λ r p. Contains regions r × IsInRuns runs p) (λ r p. (t : TypeTree) × HasType body x t × live p × wants t r) old new (λ r p. (
+      λ h. let t = some_type body x within in (t.0, t.1, (in_runs p).0 h.1, ((each t.0 t.1) r).0 h.0),
+      λ h. (((each h.0 h.1) r).1 h.3, (in_runs p).1 h.2),
+    ))
+
+-- the runs of a set are of the points that it has
+pub runs_of_set : (body : BodyText) (holds : ℕ → ℕ → Type 0) (sets : List (List Bool)) (x : ℕ) (runs : List Run) → AreSetsOf body holds sets → x < length sets → MakeUp runs (slice_index_or sets x []) → (p : ℕ) → IsInRuns runs p ↔ holds x p
+runs_of_set body holds sets x runs are within made p = (
+  λ h. (are.each x p within).0 ((made p).0 h),
+  λ h. (made p).1 ((are.each x p within).1 h),
+)
+
+-- ---- a loop over the variables
+
+-- one of the first variables asks that r holds p
+abbrev pub IsAsked : BodyText → ℕ → ℕ → ℕ → Type 0
+IsAsked body n r p = (x : ℕ) × (x < n) × (AsksForUse body x r p ⊎ AsksForDrop body x r p)
+
+pub asked_first : (body : BodyText) (r p : ℕ) → Covers [] r p ↔ IsAsked body 0 r p
+asked_first body r p = (λ h. absurd (contains_none h.0 h.1), λ h. absurd (omega (arith, h.1)))
+
+pub asked_step : (body : BodyText) (n : ℕ) (old mid new : List Stretch) → ((r p : ℕ) → Covers old r p ↔ IsAsked body n r p) → Gains (AsksForUse body n) old mid → Gains (AsksForDrop body n) mid new → (r p : ℕ) → Covers new r p ↔ IsAsked body (n + 1) r p
+asked_step body n old mid new before f g r p = (
+  λ h. ⊎_elim
+      (λ was. ⊎_elim
+      (λ old_one. let x = (before r p).0 old_one in (x.0, omega (arith, x.1), x.2))
+      (λ use_now. (n, omega arith, inl use_now))
+      ((f r p).0 was))
+      (λ drop_now. (n, omega arith, inr drop_now))
+      ((g r p).0 h),
+  λ h. ⊎_elim
+      (λ low. (g r p).1 (inl ((f r p).1 (inl ((before r p).1 (h.0, low, h.2))))))
+      (λ high. last (subst (λ x. AsksForUse body x r p ⊎ AsksForDrop body x r p) (omega (arith, high, h.1)) h.2))
+      (cases_lt h.0 n),
+)
+  where
+    last : AsksForUse body n r p ⊎ AsksForDrop body n r p → Covers new r p
+    last (inl h) = (g r p).1 (inl ((f r p).1 (inr h)))
+    last (inr h) = (g r p).1 (inr h)
+
+pub asked_last : (body : BodyText) (n : ℕ) → length body.variables ≤ n → (r p : ℕ) → IsAsked body n r p ↔ IsBaseOf body r p
+asked_last body n all r p = (
+  λ h. (h.0, h.2),
+  λ h. (h.0, omega (arith, all, declared h.0 h.1), h.1),
+)
+  where
+    declared : (x : ℕ) → AsksForUse body x r p ⊎ AsksForDrop body x r p → x < length body.variables
+    declared x (inl h) = slice_get_within body.variables x h.0 h.1
+    declared x (inr h) = slice_get_within body.variables x h.0 h.1

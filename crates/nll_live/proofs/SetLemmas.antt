@@ -1,0 +1,108 @@
+-- Sets of points, one a variable.
+use Rattle.std.proofs.Common.{◌≡◌, ◌↔◌, ℕ, ◌+◌, ◌<◌, Bool, true, false, List, [], ◌∷◌, ◌++◌, Contains, length, get_or, set, replicate, take, Result, Ok, Err, refl, sym, ap, ◌∙◌, subst, ⊎_elim, arith, length-append}
+use Rattle.std.specs.Prelude.{slice_index_or, IfOk, OnOk}
+use Rattle.std.proofs.lemmas.Bool.{cases_lt, cases_eq, false≢true}
+use Rattle.std.proofs.lemmas.List.{length-replicate, get_or-replicate, get_or-set_same, get_or-set_other, get_or_append_left, get_or_push, get_or_past, length-set, take_more}
+use Rattle.std.proofs.lemmas.List.Elements.{Contains-push, Contains-push_cases, Contains-append_left}
+use Rattle.nll_sets.specs.ElementSet.{flag}
+use Rattle.nll_body.specs.Bodies.{BodyText}
+use Rattle.nll_live.specs.Live.{IsLive}
+use Rattle.nll_live.specs.Gathering.{IsListed, AreListed}
+use Rattle.nll_live.specs.LiveSets.{IsIn, AreSetsOf}
+use Rattle.nll_live.proofs.GatheringLemmas.{contains_none}
+use Rattle.nll_live.proofs.WalkLemmas.{live_same}
+
+-- what holds of a value, where there is one, is of any larger kind
+pub if_ok : {T E : Type 0} (r : Result T E) (P Q : T → Type 0) → ((x : T) → P x → Q x) → IfOk r P → IfOk r Q
+if_ok (Ok x) P Q f h = f x h
+if_ok (Err e) P Q f h = tt
+
+pub on_ok : {T E : Type 0} (r : Result T E) (P Q : Type 0) → (P → Q) → OnOk r P → OnOk r Q
+on_ok (Ok x) P Q f h = f h
+on_ok (Err e) P Q f h = tt
+
+-- ---- the set of a list
+
+-- The set has the first n of the points.
+pub record Holds (points : List ℕ) (n width : ℕ) (flags : List Bool) : Type 0 where
+  pub wide : length flags ≡ width
+  pub each : (p : ℕ) → (flag flags p ≡ true) ↔ Contains (take n points) p
+
+pub holds_first : (points : List ℕ) (width : ℕ) → Holds points 0 width (replicate width false)
+holds_first points width = record {
+  wide = length-replicate width false;
+  each = λ p. (λ h. absurd (none_in p h), λ h. absurd (contains_none p h));
+}
+  where
+    none_in : (p : ℕ) → flag (replicate width false) p ≡ true → ⊥
+    none_in p h = ⊎_elim
+        (λ low. false≢true (sym (get_or-replicate width p false false low) ∙ h))
+        (λ high. false≢true (sym (get_or_past (replicate width false) p false (omega (arith, high, length-replicate width false))) ∙ h))
+        (cases_lt p width)
+
+pub holds_step : (points : List ℕ) (n width : ℕ) (old : List Bool) → n < length points → get_or points n 0 < width → Holds points n width old → Holds points (n + 1) width (set old (get_or points n 0) true)
+holds_step points n width old within small h =
+    let e = get_or points n 0 in
+    let more = take_more points n 0 within in
+    record {
+      wide = length-set old e true ∙ h.wide;
+      each = λ p. ⊎_elim
+          (λ is. (
+            λ _. subst (λ xs. Contains xs p) (sym more) (subst (Contains (take n points ++ e ∷ [])) (sym is) (Contains-push (take n points) e)),
+            λ _. subst (λ q. flag (set old e true) q ≡ true) (sym is) (get_or-set_same old e true false (omega (arith, small, h.wide))),
+          ))
+          (λ isnt. (
+            λ on. subst (λ xs. Contains xs p) (sym more) (Contains-append_left (take n points) (e ∷ []) p ((h.each p).0 (sym (get_or-set_other old e p true false isnt) ∙ on))),
+            λ there. get_or-set_other old e p true false isnt ∙ (h.each p).1 (⊎_elim (λ old_one. old_one) (λ is. absurd (isnt (sym is))) (Contains-push_cases (take n points) e p (subst (λ xs. Contains xs p) more there))),
+          ))
+          (cases_eq p e);
+    }
+
+-- ---- one set a variable
+
+-- The first sets are there.
+pub record AreSetsUpTo (width : ℕ) (holds : ℕ → ℕ → Type 0) (n : ℕ) (sets : List (List Bool)) : Type 0 where
+  pub counted : length sets ≡ n
+  pub wide : (x : ℕ) → x < n → length (slice_index_or sets x []) ≡ width
+  pub each : (x p : ℕ) → x < n → IsIn sets x p ↔ holds x p
+
+pub sets_first : (width : ℕ) (holds : ℕ → ℕ → Type 0) → AreSetsUpTo width holds 0 []
+sets_first width holds = record {
+  counted = refl;
+  wide = λ x h. absurd (omega (arith, h));
+  each = λ x p h. absurd (omega (arith, h));
+}
+
+pub sets_step : (width : ℕ) (holds : ℕ → ℕ → Type 0) (n : ℕ) (sets : List (List Bool)) (new : List Bool) → AreSetsUpTo width holds n sets → length new ≡ width → ((p : ℕ) → (flag new p ≡ true) ↔ holds n p) → AreSetsUpTo width holds (n + 1) (sets ++ new ∷ [])
+sets_step width holds n sets new are size is = record {
+  counted = length-append sets (new ∷ []) ∙ ap (λ k. k + 1) are.counted;
+  wide = λ x h. ⊎_elim
+      (λ low. ap length (get_or_append_left sets (new ∷ []) [] x (omega (arith, low, are.counted))) ∙ are.wide x low)
+      (λ high. ap length (get_or_push sets new [] x (omega (arith, high, h, are.counted))) ∙ size)
+      (cases_lt x n);
+  each = λ x p h. ⊎_elim
+      (λ low. subst (λ s. (flag s p ≡ true) ↔ holds x p) (sym (get_or_append_left sets (new ∷ []) [] x (omega (arith, low, are.counted)))) (are.each x p low))
+      (λ high.
+      let same : x ≡ n = omega (arith, high, h) in
+      subst (λ s. (flag s p ≡ true) ↔ holds x p) (sym (get_or_push sets new [] x (omega (arith, high, h, are.counted)))) (subst (λ y. (flag new p ≡ true) ↔ holds y p) (sym same) (is p)))
+      (cases_lt x n);
+}
+
+pub sets_done : (body : BodyText) (holds : ℕ → ℕ → Type 0) (sets : List (List Bool)) → AreSetsUpTo (length body.points) holds (length body.variables) sets → AreSetsOf body holds sets
+sets_done body holds sets are = record {
+  counted = are.counted;
+  width = λ x h. are.wide x (omega (arith, h, are.counted));
+  each = λ x p h. are.each x p (omega (arith, h, are.counted));
+}
+
+-- the lists have just the ends of the walks
+pub sets_as : (body : BodyText) (ends : ℕ → ℕ → Type 0) (lists : List (List ℕ)) (sets : List (List Bool)) → ((x p : ℕ) → ends x p → p < length body.points) → AreListed (length body.variables) ends (length body.points) lists → AreSetsOf body (λ x. IsLive body (IsListed lists x) x) sets → AreSetsOf body (λ x. IsLive body (ends x) x) sets
+sets_as body ends lists sets within listed are = record {
+  counted = are.counted;
+  width = are.width;
+  each = λ x p h.
+      let low : x < length body.variables = omega (arith, h, are.counted) in (
+        λ on. live_same body (IsListed lists x) (ends x) x p (λ q k. ((listed.each x q low).0 k).0) ((are.each x p h).0 on),
+        λ live. (are.each x p h).1 (live_same body (ends x) (IsListed lists x) x p (λ q k. (listed.each x q low).1 (k, within x q k)) live),
+      );
+}

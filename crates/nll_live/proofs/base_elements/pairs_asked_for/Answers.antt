@@ -1,0 +1,7 @@
+use Rattle.nll_live.proofs.base_elements.pairs_asked_for.Goals as goal
+
+pub returns-clause-each : goal.returns-clause-each
+returns-clause-each c = λ r p.
+    let covers = c.in_ok-push_variables.ensures r p in
+    let each = c.in_ok-pairs.ensures.each r p in
+    (λ h. covers.0 (each.0 h), λ h. each.1 (covers.1 h))

@@ -1,0 +1,12 @@
+use Rattle.std.proofs.Common.{◌≡◌, ◌≤◌, ℕ, length, map, slice_index}
+use Rattle.nll_live.specs.Live.{IsLive}
+use Rattle.nll_live.specs.Gathering.{IsListed}
+use Rattle.nll_live.proofs.SetLemmas.{AreSetsUpTo}
+use Rattle.nll_live.proofs.live_points.find_sets.Given as goal
+
+abbrev pub invariant-loop-variable : goal.invariant-loop-variable
+invariant-loop-variable l = record {
+  width : length l.marks.items ≡ length l.body.points;
+  fresh : (p : ℕ) → slice_index l.marks.items p ≤ l.variable;
+  sets : AreSetsUpTo (length l.body.points) (λ x. IsLive l.body (IsListed (map (λ list. list.items) l.lists) x) x) l.variable l.sets.items;
+}

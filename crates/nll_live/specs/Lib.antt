@@ -1,0 +1,5 @@
+pub mod Live
+pub mod LiveSets
+pub mod Gathering
+pub mod Marks
+pub mod Stretches

@@ -1,0 +1,114 @@
+//! The base elements that liveness gives regions.
+
+ghost use Rattle.std.specs.Prelude.{◌≡◌, ◌↔◌, ◌^◌, ◌<◌, ℕ, [], length, AllPairs, Contains};
+ghost use Rattle.std.specs.Prelude.{IfOk, OnOk};
+ghost use Rattle.nll_problem.specs.Problem.{IsEarlier};
+ghost use Rattle.nll_live.specs.Live.{AsksForUse, AsksForDrop, IsBaseOf};
+ghost use Rattle.nll_live.specs.LiveSets.{AreLiveSets};
+ghost use Rattle.nll_live.specs.Stretches.{Covers, Gains};
+
+use crate::live_sets::LiveSets;
+use crate::stretch::Stretch;
+use crate::stretches::{pairs_of, push_all};
+use nll_body::Body;
+use nll_problem::RegionId;
+use nll_sets::Memory;
+use std::alloc::Global;
+
+/// The base elements of regions that come of the liveness of variables, each once, ascending by
+/// region, then by point.
+///
+/// # Errors
+/// - `Memory`.
+///
+/// # Cost
+/// For each region of a variable's type the runs of points where the variable is live, sorting all
+/// these, and the pairs that come out (not proved).
+///
+/// # Source
+/// RFC 2094, "Liveness" and "Drop".
+pub fn bases(alloc: Global, body: &Body, sets: &LiveSets) -> Result<Vec<(RegionId, u32)>, Memory>
+    requires { AreLiveSets body.now sets.now }
+    ensures each { IfOk result (λ v. (r p : ℕ) → Contains v.items (r, p) ↔ IsBaseOf body.now r p) }
+    ensures ascending { IfOk result (λ v. AllPairs IsEarlier v.items) }
+{
+    let mut stretches = Vec::new(alloc);
+    let pairs = pairs_asked_for(alloc, body, sets, &mut stretches);
+    drop(stretches);
+    pairs
+}
+
+// The base elements. The empty list is for its own use.
+fn pairs_asked_for(
+    alloc: Global,
+    body: &Body,
+    sets: &LiveSets,
+    stretches: &mut Vec<Stretch>,
+) -> Result<Vec<(RegionId, u32)>, Memory>
+    requires sets { AreLiveSets body.now sets.now }
+    requires nothing { stretches.old.items ≡ [] }
+    ensures each { IfOk result (λ v. (r p : ℕ) → Contains v.items (r, p) ↔ IsBaseOf body.now r p) }
+    ensures ascending { IfOk result (λ v. AllPairs IsEarlier v.items) }
+{
+    push_variables(alloc, body, sets, stretches)?;
+    let pairs = pairs_of(alloc, stretches)?;
+    Ok(pairs)
+}
+
+// Puts the stretches that each variable asks for into an empty list.
+fn push_variables(
+    alloc: Global,
+    body: &Body,
+    sets: &LiveSets,
+    stretches: &mut Vec<Stretch>,
+) -> Result<(), Memory>
+    requires sets { AreLiveSets body.now sets.now }
+    requires nothing { stretches.old.items ≡ [] }
+    ensures { OnOk result ((r p : ℕ) → Covers stretches.new.items r p ↔ IsBaseOf body.now r p) }
+{
+    for variable in 0..body.variables() {
+        push_uses(alloc, body, sets, variable as u32, stretches)?;
+        push_drops(alloc, body, sets, variable as u32, stretches)?;
+    }
+    Ok(())
+}
+
+// Puts the stretches that a variable asks for where it is use-live behind the others.
+fn push_uses(
+    alloc: Global,
+    body: &Body,
+    sets: &LiveSets,
+    variable: u32,
+    stretches: &mut Vec<Stretch>,
+) -> Result<(), Memory>
+    requires sets { AreLiveSets body.now sets.now }
+    requires variable { variable < length body.now.variables }
+    requires few { length body.now.points < 2 ^ 32 }
+    ensures { OnOk result (Gains (AsksForUse body.now variable)
+        stretches.old.items stretches.new.items) }
+{
+    let regions = body.var_regions(alloc, variable)?;
+    let told = push_all(stretches, regions.as_slice(), sets.use_runs(variable));
+    drop(regions);
+    told
+}
+
+// Puts the stretches that a variable asks for where it is drop-live behind the others.
+fn push_drops(
+    alloc: Global,
+    body: &Body,
+    sets: &LiveSets,
+    variable: u32,
+    stretches: &mut Vec<Stretch>,
+) -> Result<(), Memory>
+    requires sets { AreLiveSets body.now sets.now }
+    requires variable { variable < length body.now.variables }
+    requires few { length body.now.points < 2 ^ 32 }
+    ensures { OnOk result (Gains (AsksForDrop body.now variable)
+        stretches.old.items stretches.new.items) }
+{
+    let regions = body.var_drop_regions(alloc, variable)?;
+    let told = push_all(stretches, regions.as_slice(), sets.drop_runs(variable));
+    drop(regions);
+    told
+}

@@ -1,0 +1,129 @@
+//! The points of a body by the variables that they use or drop.
+
+ghost use Rattle.std.specs.Prelude.{◌≡◌, ◌<◌, ℕ, [], length, map, replicate, Contains, IfOk, OnOk};
+ghost use Rattle.nll_live.specs.Live.{UsesAt, DropsAt};
+ghost use Rattle.nll_live.specs.Gathering.{AreListed, Lists};
+
+use nll_body::Body;
+use nll_sets::Memory;
+use std::alloc::Global;
+
+/// For each variable the points that use it.
+pub(crate) fn uses_by_variable(alloc: Global, body: &Body) -> Result<Vec<Vec<u32>>, Memory>
+    ensures { IfOk result (λ lists. AreListed (length body.now.variables) (UsesAt body.now)
+        (length body.now.points) (map (λ list. list.items) lists.items)) }
+{
+    let mut lists = empty_lists(alloc, body.variables())?;
+    let mut used = Vec::new(alloc);
+    let told = list_uses(&mut lists, body, &mut used);
+    drop(used);
+    match told {
+        Ok(()) => Ok(lists),
+        Err(memory) => {
+            drop(lists);
+            Err(memory)
+        }
+    }
+}
+
+/// For each variable the points that drop it.
+pub(crate) fn drops_by_variable(alloc: Global, body: &Body) -> Result<Vec<Vec<u32>>, Memory>
+    ensures { IfOk result (λ lists. AreListed (length body.now.variables) (DropsAt body.now)
+        (length body.now.points) (map (λ list. list.items) lists.items)) }
+{
+    let mut lists = empty_lists(alloc, body.variables())?;
+    match list_drops(&mut lists, body) {
+        Ok(()) => Ok(lists),
+        Err(memory) => {
+            drop(lists);
+            Err(memory)
+        }
+    }
+}
+
+// So many empty lists.
+fn empty_lists(alloc: Global, count: usize) -> Result<Vec<Vec<u32>>, Memory>
+    ensures { IfOk result (λ lists. map (λ list. list.items) lists.items ≡ replicate count []) }
+{
+    let mut lists = Vec::with_capacity(alloc, count)?;
+    for _ in 0..count {
+        lists.push(Vec::new(alloc))?;
+    }
+    Ok(lists)
+}
+
+// Puts each point into the lists of the variables that it uses. The second list is for its own use.
+fn list_uses(lists: &mut Vec<Vec<u32>>, body: &Body, used: &mut Vec<u32>) -> Result<(), Memory>
+    requires { map (λ list. list.items) lists.old.items ≡ replicate (length body.now.variables) [] }
+    ensures { OnOk result (AreListed (length body.now.variables) (UsesAt body.now)
+        (length body.now.points) (map (λ list. list.items) lists.new.items)) }
+{
+    for point in 0..body.points() {
+        list_uses_of(lists, body, used, point)?;
+    }
+    Ok(())
+}
+
+// Puts each point into the list of the variable that it drops.
+fn list_drops(lists: &mut Vec<Vec<u32>>, body: &Body) -> Result<(), Memory>
+    requires { map (λ list. list.items) lists.old.items ≡ replicate (length body.now.variables) [] }
+    ensures { OnOk result (AreListed (length body.now.variables) (DropsAt body.now)
+        (length body.now.points) (map (λ list. list.items) lists.new.items)) }
+{
+    for point in 0..body.points() {
+        list_drop_of(lists, body, point)?;
+    }
+    Ok(())
+}
+
+// Puts a point into the lists of the variables that it uses.
+fn list_uses_of(
+    lists: &mut Vec<Vec<u32>>,
+    body: &Body,
+    used: &mut Vec<u32>,
+    point: u32,
+) -> Result<(), Memory>
+    requires { point < length body.now.points }
+    ensures { OnOk result (Lists (λ x. UsesAt body.now x point) point
+        (map (λ list. list.items) lists.old.items) (map (λ list. list.items) lists.new.items)) }
+{
+    used.clear();
+    body.uses(point, used)?;
+    list_at_all(lists, used.as_slice(), point)?;
+    Ok(())
+}
+
+// Puts a point into the list of the variable that it drops.
+fn list_drop_of(lists: &mut Vec<Vec<u32>>, body: &Body, point: u32) -> Result<(), Memory>
+    requires { point < length body.now.points }
+    ensures { OnOk result (Lists (λ x. DropsAt body.now x point) point
+        (map (λ list. list.items) lists.old.items) (map (λ list. list.items) lists.new.items)) }
+{
+    if let Some(variable) = body.drops(point) {
+        list_at(lists, variable, point)?;
+    }
+    Ok(())
+}
+
+// Puts a point into the lists of these variables.
+fn list_at_all(lists: &mut Vec<Vec<u32>>, variables: &[u32], point: u32) -> Result<(), Memory>
+    ensures { OnOk result (Lists (Contains variables.now) point
+        (map (λ list. list.items) lists.old.items) (map (λ list. list.items) lists.new.items)) }
+{
+    for variable in variables {
+        list_at(lists, *variable, point)?;
+    }
+    Ok(())
+}
+
+// Puts a point into the list of a variable, where there is one.
+fn list_at(lists: &mut Vec<Vec<u32>>, variable: u32, point: u32) -> Result<(), Memory>
+    ensures { OnOk result (Lists (λ x. x ≡ variable) point
+        (map (λ list. list.items) lists.old.items) (map (λ list. list.items) lists.new.items)) }
+{
+    if (variable as usize) < lists.len() {
+        let list = &mut lists[variable as usize];
+        list.push(point)?;
+    }
+    Ok(())
+}

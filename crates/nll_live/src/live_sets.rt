@@ -1,0 +1,74 @@
+//! Where each variable is live.
+
+ghost use Rattle.std.specs.Prelude.{◌≡◌, ◌↔◌, ◌<◌, ℕ, [], length, slice_index_or, IsTrue};
+ghost use Rattle.nll_sets.specs.Runs.{MakeUp, last_of};
+ghost use Rattle.nll_live.specs.LiveSets.{IsIn};
+
+use nll_sets::{Element, ElementSet, Run, RunSet};
+use std::marker::Model;
+
+/// For each variable of a body the points where it is use-live, and those where it is drop-live.
+///
+/// # Cost
+/// A set is kept as the runs of its points, eight bytes each (not proved).
+#[derive(Drop)]
+pub struct LiveSets {
+    uses: Vec<RunSet>,
+    drops: Vec<RunSet>,
+}
+
+impl Model for LiveSets {
+    ghost use Rattle.nll_live.specs.LiveSets as spec;
+
+    ghost Value = { spec.LiveSets };
+
+    ghost view = { λ sets. record { uses = sets.uses.items; drops = sets.drops.items } };
+}
+
+impl LiveSets {
+    // The sets of use-live points, and of drop-live ones.
+    pub(crate) fn of(uses: Vec<RunSet>, drops: Vec<RunSet>) -> LiveSets
+        ensures uses { result.uses ≡ uses.items }
+        ensures drops { result.drops ≡ drops.items }
+    {
+        LiveSets { uses, drops }
+    }
+
+    /// Whether a variable is use-live at a point.
+    pub fn use_live(&self, variable: u32, point: u32) -> bool
+        requires variable { variable < length self.now.uses }
+        requires point { point < length (slice_index_or self.now.uses variable []) }
+        ensures { IsTrue result ↔ IsIn self.now.uses variable point }
+    {
+        self.uses[variable as usize].has(Element(point))
+    }
+
+    /// Whether a variable is drop-live at a point.
+    pub fn drop_live(&self, variable: u32, point: u32) -> bool
+        requires variable { variable < length self.now.drops }
+        requires point { point < length (slice_index_or self.now.drops variable []) }
+        ensures { IsTrue result ↔ IsIn self.now.drops variable point }
+    {
+        self.drops[variable as usize].has(Element(point))
+    }
+
+    // The runs of the points where a variable is use-live.
+    pub(crate) fn use_runs(&self, variable: u32) -> &[Run]
+        requires { variable < length self.now.uses }
+        ensures make_up { MakeUp result.now (slice_index_or self.now.uses variable []) }
+        ensures within { (k : ℕ) → k < length result.now
+            → last_of result.now k < length (slice_index_or self.now.uses variable []) }
+    {
+        self.uses[variable as usize].as_runs()
+    }
+
+    // The runs of the points where a variable is drop-live.
+    pub(crate) fn drop_runs(&self, variable: u32) -> &[Run]
+        requires { variable < length self.now.drops }
+        ensures make_up { MakeUp result.now (slice_index_or self.now.drops variable []) }
+        ensures within { (k : ℕ) → k < length result.now
+            → last_of result.now k < length (slice_index_or self.now.drops variable []) }
+    {
+        self.drops[variable as usize].as_runs()
+    }
+}

@@ -1,0 +1,119 @@
+-- A struct line with which nothing is wrong is taken.
+use Rattle.std.proofs.Common.{◌≡◌, ℕ, ◌+◌, ◌<◌, ◌≤◌, ◌^◌, ◌-◌, Bool, None, List, [], ◌∷◌, ◌++◌, length, map, refl, sym, ap, ◌∙◌, subst, arith, length-append}
+use Rattle.std.proofs.lemmas.Bool.{leb-true}
+use Rattle.std.proofs.lemmas.List.{length-map, map_push}
+use Rattle.nll_problem.specs.Limits.{most_bytes, most_structs}
+use Rattle.nll_types.specs.Structs.{Struct, HasGoodFields}
+use Rattle.nll_types.specs.Tables.{Tables}
+use Rattle.nll_types.specs.Views.{trees}
+use Rattle.nll_types.specs.Declarations.{structs_of}
+use Rattle.nll_types.specs.Declarations as kept
+use Rattle.nll_types.specs.declared.node.Node.{Node}
+use Rattle.nll_types.specs.declared.structs.Declaration.{Declaration}
+use Rattle.nll_type_grammar.specs.WrittenTypes.{Name, WrittenTypes}
+use Rattle.nll_type_grammar.specs.TypeTexts.{written}
+use Rattle.nll_mir_grammar.specs.Lines.{parameter_of}
+use Rattle.nll_mir_grammar.specs.MirForms.{WrittenParameter}
+use Rattle.nll_mir_grammar.specs.Tuples.{parts}
+use Rattle.nll_mir_grammar.specs.declared.line.StructText.{StructText}
+use Rattle.nll_naming.specs.Naming.{all_meant}
+use Rattle.nll_mir_text.specs.MirSaid.{Said, says, declared, field_scope, is_region, regions_in, types_in}
+use Rattle.nll_mir_text.specs.MirFaults.{first_fault}
+use Rattle.nll_mir_text.specs.MirReading.{said_by, AreKinds, AreShapes, IsDue, IsTaken, struct_form}
+use Rattle.nll_mir_text.specs.Declaring.{AreOwn, own_scope, region_names}
+use Rattle.nll_mir_text.specs.declared.own_names.OwnNames.{OwnNames}
+use Rattle.nll_mir_text.specs.declared.reader.Reader.{Reader}
+use Rattle.nll_mir_text.specs.declared.tables.StructNames.{StructNames}
+use Rattle.nll_mir_text.proofs.OwnLemmas.{few_regions, own_scope_is}
+use Rattle.nll_mir_text.proofs.StructLemmas.{IsFine, struct_fine, kinds_pushed, regions_declared, types_declared, good_fields}
+
+-- what is said with other structs
+abbrev said_with : Said → List Name → List (List Bool) → List Struct → Said
+said_with s names kinds structs = record s { reached = 4; struct_names = names; kinds = kinds; structs = structs }
+
+module _ (r : Reader) (own : OwnNames) (text : StructText) (due : IsDue r (struct_form text)) (h : AreOwn (map parameter_of text.parameters.items) own) (few : length text.parameters.items ≤ most_bytes) (fine : first_fault (said_by r) (struct_form text) ≡ None) where
+  abbrev parameters : List WrittenParameter
+  parameters = map parameter_of text.parameters.items
+
+  abbrev fields : WrittenTypes
+  fields = parts (written text.fields)
+
+  is_fine : IsFine (said_by r) text.name.now parameters fields
+  is_fine = struct_fine (said_by r) text.name.now parameters text.has_drop fields fine
+
+  few_in : length (regions_in parameters) ≤ most_bytes
+  few_in = omega (arith, few, few_regions parameters, length-map text.parameters.items parameter_of)
+
+  pub few_own : length own.regions < 2 ^ 32
+  few_own = omega (arith, few_in, ap length (h.regions.same is_fine.regions), length-map (regions_in parameters) (λ p. p.0))
+
+  module _ (d : Declaration) (regions : d.regions.items ≡ map (λ p. p.1) (regions_in parameters)) (types : d.types.items ≡ map (λ p. p.1) (types_in parameters)) (has_drop : d.has_drop ≡ text.has_drop) (meant : trees d.fields.items ≡ all_meant (own_scope own r.structs) fields) where
+    abbrev more : Struct
+    more = declared (said_by r) parameters text.has_drop fields
+
+    fields_meant : trees d.fields.items ≡ all_meant (field_scope (said_by r) parameters) fields
+    fields_meant = meant ∙ ap (λ s. all_meant s fields) (own_scope_is (said_by r) parameters own r.structs h is_fine.regions is_fine.types refl refl)
+
+    declares : kept.declared d ≡ more
+    declares = rw (regions, types, has_drop, fields_meant) refl
+
+    pub few_declared : length d.regions.items < 2 ^ 32 - 1
+    few_declared = omega (arith, few_in, ap length regions, length-map (regions_in parameters) (λ p. p.1))
+
+    counted_structs : length (structs_of r.variables.table.structs) ≡ length r.variables.table.structs
+    counted_structs = length-map r.variables.table.structs kept.declared
+
+    pub good_declared : HasGoodFields (structs_of r.variables.table.structs) (kept.declared d)
+    good_declared = subst (HasGoodFields (structs_of r.variables.table.structs)) (sym declares)
+        (good_fields (said_by r) parameters text.has_drop fields due.ready.kinds (due.ready.named_structs ∙ sym counted_structs) is_fine.known is_fine.has)
+
+    module _ (t : Tables) (s : StructNames) (structs : t.structs ≡ r.variables.table.structs ++ d ∷ []) (shapes : t.shapes ≡ r.variables.table.shapes) (names : s.names ≡ r.structs.names ++ text.name.now ∷ []) (kinds : map (λ ks. ks.items) s.kinds.items ≡ map (λ ks. ks.items) r.structs.kinds.items ++ map is_region parameters ∷ []) (none : s.none ≡ r.structs.none) where
+      abbrev after : Reader
+      after = record r { reached = 4; structs = s; variables = record r.variables { table = t } }
+
+      more_structs : structs_of t.structs ≡ structs_of r.variables.table.structs ++ more ∷ []
+      more_structs = ap structs_of structs ∙ (map_push kept.declared r.variables.table.structs d ∙ ap (λ x. structs_of r.variables.table.structs ++ x ∷ []) declares)
+
+      more_said : said_by after ≡ says (said_by r) (struct_form text)
+      more_said =
+          ap (λ xs. said_with (said_by r) xs (map (λ ks. ks.items) s.kinds.items) (structs_of t.structs)) names
+          ∙ (ap (λ xs. said_with (said_by r) (r.structs.names ++ text.name.now ∷ []) xs (structs_of t.structs)) kinds
+          ∙ ap (λ xs. said_with (said_by r) (r.structs.names ++ text.name.now ∷ []) (map (λ ks. ks.items) r.structs.kinds.items ++ map is_region parameters ∷ []) xs) more_structs)
+
+      more_kinds : AreKinds (map (λ ks. ks.items) s.kinds.items) (structs_of t.structs)
+      more_kinds =
+          subst (λ xs. AreKinds xs (structs_of t.structs)) (sym kinds)
+          (subst (AreKinds (map (λ ks. ks.items) r.structs.kinds.items ++ map is_region parameters ∷ [])) (sym more_structs)
+          (kinds_pushed _ _ (map is_region parameters) more
+          (length-map r.structs.kinds.items (λ ks. ks.items) ∙ (due.ready.counted_kinds ∙ sym counted_structs))
+          due.ready.kinds
+          (regions_declared (said_by r) parameters text.has_drop fields)
+          (types_declared (said_by r) parameters text.has_drop fields)))
+
+      more_counted : length t.structs ≡ length r.variables.table.structs + 1
+      more_counted = omega (arith, ap length structs, length-append r.variables.table.structs (d ∷ []))
+
+      pub taken : IsTaken (said_by r) (struct_form text) after
+      taken = record {
+        fine = fine;
+        says = more_said;
+        ready = record {
+          static = due.ready.static;
+          universals = due.ready.universals;
+          few_universals = due.ready.few_universals;
+          few_regions = due.ready.few_regions;
+          no_parameter = none ∙ due.ready.no_parameter;
+          named_structs = omega (arith, more_counted, due.ready.named_structs, ap length names, length-append r.structs.names (text.name.now ∷ []));
+          counted_kinds = omega (arith, more_counted, due.ready.counted_kinds, ap length kinds, length-map s.kinds.items (λ ks. ks.items), length-map r.structs.kinds.items (λ ks. ks.items), length-append (map (λ ks. ks.items) r.structs.kinds.items) (map is_region parameters ∷ []));
+          kinds = more_kinds;
+          few_structs = omega (arith, more_counted, is_fine.few, counted_structs);
+          few_variables = due.ready.few_variables;
+          shapes = subst (λ (ns : List Node). AreShapes ns r.variables.shapes.items r.variables.types.items) (sym shapes) due.ready.shapes;
+          few_blocks = due.ready.few_blocks;
+          no_start = λ _. due.ready.no_start (omega (arith, leb-true r.reached 4 due.order));
+          starts = due.ready.starts;
+          few_points = due.ready.few_points;
+          edges = due.ready.edges;
+          few_edges = due.ready.few_edges;
+        };
+      }

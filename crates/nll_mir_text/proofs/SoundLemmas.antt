@@ -1,0 +1,522 @@
+-- What the lines of a text that fits say is a sound body.
+use Rattle.std.proofs.Common.{◌≡◌, ◌⊎◌, ℕ, suc, ◌+◌, ◌<◌, ◌≤◌, Bool, true, false, not, cond, List, [], ◌∷◌, ◌++◌, Option, Some, None, Contains, length, map, inl, inr, refl, sym, ap, ◌∙◌, subst, ⊎_elim, arith, length-append, slice_get, get_or}
+use Rattle.std.specs.Prelude.{◌&&◌, ◌==◌, nat_le, nat_lt, All, slice_index_or}
+use Rattle.std.specs.List.{list_all, list_any}
+use Rattle.std.specs.List.Sorted.{IsStrictlyIncreasing}
+use Rattle.std.proofs.lemmas.Bool.{cases_lt, and_parts, not-true, not-false, leb-true, leb-false, ltb-true, ltb-false, eqb-true, eqb-false}
+use Rattle.std.proofs.lemmas.List.{get_or_append_left, get_or_at, append-nil}
+use Rattle.std.proofs.lemmas.List.Elements.{Contains-push_cases, All-cons, All-push, All-weaker, All-nil, All-contains, All-get_or}
+use Rattle.std.proofs.lemmas.List.Sums.{sum_by_push}
+use Rattle.std.proofs.lemmas.Option.{get_or_from_slice_get, slice_get_within, slice_get-get_or}
+use Rattle.nll_problem.specs.Building.{same_pair}
+use Rattle.nll_reading.specs.Names.{number_of}
+use Rattle.nll_problem.specs.Limits.{most_points, most_edges, most_universals, most_regions, most_variables}
+use Rattle.nll_types.specs.Types.{TypeTree}
+use Rattle.nll_types.specs.Structs.{Struct, AreInOrder, IsWellFormed}
+use Rattle.nll_type_grammar.specs.WrittenTypes.{Name, WrittenType, WrittenTypes}
+use Rattle.nll_statements.specs.Statements.{Statement, is_terminator, map_statement}
+use Rattle.nll_statements.specs.Effects.{targets}
+use Rattle.nll_mir_grammar.specs.MirForms.{Form, WrittenParameter, universal, outlives, further, struct_line, variable, blocks, block, at_point, end}
+use Rattle.nll_naming.specs.Naming.{meant, has_arguments, have_arguments, is_known, are_known}
+use Rattle.nll_reading.specs.Labels.{AreFirstPoints}
+use Rattle.nll_reading.specs.Text.{Fits, skipped, of_form, Says, IsText}
+use Rattle.nll_body.specs.Bodies.{BodyText, StandsAt, GoesOn}
+use Rattle.nll_body.specs.Edges.{edges_from, edge_count}
+use Rattle.nll_body.specs.Sound.{IsSound}
+use Rattle.nll_body.proofs.PointLemmas.{same_targets, same_end}
+use Rattle.nll_mir_text.specs.MirSaid.{Said, said, says, nothing_said, statement_meant, body_scope, field_scope, declared, is_region}
+use Rattle.nll_mir_text.specs.MirFaults.{is_universal, first_fault, is_in_order, has_targets, shapes_fit, knows}
+use Rattle.nll_mir_text.specs.MirReading.{AreKinds}
+use Rattle.nll_mir_text.specs.MirText.{mir, body_said}
+use Rattle.nll_mir_text.proofs.FaultLemmas.{faultless}
+use Rattle.nll_mir_text.proofs.GoodFieldLemmas.{well_formed}
+use Rattle.nll_mir_text.proofs.SaidLemmas.{said_push, in_order, reached_at_end}
+use Rattle.nll_mir_text.proofs.StructLemmas.{order_push, kinds_pushed, regions_declared, types_declared, good_fields}
+
+-- ---- tests
+
+three : (a b c : Bool) → a && b && c ≡ true → (a ≡ true) × (b ≡ true) × (c ≡ true)
+three true true c h = (refl, refl, h)
+three true false c h = absurd cc
+three false b c h = absurd cc
+
+positive : (n : ℕ) → n == 0 ≡ false → 0 < n
+positive n e = omega (arith, eqb-false n 0 e)
+
+below_all : (n : ℕ) (xs : List ℕ) → list_all (λ b. nat_lt b n) xs ≡ true → All (λ b. b < n) xs
+below_all n [] h = All-nil (λ b. b < n)
+below_all n (x ∷ xs) h =
+    let both = and_parts (nat_lt x n) (list_all (λ b. nat_lt b n) xs) h in
+    let first : x < n = ltb-true x n both.0 in
+    All-cons (λ b. b < n) x xs first (below_all n xs both.1)
+
+-- ---- lists
+
+nothing_at : {X : Type 0} (xs : List X) (p : ℕ) (x : X) → length xs ≡ 0 → slice_get xs p ≡ Some x → ⊥
+nothing_at xs p x none at = absurd (omega (arith, none, slice_get_within xs p x at))
+
+-- what stands in a list with one more element
+pushed_at : {X : Type 0} (xs : List X) (y : X) (p : ℕ) (x : X) → slice_get (xs ++ y ∷ []) p ≡ Some x → (slice_get xs p ≡ Some x) ⊎ ((p ≡ length xs) × (x ≡ y))
+pushed_at xs y p x at =
+    let within = slice_get_within (xs ++ y ∷ []) p x at in
+    ⊎_elim
+    (λ low. inl (slice_get-get_or xs p x low ∙ ap Some (sym (get_or_append_left xs (y ∷ []) x p low) ∙ get_or_from_slice_get (xs ++ y ∷ []) p x x at)))
+    (λ high.
+    let same : p ≡ length xs = omega (arith, high, within, length-append xs (y ∷ [])) in
+    inr (same, sym (get_or_from_slice_get (xs ++ y ∷ []) p x x at) ∙ get_or_at xs y [] x p (sym same)))
+    (cases_lt p (length xs))
+
+-- a fact on all elements, at one that stands there
+all_at : {X : Type 0} (P : X → Type 0) (xs : List X) (p : ℕ) (x : X) → All P xs → slice_get xs p ≡ Some x → P x
+all_at P xs p x all at = subst P (get_or_from_slice_get xs p x x at) (all p x (slice_get_within xs p x at))
+
+rise_push : (xs : List ℕ) (n : ℕ) → IsStrictlyIncreasing xs → All (λ q. q < n) xs → IsStrictlyIncreasing (xs ++ n ∷ [])
+rise_push xs n rise below k l = ⊎_elim
+    (λ low. rw (get_or_append_left xs (n ∷ []) 0 k (omega (arith, low)), get_or_append_left xs (n ∷ []) 0 (k + 1) low) (rise k low))
+    (λ high.
+    let last : length xs ≡ k + 1 = omega (arith, high, l, length-append xs (n ∷ [])) in
+    rw (get_or_append_left xs (n ∷ []) 0 k (omega (arith, last)), get_or_at xs n [] 0 (k + 1) last) (below k 0 (omega (arith, last))))
+    (cases_lt (k + 1) (length xs))
+
+inserted : {X : Type 0} (b : Bool) (ks : List X) (x y : X) → Contains (cond b ks (ks ++ x ∷ [])) y → Contains ks y ⊎ (x ≡ y)
+inserted true ks x y c = inl c
+inserted false ks x y c = Contains-push_cases ks x y c
+
+first_pushed : (xs : List ℕ) (n : ℕ) → (length xs ≡ 0 → n ≡ 0) → (0 < length xs → slice_get xs 0 ≡ Some 0) → slice_get (xs ++ n ∷ []) 0 ≡ Some 0
+first_pushed [] n z h = ap Some (z refl)
+first_pushed (x ∷ xs) n z h = h (omega arith)
+
+-- ---- what holds of what lines say
+
+-- What is declared keeps to what was declared before.
+record IsDeclared (reached universals : ℕ) (names : List Name) (longer : List (ℕ × ℕ)) (struct_names : List Name) (kinds : List (List Bool)) (structs : List Struct) (variables : List TypeTree) : Type 0 where
+  some : 0 < universals
+  few : universals ≤ most_universals
+  all : universals ≤ length names
+  few_names : length names ≤ most_regions
+  few_variables : length variables ≤ most_variables
+  known : (a b : ℕ) → Contains longer (a, b) → (a < universals) × (b < universals)
+  named : length struct_names ≡ length structs
+  counted : length kinds ≡ length structs
+  takes : AreKinds kinds structs
+  order : AreInOrder structs
+  none_yet : reached < 5 → variables ≡ []
+  keep : All (IsWellFormed structs (length names) 0) variables
+
+-- one more than the last point that may come behind these
+abbrev ends : List (Statement ℕ TypeTree) → Bool → ℕ
+ends points owes = cond owes (length points + 1) (length points)
+
+-- behind one more point
+ends_past : (points : List (Statement ℕ TypeTree)) (i : Statement ℕ TypeTree) (t : Bool) → length points + 1 ≤ ends (points ++ i ∷ []) (not t)
+ends_past points i true = omega (arith, length-append points (i ∷ []))
+ends_past points i false = omega (arith, length-append points (i ∷ []))
+
+ends_behind : (points : List (Statement ℕ TypeTree)) (i : Statement ℕ TypeTree) (t : Bool) → t ≡ false → length points + 1 < ends (points ++ i ∷ []) (not t)
+ends_behind points i true e = absurd cc
+ends_behind points i false e = omega (arith, length-append points (i ∷ []))
+
+same_edges : {R S T U : Type 0} (f : R → S) (g : T → U) (i : Statement R T) → edges_from (map_statement f g i) ≡ edges_from i
+same_edges f g i = rw (same_end f g i, same_targets f g i) refl
+
+-- What stands at the points leads to points and blocks, and the blocks begin at points.
+record ArePlaced (reached count : ℕ) (starts : List ℕ) (points : List (Statement ℕ TypeTree)) (owes : Bool) : Type 0 where
+  some_block : 6 ≤ reached → 0 < count
+  none_yet : reached < 7 → length points ≡ 0
+  begun : length starts ≡ 0 → ends points owes ≡ 0
+  within : All (λ q. q < ends points owes) starts
+  rise : IsStrictlyIncreasing starts
+  at_zero : 0 < length starts → slice_get starts 0 ≡ Some 0
+  whole : reached ≡ 8 → (owes ≡ false) × (count ≤ length starts)
+  few_points : length points ≤ most_points
+  few_edges : edge_count points ≤ most_edges
+  goes_on : (p : ℕ) (i : Statement ℕ TypeTree) → slice_get points p ≡ Some i → is_terminator i ≡ false → p + 1 < ends points owes
+  leads : (p b : ℕ) (i : Statement ℕ TypeTree) → slice_get points p ≡ Some i → Contains (targets i) b → b < count
+
+record IsWell (s : Said) : Type 0 where
+  declares : IsDeclared s.reached s.universals s.names s.outlives s.struct_names s.kinds s.structs s.variables
+  places : ArePlaced s.reached s.blocks s.starts s.points s.owes
+
+-- ---- no line yet
+
+well_nothing : IsWell nothing_said
+well_nothing = record {
+  declares = record {
+    some = omega arith;
+    few = omega arith;
+    all = omega arith;
+    few_names = omega arith;
+    few_variables = omega arith;
+    known = λ a b c. absurd (omega (arith, c.1));
+    named = refl;
+    counted = refl;
+    takes = record { regions = λ n l. absurd (omega (arith, l)); types = λ n l. absurd (omega (arith, l)) };
+    order = λ n l. absurd (omega (arith, l));
+    none_yet = λ _. refl;
+    keep = λ k d l. absurd (omega (arith, l));
+  };
+  places = record {
+    some_block = λ l. absurd (omega (arith, l));
+    none_yet = λ _. refl;
+    begun = λ _. refl;
+    within = λ k d l. absurd (omega (arith, l));
+    rise = λ k l. absurd (omega (arith, l));
+    at_zero = λ l. absurd (omega (arith, l));
+    whole = λ e. absurd (omega (arith, e));
+    few_points = omega arith;
+    few_edges = omega arith;
+    goes_on = λ p i at. absurd (nothing_at [] p i refl at);
+    leads = λ p b i at. absurd (nothing_at [] p i refl at);
+  };
+}
+
+-- ---- one more line
+
+-- a line in front of the blocks leaves the points as they are
+module _ (reached count : ℕ) (starts : List ℕ) (points : List (Statement ℕ TypeTree)) (owes : Bool) where
+  places_early : (after : ℕ) → ArePlaced reached count starts points owes → reached ≤ after → after < 6 → ArePlaced after count starts points owes
+  places_early after h le early = record {
+    some_block = λ l. absurd (omega (arith, l, early));
+    none_yet = λ l. h.none_yet (omega (arith, le, early));
+    begun = h.begun;
+    within = h.within;
+    rise = h.rise;
+    at_zero = h.at_zero;
+    whole = λ e. absurd (omega (arith, e, early));
+    few_points = h.few_points;
+    few_edges = h.few_edges;
+    goes_on = h.goes_on;
+    leads = h.leads;
+  }
+
+-- a line behind the declarations leaves them as they are
+module _ (reached universals : ℕ) (names : List Name) (longer : List (ℕ × ℕ)) (struct_names : List Name) (kinds : List (List Bool)) (structs : List Struct) (variables : List TypeTree) where
+  declares_late : (after : ℕ) → IsDeclared reached universals names longer struct_names kinds structs variables → 5 ≤ after → IsDeclared after universals names longer struct_names kinds structs variables
+  declares_late after h late = record {
+    some = h.some;
+    few = h.few;
+    all = h.all;
+    few_names = h.few_names;
+    few_variables = h.few_variables;
+    known = h.known;
+    named = h.named;
+    counted = h.counted;
+    takes = h.takes;
+    order = h.order;
+    none_yet = λ l. absurd (omega (arith, l, late));
+    keep = h.keep;
+  }
+
+  -- names and structs are declared before variables
+  keeps_none : reached < 5 → IsDeclared reached universals names longer struct_names kinds structs variables → (P : TypeTree → Type 0) → All P variables
+  keeps_none early h P = subst (All P) (sym (h.none_yet early)) (All-nil P)
+
+-- the line is of a group that isn't before that reached
+in_group : (s : Said) (n : ℕ) → not (nat_le s.reached n) ≡ false → s.reached ≤ n
+in_group s n e = leb-true s.reached n (not-false _ e)
+
+module _ (s : Said) (w : IsWell s) where
+  well_universal : (a : Name) → first_fault s (universal a) ≡ None → IsWell (says s (universal a))
+  well_universal a e =
+      let no = faultless s (universal a) e in
+      let le : s.reached ≤ 1 = in_group s 1 no.syntax' in
+      let few : s.universals < most_universals = leb-false most_universals s.universals no.universals in
+      let regions : length s.names < most_regions = leb-false most_regions (length s.names) no.regions in
+      let d = w.declares in
+      record {
+        declares = record {
+          some = omega arith;
+          few = omega (arith, few);
+          all = omega (arith, d.all, length-append s.names (a ∷ []));
+          few_names = omega (arith, regions, length-append s.names (a ∷ []));
+          few_variables = d.few_variables;
+          known = λ x y c. (let k = d.known x y c in (omega (arith, k.0), omega (arith, k.1)));
+          named = d.named;
+          counted = d.counted;
+          takes = d.takes;
+          order = d.order;
+          none_yet = λ _. d.none_yet (omega (arith, le));
+          keep = keeps_none _ _ _ _ _ _ _ _ (omega (arith, le)) d (IsWellFormed s.structs (length (s.names ++ a ∷ [])) 0);
+        };
+        places = places_early _ _ _ _ _ 1 w.places le (omega arith);
+      }
+
+  well_outlives : (a b : Name) → first_fault s (outlives a b) ≡ None → IsWell (says s (outlives a b))
+  well_outlives a b e =
+      let no = faultless s (outlives a b) e in
+      let le : s.reached ≤ 2 = in_group s 2 no.syntax' in
+      let both = and_parts (is_universal s a) (is_universal s b) (not-false (is_universal s a && is_universal s b) no.unknown) in
+      let d = w.declares in
+      record {
+        declares = record {
+          some = d.some;
+          few = d.few;
+          all = d.all;
+          few_names = d.few_names;
+          few_variables = d.few_variables;
+          known = λ x y c. ⊎_elim (d.known x y) (λ same. subst (λ (p : ℕ × ℕ). (p.0 < s.universals) × (p.1 < s.universals)) same (ltb-true (number_of s.names a) s.universals both.0, ltb-true (number_of s.names b) s.universals both.1)) (inserted (list_any (same_pair (number_of s.names a, number_of s.names b)) s.outlives) s.outlives (number_of s.names a, number_of s.names b) (x, y) c);
+          named = d.named;
+          counted = d.counted;
+          takes = d.takes;
+          order = d.order;
+          none_yet = λ _. d.none_yet (omega (arith, le));
+          keep = d.keep;
+        };
+        places = places_early _ _ _ _ _ 2 w.places le (omega arith);
+      }
+
+  well_further : (x : Name) → first_fault s (further x) ≡ None → IsWell (says s (further x))
+  well_further x e =
+      let no = faultless s (further x) e in
+      let le : s.reached ≤ 3 = in_group s 3 no.syntax' in
+      let regions : length s.names < most_regions = leb-false most_regions (length s.names) no.regions in
+      let d = w.declares in
+      record {
+        declares = record {
+          some = d.some;
+          few = d.few;
+          all = omega (arith, d.all, length-append s.names (x ∷ []));
+          few_names = omega (arith, regions, length-append s.names (x ∷ []));
+          few_variables = d.few_variables;
+          known = d.known;
+          named = d.named;
+          counted = d.counted;
+          takes = d.takes;
+          order = d.order;
+          none_yet = λ _. d.none_yet (omega (arith, le));
+          keep = keeps_none _ _ _ _ _ _ _ _ (omega (arith, le)) d (IsWellFormed s.structs (length (s.names ++ x ∷ [])) 0);
+        };
+        places = places_early _ _ _ _ _ 3 w.places le (omega arith);
+      }
+
+  well_struct : (n : Name) (ps : List WrittenParameter) (has_drop : Bool) (fields : WrittenTypes) → first_fault s (struct_line n ps has_drop fields) ≡ None → IsWell (says s (struct_line n ps has_drop fields))
+  well_struct n ps has_drop fields e =
+      let no = faultless s (struct_line n ps has_drop fields) e in
+      let le : s.reached ≤ 4 = in_group s 4 no.syntax' in
+      let known : are_known (field_scope s ps) fields ≡ true = not-false _ no.unknown in
+      let has : have_arguments (field_scope s ps) fields ≡ true = not-false _ no.shape in
+      let d = w.declares in
+      let more = declared s ps has_drop fields in
+      record {
+        declares = record {
+          some = d.some;
+          few = d.few;
+          all = d.all;
+          few_names = d.few_names;
+          few_variables = d.few_variables;
+          known = d.known;
+          named = omega (arith, d.named, length-append s.struct_names (n ∷ []), length-append s.structs (more ∷ []));
+          counted = omega (arith, d.counted, length-append s.kinds (map is_region ps ∷ []), length-append s.structs (more ∷ []));
+          takes = kinds_pushed s.kinds s.structs (map is_region ps) more d.counted d.takes (regions_declared s ps has_drop fields) (types_declared s ps has_drop fields);
+          order = order_push s.structs more d.order (good_fields s ps has_drop fields d.takes d.named known has);
+          none_yet = λ _. d.none_yet (omega (arith, le));
+          keep = keeps_none _ _ _ _ _ _ _ _ (omega (arith, le)) d (IsWellFormed (s.structs ++ more ∷ []) (length s.names) 0);
+        };
+        places = places_early _ _ _ _ _ 4 w.places le (omega arith);
+      }
+
+  well_variable : (x : ℕ) (t : WrittenType) → first_fault s (variable x t) ≡ None → IsWell (says s (variable x t))
+  well_variable x t e =
+      let no = faultless s (variable x t) e in
+      let le : s.reached ≤ 5 = in_group s 5 no.syntax' in
+      let known : is_known (body_scope s) t ≡ true = not-false _ no.unknown in
+      let has : has_arguments (body_scope s) t ≡ true = not-false _ no.shape in
+      let limit : length s.variables < most_variables = leb-false most_variables (length s.variables) no.variables in
+      let d = w.declares in
+      record {
+        declares = record {
+          some = d.some;
+          few = d.few;
+          all = d.all;
+          few_names = d.few_names;
+          few_variables = omega (arith, limit, length-append s.variables (meant (body_scope s) t ∷ []));
+          known = d.known;
+          named = d.named;
+          counted = d.counted;
+          takes = d.takes;
+          order = d.order;
+          none_yet = λ l. absurd (omega (arith, l));
+          keep = All-push (IsWellFormed s.structs (length s.names) 0) s.variables (meant (body_scope s) t) d.keep (well_formed (body_scope s) s.structs d.takes d.named t known has);
+        };
+        places = places_early _ _ _ _ _ 5 w.places le (omega arith);
+      }
+
+  well_blocks : (n : ℕ) → first_fault s (blocks n) ≡ None → IsWell (says s (blocks n))
+  well_blocks n e =
+      let no = faultless s (blocks n) e in
+      let at : s.reached ≡ 5 = eqb-true s.reached 5 (not-false _ no.syntax') in
+      let some : 0 < n = positive n no.range in
+      let p = w.places in
+      let none = p.none_yet (omega (arith, at)) in
+      record {
+        declares = declares_late _ _ _ _ _ _ _ _ 6 w.declares (omega arith);
+        places = record {
+          some_block = λ _. some;
+          none_yet = λ _. none;
+          begun = p.begun;
+          within = p.within;
+          rise = p.rise;
+          at_zero = p.at_zero;
+          whole = λ e. absurd (omega (arith, e));
+          few_points = p.few_points;
+          few_edges = p.few_edges;
+          goes_on = p.goes_on;
+          leads = λ q b i stands. absurd (nothing_at s.points q i none stands);
+        };
+      }
+
+  -- a block begins where no terminator is owed
+  begins : s.owes ≡ false → 6 ≤ s.reached → ArePlaced 7 s.blocks (s.starts ++ length s.points ∷ []) s.points true
+  begins done late =
+      let p = w.places in
+      let here_ends : ends s.points s.owes ≡ length s.points = rw done refl in
+      record {
+        some_block = λ _. p.some_block late;
+        none_yet = λ l. absurd (omega (arith, l));
+        begun = λ none. absurd (omega (arith, none, length-append s.starts (length s.points ∷ [])));
+        within = All-push (λ q. q < length s.points + 1) s.starts (length s.points) (All-weaker (λ q. q < ends s.points s.owes) (λ q. q < length s.points + 1) (λ q l. omega (arith, l, here_ends)) s.starts p.within) (omega arith);
+        rise = rise_push s.starts (length s.points) p.rise (All-weaker (λ q. q < ends s.points s.owes) (λ q. q < length s.points) (λ q l. omega (arith, l, here_ends)) s.starts p.within);
+        at_zero = λ _. first_pushed s.starts (length s.points) (λ none. sym here_ends ∙ p.begun none) p.at_zero;
+        whole = λ e. absurd (omega (arith, e));
+        few_points = p.few_points;
+        few_edges = p.few_edges;
+        goes_on = λ q i stands plain. (let l = p.goes_on q i stands plain in omega (arith, l, here_ends));
+        leads = p.leads;
+      }
+
+  well_block : (n : ℕ) → first_fault s (block n) ≡ None → IsWell (says s (block n))
+  well_block n e =
+      let order = three (nat_le 6 s.reached) (nat_le s.reached 7) (not s.owes) (not-false _ (faultless s (block n) e).syntax') in
+      record {
+        declares = declares_late _ _ _ _ _ _ _ _ 7 w.declares (omega arith);
+        places = begins (not-true s.owes order.2) (leb-true 6 s.reached order.0);
+      }
+
+  -- a statement or terminator stands where a terminator is owed
+  stands : (i : Statement Name WrittenType) → s.reached ≡ 7 → s.owes ≡ true → has_targets s i ≡ true → length s.points < most_points → edge_count s.points + edges_from i ≤ most_edges
+      → ArePlaced 7 s.blocks s.starts (s.points ++ statement_meant s i ∷ []) (not (is_terminator i))
+  stands i at owed targeted few_points few_edges =
+      let p = w.places in
+      let j = statement_meant s i in
+      let before : ends s.points s.owes ≡ length s.points + 1 = rw owed refl in
+      let after = ends_past s.points j (is_terminator i) in
+      record {
+        some_block = λ _. p.some_block (omega (arith, at));
+        none_yet = λ l. absurd (omega (arith, l));
+        begun = λ none. absurd (omega (arith, p.begun none, before));
+        within = All-weaker (λ q. q < ends s.points s.owes) (λ q. q < ends (s.points ++ j ∷ []) (not (is_terminator i))) (λ q l. omega (arith, l, before, after)) s.starts p.within;
+        rise = p.rise;
+        at_zero = p.at_zero;
+        whole = λ e. absurd (omega (arith, e));
+        few_points = omega (arith, few_points, length-append s.points (j ∷ []));
+        few_edges = omega (arith, few_edges, sum_by_push edges_from s.points j, same_edges (number_of s.names) (meant (body_scope s)) i);
+        goes_on = λ q k at plain. ⊎_elim
+            (λ old. (let l = p.goes_on q k old plain in omega (arith, l, before, after)))
+            (λ new. (let l = ends_behind s.points j (is_terminator i) (sym (same_end (number_of s.names) (meant (body_scope s)) i) ∙ (ap is_terminator (sym new.1) ∙ plain)) in omega (arith, new.0, l)))
+            (pushed_at s.points j q k at);
+        leads = λ q b k at leads. ⊎_elim
+            (λ old. p.leads q b k old leads)
+            (λ new. All-contains (λ c. c < s.blocks) (targets i) b (below_all s.blocks (targets i) targeted)
+            (subst (λ (bs : List ℕ). Contains bs b) (ap targets new.1 ∙ same_targets (number_of s.names) (meant (body_scope s)) i) leads))
+            (pushed_at s.points j q k at);
+      }
+
+  well_at_point : (i : Statement Name WrittenType) → first_fault s (at_point i) ≡ None → IsWell (says s (at_point i))
+  well_at_point i e =
+      let no = faultless s (at_point i) e in
+      let order = and_parts (s.reached == 7) s.owes (not-false _ no.syntax') in
+      let few_points : length s.points < most_points = leb-false most_points (length s.points) no.points in
+      let few_edges : edge_count s.points + edges_from i ≤ most_edges = ltb-false most_edges (edge_count s.points + edges_from i) no.edges in
+      let at : s.reached ≡ 7 = eqb-true s.reached 7 order.0 in
+      record {
+        declares = declares_late _ _ _ _ _ _ _ _ 7 w.declares (omega arith);
+        places = stands i at order.1 (not-false (has_targets s i) no.range) few_points few_edges;
+      }
+
+  well_end : first_fault s end ≡ None → IsWell (says s end)
+  well_end e =
+      let no = faultless s end e in
+      let order = three (nat_le 6 s.reached) (nat_le s.reached 7) (not s.owes) (not-false _ no.syntax') in
+      let p = w.places in
+      let late = leb-true 6 s.reached order.0 in
+      let done : s.owes ≡ false = not-true s.owes order.2 in
+      let enough : s.blocks ≤ length s.starts = ltb-false (length s.starts) s.blocks no.range in
+      record {
+        declares = declares_late _ _ _ _ _ _ _ _ 8 w.declares (omega arith);
+        places = record {
+          some_block = λ _. p.some_block late;
+          none_yet = λ l. absurd (omega (arith, l));
+          begun = p.begun;
+          within = p.within;
+          rise = p.rise;
+          at_zero = p.at_zero;
+          whole = λ _. (done, enough);
+          few_points = p.few_points;
+          few_edges = p.few_edges;
+          goes_on = p.goes_on;
+          leads = p.leads;
+        };
+      }
+
+  well_says : (f : Form) → first_fault s f ≡ None → IsWell (says s f)
+  well_says (universal a) e = well_universal a e
+  well_says (outlives a b) e = well_outlives a b e
+  well_says (further x) e = well_further x e
+  well_says (struct_line n ps has_drop fields) e = well_struct n ps has_drop fields e
+  well_says (variable x t) e = well_variable x t e
+  well_says (blocks n) e = well_blocks n e
+  well_says (block n) e = well_block n e
+  well_says (at_point i) e = well_at_point i e
+  well_says end e = well_end e
+
+-- ---- all lines
+
+well_fit : (forms : List Form) (line : List ℕ) (added : List Form) → Fits mir (said forms) line added → IsWell (said forms) → IsWell (said (forms ++ added))
+well_fit forms line [] (skipped u k) w = subst (λ (fs : List Form). IsWell (said fs)) (sym (append-nil forms)) w
+well_fit forms line (f ∷ []) (of_form _ u k form fine) w = subst IsWell (sym (said_push forms f)) (well_says (said forms) w f fine)
+well_fit forms line (f ∷ (g ∷ more)) fit w = elim fit [ ]
+
+well_said : (before : List Form) (lines : List (List ℕ)) (forms : List Form) → Says mir before lines forms → IsWell (said before) → IsWell (said forms)
+well_said before [] forms h w = subst (λ (fs : List Form). IsWell (said fs)) (sym h) w
+well_said before (line ∷ lines) forms h w = well_said (before ++ h.0) lines forms h.2 (well_fit before line h.0 h.1 w)
+
+-- ---- the body
+
+module _ (s : Said) (w : IsWell s) (at_end : s.reached ≡ 8) where
+  done : ends s.points s.owes ≡ length s.points
+  done = let e = (w.places.whole at_end).0 in rw e refl
+
+  some_start : 0 < length s.starts
+  some_start = let p = w.places in omega (arith, p.some_block (omega (arith, at_end)), (p.whole at_end).1)
+
+  first : slice_get s.starts 0 ≡ Some 0
+  first = w.places.at_zero some_start
+
+  sound_said : IsSound (body_said s)
+  sound_said =
+      let d = w.declares in
+      let p = w.places in
+      record {
+        some_point = omega (arith, done, all_at (λ q. q < ends s.points s.owes) s.starts 0 0 p.within first);
+        point_limit = p.few_points;
+        edge_limit = p.few_edges;
+        some_universal = d.some;
+        universal_limit = d.few;
+        all_universals = d.all;
+        region_limit = d.few_names;
+        variable_limit = d.few_variables;
+        known_universals = d.known;
+        first_points = record { rise = p.rise; at_zero = first };
+        in_range = λ q r goes. ⊎_elim
+            (λ plain. (let l = p.goes_on q goes.0 goes.1 plain.0 in omega (arith, l, plain.1, done)))
+            (λ led. omega (arith, done, all_at (λ n. n < ends s.points s.owes) s.starts led.0 r p.within led.2))
+            goes.2;
+        blocks = λ q b i at leads. (let l = p.leads q b i at leads in omega (arith, l, (p.whole at_end).1));
+        in_order = d.order;
+        types = d.keep;
+      }
+
+-- the body that a text that fits says is sound
+pub sound_text : (text : List ℕ) (forms : List Form) → IsText mir text forms → IsSound (body_said (said forms))
+sound_text text forms fits =
+    sound_said (said forms) (well_said [] fits.body forms fits.fine well_nothing) (reached_at_end fits.body forms fits.fine fits.ended)

@@ -1,0 +1,89 @@
+-- What is judged of types and of statements.
+use Rattle.std.proofs.Common.{◌≡◌, ℕ, ◌+◌, ◌<◌, ◌≤◌, Bool, true, false, List, [], ◌∷◌, ◌++◌, length, map, refl, sym, ap, ◌∙◌, subst, arith}
+use Rattle.std.specs.Prelude.{◌&&◌, nat_lt}
+use Rattle.std.specs.List.{list_all, flat_map}
+use Rattle.std.specs.Borrow.{Bor}
+use Rattle.std.proofs.lemmas.List.{append-nil, append_assoc, map_push, length-map}
+use Rattle.std.proofs.lemmas.List.Folds.{list_all-append, list_all-map}
+use Rattle.nll_types.specs.Types.{TypeTree}
+use Rattle.nll_types.specs.Shapes.{Shape, shape_of}
+use Rattle.nll_types.specs.Table.{Extends, AreBelow, shape_in}
+use Rattle.nll_types.specs.Views.{tree}
+use Rattle.nll_types.specs.declared.node.Node.{Node}
+use Rattle.nll_types.specs.declared.ty.Ty.{Ty}
+use Rattle.nll_types.proofs.ShapingLemmas.{below_push}
+use Rattle.nll_type_grammar.specs.WrittenTypes.{Name}
+use Rattle.nll_type_grammar.specs.TypeTexts.{written}
+use Rattle.nll_type_grammar.specs.declared.type_text.TypeNode.{TypeNode}
+use Rattle.nll_naming.specs.Naming.{Scope, is_among, is_known, has_arguments, meant}
+use Rattle.nll_typing.specs.Judging.{HaveShapes}
+use Rattle.nll_typing.proofs.FoundLemmas.{below_later, shapes_later}
+use Rattle.nll_mir_text.specs.declared.judging.JudgedType.{JudgedType}
+use Rattle.nll_mir_text.specs.declared.judging_types.JudgedTypes.{JudgedTypes}
+use Rattle.nll_mir_text.specs.MirReading.{AreShapes, IsOfType}
+use Rattle.nll_mir_text.specs.Stating.{is_bound, AreOfTypes, AddsTypes}
+
+and_true : (b : Bool) → (b && true) ≡ b
+and_true true = refl
+and_true false = refl
+
+all_push : {X : Type 0} (p : X → Bool) (xs : List X) (x : X) → list_all p (xs ++ x ∷ []) ≡ (list_all p xs && p x)
+all_push p xs x = list_all-append p xs (x ∷ []) ∙ ap (λ b. list_all p xs && b) (and_true (p x))
+
+-- ---- bounds
+
+and_assoc : (a b c : Bool) → ((a && b) && c) ≡ (a && (b && c))
+and_assoc true b c = refl
+and_assoc false b c = refl
+
+-- the names in bounds, one after another
+pub names_of_bounds : (names : List Name) (ws : List (Bor (List ℕ) × Bor (List ℕ))) → list_all (is_bound names) ws ≡ list_all (is_among names) (map (λ r. r.now) (flat_map (λ w. w.0 ∷ w.1 ∷ []) ws))
+names_of_bounds names [] = refl
+names_of_bounds names (w ∷ ws) =
+    ap (λ b. is_bound names w && b) (names_of_bounds names ws) ∙ and_assoc (is_among names w.0.now) (is_among names w.1.now) _
+
+-- ---- written types
+
+module _ (s : Scope) where
+  -- of a further type
+  pub types_push : (old new : List Node) (ts : List (List TypeNode)) (t : List TypeNode) (before after : JudgedTypes) (one : JudgedType) → Extends old new → AreOfTypes s old ts before → IsOfType s new (written t) one → after.known ≡ (before.known && one.known) → after.fit ≡ (before.fit && one.fits) → after.shapes.items ≡ before.shapes.items ++ one.shape ∷ [] → AreOfTypes s new (ts ++ t ∷ []) after
+  types_push old new ts t before after one e b o known fit shapes =
+      let meaning : List TypeNode → TypeTree = λ u. meant s (written u) in
+      let earlier = shapes_later old new before.shapes.items (map meaning ts) e b.within b.same in
+      record {
+        known = known ∙ (ap (λ x. x && one.known) b.known ∙ (ap (λ x. list_all (λ u. is_known s (written u)) ts && x) o.known ∙ sym (all_push (λ u. is_known s (written u)) ts t)));
+        fit = fit ∙ (ap (λ x. x && one.fits) b.fit ∙ (ap (λ x. list_all (λ u. has_arguments s (written u)) ts && x) o.fits ∙ sym (all_push (λ u. has_arguments s (written u)) ts t)));
+        within = subst (λ is. AreBelow (length new) is) (sym shapes) (below_push (length new) one.shape before.shapes.items (below_later old new before.shapes.items e b.within) o.within);
+        same = ap (map (shape_in new)) shapes
+          ∙ (map_push (shape_in new) before.shapes.items one.shape
+          ∙ (ap (λ xs. xs ++ shape_in new one.shape ∷ []) earlier
+          ∙ (ap (λ x. map shape_of (map meaning ts) ++ x ∷ []) o.shape
+          ∙ (sym (map_push shape_of (map meaning ts) (meaning t)) ∙ ap (map shape_of) (sym (map_push meaning ts t))))));
+      }
+
+  -- no type is told of yet
+  pub none_told : (ns : List Node) (j : JudgedTypes) → j.known ≡ true → j.fit ≡ true → j.shapes.items ≡ [] → AreOfTypes s ns [] j
+  none_told ns j known fit shapes = record {
+    known = known;
+    fit = fit;
+    within = subst (λ is. AreBelow (length ns) is) (sym shapes) (λ k h. absurd (omega arith));
+    same = ap (map (shape_in ns)) shapes;
+  }
+
+  -- none is told of, in front of these
+  pub adds_none : (ns : List Node) (j : JudgedTypes) → AddsTypes s [] ns j ns j
+  adds_none ns j = record { beside = λ others h. subst (λ ts. AreOfTypes s ns ts j) (sym (append-nil others)) h }
+
+  -- these, and then those
+  pub adds_then : (ts us : List (List TypeNode)) (a b c : List Node) (j k l : JudgedTypes) → AddsTypes s ts a j b k → AddsTypes s us b k c l → AddsTypes s (ts ++ us) a j c l
+  adds_then ts us a b c j k l f g = record { beside = λ others h. subst (λ vs. AreOfTypes s c vs l) (append_assoc others ts us) (g.beside (others ++ ts) (f.beside others h)) }
+
+-- ---- variables
+
+fused : (ts : List Ty) → map (λ t. shape_of (tree t)) ts ≡ map shape_of (map tree ts)
+fused [] = refl
+fused (t ∷ ts) = ap (λ ss. shape_of (tree t) ∷ ss) (fused ts)
+
+-- the numbers of shapes are those of the variables' types, as the table grows
+pub have_shapes : (old new : List Node) (is : List ℕ) (ts : List Ty) → Extends old new → AreShapes old is ts → HaveShapes new is (map tree ts)
+have_shapes old new is ts e h = shapes_later old new is (map tree ts) e h.below (h.same ∙ fused ts)

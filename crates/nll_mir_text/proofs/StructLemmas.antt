@@ -1,0 +1,112 @@
+-- One more struct: the kinds of its arguments, and that its fields keep to what is declared.
+use Rattle.std.proofs.Common.{take, ◌≡◌, ℕ, suc, Some, None, ◌+◌, ◌<◌, ◌≤◌, Bool, true, false, List, [], ◌∷◌, ◌++◌, length, map, refl, sym, ap, ◌∙◌, subst, ⊎_elim, arith, length-append}
+use Rattle.std.specs.Prelude.{slice_index_or, ◌||◌}
+use Rattle.std.specs.List.{list_any}
+use Rattle.std.proofs.lemmas.Bool.{cases_lt, not-false, leb-false}
+use Rattle.std.proofs.lemmas.List.{get_or_append_left, get_or_at, length-map, take-append-le}
+use Rattle.std.proofs.Math.Seq.{take-length}
+use Rattle.nll_problem.specs.Limits.{most_structs}
+use Rattle.nll_reading.specs.declared.error.TextKind.TheVariants.{Unknown, Duplicate}
+use Rattle.nll_types.specs.Types.{TypeTrees}
+use Rattle.nll_types.specs.Structs.{Struct, no_struct, struct_at, HasGoodFields, AreWellFormed, AreInOrder}
+use Rattle.nll_types.specs.declared.parameter.Parameter.{Parameter}
+use Rattle.nll_type_grammar.specs.WrittenTypes.{Name, WrittenTypes}
+use Rattle.nll_mir_grammar.specs.MirForms.{WrittenParameter, region_parameter, type_parameter, struct_line}
+use Rattle.nll_naming.specs.Naming.{is_among, are_known, have_arguments, all_meant}
+use Rattle.nll_mir_text.specs.MirSaid.{Said, field_scope, declared, is_region, regions_in, types_in}
+use Rattle.nll_mir_text.specs.MirFaults.{has_repeats, redeclares, is_in_order, first_fault}
+use Rattle.nll_mir_text.specs.MirReading.{AreKinds, region_count, other_count}
+use Rattle.nll_mir_text.specs.Declaring.{region_names, type_names}
+use Rattle.nll_mir_text.proofs.FaultLemmas.{faultless}
+use Rattle.nll_mir_text.proofs.GoodFieldLemmas.{all_well_formed}
+
+regions_counted : (ps : List WrittenParameter) → region_count (map is_region ps) ≡ length (regions_in ps)
+regions_counted [] = refl
+regions_counted (region_parameter a p ∷ ps) = omega (arith, regions_counted ps)
+regions_counted (type_parameter n p ∷ ps) = regions_counted ps
+
+types_counted : (ps : List WrittenParameter) → other_count (map is_region ps) ≡ length (types_in ps)
+types_counted [] = refl
+types_counted (region_parameter a p ∷ ps) = types_counted ps
+types_counted (type_parameter n p ∷ ps) = omega (arith, types_counted ps)
+
+split : (k n : ℕ) → k < n + 1 → (P : Type 0) → (k < n → P) → (k ≡ n → P) → P
+split k n h P low high = ⊎_elim low (λ l. high (omega arith)) (cases_lt k n)
+
+-- the kinds of one more struct's arguments
+pub kinds_pushed : (kinds : List (List Bool)) (structs : List Struct) (ks : List Bool) (d : Struct) → length kinds ≡ length structs → AreKinds kinds structs
+    → region_count ks ≡ length d.regions → other_count ks ≡ length d.types → AreKinds (kinds ++ ks ∷ []) (structs ++ d ∷ [])
+kinds_pushed kinds structs ks d counted kept regions types = record {
+  regions = λ n l. split n (length structs) (omega (arith, length-append structs (d ∷ []))) _
+      (λ low. rw (get_or_append_left kinds (ks ∷ []) [] n (omega (arith, low, counted)), get_or_append_left structs (d ∷ []) no_struct n low) (kept.regions n low))
+      (λ same. rw (get_or_at kinds ks [] [] n (counted ∙ sym same), get_or_at structs d [] no_struct n (sym same)) regions);
+  types = λ n l. split n (length structs) (omega (arith, length-append structs (d ∷ []))) _
+      (λ low. rw (get_or_append_left kinds (ks ∷ []) [] n (omega (arith, low, counted)), get_or_append_left structs (d ∷ []) no_struct n low) (kept.types n low))
+      (λ same. rw (get_or_at kinds ks [] [] n (counted ∙ sym same), get_or_at structs d [] no_struct n (sym same)) types);
+}
+
+-- one more struct in order
+pub order_push : (structs : List Struct) (d : Struct) → AreInOrder structs → HasGoodFields structs d → AreInOrder (structs ++ d ∷ [])
+order_push structs d order good s l = split s (length structs) (omega (arith, l, length-append structs (d ∷ []))) _
+    (λ low. rw (take-append-le s structs (d ∷ []) (omega (arith, low)), get_or_append_left structs (d ∷ []) no_struct s low) (order s low))
+    (λ same. rw (same, take-append-le (length structs) structs (d ∷ []) (omega arith), take-length structs, get_or_at structs d [] no_struct (length structs) refl) good)
+
+-- ---- a struct line with which nothing is wrong
+
+four : (a b c d : Bool) → a || b || c || d ≡ false → (a ≡ false) × (b ≡ false) × (c ≡ false) × (d ≡ false)
+four true b c d h = absurd cc
+four false true c d h = absurd cc
+four false false true d h = absurd cc
+four false false false d h = (refl, refl, refl, h)
+
+-- What is right of a struct line with which nothing is wrong.
+pub record IsFine (s : Said) (n : Name) (ps : List WrittenParameter) (fields : WrittenTypes) : Type 0 where
+  pub known : are_known (field_scope s ps) fields ≡ true
+  pub new : is_among s.struct_names n ≡ false
+  pub regions : has_repeats (region_names ps) ≡ false
+  pub types : has_repeats (type_names ps) ≡ false
+  pub has : have_arguments (field_scope s ps) fields ≡ true
+  pub few : length s.structs < most_structs
+
+pub struct_fine : (s : Said) (n : Name) (ps : List WrittenParameter) (has_drop : Bool) (fields : WrittenTypes) → first_fault s (struct_line n ps has_drop fields) ≡ None → IsFine s n ps fields
+struct_fine s n ps has_drop fields e =
+    let no = faultless s (struct_line n ps has_drop fields) e in
+    let once = four (is_among s.struct_names n) (has_repeats (region_names ps)) (has_repeats (type_names ps)) (list_any (is_among (n ∷ s.struct_names)) (type_names ps)) no.duplicate in
+    record {
+      known = not-false (are_known (field_scope s ps) fields) no.unknown;
+      new = once.0;
+      regions = once.1;
+      types = once.2;
+      has = not-false (have_arguments (field_scope s ps) fields) no.shape;
+      few = leb-false most_structs (length s.structs) no.structs;
+    }
+
+-- ---- the first fault of a struct line that stands in order
+
+module _ (s : Said) (n : Name) (ps : List WrittenParameter) (has_drop : Bool) (fields : WrittenTypes) (order : is_in_order s (struct_line n ps has_drop fields) ≡ true) where
+  pub struct_unknown : are_known (field_scope s ps) fields ≡ false → first_fault s (struct_line n ps has_drop fields) ≡ Some Unknown
+  struct_unknown known = rw (order, known) refl
+
+  pub struct_duplicate : are_known (field_scope s ps) fields ≡ true → redeclares s n ps ≡ true → first_fault s (struct_line n ps has_drop fields) ≡ Some Duplicate
+  struct_duplicate known again = rw (order, known, again) refl
+
+-- ---- what a struct line declares
+
+module _ (s : Said) (ps : List WrittenParameter) (has_drop : Bool) (fields : WrittenTypes) where
+  -- the kinds are those of the parameters
+  pub regions_declared : region_count (map is_region ps) ≡ length (declared s ps has_drop fields).regions
+  regions_declared = regions_counted ps ∙ sym (length-map (regions_in ps) (λ p. p.1))
+
+  pub types_declared : other_count (map is_region ps) ≡ length (declared s ps has_drop fields).types
+  types_declared = types_counted ps ∙ sym (length-map (types_in ps) (λ p. p.1))
+
+  -- the fields keep to what is declared, where their names are known and have arguments
+  pub good_fields : AreKinds s.kinds s.structs → length s.struct_names ≡ length s.structs → are_known (field_scope s ps) fields ≡ true → have_arguments (field_scope s ps) fields ≡ true → HasGoodFields s.structs (declared s ps has_drop fields)
+  good_fields kinds named known has =
+      let good = all_well_formed (field_scope s ps) s.structs kinds named fields known has in
+      let regions : length (field_scope s ps).regions ≡ length (declared s ps has_drop fields).regions + 1 =
+      omega (arith, length-map (regions_in ps) (λ p. p.0), length-map (regions_in ps) (λ p. p.1)) in
+      let types : length (field_scope s ps).parameters ≡ length (declared s ps has_drop fields).types =
+      length-map (types_in ps) (λ p. p.0) ∙ sym (length-map (types_in ps) (λ p. p.1)) in
+      subst (λ (n : ℕ). AreWellFormed s.structs (length (declared s ps has_drop fields).regions + 1) n (declared s ps has_drop fields).fields) types
+      (subst (λ (n : ℕ). AreWellFormed s.structs n (length (field_scope s ps).parameters) (declared s ps has_drop fields).fields) regions good)

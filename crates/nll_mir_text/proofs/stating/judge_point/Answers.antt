@@ -1,0 +1,29 @@
+use Rattle.std.proofs.Common.{◌≡◌, ℕ, List, length, map, refl, sym, arith, Bor}
+use Rattle.nll_reading.specs.Names.{number_of}
+use Rattle.nll_types.specs.Views.{tree}
+use Rattle.nll_type_grammar.specs.TypeTexts.{written}
+use Rattle.nll_type_grammar.specs.declared.type_text.TypeNode.{TypeNode}
+use Rattle.nll_naming.specs.Naming.{meant}
+use Rattle.nll_mir_text.specs.MirReading.{scope_in}
+use Rattle.nll_mir_text.proofs.StatingLemmas.{have_shapes}
+use Rattle.nll_mir_text.proofs.PointLemmas.{point_judged}
+use Rattle.nll_mir_text.proofs.stating.judge_point.Goals as goal
+
+pub returns-clause-judged : goal.returns-clause-judged
+returns-clause-judged c =
+    let t = c.in_ok-types.ensures.judged in
+    let count : c.len.result ≡ length c.args.variables.now.types.items = omega (arith, c.len.ensures, c.args.variables.now.types.ok.0) in
+    let numbers = c.as_slice-shapes.ensures.value in
+    let shapes = c.as_slice.ensures.value in
+    let variables = rw (sym numbers) at (have_shapes _ _ _ _ c.in_ok-types.ensures.extends c.requires.shapes) in
+    let types = rw (sym shapes) at t.same in
+    let judged = c.in_ok-judged.ensures.judged (map tree c.args.variables.now.types.items)
+      (λ (r : Bor (List ℕ)). number_of c.args.regions.now.names r.now)
+      (λ (t : List TypeNode). meant (scope_in c.args.regions.now c.args.structs.now) (written t)) variables types in
+    point_judged c.args.regions.now c.args.structs.now c.args.variables.now c.args.statement.now
+    c.in_ok-declared.declared c.regions_known-regions.result c.in_ok-types.types.known c.in_ok-types.types.fit c.in_ok-judged.judged _ refl refl refl
+    (rw count at c.in_ok-declared.ensures)
+    c.regions_known-regions.ensures
+    t.known
+    t.fit
+    (rw c.in_ok-types.ensures.structs at judged)

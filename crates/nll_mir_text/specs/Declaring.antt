@@ -1,0 +1,57 @@
+-- What a reader makes of a struct line.
+-- Source: project's choice. Only private contracts cite this file.
+use Rattle.std.specs.Prelude.{◌≡◌, Bool, false, ◌||◌, List, ◌∷◌, map, codes}
+use Rattle.std.specs.List.{list_any}
+use Rattle.nll_types.specs.Types.{TypeTrees}
+use Rattle.nll_type_grammar.specs.WrittenTypes.{Name, WrittenTypes}
+use Rattle.nll_mir_grammar.specs.MirForms.{WrittenParameter}
+use Rattle.nll_mir_grammar.specs.declared.line.ParameterText.{ParameterText}
+use Rattle.nll_mir_grammar.specs.declared.line.ParameterText.TheVariants as parameters
+use Rattle.nll_naming.specs.Naming.{Scope, is_among, are_known, have_arguments, all_meant}
+use Rattle.nll_typing.specs.Typing.{are_small}
+use Rattle.nll_mir_text.specs.MirSaid.{regions_in, types_in}
+use Rattle.nll_mir_text.specs.MirFaults.{has_repeats}
+use Rattle.nll_mir_text.specs.declared.tables.StructNames.{StructNames}
+use Rattle.nll_mir_text.specs.declared.own_names.OwnNames.{OwnNames}
+use Rattle.nll_mir_text.specs.declared.fields.JudgedFields.{JudgedFields}
+
+-- the names of the regions that a struct's fields may name: 'static and its region parameters
+abbrev pub region_names : List WrittenParameter → List Name
+region_names ps = codes "static" ∷ map (λ p. p.0) (regions_in ps)
+
+-- the names of its type parameters
+abbrev pub type_names : List WrittenParameter → List Name
+type_names ps = map (λ p. p.0) (types_in ps)
+
+-- The names are those of the row, each once.
+pub record AreNamesOf (row names : List Name) : Type 0 where
+  pub same : has_repeats row ≡ false → names ≡ row
+  pub members : (x : Name) → is_among names x ≡ is_among row x
+
+-- The names are the own ones of a struct with these parameters, and it is told whether one of them
+-- stands twice.
+pub record AreOwn (ps : List WrittenParameter) (own : OwnNames) : Type 0 where
+  pub regions : AreNamesOf (region_names ps) own.regions
+  pub types : AreNamesOf (type_names ps) own.types
+  pub repeats : own.repeats ≡ has_repeats (region_names ps) || has_repeats (type_names ps)
+
+-- the parameter is of a type, and its name is one of these
+abbrev pub takes_name : List Name → ParameterText → Bool
+takes_name names (parameters.Region a p) = false
+takes_name names (parameters.Type n p) = is_among names n.now
+
+-- what names mean in the fields of a struct with these names of its own
+abbrev pub own_scope : OwnNames → StructNames → Scope
+own_scope own structs = record {
+  regions = own.regions;
+  parameters = own.types;
+  structs = structs.names;
+  kinds = map (λ ks. ks.items) structs.kinds.items;
+}
+
+-- It tells of the fields whether their names are known, whether they have arguments of the kinds
+-- that they take, and whether none has more nodes than a type may have.
+pub record AreJudged (s : Scope) (fields : WrittenTypes) (j : JudgedFields) : Type 0 where
+  pub known : j.known ≡ are_known s fields
+  pub fits : j.fits ≡ have_arguments s fields
+  pub small : j.small ≡ are_small (all_meant s fields)

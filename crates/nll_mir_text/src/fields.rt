@@ -1,0 +1,151 @@
+//! The fields of a struct: judging them, and making their types.
+
+ghost use Rattle.std.specs.Prelude.{◌≡◌, ◌<◌, ◌^◌, length, map, IfOk};
+ghost use Rattle.std.specs.List.{list_all};
+ghost use Rattle.nll_types.specs.Shapes.{is_small_shape, tuple_shape, shapes_of};
+ghost use Rattle.nll_types.specs.Table.{AreBelow, Extends, shape_in};
+ghost use Rattle.nll_types.specs.Types.{TypeTrees, tuple};
+ghost use Rattle.nll_types.specs.Views.{tree, trees};
+ghost use Rattle.nll_type_grammar.specs.TypeTexts.{written};
+ghost use Rattle.nll_mir_grammar.specs.Lines.{parameter_of};
+ghost use Rattle.nll_mir_grammar.specs.Tuples.{IsTuple, parts};
+ghost use Rattle.nll_naming.specs.Naming.{all_meant};
+ghost use Rattle.nll_mir_text.specs.MirSaid.{regions_in, types_in};
+ghost use Rattle.nll_typing.specs.Typing as typing;
+ghost use Rattle.nll_mir_text.specs.Declaring.{AreJudged, own_scope};
+
+use crate::own_names::OwnNames;
+use crate::parameters::{region_parameters, type_parameters};
+use crate::tables::StructNames;
+use nll_mir_grammar::StructText;
+use nll_naming::{Scope, judge, meant};
+use nll_sets::Memory;
+use nll_type_grammar::TypeText;
+use nll_types::{Declaration, Node, Shapes, Ty, TypeTable};
+use std::alloc::Global;
+
+/// What is judged of the fields of a struct.
+#[derive(Clone, Copy)]
+pub struct JudgedFields {
+    /// Each name in them is known.
+    pub known: bool,
+    /// Each name in them has arguments of the kinds that it takes.
+    pub fits: bool,
+    /// None has more nodes than a type may have.
+    pub small: bool,
+}
+
+// Whether none of these shapes has more nodes than a type may have.
+fn are_small(shapes: &Shapes, parts: &[usize]) -> bool
+    requires { AreBelow (length shapes.now) parts.now }
+    ensures { result ≡ list_all (λ k. is_small_shape (shape_in shapes.now k)) parts.now }
+{
+    for part in parts {
+        if !shapes.is_small(*part) {
+            return false;
+        }
+    }
+    true
+}
+
+// Whether none of the parts of a tuple's shape has more nodes than a type may have.
+fn has_small_parts(shapes: &Shapes, shape: usize) -> bool
+    requires { shape < length shapes.now }
+    ensures { (ts : TypeTrees) → shape_in shapes.now shape ≡ tuple_shape (shapes_of ts)
+        → result ≡ typing.are_small ts }
+{
+    match shapes.node(shape) {
+        Node::Tuple(parts) => are_small(shapes, parts.as_slice()),
+        _ => true,
+    }
+}
+
+/// Judges the fields of a struct, and puts their shapes into the table.
+pub fn judge_fields(
+    alloc: Global,
+    own: &OwnNames,
+    structs: &StructNames,
+    table: &mut TypeTable,
+    fields: &TypeText<'_>,
+) -> Result<JudgedFields, Memory>
+    requires { IsTuple (written fields.now) }
+    ensures structs { table.new.structs ≡ table.old.structs }
+    ensures extends { Extends table.old.shapes table.new.shapes }
+    ensures judged { IfOk result
+        (AreJudged (own_scope own.now structs.now) (parts (written fields.now))) }
+{
+    let scope = Scope {
+        regions: &own.regions,
+        parameters: &own.types,
+        structs: &structs.names,
+        kinds: structs.kinds.as_slice(),
+    };
+    let judged = judge(alloc, &scope, table, fields)?;
+    Ok(JudgedFields {
+        known: judged.known,
+        fits: judged.fits,
+        small: has_small_parts(table.shapes(), judged.shape),
+    })
+}
+
+// The parts of a tuple.
+fn parts_of(alloc: Global, ty: Ty) -> Vec<Ty>
+    ensures { (ts : TypeTrees) → tree ty ≡ tuple ts → trees result.items ≡ ts }
+{
+    match ty {
+        Ty::Tuple(parts) => parts,
+        _ => Vec::new(alloc),
+    }
+}
+
+/// The types of the fields of a struct. It recurses to their depth.
+pub fn fields_meant(
+    alloc: Global,
+    own: &OwnNames,
+    structs: &StructNames,
+    fields: &TypeText<'_>,
+) -> Result<Vec<Ty>, Memory>
+    requires tuple { IsTuple (written fields.now) }
+    requires few { length own.now.regions < 2 ^ 32 }
+    ensures { IfOk result (λ v. trees v.items
+        ≡ all_meant (own_scope own.now structs.now) (parts (written fields.now))) }
+{
+    let scope = Scope {
+        regions: &own.regions,
+        parameters: &own.types,
+        structs: &structs.names,
+        kinds: structs.kinds.as_slice(),
+    };
+    let ty = meant(alloc, &scope, fields)?;
+    Ok(parts_of(alloc, ty))
+}
+
+/// What a struct line declares.
+pub fn declaration(
+    alloc: Global,
+    own: &OwnNames,
+    structs: &StructNames,
+    text: &StructText<'_>,
+) -> Result<Declaration, Memory>
+    requires { length own.now.regions < 2 ^ 32 }
+    ensures regions { IfOk result (λ d.
+        d.regions.items ≡ map (λ p. p.1)
+        (regions_in (map parameter_of text.now.parameters.items))) }
+    ensures types { IfOk result (λ d.
+        d.types.items ≡ map (λ p. p.1)
+        (types_in (map parameter_of text.now.parameters.items))) }
+    ensures has_drop { IfOk result (λ d. d.has_drop ≡ text.now.has_drop) }
+    ensures fields { IfOk result (λ d. trees d.fields.items
+        ≡ all_meant (own_scope own.now structs.now) (parts (written text.now.fields))) }
+{
+    let parameters = text.parameters.as_slice();
+    let regions = region_parameters(alloc, parameters)?;
+    let types = type_parameters(alloc, parameters)?;
+    let fields = fields_meant(alloc, own, structs, text.fields.as_type())?;
+    Ok(Declaration {
+        regions,
+        types,
+        has_drop: text.has_drop,
+        fields,
+    })
+}

@@ -1,0 +1,124 @@
+//! Judging the types that are written in a statement.
+
+ghost use Rattle.std.specs.Prelude.{◌≡◌, ◌∷◌, [], map, IfOk, OnOk};
+ghost use Rattle.nll_types.specs.Table.{Extends};
+ghost use Rattle.nll_statements.specs.Kept.{statement_of};
+ghost use Rattle.nll_statements.specs.Statements.{types_written};
+ghost use Rattle.nll_mir_text.specs.MirReading.{scope_in};
+ghost use Rattle.nll_mir_text.specs.Stating.{AreOfTypes, AddsTypes};
+
+use crate::judging::judge_type;
+use crate::tables::{Regions, StructNames};
+use nll_sets::Memory;
+use nll_statements::Statement;
+use nll_type_grammar::TypeText;
+use nll_types::{Operand, TypeTable};
+use std::alloc::Global;
+
+/// What is judged of written types.
+#[derive(Drop)]
+pub struct JudgedTypes {
+    /// Each name in each of them is known.
+    pub known: bool,
+    /// Each name in each of them has arguments of the kinds that it takes.
+    pub fit: bool,
+    /// The numbers of their shapes, in order.
+    pub shapes: Vec<usize>,
+}
+
+// Judges a further type.
+fn judge_further(
+    alloc: Global,
+    regions: &Regions,
+    structs: &StructNames,
+    table: &mut TypeTable,
+    text: &TypeText<'_>,
+    judged: &mut JudgedTypes,
+) -> Result<(), Memory>
+    requires { structs.now.none ≡ [] }
+    ensures structs { table.new.structs ≡ table.old.structs }
+    ensures extends { Extends table.old.shapes table.new.shapes }
+    ensures judged { OnOk result (AddsTypes (scope_in regions.now structs.now) (text.now ∷ [])
+        table.old.shapes judged.old table.new.shapes judged.new) }
+{
+    let one = judge_type(alloc, regions, structs, table, text)?;
+    judged.shapes.push(one.shape)?;
+    judged.known &= one.known;
+    judged.fit &= one.fits;
+    Ok(())
+}
+
+// Judges the types of a call's arguments.
+fn judge_arguments(
+    alloc: Global,
+    regions: &Regions,
+    structs: &StructNames,
+    table: &mut TypeTable,
+    arguments: &[(Operand, TypeText<'_>)],
+    judged: &mut JudgedTypes,
+) -> Result<(), Memory>
+    requires { structs.now.none ≡ [] }
+    ensures structs { table.new.structs ≡ table.old.structs }
+    ensures extends { Extends table.old.shapes table.new.shapes }
+    ensures judged { OnOk result
+        (AddsTypes (scope_in regions.now structs.now) (map (λ a. a.1) arguments.now)
+        table.old.shapes judged.old table.new.shapes judged.new) }
+{
+    for argument in arguments {
+        judge_further(alloc, regions, structs, table, &argument.1, judged)?;
+    }
+    Ok(())
+}
+
+// Judges the types in a statement beside others.
+fn judge_written(
+    alloc: Global,
+    regions: &Regions,
+    structs: &StructNames,
+    table: &mut TypeTable,
+    statement: &Statement<&[u8], TypeText<'_>>,
+    judged: &mut JudgedTypes,
+) -> Result<(), Memory>
+    requires { structs.now.none ≡ [] }
+    ensures structs { table.new.structs ≡ table.old.structs }
+    ensures extends { Extends table.old.shapes table.new.shapes }
+    ensures judged { OnOk result (AddsTypes (scope_in regions.now structs.now)
+        (types_written (statement_of statement.now))
+        table.old.shapes judged.old table.new.shapes judged.new) }
+{
+    match statement {
+        Statement::Make(made) => {
+            judge_further(alloc, regions, structs, table, &made.ty, judged)?;
+        }
+        Statement::Call(call) => {
+            let arguments = call.arguments.as_slice();
+            judge_arguments(alloc, regions, structs, table, arguments, judged)?;
+            judge_further(alloc, regions, structs, table, &call.result, judged)?;
+        }
+        _ => {}
+    }
+    Ok(())
+}
+
+/// Judges the types that are written in a statement, and puts their shapes into the table.
+pub fn judge_types(
+    alloc: Global,
+    regions: &Regions,
+    structs: &StructNames,
+    table: &mut TypeTable,
+    statement: &Statement<&[u8], TypeText<'_>>,
+) -> Result<JudgedTypes, Memory>
+    requires { structs.now.none ≡ [] }
+    ensures structs { table.new.structs ≡ table.old.structs }
+    ensures extends { Extends table.old.shapes table.new.shapes }
+    ensures judged { IfOk result (AreOfTypes (scope_in regions.now structs.now)
+        table.new.shapes (types_written (statement_of statement.now))) }
+{
+    let mut judged = JudgedTypes {
+        known: true,
+        fit: true,
+        shapes: Vec::new(alloc),
+    };
+    judge_written(alloc, regions, structs, table, statement, &mut judged)?;
+    Ok(judged)
+}

@@ -1,0 +1,231 @@
+//! What a statement means: regions by their numbers, and types as trees.
+
+ghost use Rattle.std.specs.Prelude.{◌≡◌, ◌≤◌, [], length, map, IfOk};
+ghost use Rattle.nll_problem.specs.Limits.{most_regions};
+ghost use Rattle.nll_reading.specs.Names.{number_of};
+ghost use Rattle.nll_types.specs.Operands.{operand_of};
+ghost use Rattle.nll_types.specs.Places.{path_of};
+ghost use Rattle.nll_types.specs.Views.{tree};
+ghost use Rattle.nll_type_grammar.specs.TypeTexts.{written};
+ghost use Rattle.nll_statements.specs.Kept.{call_of, statement_of};
+ghost use Rattle.nll_statements.specs.Statements as statements;
+ghost use Rattle.nll_statements.specs.Statements.{map_statement};
+ghost use Rattle.nll_naming.specs.Naming.{meant};
+ghost use Rattle.nll_mir_text.specs.MirReading.{scope_in, statement_kept};
+ghost use Rattle.nll_mir_text.specs.Stating.{as_written, meant_in, bound_numbers};
+ghost use Rattle.nll_mir_text.specs.Stating.{argument_kept, argument_in};
+
+use crate::judging::type_meant;
+use crate::tables::{Regions, StructNames};
+use nll_problem::RegionId;
+use nll_sets::Memory;
+use nll_statements::{Call, Make, Statement, copy_operand, copy_operands, copy_place};
+use nll_type_grammar::TypeText;
+use nll_types::{Operand, Place, Ty};
+use std::alloc::Global;
+
+// The region that a name means.
+fn region_meant(regions: &Regions, name: &[u8]) -> RegionId
+    requires { length regions.now.names ≤ most_regions }
+    ensures { result ≡ number_of regions.now.names name.now }
+{
+    match regions.names.number_of(name) {
+        Some(number) => RegionId(number as u32),
+        None => RegionId(regions.names.len() as u32),
+    }
+}
+
+// A bound of a call.
+fn bound_meant(regions: &Regions, bound: &(&[u8], &[u8])) -> (RegionId, RegionId)
+    requires { length regions.now.names ≤ most_regions }
+    ensures { result ≡ bound_numbers regions.now.names bound.now }
+{
+    (region_meant(regions, bound.0), region_meant(regions, bound.1))
+}
+
+// The bounds of a call.
+fn bounds_meant(
+    alloc: Global,
+    regions: &Regions,
+    bounds: &[(&[u8], &[u8])],
+) -> Result<Vec<(RegionId, RegionId)>, Memory>
+    requires { length regions.now.names ≤ most_regions }
+    ensures { IfOk result (λ v. v.items ≡ map (bound_numbers regions.now.names) bounds.now) }
+{
+    let mut meant = Vec::with_capacity(alloc, bounds.len())?;
+    for bound in bounds {
+        meant.push(bound_meant(regions, bound))?;
+    }
+    Ok(meant)
+}
+
+// An argument of a call.
+fn argument_meant(
+    alloc: Global,
+    regions: &Regions,
+    structs: &StructNames,
+    argument: &(Operand, TypeText<'_>),
+) -> Result<(Operand, Ty), Memory>
+    requires none { structs.now.none ≡ [] }
+    requires few { length regions.now.names ≤ most_regions }
+    ensures { IfOk result (λ a. argument_kept a
+        ≡ argument_in (scope_in regions.now structs.now) argument.now) }
+{
+    let operand = copy_operand(alloc, &argument.0)?;
+    let ty = type_meant(alloc, regions, structs, &argument.1)?;
+    Ok((operand, ty))
+}
+
+// The arguments of a call.
+fn arguments_meant(
+    alloc: Global,
+    regions: &Regions,
+    structs: &StructNames,
+    arguments: &[(Operand, TypeText<'_>)],
+) -> Result<Vec<(Operand, Ty)>, Memory>
+    requires none { structs.now.none ≡ [] }
+    requires few { length regions.now.names ≤ most_regions }
+    ensures { IfOk result (λ v. map argument_kept v.items
+        ≡ map (argument_in (scope_in regions.now structs.now)) arguments.now) }
+{
+    let mut meant = Vec::with_capacity(alloc, arguments.len())?;
+    for argument in arguments {
+        meant.push(argument_meant(alloc, regions, structs, argument)?)?;
+    }
+    Ok(meant)
+}
+
+// A call.
+fn call_meant(
+    alloc: Global,
+    regions: &Regions,
+    structs: &StructNames,
+    call: &Call<&[u8], TypeText<'_>>,
+) -> Result<Call<RegionId, Ty>, Memory>
+    requires none { structs.now.none ≡ [] }
+    requires few { length regions.now.names ≤ most_regions }
+    ensures { IfOk result (λ c. map_statement (λ r. r) tree (call_of c)
+        ≡ meant_in (scope_in regions.now structs.now)
+        (map_statement (λ r. r.now) written (call_of call.now))) }
+{
+    let place = copy_place(alloc, &call.place)?;
+    let wheres = bounds_meant(alloc, regions, call.wheres.as_slice())?;
+    let arguments = arguments_meant(alloc, regions, structs, call.arguments.as_slice())?;
+    let result = type_meant(alloc, regions, structs, &call.result)?;
+    Ok(Call {
+        place,
+        arguments,
+        result,
+        wheres,
+        target: call.target,
+        unwind: call.unwind,
+    })
+}
+
+// A tuple or struct that is made.
+fn made_meant(
+    alloc: Global,
+    regions: &Regions,
+    structs: &StructNames,
+    made: &Make<TypeText<'_>>,
+) -> Result<Make<Ty>, Memory>
+    requires none { structs.now.none ≡ [] }
+    requires few { length regions.now.names ≤ most_regions }
+    ensures place { IfOk result (λ m. path_of m.place ≡ path_of made.now.place) }
+    ensures meaning { IfOk result (λ m. tree m.ty
+        ≡ meant (scope_in regions.now structs.now) (written made.now.ty)) }
+    ensures operands { IfOk result (λ m. map operand_of m.operands.items
+        ≡ map operand_of made.now.operands.items) }
+{
+    let place = copy_place(alloc, &made.place)?;
+    let operands = copy_operands(alloc, made.operands.as_slice())?;
+    let ty = type_meant(alloc, regions, structs, &made.ty)?;
+    Ok(Make {
+        place,
+        ty,
+        operands,
+    })
+}
+
+// An assignment.
+fn assignment(
+    alloc: Global,
+    place: &Place,
+    operand: &Operand,
+) -> Result<Statement<RegionId, Ty>, Memory>
+    ensures { IfOk result (λ i. statement_of i
+        ≡ statements.assign (path_of place.now) (operand_of operand.now)) }
+{
+    let place = copy_place(alloc, place)?;
+    let operand = copy_operand(alloc, operand)?;
+    Ok(Statement::Assign(place, operand))
+}
+
+// A borrow.
+fn borrow(
+    alloc: Global,
+    place: &Place,
+    region: RegionId,
+    mutable: bool,
+    source: &Place,
+) -> Result<Statement<RegionId, Ty>, Memory>
+    ensures { IfOk result (λ i. statement_of i
+        ≡ statements.borrow (path_of place.now) region mutable (path_of source.now)) }
+{
+    let place = copy_place(alloc, place)?;
+    let source = copy_place(alloc, source)?;
+    Ok(Statement::Borrow(place, region, mutable, source))
+}
+
+// A switch.
+fn switch(
+    alloc: Global,
+    operand: &Operand,
+    blocks: &[u32],
+) -> Result<Statement<RegionId, Ty>, Memory>
+    ensures { IfOk result (λ i. statement_of i
+        ≡ statements.switch (operand_of operand.now) blocks.now) }
+{
+    let operand = copy_operand(alloc, operand)?;
+    let blocks = Vec::from_slice(alloc, blocks)?;
+    Ok(Statement::Switch(operand, blocks))
+}
+
+/// The statement that a written statement means. It recurses to the depth of its types.
+pub fn statement_meant(
+    alloc: Global,
+    regions: &Regions,
+    structs: &StructNames,
+    statement: &Statement<&[u8], TypeText<'_>>,
+) -> Result<Statement<RegionId, Ty>, Memory>
+    requires none { structs.now.none ≡ [] }
+    requires few { length regions.now.names ≤ most_regions }
+    ensures { IfOk result (λ i. statement_kept i
+        ≡ meant_in (scope_in regions.now structs.now) (as_written statement.now)) }
+{
+    match statement {
+        Statement::Assign(place, operand) => assignment(alloc, place, operand),
+        Statement::Borrow(place, region, mutable, source) => {
+            borrow(alloc, place, region_meant(regions, *region), *mutable, source)
+        }
+        Statement::Make(made) => {
+            let made = made_meant(alloc, regions, structs, made)?;
+            Ok(Statement::Make(Box::new(alloc, made)?))
+        }
+        Statement::Read(place) => Ok(Statement::Read(copy_place(alloc, place)?)),
+        Statement::Live(variable) => Ok(Statement::Live(*variable)),
+        Statement::Dead(variable) => Ok(Statement::Dead(*variable)),
+        Statement::Nop => Ok(Statement::Nop),
+        Statement::Goto(block) => Ok(Statement::Goto(*block)),
+        Statement::Switch(operand, blocks) => switch(alloc, operand, blocks.as_slice()),
+        Statement::Drop(variable, block, unwind) => {
+            Ok(Statement::Drop(*variable, *block, *unwind))
+        }
+        Statement::Call(call) => {
+            let call = call_meant(alloc, regions, structs, call)?;
+            Ok(Statement::Call(Box::new(alloc, call)?))
+        }
+        Statement::Return => Ok(Statement::Return),
+        Statement::Stop => Ok(Statement::Stop),
+    }
+}

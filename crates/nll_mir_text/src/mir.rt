@@ -1,0 +1,52 @@
+//! The body that a MIR text means.
+
+ghost use Rattle.std.specs.Prelude.{◌≡◌, IfOk, IfErr};
+ghost use Rattle.nll_reading.specs.Text.{IsFault, IsRefusal};
+ghost use Rattle.nll_body.specs.Sound.{IsSound};
+ghost use Rattle.nll_mir_text.specs.MirReading.{said_by, IsReady};
+ghost use Rattle.nll_mir_text.specs.MirText.{body_said, mir, Means};
+
+use crate::reader::Reader;
+use crate::text::read_text;
+use nll_body::Body;
+use nll_reading::{TextError, TextKind};
+use std::alloc::Global;
+
+// The body that a reader's lines say.
+fn body(alloc: Global, reader: Reader) -> Result<Body, TextKind>
+    requires ready { IsReady reader }
+    requires sound { IsSound (body_said (said_by reader)) }
+    ensures ok { IfOk result (λ body. body ≡ body_said (said_by reader)) }
+    ensures err { IfErr result (λ kind. kind ≡ TextKind.Memory) }
+{
+    match reader.outlives(alloc) {
+        Ok(outlives) => {
+            let body = Body::new(alloc, reader.finish(outlives))?;
+            Ok(body)
+        }
+        Err(memory) => {
+            drop(reader);
+            Err(TextKind::from(memory))
+        }
+    }
+}
+
+/// Reads a MIR text, version 1.
+///
+/// # Errors
+/// The text's one fault: its first faulty line, and of that line the first kind in the order of
+/// `TextKind`; or `Memory` at line 0, where a growth of memory was refused.
+///
+/// # Cost
+/// Time linear in the text, save for hashing, and memory for what it says; the text isn't copied
+/// (not proved).
+pub fn read_mir(alloc: Global, text: &[u8]) -> Result<Body, TextError>
+    ensures ok { IfOk result (Means text.now) }
+    ensures fault { IfErr result (IsRefusal (IsFault mir text.now)) }
+{
+    let reader = read_text(alloc, text)?;
+    match body(alloc, reader) {
+        Ok(body) => Ok(body),
+        Err(kind) => Err(TextError { line: 0, kind }),
+    }
+}

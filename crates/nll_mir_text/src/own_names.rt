@@ -1,0 +1,164 @@
+//! The names that a struct line declares for its own fields.
+
+ghost use Rattle.std.specs.Prelude.{◌≡◌, ◌||◌, ◌++◌, ◌∷◌, [], List, not, map, All, IfOk, OnOk};
+ghost use Rattle.std.specs.Prelude.{if◌then◌else◌};
+ghost use Rattle.std.specs.List.{list_any};
+ghost use Rattle.std.specs.Str.{IsUtf8};
+ghost use Rattle.nll_mir_grammar.specs.Lines.{parameter_of};
+ghost use Rattle.nll_mir_grammar.specs.MirForms.{WrittenParameter};
+ghost use Rattle.nll_mir_grammar.specs.MirForms as forms;
+ghost use Rattle.nll_naming.specs.Naming.{is_among};
+ghost use Rattle.nll_types.specs.declared.parameter.Parameter.{Parameter as marks};
+ghost use Rattle.nll_mir_text.specs.MirFaults.{has_repeats};
+ghost use Rattle.nll_mir_text.specs.MirReading.{IsNamed};
+ghost use Rattle.nll_mir_text.specs.Declaring.{AreOwn, region_names, type_names, takes_name};
+
+use nll_mir_grammar::ParameterText;
+use nll_reading::Names;
+use nll_sets::Memory;
+use std::alloc::Global;
+
+/// The names of a struct's own.
+#[derive(Drop)]
+pub struct OwnNames {
+    /// `'static` and the region parameters, each once.
+    pub regions: Names,
+    /// The type parameters, each once.
+    pub types: Names,
+    /// Whether one of them stands twice.
+    pub repeats: bool,
+}
+
+// Adds a name, where it isn't there: whether it is new.
+fn add_name(alloc: Global, names: &mut Names, name: &[u8]) -> Result<bool, Memory>
+    requires { IsUtf8 name.now }
+    ensures new { IfOk result (λ new. new ≡ not (is_among names.old name.now)) }
+    ensures names { IfOk result (λ new. names.new
+        ≡ (if new then names.old ++ name.now ∷ [] else names.old)) }
+{
+    if names.number_of(name).is_some() {
+        return Ok(false);
+    }
+    names.add(alloc, name)?;
+    Ok(true)
+}
+
+impl OwnNames {
+    // `'static` alone.
+    fn new(alloc: Global) -> Result<OwnNames, Memory>
+        ensures { IfOk result (AreOwn []) }
+    {
+        let regions = Names::new(alloc)?;
+        Ok(OwnNames {
+            regions,
+            types: Names::empty(alloc),
+            repeats: false,
+        })
+    }
+
+    // Adds the name of a region parameter.
+    fn add_region(&mut self, alloc: Global, name: &[u8]) -> Result<(), Memory>
+        requires { IsUtf8 name.now }
+        ensures { OnOk result ((ps : List WrittenParameter) (p : marks) → AreOwn ps self.old
+            → AreOwn (ps ++ forms.region_parameter name.now p ∷ []) self.new) }
+    {
+        let new = add_name(alloc, &mut self.regions, name)?;
+        self.repeats = self.repeats | !new;
+        Ok(())
+    }
+
+    // Adds the name of a type parameter.
+    fn add_type(&mut self, alloc: Global, name: &[u8]) -> Result<(), Memory>
+        requires { IsUtf8 name.now }
+        ensures { OnOk result ((ps : List WrittenParameter) (p : marks) → AreOwn ps self.old
+            → AreOwn (ps ++ forms.type_parameter name.now p ∷ []) self.new) }
+    {
+        let new = add_name(alloc, &mut self.types, name)?;
+        self.repeats = self.repeats | !new;
+        Ok(())
+    }
+
+    // Adds the name of a parameter.
+    fn add(&mut self, alloc: Global, parameter: &ParameterText<'_>) -> Result<(), Memory>
+        requires { IsNamed (parameter_of parameter.now) }
+        ensures { OnOk result ((ps : List WrittenParameter) → AreOwn ps self.old
+            → AreOwn (ps ++ parameter_of parameter.now ∷ []) self.new) }
+    {
+        match parameter {
+            ParameterText::Region(name, _) => self.add_region(alloc, name),
+            ParameterText::Type(name, _) => self.add_type(alloc, name),
+        }
+    }
+
+    // Adds the names of parameters.
+    fn add_all(&mut self, alloc: Global, parameters: &[ParameterText<'_>]) -> Result<(), Memory>
+        requires own { AreOwn [] self.old }
+        requires named { All (λ p. IsNamed (parameter_of p)) parameters.now }
+        ensures { OnOk result (AreOwn (map parameter_of parameters.now) self.new) }
+    {
+        for parameter in parameters {
+            self.add(alloc, parameter)?;
+        }
+        Ok(())
+    }
+}
+
+/// The names of the own of a struct with these parameters.
+pub fn gather_names(alloc: Global, parameters: &[ParameterText<'_>]) -> Result<OwnNames, Memory>
+    requires { All (λ p. IsNamed (parameter_of p)) parameters.now }
+    ensures { IfOk result (AreOwn (map parameter_of parameters.now)) }
+{
+    let mut own = OwnNames::new(alloc)?;
+    match own.add_all(alloc, parameters) {
+        Ok(()) => Ok(own),
+        Err(memory) => {
+            drop(own);
+            Err(memory)
+        }
+    }
+}
+
+// Whether a parameter is of a type and its name is this one or a struct's.
+fn is_taken(structs: &Names, name: &[u8], parameter: &ParameterText<'_>) -> bool
+    ensures { result ≡ takes_name (name.now ∷ structs.now) parameter.now }
+{
+    match parameter {
+        ParameterText::Region(_, _) => false,
+        ParameterText::Type(other, _) => { *other == name || structs.number_of(other).is_some() }
+    }
+}
+
+// Whether the name of a type parameter is this one or a struct's.
+fn any_taken(structs: &Names, name: &[u8], parameters: &[ParameterText<'_>]) -> bool
+    ensures { result ≡ list_any (takes_name (name.now ∷ structs.now)) parameters.now }
+{
+    for parameter in parameters {
+        if is_taken(structs, name, parameter) {
+            return true;
+        }
+    }
+    false
+}
+
+/// Whether a struct line declares a name that is declared already.
+pub fn redeclares(
+    own: &OwnNames,
+    structs: &Names,
+    name: &[u8],
+    parameters: &[ParameterText<'_>],
+) -> bool
+    requires { AreOwn (map parameter_of parameters.now) own.now }
+    ensures { result ≡ is_among structs.now name.now
+        || has_repeats (region_names (map parameter_of parameters.now))
+        || has_repeats (type_names (map parameter_of parameters.now))
+        || list_any (is_among (name.now ∷ structs.now))
+        (type_names (map parameter_of parameters.now)) }
+{
+    if structs.number_of(name).is_some() {
+        return true;
+    }
+    if own.repeats {
+        return true;
+    }
+    any_taken(structs, name, parameters)
+}

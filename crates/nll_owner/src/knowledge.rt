@@ -1,0 +1,302 @@
+//! What an owner knows: its values and copies, its log, and what it received.
+
+ghost use Rattle.std.specs.Prelude.{◌≡◌, ◌⊎◌, ◌↔◌, ℕ, ◌+◌, ◌<◌, ◌≤◌, ◌^◌, true, false, max, [], Some};
+ghost use Rattle.std.specs.Prelude.{Err, Contains, length, take, slice_get, slice_set, IsTrue, map};
+ghost use Rattle.std.specs.Prelude.{replicate, IfOk, OnOk, OnErr, IfSome, IfNone};
+ghost use Rattle.std.specs.Prelude.{min, ◌-◌};
+ghost use Rattle.std.specs.List.{sum, sum_by};
+ghost use Rattle.nll_problem.specs.Graph.{element_count};
+ghost use Rattle.nll_cut.specs.Partition.{owner_of, reads};
+ghost use Rattle.nll_mail.specs.declared.growth.Growth.{Growth};
+ghost use Rattle.nll_owner.specs.Logs.{part};
+ghost use Rattle.nll_owner.specs.Owner.{IsSound, IsCalled, Has, HasBases, Passes};
+ghost use Rattle.nll_owner.specs.Owner.{part_for, given_to, received_from, with_growth};
+ghost use Rattle.nll_owner.specs.Owner.{first_owner};
+ghost use Rattle.nll_owner.specs.Keeping.{Grows, Tells};
+ghost use Rattle.nll_owner.specs.declared.error.OwnerError.TheVariants.{RankFull, Broken};
+
+use crate::error::OwnerError;
+use nll_core::Values;
+use nll_cut::{Cut, Readers};
+use nll_mail::Growth;
+use nll_problem::{Problem, RegionId};
+use nll_sets::Element;
+use std::alloc::Global;
+use std::marker::Model;
+
+/// The greatest rank.
+pub const MAX_RANK: u64 = 1 << 62;
+
+/// The values and copies of an owner, its log, and what it received. Contracts see it as the owner.
+///
+/// # Shape
+/// `received`, `places` and `given` have an entry for each owner: what it told, how far in the log
+/// it was given its part, and how much of it.
+#[derive(Drop)]
+pub struct Knowledge<'q> {
+    pub problem: &'q Problem,
+    pub cut: &'q Cut,
+    pub me: u16,
+    pub readers: Readers,
+    pub values: Values,
+    pub log: Vec<Growth>,
+    pub received: Vec<Vec<Growth>>,
+    pub places: Vec<usize>,
+    pub given: Vec<u64>,
+    pub clock: u64,
+    pub loaded: bool,
+    pub broken: bool,
+}
+
+impl<'q> Model for Knowledge<'q> {
+    ghost use Rattle.std.specs.Prelude.{map};
+    ghost use Rattle.nll_owner.specs.Owner as spec;
+    ghost use Rattle.nll_owner.specs.Keeping.{IsKept, owner_of_parts};
+
+    ghost Value = { spec.Owner };
+
+    ghost view = { λ o. owner_of_parts o.problem.now o.cut.now o.me o.log.items
+        (map (λ list. list.items) o.received.items) o.given.items o.clock o.loaded o.broken };
+
+    ghost invariant = { λ o. IsKept
+        (owner_of_parts o.problem.now o.cut.now o.me o.log.items
+        (map (λ list. list.items) o.received.items) o.given.items o.clock o.loaded o.broken)
+        o.values o.places.items o.readers };
+}
+
+impl<'q> Knowledge<'q> {
+    /// What an owner knows that has done nothing yet.
+    pub fn new(
+        alloc: Global,
+        problem: &'q Problem,
+        cut: &'q Cut,
+        me: u16,
+    ) -> Result<Knowledge<'q>, OwnerError>
+        requires cut { length cut.now.list ≡ problem.now.regions }
+        requires me { me < cut.now.owners }
+        ensures owner { IfOk result (λ o. o ≡ first_owner problem.now cut.now me) }
+        ensures sound { IfOk result IsSound }
+    {
+        let owners = cut.owners();
+        let _regions = problem.regions();
+        let readers = cut.readers(alloc, problem)?;
+        let values = Values::empty(alloc, problem)?;
+        let received = empty_lists(alloc, owners)?;
+        let places = vec![in alloc; 0usize; owners as usize]?;
+        let given = vec![in alloc; 0u64; owners as usize]?;
+        Ok(Knowledge {
+            problem,
+            cut,
+            me,
+            readers,
+            values,
+            log: Vec::new(alloc),
+            received,
+            places,
+            given,
+            clock: 0,
+            loaded: false,
+            broken: false,
+        })
+    }
+
+    /// Grows an own region by an element that is called for, where it is new. Answers whether it
+    /// was.
+    pub fn grow(&mut self, region: RegionId, element: Element) -> Result<bool, OwnerError>
+        requires own { owner_of self.old.cut region ≡ self.old.me }
+        requires region { region < self.old.problem.regions }
+        requires element { element < element_count self.old.problem.graph }
+        requires called { IsCalled self.old region element }
+        ensures grows { Grows self.old self.new }
+        ensures has { OnOk result (Has self.new region element) }
+        ensures tells { IfOk result (λ changed. Tells changed self.old self.new) }
+        ensures full { result ≡ Err RankFull → 2 ^ 62 ≤ self.new.clock }
+        ensures whole { result ≡ Err Broken → ⊥ }
+    {
+        if self.values.has(region, element) {
+            return Ok(false);
+        }
+        if self.clock >= MAX_RANK {
+            return Err(OwnerError::RankFull);
+        }
+        self.log.reserve(1)?;
+        self.values.insert(region, element)?;
+        self.clock += 1;
+        self.log.push_reserved(Growth {
+            region,
+            element,
+            rank: self.clock,
+        });
+        Ok(true)
+    }
+
+    /// Grows an own region by elements that are called for. Answers whether one of them was new.
+    pub fn grow_all(&mut self, region: RegionId, found: &[Element]) -> Result<bool, OwnerError>
+        requires sound { IsSound self.old }
+        requires own { owner_of self.old.cut region ≡ self.old.me }
+        requires region { region < self.old.problem.regions }
+        requires elements
+            { (x : ℕ) → Contains found.now x → x < element_count self.old.problem.graph }
+        requires called { (x : ℕ) → Contains found.now x → IsCalled self.old region x }
+        ensures grows { Grows self.old self.new }
+        ensures covers { OnOk result ((x : ℕ) → Contains found.now x → Has self.new region x) }
+        ensures tells { IfOk result (λ changed. Tells changed self.old self.new) }
+        ensures full { result ≡ Err RankFull → 2 ^ 62 ≤ self.new.clock }
+        ensures whole { result ≡ Err Broken → ⊥ }
+    {
+        let mut changed = false;
+        for element in found {
+            let new = self.grow(region, *element)?;
+            changed |= new;
+        }
+        Ok(changed)
+    }
+
+    /// Puts a growth into the copy of its region and at the end of what was received.
+    pub fn enter_received(&mut self, from: u16, growth: Growth) -> Result<(), OwnerError>
+        requires { Passes self.old.problem self.old.cut self.old.me from growth }
+        ensures ok { OnOk result (self.new ≡ record self.old {
+            received = with_growth self.old.received from growth;
+            clock = max self.old.clock growth.rank;
+        }) }
+        ensures err { OnErr result (self.new ≡ self.old) }
+        ensures full { result ≡ Err RankFull → ⊥ }
+        ensures whole { result ≡ Err Broken → ⊥ }
+        ensures sound { IsSound self.new }
+    {
+        let clock = self.clock.max(growth.rank);
+        let list = &mut self.received[from as usize];
+        list.reserve(1)?;
+        self.values.insert(growth.region, growth.element)?;
+        list.push_reserved(growth);
+        self.clock = clock;
+        Ok(())
+    }
+
+    /// Notes whether the owner is loaded, and whether a call of it was refused.
+    pub fn mark(&mut self, loaded: bool, broken: bool)
+        requires { loaded ≡ true → HasBases self.old }
+        ensures marks { self.new ≡ record self.old { loaded = loaded; broken = broken } }
+        ensures sound { IsSound self.new }
+    {
+        self.loaded = loaded;
+        self.broken = broken;
+    }
+
+    /// The next growth of the part of the log that another owner reads, which is then given.
+    pub fn give_next(&mut self, to: u16) -> Option<Growth>
+        requires { to < self.old.cut.owners }
+        ensures some { IfSome result (λ growth.
+            (slice_get (part_for self.old to) (given_to self.old to) ≡ Some growth)
+            × (self.new ≡ record self.old {
+                given = slice_set self.old.given to (given_to self.old to + 1);
+            })) }
+        ensures none { IfNone result
+            ((self.new ≡ self.old) × (given_to self.old to ≡ length (part_for self.old to))) }
+        ensures sound { IsSound self.new }
+    {
+        let place = self.next_place(to)?;
+        let growth = self.log[place];
+        self.places[to as usize] = place + 1;
+        self.given[to as usize] += 1;
+        Some(growth)
+    }
+
+    // The place in the log of the next growth for another owner.
+    fn next_place(&self, to: u16) -> Option<usize>
+        requires { to < self.now.cut.owners }
+        ensures some { IfSome result (λ place. (place < length self.now.log)
+            × (given_to self.now to
+            ≡ length (part self.now.problem self.now.cut to (take place self.now.log)))
+            × ((g : Growth) → slice_get self.now.log place ≡ Some g
+            → reads self.now.problem self.now.cut to g.region ≡ true)) }
+        ensures none { IfNone result
+            (given_to self.now to ≡ length (part_for self.now to)) }
+    {
+        for place in self.places[to as usize]..self.log.len() {
+            if self.readers.reads(to, self.log[place].region) {
+                return Some(place);
+            }
+        }
+        None
+    }
+
+    /// Whether the owner may be told a growth by another one.
+    pub fn passes(&self, from: u16, growth: &Growth) -> bool
+        ensures { IsTrue result
+            ↔ Passes self.now.problem self.now.cut self.now.me from growth.now }
+    {
+        let Growth {
+            region, element, ..
+        } = *growth;
+        if element.0 >= self.problem.points() + self.problem.universals() {
+            return false;
+        }
+        // A region that is read is of the problem.
+        if !self.readers.reads(self.me, region) {
+            return false;
+        }
+        self.cut.owner_of(region) == from
+    }
+
+    /// Whether a value or a copy has an element.
+    pub fn has(&self, region: RegionId, element: Element) -> bool
+        requires region { region < self.now.problem.regions }
+        requires element { element < element_count self.now.problem.graph }
+        ensures { IsTrue result ↔ Has self.now region element }
+    {
+        self.values.has(region, element)
+    }
+
+    /// All growths of the own regions so far.
+    pub fn entries(&self) -> &[Growth]
+        ensures log { result.now ≡ self.now.log }
+        ensures short { length result.now < 2 ^ 37 }
+    {
+        &self.log
+    }
+
+    /// How many growths were given out.
+    pub fn given_count(&self) -> u64
+        ensures { result ≡ sum self.now.given }
+    {
+        let mut count = 0u64;
+        for given in &self.given {
+            count += *given;
+        }
+        count
+    }
+
+    /// How many growths were received; the largest number of the type where there were more.
+    pub fn received_count(&self) -> u64
+        ensures { result ≡ min (sum_by length self.now.received) (2 ^ 64 - 1) }
+    {
+        let mut count = 0u64;
+        for list in &self.received {
+            count = count.saturating_add(list.len() as u64);
+        }
+        count
+    }
+
+    /// What was received from an owner, in the order of receipt.
+    pub fn received_from(&self, from: u16) -> &[Growth]
+        ensures { result.now ≡ received_from self.now from }
+    {
+        if from as usize >= self.received.len() {
+            return &self.log[..0];
+        }
+        &self.received[from as usize]
+    }
+}
+
+// This many empty lists.
+fn empty_lists(alloc: Global, count: u16) -> Result<Vec<Vec<Growth>>, OwnerError>
+    ensures { IfOk result
+        (λ lists. map (λ list. list.items) lists.items ≡ replicate count []) }
+{
+    let mut lists = Vec::new(alloc);
+    for _ in 0..count {
+        lists.push(Vec::new(alloc))?;
+    }
+    Ok(lists)
+}

@@ -1,0 +1,274 @@
+//! An owner of regions.
+
+ghost use Rattle.std.specs.Prelude.{◌≡◌, ◌⊎◌, ◌↔◌, ◌+◌, ◌<◌, ◌≤◌, ◌^◌, true, false, max, Some, Err};
+ghost use Rattle.std.specs.Prelude.{length, slice_get, slice_set, IsTrue, IfOk, OnOk, OnErr, IfSome};
+ghost use Rattle.std.specs.Prelude.{IfNone, min, ◌-◌};
+ghost use Rattle.std.specs.List.{sum, sum_by};
+ghost use Rattle.nll_problem.specs.Graph.{element_count};
+ghost use Rattle.nll_owner.specs.Logs.{IsPrefix};
+ghost use Rattle.nll_owner.specs.Owner.{IsSound, IsDone, IsReady, Has, Passes, part_for, given_to};
+ghost use Rattle.nll_owner.specs.Owner.{received_from, with_growth, first_owner};
+ghost use Rattle.nll_owner.specs.Keeping.{Grows};
+ghost use Rattle.nll_owner.specs.declared.error.OwnerError.TheVariants.{RankFull, Broken};
+
+use crate::error::OwnerError;
+use crate::knowledge::Knowledge;
+use nll_cut::Cut;
+use nll_mail::Growth;
+use nll_problem::{Problem, RegionId};
+use nll_sets::Element;
+use std::alloc::Global;
+use std::marker::Model;
+
+/// How many growths an owner has grown, has given out, and has received. A number that is too large
+/// for its type stands as the largest.
+#[derive(Clone, Copy, Debug, PartialEq, Eq)]
+pub struct Counts {
+    pub grown: u64,
+    pub given: u64,
+    pub received: u64,
+}
+
+/// An owner of some regions of a problem. It keeps their values, and copies of the regions that it
+/// reads; it writes down each growth of its own regions, and hands each other owner the growths of
+/// the regions that this one reads.
+///
+/// # Source
+/// RFC 2094, "Solving constraints"; that the regions are dealt to owners is project's choice.
+#[derive(Drop)]
+pub struct Owner<'q> {
+    alloc: Global,
+    knowledge: Knowledge<'q>,
+}
+
+impl<'q> Model for Owner<'q> {
+    ghost use Rattle.nll_owner.specs.Owner as spec;
+
+    ghost Value = { spec.Owner };
+
+    ghost view = { λ o. o.knowledge };
+
+    ghost invariant = { λ o. spec.IsSound o.knowledge };
+}
+
+impl<'q> Owner<'q> {
+    /// An owner that has done nothing yet.
+    ///
+    /// # Errors
+    /// - `Memory`.
+    pub fn new(
+        alloc: Global,
+        problem: &'q Problem,
+        cut: &'q Cut,
+        me: u16,
+    ) -> Result<Owner<'q>, OwnerError>
+        requires cut { length cut.now.list ≡ problem.now.regions }
+        requires me { me < cut.now.owners }
+        ensures owner { IfOk result (λ o. o ≡ first_owner problem.now cut.now me) }
+    {
+        let knowledge = Knowledge::new(alloc, problem, cut, me)?;
+        Ok(Owner { alloc, knowledge })
+    }
+
+    /// Enters the base elements, and grows until nothing is left to do.
+    ///
+    /// # Errors
+    /// - `Broken`: an earlier call was refused; nothing has changed.
+    /// - `Memory`, `RankFull`: the log has perhaps grown.
+    pub fn load(&mut self) -> Result<(), OwnerError>
+        requires { self.old.broken ≡ false → self.old.loaded ≡ false }
+        ensures begins { IsPrefix self.old.log self.new.log }
+        ensures others { self.new ≡ record self.old {
+            log = self.new.log;
+            clock = self.new.clock;
+            loaded = self.new.loaded;
+            broken = self.new.broken;
+        } }
+        ensures done { OnOk result (IsDone self.new) }
+        ensures ok { OnOk result
+            ((self.old.broken ≡ false) × (self.new.loaded ≡ true) × (self.new.broken ≡ false)) }
+        ensures err { OnErr result (self.new.broken ≡ true) }
+        ensures broken { (result ≡ Err Broken) ↔ (self.old.broken ≡ true) }
+        ensures unchanged { self.old.broken ≡ true → self.new ≡ self.old }
+        ensures full { result ≡ Err RankFull → 2 ^ 62 ≤ self.new.clock }
+        ensures sound { IsSound self.new }
+    {
+        if self.knowledge.broken {
+            return Err(OwnerError::Broken);
+        }
+        let result = load_all(self.alloc, &mut self.knowledge);
+        self.knowledge.mark(result.is_ok(), result.is_err());
+        result
+    }
+
+    /// Enters a growth of another owner into the copy of its region, and grows until nothing is
+    /// left to do. The owner is loaded, or a call of it was refused.
+    ///
+    /// # Errors
+    /// - `Broken`: an earlier call was refused; nothing has changed.
+    /// - `Memory`, `RankFull`: the growth has perhaps been received, and the log has perhaps grown.
+    pub fn receive(&mut self, from: u16, growth: Growth) -> Result<(), OwnerError>
+        requires ready { IsReady self.old }
+        requires passes { Passes self.old.problem self.old.cut self.old.me from growth }
+        ensures begins { IsPrefix self.old.log self.new.log }
+        ensures others { self.new ≡ record self.old {
+            log = self.new.log;
+            received = self.new.received;
+            clock = self.new.clock;
+            broken = self.new.broken;
+        } }
+        ensures received { OnOk result
+            (self.new.received ≡ with_growth self.old.received from growth) }
+        ensures perhaps { (self.new.received ≡ self.old.received)
+            ⊎ (self.new.received ≡ with_growth self.old.received from growth) }
+        ensures done { OnOk result (IsDone self.new) }
+        ensures ok { OnOk result ((self.old.broken ≡ false) × (self.new.broken ≡ false)) }
+        ensures err { OnErr result (self.new.broken ≡ true) }
+        ensures broken { (result ≡ Err Broken) ↔ (self.old.broken ≡ true) }
+        ensures unchanged { self.old.broken ≡ true → self.new ≡ self.old }
+        ensures full { result ≡ Err RankFull → 2 ^ 62 ≤ self.new.clock }
+        ensures sound { IsSound self.new }
+    {
+        if self.knowledge.broken {
+            return Err(OwnerError::Broken);
+        }
+        let result = receive_all(self.alloc, &mut self.knowledge, from, growth);
+        let loaded = self.knowledge.loaded;
+        self.knowledge.mark(loaded, result.is_err());
+        result
+    }
+
+    /// Whether the owner may be told a growth by another one: whether it is of a region of that
+    /// owner which this one reads, and of an element of the problem.
+    pub fn passes(&self, from: u16, growth: &Growth) -> bool
+        ensures { IsTrue result
+            ↔ Passes self.now.problem self.now.cut self.now.me from growth.now }
+    {
+        self.knowledge.passes(from, growth)
+    }
+
+    /// The problem whose regions are dealt to owners.
+    pub fn problem(&self) -> &'q Problem
+        ensures { result.now ≡ self.now.problem }
+    {
+        self.knowledge.problem
+    }
+
+    /// Whether the owner was loaded.
+    pub fn is_loaded(&self) -> bool
+        ensures { result ≡ self.now.loaded }
+    {
+        self.knowledge.loaded
+    }
+
+    /// Whether a call of the owner was refused.
+    pub fn is_broken(&self) -> bool
+        ensures { result ≡ self.now.broken }
+    {
+        self.knowledge.broken
+    }
+
+    /// The next growth of the part of the log that another owner reads; it is given out by this
+    /// call. None where all of it was given, where `to` is no other owner, and after an error.
+    pub fn outgoing(&mut self, to: u16) -> Option<Growth>
+        ensures some { IfSome result (λ growth. (self.old.broken ≡ false)
+            × (slice_get (part_for self.old to) (given_to self.old to) ≡ Some growth)
+            × (self.new ≡ record self.old {
+                given = slice_set self.old.given to (given_to self.old to + 1);
+            })) }
+        ensures none { IfNone result ((self.new ≡ self.old)
+            × (self.old.broken ≡ false → to < self.old.cut.owners
+            → given_to self.old to ≡ length (part_for self.old to))) }
+        ensures sound { IsSound self.new }
+    {
+        if self.knowledge.broken || to >= self.knowledge.cut.owners() {
+            return None;
+        }
+        self.knowledge.give_next(to)
+    }
+
+    /// Whether the value of an own region, or the copy of a region that is read, has an element;
+    /// of any other region it is false.
+    pub fn has(&self, region: RegionId, element: Element) -> bool
+        requires region { region < self.now.problem.regions }
+        requires element { element < element_count self.now.problem.graph }
+        ensures { IsTrue result ↔ Has self.now region element }
+    {
+        self.knowledge.has(region, element)
+    }
+
+    /// How many growths there were.
+    pub fn counts(&self) -> Counts
+        ensures grown { result.grown ≡ length self.now.log }
+        ensures given { result.given ≡ sum self.now.given }
+        ensures received
+            { result.received ≡ min (sum_by length self.now.received) (2 ^ 64 - 1) }
+    {
+        Counts {
+            grown: self.knowledge.entries().len() as u64,
+            given: self.knowledge.given_count(),
+            received: self.knowledge.received_count(),
+        }
+    }
+
+    /// All growths of the own regions so far, in the order of their ranks.
+    pub fn log(&self) -> &[Growth]
+        ensures log { result.now ≡ self.now.log }
+        ensures short { length result.now < 2 ^ 37 }
+        ensures sound { IsSound self.now }
+    {
+        self.knowledge.entries()
+    }
+
+    /// What was received from an owner, in the order of receipt; nothing where it is no other
+    /// owner.
+    pub fn received(&self, from: u16) -> &[Growth]
+        ensures received { result.now ≡ received_from self.now from }
+        ensures sound { IsSound self.now }
+    {
+        self.knowledge.received_from(from)
+    }
+}
+
+// Enters the base elements, and settles.
+fn load_all(alloc: Global, knowledge: &mut Knowledge) -> Result<(), OwnerError>
+    requires sound { IsSound knowledge.old }
+    ensures grows { Grows knowledge.old knowledge.new }
+    ensures done { OnOk result (IsDone knowledge.new) }
+    ensures full { result ≡ Err RankFull → 2 ^ 62 ≤ knowledge.new.clock }
+    ensures whole { result ≡ Err Broken → ⊥ }
+{
+    knowledge.enter_bases()?;
+    knowledge.settle(alloc)?;
+    Ok(())
+}
+
+// Enters a growth into the copy of its region, and settles.
+fn receive_all(
+    alloc: Global,
+    knowledge: &mut Knowledge,
+    from: u16,
+    growth: Growth,
+) -> Result<(), OwnerError>
+    requires loaded { knowledge.old.loaded ≡ true }
+    requires passes
+        { Passes knowledge.old.problem knowledge.old.cut knowledge.old.me from growth }
+    ensures begins { IsPrefix knowledge.old.log knowledge.new.log }
+    ensures others { knowledge.new ≡ record knowledge.old {
+        log = knowledge.new.log;
+        received = knowledge.new.received;
+        clock = knowledge.new.clock;
+    } }
+    ensures received { OnOk result
+        (knowledge.new.received ≡ with_growth knowledge.old.received from growth) }
+    ensures perhaps { (knowledge.new.received ≡ knowledge.old.received)
+        ⊎ (knowledge.new.received ≡ with_growth knowledge.old.received from growth) }
+    ensures done { OnOk result (IsDone knowledge.new) }
+    ensures full { result ≡ Err RankFull → 2 ^ 62 ≤ knowledge.new.clock }
+    ensures whole { result ≡ Err Broken → ⊥ }
+    ensures sound { IsSound knowledge.new }
+{
+    knowledge.enter_received(from, growth)?;
+    knowledge.settle(alloc)?;
+    Ok(())
+}

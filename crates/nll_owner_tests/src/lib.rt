@@ -1,0 +1,14 @@
+//! Tests of owners, by their public calls alone: owners that one thread drives, in any order of
+//! turns. Expected values are found by hand from the definitions.
+//!
+//! Reading order: `problems`, `driving`, then each module of tests.
+#![tactic(auto)]
+
+#[cfg(test)]
+mod driving;
+#[cfg(test)]
+mod problems;
+#[cfg(test)]
+mod turns;
+#[cfg(test)]
+mod refusals;

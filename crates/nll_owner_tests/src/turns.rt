@@ -1,0 +1,102 @@
+//! Owners that are driven by all orders of turns that are named here come to the same values.
+use super::driving::Turn::{Hand, Load};
+use super::driving::{Stop, Turn, driven};
+use super::problems::{BY_TURNS, FILLED_HOLE, REACHED, Written};
+use std::process::Abort;
+
+// Each owner of two is loaded, and then each hands over to the other.
+const TWO: &[Turn] = &[Load(0), Load(1), Hand(0, 1), Hand(1, 0)];
+
+// The second is loaded late, and takes one growth where the first takes two.
+const TWO_LATE: &[Turn] = &[Hand(1, 0), Load(0), Hand(1, 0), Hand(0, 1), Load(1)];
+
+// All growths go the one way before one goes the other.
+const TWO_FAST: &[Turn] = &[
+    Load(1),
+    Load(0),
+    Hand(1, 0),
+    Hand(1, 0),
+    Hand(1, 0),
+    Hand(1, 0),
+    Hand(0, 1),
+];
+
+const THREE: &[Turn] = &[
+    Load(0),
+    Load(1),
+    Load(2),
+    Hand(0, 1),
+    Hand(0, 2),
+    Hand(1, 0),
+    Hand(1, 2),
+    Hand(2, 0),
+    Hand(2, 1),
+];
+
+const THREE_BACK: &[Turn] = &[
+    Load(2),
+    Hand(2, 1),
+    Hand(2, 0),
+    Load(1),
+    Hand(1, 2),
+    Hand(1, 0),
+    Load(0),
+    Hand(0, 2),
+    Hand(0, 1),
+];
+
+// Problems, how many owners there are, what they have in the end (the value of each region, and what
+// each owner has grown, given and received), and orders of turns that come to it.
+type Row = (Written, u16, &'static str, &'static [&'static [Turn]]);
+
+const ROWS: &[Row] = &[
+    (REACHED, 1, "0: 0 1 2 3|1: 1 2|2: 1 2|8 0 0|", &[&[Load(0)]]),
+    (
+        REACHED,
+        2,
+        "0: 0 1 2 3|1: 1 2|2: 1 2|6 0 2|2 2 0|",
+        &[TWO, TWO_LATE, TWO_FAST],
+    ),
+    (
+        REACHED,
+        3,
+        "0: 0 1 2 3|1: 1 2|2: 1 2|4 0 0|2 2 0|2 0 2|",
+        &[THREE, THREE_BACK],
+    ),
+    (
+        BY_TURNS,
+        2,
+        "0: 0 1 2|1: 0 1|2: 0 1|5 2 2|2 2 2|",
+        &[TWO, TWO_LATE, TWO_FAST],
+    ),
+    (FILLED_HOLE, 1, "0: 0 1 2 3|1: 0 1 2|2: 0 1 2|3: 1|11 0 0|", &[&[Load(0)]]),
+    (
+        FILLED_HOLE,
+        2,
+        "0: 0 1 2 3|1: 0 1 2|2: 0 1 2|3: 1|7 0 3|4 3 0|",
+        &[TWO, TWO_LATE, TWO_FAST],
+    ),
+    (
+        FILLED_HOLE,
+        3,
+        "0: 0 1 2 3|1: 0 1 2|2: 0 1 2|3: 1|5 1 0|3 3 1|3 0 3|",
+        &[THREE, THREE_BACK],
+    ),
+];
+
+// Drives the owners of a problem, and compares what they have in the end.
+fn compare(rt: &impl Abort, told: Result<String, Stop>, want: &str) {
+    match told {
+        Ok(text) => assert!(rt; text.as_str() == want, "{text} for {want}"),
+        Err(stop) => assert!(rt; false, "{stop:?} for {want}"),
+    }
+}
+
+#[test]
+fn driven_owners_come_to_the_least_values(rt: HostRuntime) {
+    for (written, owners, want, orders) in ROWS {
+        for turns in *orders {
+            compare(&rt, driven(rt.alloc(), *written, *owners, turns), want);
+        }
+    }
+}

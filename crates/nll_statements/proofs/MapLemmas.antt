@@ -1,0 +1,155 @@
+-- Other regions and types leave what else is written in a statement as it is.
+use Rattle.std.proofs.Common.{◌≡◌, ℕ, Bool, List, [], ◌∷◌, ◌++◌, map, refl, ap, ◌∙◌, Option}
+use Rattle.std.specs.List.{flat_map}
+use Rattle.nll_types.specs.Places.{PlacePath}
+use Rattle.nll_types.specs.Operands.{Operand}
+use Rattle.nll_statements.specs.Statements.{Statement, map_statement, types_written, is_terminator, return, assign, borrow, make, read, live, dead, nop, goto, switch, drop, call, stop}
+use Rattle.nll_statements.specs.Effects.{operands_of, place_in, target_of, sources_of, targets}
+use Rattle.nll_statements.specs.Written.{regions_written, variables_written}
+use Rattle.nll_statements.specs.Edges.{edges_from}
+
+-- an argument with another type, the type of one, a bound with other regions, and the regions of one
+abbrev retyped : {T U : Type 0} → (T → U) → Operand × T → Operand × U
+retyped g a = (a.0, g a.1)
+
+abbrev type_of_argument : {T : Type 0} → Operand × T → T
+type_of_argument a = a.1
+
+abbrev renamed : {R S : Type 0} → (R → S) → R × R → S × S
+renamed f w = (f w.0, f w.1)
+
+abbrev both : {R : Type 0} → R × R → List R
+both w = w.0 ∷ w.1 ∷ []
+
+operands_same : {T U : Type 0} (g : T → U) (args : List (Operand × T)) → operands_of (map (retyped g) args) ≡ operands_of args
+operands_same g [] = refl
+operands_same g (a ∷ args) = ap (λ (ops : List Operand). a.0 ∷ ops) (operands_same g args)
+
+arguments_mapped : {T U : Type 0} (g : T → U) (args : List (Operand × T)) (t : T) → map type_of_argument (map (retyped g) args) ++ g t ∷ [] ≡ map g (map type_of_argument args ++ t ∷ [])
+arguments_mapped g [] t = refl
+arguments_mapped g (a ∷ args) t = ap (λ ts. g a.1 ∷ ts) (arguments_mapped g args t)
+
+bounds_mapped : {R S : Type 0} (f : R → S) (wheres : List (R × R)) → flat_map both (map (renamed f) wheres) ≡ map f (flat_map both wheres)
+bounds_mapped f [] = refl
+bounds_mapped f (w ∷ wheres) = ap (λ rs. f w.0 ∷ f w.1 ∷ rs) (bounds_mapped f wheres)
+
+module _ {R S T U : Type 0} (f : R → S) (g : T → U) where
+  pub same_terminator : (i : Statement R T) → is_terminator (map_statement f g i) ≡ is_terminator i
+  same_terminator (assign p op) = refl
+  same_terminator (borrow p r m q) = refl
+  same_terminator (make p t ops) = refl
+  same_terminator (read p) = refl
+  same_terminator (live x) = refl
+  same_terminator (dead x) = refl
+  same_terminator nop = refl
+  same_terminator (goto b) = refl
+  same_terminator (switch op bs) = refl
+  same_terminator (drop x b unwind) = refl
+  same_terminator (call p args t wheres b unwind) = refl
+  same_terminator return = refl
+  same_terminator stop = refl
+
+  pub same_targets : (i : Statement R T) → targets (map_statement f g i) ≡ targets i
+  same_targets (assign p op) = refl
+  same_targets (borrow p r m q) = refl
+  same_targets (make p t ops) = refl
+  same_targets (read p) = refl
+  same_targets (live x) = refl
+  same_targets (dead x) = refl
+  same_targets nop = refl
+  same_targets (goto b) = refl
+  same_targets (switch op bs) = refl
+  same_targets (drop x b unwind) = refl
+  same_targets (call p args t wheres b unwind) = refl
+  same_targets return = refl
+  same_targets stop = refl
+
+  -- as many edges leave it
+  pub same_edges : (i : Statement R T) → edges_from (map_statement f g i) ≡ edges_from i
+  same_edges (assign p op) = refl
+  same_edges (borrow p r m q) = refl
+  same_edges (make p t ops) = refl
+  same_edges (read p) = refl
+  same_edges (live x) = refl
+  same_edges (dead x) = refl
+  same_edges nop = refl
+  same_edges (goto b) = refl
+  same_edges (switch op bs) = refl
+  same_edges (drop x b unwind) = refl
+  same_edges (call p args t wheres b unwind) = refl
+  same_edges return = refl
+  same_edges stop = refl
+
+  pub same_variables : (i : Statement R T) → variables_written (map_statement f g i) ≡ variables_written i
+  same_variables (assign p op) = refl
+  same_variables (borrow p r m q) = refl
+  same_variables (make p t ops) = refl
+  same_variables (read p) = refl
+  same_variables (live x) = refl
+  same_variables (dead x) = refl
+  same_variables nop = refl
+  same_variables (goto b) = refl
+  same_variables (switch op bs) = refl
+  same_variables (drop x b unwind) = refl
+  same_variables (call p args t wheres b unwind) =
+      ap (λ (ops : List Operand). map (λ (q : PlacePath). q.variable) (p ∷ flat_map place_in ops)) (operands_same g args)
+  same_variables return = refl
+  same_variables stop = refl
+
+  pub regions_mapped : (i : Statement R T) → regions_written (map_statement f g i) ≡ map f (regions_written i)
+  regions_mapped (assign p op) = refl
+  regions_mapped (borrow p r m q) = refl
+  regions_mapped (make p t ops) = refl
+  regions_mapped (read p) = refl
+  regions_mapped (live x) = refl
+  regions_mapped (dead x) = refl
+  regions_mapped nop = refl
+  regions_mapped (goto b) = refl
+  regions_mapped (switch op bs) = refl
+  regions_mapped (drop x b unwind) = refl
+  regions_mapped (call p args t wheres b unwind) = bounds_mapped f wheres
+  regions_mapped return = refl
+  regions_mapped stop = refl
+
+  pub types_mapped : (i : Statement R T) → types_written (map_statement f g i) ≡ map g (types_written i)
+  types_mapped (assign p op) = refl
+  types_mapped (borrow p r m q) = refl
+  types_mapped (make p t ops) = refl
+  types_mapped (read p) = refl
+  types_mapped (live x) = refl
+  types_mapped (dead x) = refl
+  types_mapped nop = refl
+  types_mapped (goto b) = refl
+  types_mapped (switch op bs) = refl
+  types_mapped (drop x b unwind) = refl
+  types_mapped (call p args t wheres b unwind) = arguments_mapped g args t
+  types_mapped return = refl
+  types_mapped stop = refl
+
+-- ---- two changes, one after the other
+
+arguments_twice : {T U V : Type 0} (g : T → U) (h : U → V) (args : List (Operand × T)) → map (retyped h) (map (retyped g) args) ≡ map (retyped (λ t. h (g t))) args
+arguments_twice g h [] = refl
+arguments_twice g h (a ∷ args) = ap (λ bs. retyped (λ t. h (g t)) a ∷ bs) (arguments_twice g h args)
+
+bounds_twice : {R S Q : Type 0} (f : R → S) (e : S → Q) (wheres : List (R × R)) → map (renamed e) (map (renamed f) wheres) ≡ map (renamed (λ r. e (f r))) wheres
+bounds_twice f e [] = refl
+bounds_twice f e (w ∷ wheres) = ap (λ vs. renamed (λ r. e (f r)) w ∷ vs) (bounds_twice f e wheres)
+
+-- a statement whose regions and types become others twice
+pub mapped_twice : {R S Q T U V : Type 0} (f : R → S) (e : S → Q) (g : T → U) (h : U → V) (i : Statement R T) → map_statement e h (map_statement f g i) ≡ map_statement (λ r. e (f r)) (λ t. h (g t)) i
+mapped_twice f e g h (assign p op) = refl
+mapped_twice f e g h (borrow p r m q) = refl
+mapped_twice f e g h (make p t ops) = refl
+mapped_twice f e g h (read p) = refl
+mapped_twice f e g h (live x) = refl
+mapped_twice f e g h (dead x) = refl
+mapped_twice f e g h nop = refl
+mapped_twice f e g h (goto b) = refl
+mapped_twice f e g h (switch op bs) = refl
+mapped_twice f e g h (drop x b unwind) = refl
+mapped_twice {Q = Q} {V = V} f e g h (call p args t wheres b unwind) =
+    ap (λ (bs : List (Operand × V)). call p bs (h (g t)) (map (renamed e) (map (renamed f) wheres)) b unwind) (arguments_twice g h args)
+    ∙ ap (λ (ws : List (Q × Q)). call p (map (retyped (λ u. h (g u))) args) (h (g t)) ws b unwind) (bounds_twice f e wheres)
+mapped_twice f e g h return = refl
+mapped_twice f e g h stop = refl

@@ -1,0 +1,50 @@
+//! The variables that are written in a statement or terminator.
+
+ghost use Rattle.std.specs.Prelude.{◌≡◌, ◌++◌, ◌∷◌, [], OnOk, MatchOption};
+ghost use Rattle.nll_types.specs.Places.{path_of};
+ghost use Rattle.nll_statements.specs.Written as spec;
+ghost use Rattle.nll_statements.specs.Written.{variables_written};
+ghost use Rattle.nll_statements.specs.Kept.{statement_of};
+
+use crate::statement::Statement;
+use nll_sets::Memory;
+use nll_types::Place;
+
+impl<R, T> Statement<R, T> {
+    // The variable that stands by itself, and not in a place.
+    fn variable_alone(&self) -> Option<u32>
+        ensures { MatchOption result (spec.variable_alone (statement_of self.now) ≡ [])
+            (λ x. spec.variable_alone (statement_of self.now) ≡ x ∷ []) }
+    {
+        match self {
+            Statement::Live(variable) | Statement::Dead(variable) => Some(*variable),
+            Statement::Drop(variable, _, _) => Some(*variable),
+            _ => None,
+        }
+    }
+
+    /// Puts the variables that are written in it behind the others, one for each place in it too;
+    /// for a `return` that is the return place.
+    pub fn variables(&self, written: &mut Vec<u32>) -> Result<(), Memory>
+        ensures { OnOk result (written.new.items
+            ≡ written.old.items ++ variables_written (statement_of self.now)) }
+    {
+        if let Some(variable) = self.variable_alone() {
+            written.push(variable)?;
+        }
+        push_place(self.target(), written)?;
+        self.reads(written)?;
+        Ok(())
+    }
+}
+
+// Puts the variable of a place behind the others.
+fn push_place(place: Option<&Place>, written: &mut Vec<u32>) -> Result<(), Memory>
+    ensures { OnOk result (MatchOption place.entry (written.new.items ≡ written.old.items)
+        (λ p. written.new.items ≡ written.old.items ++ (path_of p.now).variable ∷ [])) }
+{
+    if let Some(place) = place {
+        written.push(place.variable)?;
+    }
+    Ok(())
+}
