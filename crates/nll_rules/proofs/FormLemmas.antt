@@ -1,5 +1,5 @@
 -- Types of the code that have another form than one that is looked for.
-use Rattle.std.proofs.Common.{◌≡◌, ℕ, Bool, List, sym, ap, ◌∙◌, arith, ⊎_elim, ◌⊎◌}
+use Rattle.std.proofs.Common.{◌≡◌, ℕ, ◌<◌, Bool, List, sym, ap, ◌∙◌, arith, ⊎_elim, ◌⊎◌}
 use Rattle.std.specs.Global.{Vec, Box}
 use Rattle.nll_types.specs.Structs.{Struct}
 use Rattle.nll_types.specs.Views.{tree}
@@ -60,3 +60,12 @@ pub no_region : (structs : List Struct) (outer : Sign) (t u : Ty) (asked : List 
 no_region structs outer t u asked w = ⊎_elim
     (λ (e : t ≡ Int). rw (ap tree e ∙ tree_int) (adds_none _ asked (int_asks structs outer (tree u))))
     (λ (e : (k : ℕ) × (t ≡ Parameter k)). rw (ap tree e.1 ∙ tree_parameter e.0) (adds_none _ asked (parameter_asks structs outer e.0 (tree u)))) w
+
+pub no_parts : (t : Ty) → (t ≡ Int) ⊎ (((k : ℕ) × (t ≡ Parameter k)) ⊎ IsReference t) → (form (tree t) ≡ 3 → ⊥) × (form (tree t) ≡ 4 → ⊥)
+no_parts t w = (λ e. from 3 e (λ l. omega arith), λ e. from 4 e (λ l. omega arith))
+  where
+    small : form (tree t) < 3
+    small = ⊎_elim (λ h. (let f = int_form t h in omega arith)) (⊎_elim (λ h. (let f = parameter_form t h in omega arith)) (λ h. (let f = reference_form t h.0 h.1 h.2 h.3 in omega arith))) w
+
+    from : (n : ℕ) → form (tree t) ≡ n → (n < 3 → ⊥) → ⊥
+    from n e big = big (let l = small in omega arith)

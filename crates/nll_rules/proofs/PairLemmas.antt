@@ -1,5 +1,5 @@
 -- Pairs that come into a list, kind by kind.
-use Rattle.std.proofs.Common.{◌≡◌, ℕ, ◌+◌, ◌<◌, List, arith, subst, ⊎_elim, Contains, inl, inr, ◌↔◌, ◌⊎◌}
+use Rattle.std.proofs.Common.{◌≡◌, ℕ, ◌+◌, ◌<◌, List, arith, subst, ⊎_elim, inl, inr, ◌↔◌, ◌⊎◌}
 use Rattle.std.proofs.lemmas.Bool.{cases_lt}
 use Rattle.nll_rules.specs.Pairs.{AddsPairs, AtOne}
 
@@ -7,14 +7,20 @@ pub adds_none : (kind : ℕ × ℕ → Type 0) (list : List (ℕ × ℕ)) → ((
 adds_none kind list nothing = record { each = λ x. (inl, ⊎_elim (λ h. h) (λ k. absurd (nothing x k))) }
 
 pub adds_append : (p q : ℕ × ℕ → Type 0) (a b c : List (ℕ × ℕ)) → AddsPairs p a b → AddsPairs q b c → AddsPairs (λ x. p x ⊎ q x) a c
-adds_append p q a b c h k = record { each = λ x.
-    ( λ n. ⊎_elim (λ m. ⊎_elim inl (λ y. inr (inl y)) ((h.each x).0 m)) (λ y. inr (inr y)) ((k.each x).0 n),
-      ⊎_elim (λ o. (k.each x).1 (inl ((h.each x).1 (inl o)))) (⊎_elim (λ y. (k.each x).1 (inl ((h.each x).1 (inr y)))) (λ y. (k.each x).1 (inr y))) ) }
+adds_append p q a b c h k = record {
+  each = λ x. (
+    λ n. ⊎_elim (λ m. ⊎_elim inl (λ y. inr (inl y)) ((h.each x).0 m)) (λ y. inr (inr y)) ((k.each x).0 n),
+    ⊎_elim (λ o. (k.each x).1 (inl ((h.each x).1 (inl o)))) (⊎_elim (λ y. (k.each x).1 (inl ((h.each x).1 (inr y)))) (λ y. (k.each x).1 (inr y))),
+  );
+}
 
 pub adds_same : (p q : ℕ × ℕ → Type 0) (a b : List (ℕ × ℕ)) → ((x : ℕ × ℕ) → p x ↔ q x) → AddsPairs p a b → AddsPairs q a b
-adds_same p q a b s h = record { each = λ x.
-    ( λ n. ⊎_elim inl (λ y. inr ((s x).0 y)) ((h.each x).0 n),
-      ⊎_elim (λ o. (h.each x).1 (inl o)) (λ y. (h.each x).1 (inr ((s x).1 y))) ) }
+adds_same p q a b s h = record {
+  each = λ x. (
+    λ n. ⊎_elim inl (λ y. inr ((s x).0 y)) ((h.each x).0 n),
+    ⊎_elim (λ o. (h.each x).1 (inl o)) (λ y. (h.each x).1 (inr ((s x).1 y))),
+  );
+}
 
 -- the pair is asked at one of the places below this one
 abbrev pub AtOneBelow : ℕ → (ℕ → ℕ × ℕ → Type 0) → ℕ × ℕ → Type 0
@@ -29,8 +35,10 @@ below_more kind here n a b c is h k = adds_same _ (AtOneBelow (n + 1) kind) a c 
   where
     earlier : (x : ℕ × ℕ) → AtOneBelow n kind x → AtOneBelow (n + 1) kind x
     earlier x p = (p.0, (let l = p.1 in omega arith), p.2)
+
     now : (x : ℕ × ℕ) → here x → AtOneBelow (n + 1) kind x
     now x p = (n, omega arith, (is x).0 p)
+
     later : (x : ℕ × ℕ) → AtOneBelow (n + 1) kind x → AtOneBelow n kind x ⊎ here x
     later x p = ⊎_elim
         (λ l. inl (p.0, l, p.2))

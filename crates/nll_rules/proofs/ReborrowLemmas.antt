@@ -1,15 +1,18 @@
 -- The references on which a reborrow rests, one projection after another.
-use Rattle.std.proofs.Common.{◌≡◌, ℕ, zero, suc, ◌+◌, ◌<◌, ◌≤◌, Bool, true, false, List, [], ◌∷◌, ◌++◌, length, map, take, drop, get_or, refl, sym, ap, ◌∙◌, subst, arith, ⊎_elim, inl, inr, ◌↔◌, ◌⊎◌, Contains, Option, Some, None}
+use Rattle.std.proofs.Common.{◌≡◌, ℕ, zero, suc, ◌+◌, ◌-◌, ◌<◌, ◌≤◌, Bool, true, false, List, [], ◌∷◌, ◌++◌, length, map, take, drop, get_or, refl, sym, ap, ◌∙◌, subst, arith, ⊎_elim, inl, inr, ◌↔◌, ◌⊎◌, Contains, Option, Some, None}
 use Rattle.std.specs.Prelude.{slice_get, option_map, option_and_then, unwrap_or}
 use Rattle.std.proofs.Math.Seq.{drop-cons}
 use Rattle.std.proofs.lemmas.List.Elements.{Contains-push, Contains-push_cases, Contains-append_left}
 use Rattle.nll_types.specs.Types.{TypeTree, int, parameter, reference, tuple, named}
 use Rattle.nll_types.specs.Structs.{Struct}
-use Rattle.nll_types.specs.Places.{PlacePath, behind, behind_all, type_of}
+use Rattle.nll_types.specs.Places.{PlacePath, behind, behind_all}
 use Rattle.nll_types.specs.declared.place.Projection.{Projection}
 use Rattle.nll_types.specs.declared.place.Projection.TheVariants.{Deref, Field}
-use Rattle.nll_rules.specs.Reborrows.{GoesThrough, RestsOn}
-use Rattle.nll_rules.specs.Walks.{cross, past, rests}
+use Rattle.nll_rules.specs.Reborrows.{RestsOn}
+use Rattle.nll_types.specs.Views.{tree}
+use Rattle.nll_types.specs.declared.ty.Ty.{Ty}
+use Rattle.nll_rules.specs.Walks.{past, rests}
+use Rattle.nll_rules.proofs.SubtypeLemmas.{form}
 
 -- ---- from a type that may be there
 
@@ -48,12 +51,14 @@ kept : (p : Projection) (t : TypeTree) (regions : List ℕ) (a : ℕ) → ((b : 
 kept p t regions a none = (λ c. inr (c, λ b q f. absurd (none b q f)), ⊎_elim (λ f. absurd (none a f.0 f.1)) (λ c. c.0))
 
 past_is : (p : Projection) (t : TypeTree) (regions : List ℕ) (a : ℕ) → Contains (past p t regions) a ↔ (((m : Bool) × First p t a m) ⊎ (Contains regions a × FirstOpen p t))
-past_is Deref (reference r true u) regions a =
-    ( λ c. ⊎_elim (λ d. inr (d, λ b q f. (let e = f.2 in cc))) (λ e. inl (true, (refl, u, ap (λ (z : ℕ). reference z true u) e))) (Contains-push_cases regions r a c),
-      ⊎_elim (λ f. (let e : r ≡ a = (let d = f.1.2 in cc) in subst (λ (z : ℕ). Contains (regions ++ r ∷ []) z) e (Contains-push regions r))) (λ c. Contains-append_left regions (r ∷ []) a c.0) )
-past_is Deref (reference r false u) regions a =
-    ( λ c. inl (false, (refl, u, ap (λ (z : ℕ). reference z false u) (⊎_elim (λ d. absurd (let l = d.1 in omega arith)) (λ e. e) (Contains-push_cases [] r a c)))),
-      ⊎_elim (λ f. (let e : r ≡ a = (let d = f.1.2 in cc) in subst (λ (z : ℕ). Contains (r ∷ []) z) e (Contains-push [] r))) (λ c. absurd (let e : false ≡ true = c.1 r false (refl, u, refl) in cc)) )
+past_is Deref (reference r true u) regions a = (
+  λ c. ⊎_elim (λ d. inr (d, λ b q f. (let e = f.2 in cc))) (λ e. inl (true, (refl, u, ap (λ (z : ℕ). reference z true u) e))) (Contains-push_cases regions r a c),
+  ⊎_elim (λ f. (let e : r ≡ a = (let d = f.1.2 in cc) in subst (λ (z : ℕ). Contains (regions ++ r ∷ []) z) e (Contains-push regions r))) (λ c. Contains-append_left regions (r ∷ []) a c.0),
+)
+past_is Deref (reference r false u) regions a = (
+  λ c. inl (false, (refl, u, ap (λ (z : ℕ). reference z false u) (⊎_elim (λ d. absurd (let l = d.1 in omega arith)) (λ e. e) (Contains-push_cases [] r a c)))),
+  ⊎_elim (λ f. (let e : r ≡ a = (let d = f.1.2 in cc) in subst (λ (z : ℕ). Contains (r ∷ []) z) e (Contains-push [] r))) (λ c. absurd (let e : false ≡ true = c.1 r false (refl, u, refl) in cc)),
+)
 past_is Deref int regions a = kept Deref int regions a (λ b q f. (let e = f.2 in cc))
 past_is Deref (parameter k) regions a = kept Deref (parameter k) regions a (λ b q f. (let e = f.2 in cc))
 past_is Deref (tuple ts) regions a = kept Deref (tuple ts) regions a (λ b q f. (let e = f.2 in cc))
@@ -69,9 +74,10 @@ of_first structs p ps t a m h = (ap Some h.0, h.1, ap Some h.2)
 -- ---- one projection and those behind it
 
 open_is : (structs : List Struct) (p : Projection) (ps : List Projection) (t : TypeTree) → AllOpen structs (p ∷ ps) (Some t) ↔ (FirstOpen p t × AllOpen structs ps (behind structs p t))
-open_is structs p ps t =
-    ( λ all. (λ b q f. all 0 b q (of_first structs p ps t b q f), λ k b q h. all (suc k) b q h),
-      λ w. each w.0 w.1 )
+open_is structs p ps t = (
+  λ all. (λ b q f. all 0 b q (of_first structs p ps t b q f), λ k b q h. all (suc k) b q h),
+  λ w. each w.0 w.1,
+)
   where
     each : FirstOpen p t → AllOpen structs ps (behind structs p t) → (k b : ℕ) (q : Bool) → Through structs (p ∷ ps) (Some t) k b q → q ≡ true
     each f all zero b q h = f b q (first_of structs p ps t b q h)
@@ -85,12 +91,15 @@ from_is structs p ps t a = (λ w. there w.0 w.1 w.2 w.3, ⊎_elim later (λ w. (
         → RestsFrom structs ps (behind structs p t) a ⊎ (((m : Bool) × First p t a m) × AllOpen structs ps (behind structs p t))
     there zero m h all = inr ((m, first_of structs p ps t a m h), λ k b q g. all (suc k) b q (omega arith) g)
     there (suc n) m h all = inl (n, m, h, λ k b q l g. all (suc k) b q (omega arith) g)
+
     open_behind : AllOpen structs ps (behind structs p t) → (k b : ℕ) (q : Bool) → 0 < k → Through structs (p ∷ ps) (Some t) k b q → q ≡ true
     open_behind all zero b q l h = absurd (omega arith)
     open_behind all (suc k) b q l h = all k b q h
+
     after : (n : ℕ) → ((k b : ℕ) (q : Bool) → n < k → Through structs ps (behind structs p t) k b q → q ≡ true) → (k b : ℕ) (q : Bool) → suc n < k → Through structs (p ∷ ps) (Some t) k b q → q ≡ true
     after n all zero b q l h = absurd (omega arith)
     after n all (suc k) b q l h = all k b q (omega arith) h
+
     later : RestsFrom structs ps (behind structs p t) a → RestsFrom structs (p ∷ ps) (Some t) a
     later w = (suc w.0, w.1, w.2, after w.0 w.3)
 
@@ -104,9 +113,10 @@ of_option structs ps None regions a each =
 of_option structs ps (Some t) regions a each = each t
 
 join : {L R F O C G N : Type 0} → L ↔ (R ⊎ (C × O)) → C ↔ (F ⊎ (N × G)) → L ↔ ((R ⊎ (F × O)) ⊎ (N × (G × O)))
-join u v =
-    ( λ l. ⊎_elim (λ r. inl (inl r)) (λ c. ⊎_elim (λ f. inl (inr (f, c.1))) (λ n. inr (n.0, (n.1, c.1))) (v.0 c.0)) (u.0 l),
-      ⊎_elim (⊎_elim (λ r. u.1 (inl r)) (λ f. u.1 (inr (v.1 (inl f.0), f.1)))) (λ n. u.1 (inr (v.1 (inr (n.0, n.1.0)), n.1.1))) )
+join u v = (
+  λ l. ⊎_elim (λ r. inl (inl r)) (λ c. ⊎_elim (λ f. inl (inr (f, c.1))) (λ n. inr (n.0, (n.1, c.1))) (v.0 c.0)) (u.0 l),
+  ⊎_elim (⊎_elim (λ r. u.1 (inl r)) (λ f. u.1 (inr (v.1 (inl f.0), f.1)))) (λ n. u.1 (inr (v.1 (inr (n.0, n.1.0)), n.1.1))),
+)
 
 rests_is : (structs : List Struct) (ps : List Projection) (t : TypeTree) (regions : List ℕ) (a : ℕ)
     → Contains (rests structs ps t regions) a ↔ (RestsFrom structs ps (Some t) a ⊎ (Contains regions a × AllOpen structs ps (Some t)))
@@ -116,9 +126,10 @@ rests_is structs (p ∷ ps) t regions a =
     let behind_is = of_option structs ps (behind structs p t) (past p t regions) a (λ u. rests_is structs ps u (past p t regions) a) in
     let both = join behind_is (past_is p t regions a) in
     let from = from_is structs p ps t a in
-    let opens = open_is structs p ps t in
-    ( λ c. ⊎_elim (λ w. inl (from.1 w)) (λ n. inr (n.0, opens.1 n.1)) (both.0 c),
-      ⊎_elim (λ w. both.1 (inl (from.0 w))) (λ n. both.1 (inr (n.0, opens.0 n.1))) )
+    let opens = open_is structs p ps t in (
+      λ c. ⊎_elim (λ w. inl (from.1 w)) (λ n. inr (n.0, opens.1 n.1)) (both.0 c),
+      ⊎_elim (λ w. both.1 (inl (from.0 w))) (λ n. both.1 (inr (n.0, opens.0 n.1))),
+    )
 
 -- what is found from the variable is what a reborrow of the place rests on
 pub rests_on_is : (structs : List Struct) (variables : List TypeTree) (p : PlacePath) (a : ℕ)
@@ -145,3 +156,43 @@ pub step_on : (structs : List Struct) (ps : List Projection) (n : ℕ) (d p : Pr
     → behind structs p t ≡ Some u → rests structs (drop n ps) t regions ≡ rests structs (drop (n + 1) ps) u (past p t regions)
 step_on structs ps n d p t u regions l is e =
     step structs ps n d p t regions l is ∙ ap (λ (o : Option TypeTree). unwrap_or (option_map (λ u. rests structs (drop (n + 1) ps) u (past p t regions)) o) (past p t regions)) e
+
+-- ---- where the walk ends
+
+pub deref_ends : (structs : List Struct) (ps : List Projection) (n : ℕ) (d : Projection) (t : TypeTree) (regions : List ℕ) → n < length ps → get_or ps n d ≡ Deref
+    → (form t ≡ 2 → ⊥) → rests structs (drop n ps) t regions ≡ regions
+deref_ends structs ps n d int regions l is differs = step_none structs ps n d Deref int regions l is refl
+deref_ends structs ps n d (parameter k) regions l is differs = step_none structs ps n d Deref (parameter k) regions l is refl
+deref_ends structs ps n d (reference r m t) regions l is differs = absurd (differs refl)
+deref_ends structs ps n d (tuple ts) regions l is differs = step_none structs ps n d Deref (tuple ts) regions l is refl
+deref_ends structs ps n d (named s rs ts) regions l is differs = step_none structs ps n d Deref (named s rs ts) regions l is refl
+
+pub no_field : (structs : List Struct) (k : ℕ) (t : TypeTree) → (form t ≡ 3 → ⊥) → (form t ≡ 4 → ⊥) → behind structs (Field k) t ≡ None
+no_field structs k int a b = refl
+no_field structs k (parameter j) a b = refl
+no_field structs k (reference r m t) a b = refl
+no_field structs k (tuple ts) a b = absurd (a refl)
+no_field structs k (named s rs ts) a b = absurd (b refl)
+
+-- what is left to walk
+abbrev pub left : List Projection → Option (Ty × ℕ) → ℕ
+left ps None = 0
+left ps (Some r) = (length ps - r.1) + 1
+
+-- what is walked so far
+abbrev pub Walked : List Struct → List Projection → TypeTree → List ℕ → List ℕ → Option (Ty × ℕ) → Type 0
+Walked structs ps t old now None = rests structs ps t old ≡ now
+Walked structs ps t old now (Some r) = (rests structs ps t old ≡ rests structs (drop r.1 ps) (tree r.0) now) × (r.1 ≤ length ps)
+
+-- ---- from the variable
+
+pub get_mapped : {X Y : Type 0} (f : X → Y) (xs : List X) (k : ℕ) (x : X) → slice_get xs k ≡ Some x → slice_get (map f xs) k ≡ Some (f x)
+get_mapped f [] k x e = absurd cc
+get_mapped {X} f (y ∷ xs) zero x e = ap (λ o. option_map f o) e
+get_mapped f (y ∷ xs) (suc k) x e = get_mapped f xs k x e
+
+pub rests_from : (structs : List Struct) (variables : List TypeTree) (p : PlacePath) (o : Option TypeTree) (regions : List ℕ) → slice_get variables p.variable ≡ o
+    → regions ≡ unwrap_or (option_map (λ u. rests structs p.projections u []) o) [] → (a : ℕ) → Contains regions a ↔ RestsOn structs variables p a
+rests_from structs variables p o regions e r a =
+    subst (λ (z : List ℕ). Contains z a ↔ RestsOn structs variables p a) (ap (λ (o : Option TypeTree). unwrap_or (option_map (λ u. rests structs p.projections u []) o) []) e ∙ sym r)
+    (rests_on_is structs variables p a)

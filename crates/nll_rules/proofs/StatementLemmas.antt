@@ -1,6 +1,7 @@
 -- What statements ask, form by form.
-use Rattle.std.proofs.Common.{◌≡◌, ℕ, ◌+◌, ◌<◌, ◌≤◌, Bool, List, length, map, refl, sym, ap, ◌∙◌, subst, arith, ⊎_elim, inl, inr, ◌↔◌, ◌⊎◌, Contains, Option, Some, None}
+use Rattle.std.proofs.Common.{◌≡◌, ℕ, ◌<◌, ◌≤◌, Bool, List, [], ◌∷◌, ◌++◌, length, map, refl, sym, ap, ◌∙◌, subst, arith, ⊎_elim, inl, inr, ◌↔◌, ◌⊎◌, Contains, Option, Some, None}
 use Rattle.std.specs.Prelude.{slice_get, option_map}
+use Rattle.std.proofs.lemmas.List.Elements.{Contains-push, Contains-push_cases, Contains-append_left, Contains-append_right, Contains-append_cases}
 use Rattle.nll_types.specs.Types.{TypeTree, reference}
 use Rattle.nll_types.specs.Structs.{Struct}
 use Rattle.nll_types.specs.Places.{PlacePath, type_of, behind}
@@ -10,7 +11,8 @@ use Rattle.nll_statements.specs.Statements.{assign, borrow, make, call}
 use Rattle.nll_rules.specs.Subtyping.{SubtypeAsks}
 use Rattle.nll_rules.specs.Reborrows.{RestsOn}
 use Rattle.nll_rules.specs.Asking.{Asks}
-use Rattle.nll_rules.specs.Pairs.{AtOne, BothAsk, PartAsks, InputAsks, OneOutlives}
+use Rattle.nll_rules.specs.Pairs.{AddsPairs, AtOne, BothAsk, PartAsks, InputAsks, OneOutlives}
+use Rattle.nll_rules.proofs.PairLemmas.{adds_none}
 use Rattle.nll_rules.proofs.SubtypeLemmas.{get_below}
 
 some_is : {X : Type 0} (a b : X) → Some a ≡ Some b → a ≡ b
@@ -31,21 +33,24 @@ asks_borrow structs variables p r m q regions x rests = (⊎_elim there (λ w. i
   where
     there : BothAsk structs (option_map (reference r m) (type_of structs variables q)) (type_of structs variables p) x → Asks structs variables (borrow p r m q) x
     there b = (let i = inner_of r m (type_of structs variables q) b.0 b.2 in inl (b.0, b.1, (i.0, i.1, i.2, b.3), b.4))
+
     back : ((t u : TypeTree) × ((inner : TypeTree) × (type_of structs variables q ≡ Some inner) × (t ≡ reference r m inner) × (type_of structs variables p ≡ Some u)) × SubtypeAsks structs t u x)
         → BothAsk structs (option_map (reference r m) (type_of structs variables q)) (type_of structs variables p) x ⊎ OneOutlives regions r x
     back w = (let i = w.2 in inl (w.0, w.1, ap (option_map (reference r m)) i.1 ∙ ap Some (sym i.2), i.3, w.3))
 
 pub asks_make : (structs : List Struct) (variables : List TypeTree) (p : PlacePath) (made : TypeTree) (ops : List Operand) (x : ℕ × ℕ)
     → (AtOne (PartAsks structs variables made ops) x ⊎ BothAsk structs (Some made) (type_of structs variables p) x) ↔ Asks structs variables (make p made ops) x
-asks_make structs variables p made ops x =
-    ( ⊎_elim (λ w. (let k = w.1 in let b = k.2 in inl (b.0, b.1, inl (w.0, k.0, k.1, b.2, b.3), b.4))) (λ b. inl (b.0, b.1, inr (sym (some_is made b.0 b.2), b.3), b.4)),
-      ⊎_elim (λ w. ⊎_elim (λ k. inl (k.0, (k.1, k.2, (w.0, w.1, k.3, k.4, w.3)))) (λ k. inr (w.0, w.1, ap Some (sym k.0), k.1, w.3)) w.2) (λ h. absurd h) )
+asks_make structs variables p made ops x = (
+  ⊎_elim (λ w. (let k = w.1 in let b = k.2 in inl (b.0, b.1, inl (w.0, k.0, k.1, b.2, b.3), b.4))) (λ b. inl (b.0, b.1, inr (sym (some_is made b.0 b.2), b.3), b.4)),
+  ⊎_elim (λ w. ⊎_elim (λ k. inl (k.0, (k.1, k.2, (w.0, w.1, k.3, k.4, w.3)))) (λ k. inr (w.0, w.1, ap Some (sym k.0), k.1, w.3)) w.2) (λ h. absurd h),
+)
 
 pub asks_call : (structs : List Struct) (variables : List TypeTree) (p : PlacePath) (args : List (Operand × TypeTree)) (result : TypeTree) (wheres : List (ℕ × ℕ)) (b : ℕ) (unwind : Option ℕ) (x : ℕ × ℕ)
     → ((AtOne (InputAsks structs variables args) x ⊎ BothAsk structs (Some result) (type_of structs variables p) x) ⊎ Contains wheres x) ↔ Asks structs variables (call p args result wheres b unwind) x
-asks_call structs variables p args result wheres b unwind x =
-    ( ⊎_elim (⊎_elim input (λ b. inl (b.0, b.1, inr (sym (some_is result b.0 b.2), b.3), b.4))) inr,
-      ⊎_elim (λ w. inl (⊎_elim (λ k. inl (k.0, (k.1, w.1, k.2, (w.0, w.1, k.3, refl, w.3)))) (λ k. inr (w.0, w.1, ap Some (sym k.0), k.1, w.3)) w.2)) inr )
+asks_call structs variables p args result wheres b unwind x = (
+  ⊎_elim (⊎_elim input (λ b. inl (b.0, b.1, inr (sym (some_is result b.0 b.2), b.3), b.4))) inr,
+  ⊎_elim (λ w. inl (⊎_elim (λ k. inl (k.0, (k.1, w.1, k.2, (w.0, w.1, k.3, refl, w.3)))) (λ k. inr (w.0, w.1, ap Some (sym k.0), k.1, w.3)) w.2)) inr,
+)
   where
     input : AtOne (InputAsks structs variables args) x → Asks structs variables (call p args result wheres b unwind) x
     input w =
@@ -66,10 +71,58 @@ parts_within structs variables made ops n k x le p = (let l = get_below ops k p.
 
 pub input_at : (structs : List Struct) (variables : List TypeTree) (args : List (Operand × TypeTree)) (n : ℕ) (op : Operand) (u : TypeTree) (x : ℕ × ℕ) → slice_get args n ≡ Some (op, u)
     → BothAsk structs (operand_type structs variables op) (Some u) x ↔ InputAsks structs variables args n x
-input_at structs variables args n op u x e =
-    ( λ h. (op, u, e, h),
-      λ p. (let d : (p.0, p.1) ≡ (op, u) = some_is (p.0, p.1) (op, u) (sym p.2 ∙ e) in
-        subst (λ (z : Operand × TypeTree). BothAsk structs (operand_type structs variables z.0) (Some z.1) x) d p.3) )
+input_at structs variables args n op u x e = (
+  λ h. (op, u, e, h),
+  λ p. (let d : (p.0, p.1) ≡ (op, u) = some_is (p.0, p.1) (op, u) (sym p.2 ∙ e) in
+      subst (λ (z : Operand × TypeTree). BothAsk structs (operand_type structs variables z.0) (Some z.1) x) d p.3),
+)
 
 pub inputs_within : (structs : List Struct) (variables : List TypeTree) (args : List (Operand × TypeTree)) (n k : ℕ) (x : ℕ × ℕ) → length args ≤ n → InputAsks structs variables args k x → k < n
 inputs_within structs variables args n k x le p = (let l = get_below args k (p.0, p.1) p.2 in omega arith)
+
+-- ---- pairs of a row
+
+pub both_none : (structs : List Struct) (one : Option TypeTree) (x : ℕ × ℕ) → BothAsk structs one None x → ⊥
+both_none structs one x b = (let e = b.3 in cc)
+
+pub none_both : (structs : List Struct) (other : Option TypeTree) (x : ℕ × ℕ) → BothAsk structs None other x → ⊥
+none_both structs other x b = (let e = b.2 in cc)
+
+pub both_there : (structs : List Struct) (t u : TypeTree) (x : ℕ × ℕ) → SubtypeAsks structs t u x ↔ BothAsk structs (Some t) (Some u) x
+both_there structs t u x = (
+  λ h. (t, u, refl, refl, h),
+  λ b. subst (λ (z : TypeTree). SubtypeAsks structs z u x) (sym (some_is t b.0 b.2)) (subst (λ (z : TypeTree). SubtypeAsks structs b.0 z x) (sym (some_is u b.1 b.3)) b.4),
+)
+
+-- the pairs that are put behind the others are those
+pub adds_list : (old new pairs : List (ℕ × ℕ)) → new ≡ old ++ pairs → AddsPairs (Contains pairs) old new
+adds_list old new pairs e = rw e (record { each = λ x. (Contains-append_cases old pairs x, ⊎_elim (Contains-append_left old pairs x) (Contains-append_right old pairs x)) })
+
+pub outlives_none : (r : ℕ) (old : List (ℕ × ℕ)) → AddsPairs (OneOutlives [] r) old old
+outlives_none r old = adds_none _ old (λ x w. (let l = w.0.1 in absurd (omega arith)))
+
+pub outlives_more : (xs : List ℕ) (y r : ℕ) (old now next : List (ℕ × ℕ)) → next ≡ now ++ (y, r) ∷ [] → AddsPairs (OneOutlives xs r) old now → AddsPairs (OneOutlives (xs ++ y ∷ []) r) old next
+outlives_more xs y r old now next e h = rw e (record {
+  each = λ x. (
+    λ c. ⊎_elim (λ d. ⊎_elim inl (λ o. inr (Contains-append_left xs (y ∷ []) x.0 o.0, o.1)) ((h.each x).0 d)) (λ p. inr (here x p)) (Contains-push_cases now (y, r) x c),
+    ⊎_elim (λ o. Contains-append_left now ((y, r) ∷ []) x ((h.each x).1 (inl o)))
+        (λ o. ⊎_elim (λ d. Contains-append_left now ((y, r) ∷ []) x ((h.each x).1 (inr (d, o.1)))) (λ p. last x p o.1) (Contains-push_cases xs y x.0 o.0)),
+  );
+})
+  where
+    here : (x : ℕ × ℕ) → (y, r) ≡ x → OneOutlives (xs ++ y ∷ []) r x
+    here x p = subst (OneOutlives (xs ++ y ∷ []) r) p (Contains-push xs y, refl)
+
+    last : (x : ℕ × ℕ) → y ≡ x.0 → x.1 ≡ r → Contains (now ++ (y, r) ∷ []) x
+    last x p q = subst (Contains (now ++ (y, r) ∷ [])) (let d : (y, r) ≡ (x.0, x.1) = cc in d) (Contains-push now (y, r))
+
+-- ---- the code's calls
+
+pub arguments_seen : {W T : Type 0} (op : W → Operand) (h : T → TypeTree) (xs : List (W × T))
+    → map {B = Operand × TypeTree} (λ x. (op x.0, h x.1)) xs ≡ map {B = Operand × TypeTree} (λ a. (a.0, h a.1)) (map {B = Operand × T} (λ x. (op x.0, x.1)) xs)
+arguments_seen op h [] = refl
+arguments_seen op h (x ∷ xs) = ap (λ as'. (op x.0, h x.1) ∷ as') (arguments_seen op h xs)
+
+pub pairs_seen : (ws : List (ℕ × ℕ)) → ws ≡ map {B = ℕ × ℕ} (λ w. (w.0, w.1)) ws
+pairs_seen [] = refl
+pairs_seen (w ∷ ws) = ap (λ zs. w ∷ zs) (pairs_seen ws)

@@ -1,16 +1,16 @@
 -- What a subtyping asks, layer by layer.
-use Rattle.std.proofs.Common.{◌≡◌, ℕ, zero, suc, ◌+◌, ◌<◌, ◌≤◌, List, [], ◌∷◌, length, refl, sym, ap, ◌∙◌, subst, arith, ⊎_elim, inl, inr, ◌↔◌, ◌⊎◌, Bool, true, false, Some}
+use Rattle.std.proofs.Common.{◌≡◌, ℕ, zero, suc, ◌<◌, ◌≤◌, List, [], ◌∷◌, length, refl, sym, ap, ◌∙◌, subst, arith, ⊎_elim, inl, inr, ◌↔◌, ◌⊎◌, Bool, true, false, Some}
 use Rattle.std.specs.Prelude.{slice_get, min}
 use Rattle.std.specs.Bool.{beq}
-use Rattle.nll_types.specs.Types.{TypeTree, TypeTrees, int, parameter, reference, tuple, named, none, more, type_at}
+use Rattle.nll_types.specs.Types.{TypeTree, TypeTrees, int, parameter, reference, tuple, named, type_at}
 use Rattle.nll_types.specs.Structs.{Struct, struct_at}
 use Rattle.nll_types.specs.declared.parameter.Parameter.{Parameter}
 use Rattle.nll_types.specs.declared.parameter.Sign.{Sign}
 use Rattle.nll_types.specs.declared.parameter.Sign.TheVariants.{Covariant, Invariant}
-use Rattle.nll_types.specs.Views.{tree, trees}
+use Rattle.nll_types.specs.Views.{trees}
 use Rattle.nll_types.specs.declared.ty.Ty.{Ty}
 use Rattle.nll_types.proofs.ViewLemmas.{type_within}
-use Rattle.nll_rules.specs.Positions.{Turn, own, target, part, region_argument, type_argument, HasRegionAt, times, sign_or, target_sign, turn_sign, sign_of}
+use Rattle.nll_rules.specs.Positions.{Turn, own, target, part, region_argument, type_argument, HasRegionAt, times, sign_or, target_sign, sign_of}
 use Rattle.nll_rules.specs.Subtyping.{IsAsked, SubtypeAsksBehind}
 use Rattle.nll_rules.specs.Pairs.{AtOne, ArgumentAsks, TypeAsks}
 
@@ -96,8 +96,10 @@ asks_reference structs outer q p m t u x = (⊎_elim here inside, λ w. back w.0
   where
     here : IsAsked outer q p x → SubtypeAsksBehind structs outer (reference q m t) (reference p m u) x
     here a = (own ∷ [], q, p, (refl, refl), (refl, refl), asked_as outer (times outer Covariant) q p x (sym (times_covariant outer)) a)
+
     inside : SubtypeAsksBehind structs (times outer (target_sign m)) t u x → SubtypeAsksBehind structs outer (reference q m t) (reference p m u) x
     inside w = (target m ∷ w.0, w.1, w.2, (refl, w.3), (refl, w.4), asked_as (times (times outer (target_sign m)) (sign_of structs w.0)) (times outer (times (target_sign m) (sign_of structs w.0))) w.1 w.2 x (sym (times_assoc outer (target_sign m) (sign_of structs w.0))) w.5)
+
     back : (way : List Turn) (a b : ℕ) → HasRegionAt (reference q m t) way a → HasRegionAt (reference p m u) way b → IsAsked (times outer (sign_of structs way)) a b x
         → IsAsked outer q p x ⊎ SubtypeAsksBehind structs (times outer (target_sign m)) t u x
     back (own ∷ way) a b h k ask =
@@ -113,6 +115,7 @@ asks_own structs outer q p m n t u x different = (here, λ w. back w.0 w.1 w.2 w
   where
     here : IsAsked outer q p x → SubtypeAsksBehind structs outer (reference q m t) (reference p n u) x
     here a = (own ∷ [], q, p, (refl, refl), (refl, refl), asked_as outer (times outer Covariant) q p x (sym (times_covariant outer)) a)
+
     back : (way : List Turn) (a b : ℕ) → HasRegionAt (reference q m t) way a → HasRegionAt (reference p n u) way b → IsAsked (times outer (sign_of structs way)) a b x → IsAsked outer q p x
     back (own ∷ way) a b h k ask =
         asked_of outer a b q p x (sym h.1) (sym k.1) (asked_as (times outer (times Covariant (sign_of structs way))) outer a b x (ap (λ (w : List Turn). times outer (sign_of structs w)) h.0 ∙ times_covariant outer) ask)
@@ -126,6 +129,7 @@ asks_tuple structs outer ts us x = (inside, λ w. back w.0 w.1 w.2 w.3 w.4 w.5)
     inside : AtOne (TypeAsks structs [] Covariant outer ts us) x → SubtypeAsksBehind structs outer (tuple ts) (tuple us) x
     inside k = (let y = k.1 in let w = y.4 in
         (part k.0 ∷ w.0, w.1, w.2, (y.0, y.2, w.3), (y.1, y.3, w.4), asked_as (times (times outer Covariant) (sign_of structs w.0)) (times outer (sign_of structs w.0)) w.1 w.2 x (ap (λ (z : Sign). times z (sign_of structs w.0)) (times_covariant outer)) w.5))
+
     back : (way : List Turn) (a b : ℕ) → HasRegionAt (tuple ts) way a → HasRegionAt (tuple us) way b → IsAsked (times outer (sign_of structs way)) a b x → AtOne (TypeAsks structs [] Covariant outer ts us) x
     back (part i ∷ way) a b h k ask =
         (i, (h.0, k.0, h.1, k.1, (way, a, b, h.2, k.2, asked_as (times outer (sign_of structs way)) (times (times outer Covariant) (sign_of structs way)) a b x (ap (λ (z : Sign). times z (sign_of structs way)) (sym (times_covariant outer))) ask)))
@@ -138,22 +142,51 @@ asks_named structs outer s rs qs ts us x = (⊎_elim here inside, λ w. back w.0
   where
     region_sign : ℕ → ℕ → Sign
     region_sign n k = sign_or (struct_at structs n).regions k Invariant
+
     type_sign : ℕ → ℕ → Sign
     type_sign n k = sign_or (struct_at structs n).types k Invariant
+
     here : AtOne (ArgumentAsks (struct_at structs s).regions outer rs qs) x → SubtypeAsksBehind structs outer (named s rs ts) (named s qs us) x
     here k = (let y = k.1 in
         (region_argument s k.0 ∷ [], y.0, y.1, (refl, refl, y.2), (refl, refl, y.3), asked_as (times outer (sign_or (struct_at structs s).regions k.0 Invariant)) (times outer (times (sign_or (struct_at structs s).regions k.0 Invariant) Covariant)) y.0 y.1 x (ap (times outer) (sym (times_covariant (sign_or (struct_at structs s).regions k.0 Invariant)))) y.4))
+
     inside : AtOne (TypeAsks structs (struct_at structs s).types Invariant outer ts us) x → SubtypeAsksBehind structs outer (named s rs ts) (named s qs us) x
     inside k = (let y = k.1 in let w = y.4 in
         (type_argument s k.0 ∷ w.0, w.1, w.2, (y.0, refl, y.2, w.3), (y.1, refl, y.3, w.4), asked_as (times (times outer (sign_or (struct_at structs s).types k.0 Invariant)) (sign_of structs w.0)) (times outer (times (sign_or (struct_at structs s).types k.0 Invariant) (sign_of structs w.0))) w.1 w.2 x (sym (times_assoc outer (sign_or (struct_at structs s).types k.0 Invariant) (sign_of structs w.0))) w.5))
+
     back : (way : List Turn) (a b : ℕ) → HasRegionAt (named s rs ts) way a → HasRegionAt (named s qs us) way b → IsAsked (times outer (sign_of structs way)) a b x
         → AtOne (ArgumentAsks (struct_at structs s).regions outer rs qs) x ⊎ AtOne (TypeAsks structs (struct_at structs s).types Invariant outer ts us) x
     back (region_argument n i ∷ way) a b h k ask =
-        inl (i, (a, b, h.2, k.2, asked_as (times outer (times (sign_or (struct_at structs n).regions i Invariant) (sign_of structs way))) (times outer (sign_or (struct_at structs s).regions i Invariant)) a b x
-        (ap (λ (w : List Turn). times outer (times (sign_or (struct_at structs n).regions i Invariant) (sign_of structs w))) h.0 ∙ ap (times outer) (times_covariant (sign_or (struct_at structs n).regions i Invariant)) ∙ ap (λ (z : ℕ). times outer (sign_or (struct_at structs z).regions i Invariant)) h.1) ask))
+        inl (
+          i,
+          (
+            a,
+            b,
+            h.2,
+            k.2,
+            asked_as (times outer (times (sign_or (struct_at structs n).regions i Invariant) (sign_of structs way))) (times outer (sign_or (struct_at structs s).regions i Invariant)) a b x
+                (ap (λ (w : List Turn). times outer (times (sign_or (struct_at structs n).regions i Invariant) (sign_of structs w))) h.0 ∙ ap (times outer) (times_covariant (sign_or (struct_at structs n).regions i Invariant)) ∙ ap (λ (z : ℕ). times outer (sign_or (struct_at structs z).regions i Invariant)) h.1) ask,
+          ),
+        )
     back (type_argument n i ∷ way) a b h k ask =
-        inr (i, (h.0, k.0, h.2, k.2, (way, a, b, h.3, k.3, asked_as (times outer (times (sign_or (struct_at structs n).types i Invariant) (sign_of structs way))) (times (times outer (sign_or (struct_at structs s).types i Invariant)) (sign_of structs way)) a b x
-        (ap (λ (z : ℕ). times outer (times (sign_or (struct_at structs z).types i Invariant) (sign_of structs way))) h.1 ∙ times_assoc outer (sign_or (struct_at structs s).types i Invariant) (sign_of structs way)) ask)))
+        inr (
+          i,
+          (
+            h.0,
+            k.0,
+            h.2,
+            k.2,
+            (
+              way,
+              a,
+              b,
+              h.3,
+              k.3,
+              asked_as (times outer (times (sign_or (struct_at structs n).types i Invariant) (sign_of structs way))) (times (times outer (sign_or (struct_at structs s).types i Invariant)) (sign_of structs way)) a b x
+                  (ap (λ (z : ℕ). times outer (times (sign_or (struct_at structs z).types i Invariant) (sign_of structs way))) h.1 ∙ times_assoc outer (sign_or (struct_at structs s).types i Invariant) (sign_of structs way)) ask,
+            ),
+          ),
+        )
     back way a b h k ask = absurd h
 
 -- uses of two structs ask nothing of one another
@@ -182,9 +215,11 @@ argument_at parameters outer rs qs n a b x e d = (λ h. (a, b, e, d, h), λ p. a
 
 pub type_at_place : (structs : List Struct) (parameters : List Parameter) (other outer : Sign) (ts us : TypeTrees) (n : ℕ) (t u : TypeTree) (x : ℕ × ℕ) → type_at ts n ≡ Some t → type_at us n ≡ Some u
     → SubtypeAsksBehind structs (times outer (sign_or parameters n other)) t u x ↔ TypeAsks structs parameters other outer ts us n x
-type_at_place structs parameters other outer ts us n t u x e d = (λ h. (t, u, e, d, h),
-    λ p. subst (λ (z : TypeTree). SubtypeAsksBehind structs (times outer (sign_or parameters n other)) z u x) (some_is p.0 t (sym p.2 ∙ e))
-    (subst (λ (z : TypeTree). SubtypeAsksBehind structs (times outer (sign_or parameters n other)) p.0 z x) (some_is p.1 u (sym p.3 ∙ d)) p.4))
+type_at_place structs parameters other outer ts us n t u x e d = (
+  λ h. (t, u, e, d, h),
+  λ p. subst (λ (z : TypeTree). SubtypeAsksBehind structs (times outer (sign_or parameters n other)) z u x) (some_is p.0 t (sym p.2 ∙ e))
+      (subst (λ (z : TypeTree). SubtypeAsksBehind structs (times outer (sign_or parameters n other)) p.0 z x) (some_is p.1 u (sym p.3 ∙ d)) p.4),
+)
 
 pub arguments_within : (parameters : List Parameter) (outer : Sign) (rs qs : List ℕ) (n k : ℕ) (x : ℕ × ℕ) → min (length rs) (length qs) ≤ n → ArgumentAsks parameters outer rs qs k x → k < n
 arguments_within parameters outer rs qs n k x le p = (let l = get_below rs k p.0 p.2 in let m = get_below qs k p.1 p.3 in omega arith)

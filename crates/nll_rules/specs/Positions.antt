@@ -2,7 +2,7 @@
 -- Source: RFC 2094, "Subtyping" (variance); the forms are project's choice.
 use Rattle.std.specs.Prelude.{◌≡◌, ℕ, Bool, true, false, List, [], ◌∷◌, slice_get, Some}
 use Rattle.std.specs.Prelude.{option_map, unwrap_or}
-use Rattle.nll_types.specs.Types.{TypeTree, int, reference, tuple, named, type_at}
+use Rattle.nll_types.specs.Types.{TypeTree, reference, tuple, named, type_at}
 use Rattle.nll_types.specs.Structs.{Struct, struct_at}
 use Rattle.nll_types.specs.declared.parameter.Parameter.{Parameter}
 use Rattle.nll_types.specs.declared.parameter.Sign.{Sign}

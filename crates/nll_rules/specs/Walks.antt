@@ -6,7 +6,7 @@ use Rattle.nll_types.specs.Types.{TypeTree, reference}
 use Rattle.nll_types.specs.Structs.{Struct}
 use Rattle.nll_types.specs.Places.{behind}
 use Rattle.nll_types.specs.declared.place.Projection.{Projection}
-use Rattle.nll_types.specs.declared.place.Projection.TheVariants.{Deref, Field}
+use Rattle.nll_types.specs.declared.place.Projection.TheVariants.{Deref}
 
 -- the regions behind a reference of this region: behind a shared one it alone is left
 abbrev pub cross : ℕ → Bool → List ℕ → List ℕ

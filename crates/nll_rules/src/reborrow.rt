@@ -114,9 +114,10 @@ pub fn rests_on(
 {
     let mut regions = Vec::new(alloc);
     let variable = place.variable as usize;
-    if variable < variables.len() {
-        let (ty, projections) = (&variables[variable], place.projections.as_slice());
-        walk_all(alloc, structs, ty, projections, &mut regions)?;
+    if variable >= variables.len() {
+        return Ok(regions);
     }
+    let (ty, projections) = (&variables[variable], place.projections.as_slice());
+    walk_all(alloc, structs, ty, projections, &mut regions)?;
     Ok(regions)
 }

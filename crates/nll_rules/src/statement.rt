@@ -43,12 +43,7 @@ fn operand_type(
 }
 
 // The type of a part of a tuple or of a field of a struct, where it has one.
-fn part_type(
-    alloc: Global,
-    structs: &Structs,
-    ty: &Ty,
-    place: usize,
-) -> Result<Option<Ty>, Memory>
+fn part_type(alloc: Global, structs: &Structs, ty: &Ty, place: usize) -> Result<Option<Ty>, Memory>
     ensures { IfOk result (λ o. option_map tree o
         ≡ behind (structs_of structs.now) (field place) (tree ty.now)) }
 {
@@ -82,6 +77,26 @@ fn ask_one(
 {
     match other {
         Some(other) => {
+            subtyping(structs, one, other, asked)?;
+            Ok(())
+        }
+        None => Ok(()),
+    }
+}
+
+// Puts what a subtyping asks behind the others, where the first type is there.
+fn ask_before(
+    structs: &Structs,
+    one: &Option<Ty>,
+    other: &Ty,
+    asked: &mut Vec<(RegionId, RegionId)>,
+) -> Result<(), Memory>
+    ensures { OnOk result (AddsPairs
+        (BothAsk (structs_of structs.now) (option_map tree one.now) (Some (tree other.now)))
+        asked.old.items asked.new.items) }
+{
+    match one {
+        Some(one) => {
             subtyping(structs, one, other, asked)?;
             Ok(())
         }
@@ -146,7 +161,15 @@ fn ask_parts(
         (map operand_of operands.now))) asked.old.items asked.new.items) }
 {
     for place in 0..operands.len() {
-        ask_part(alloc, structs, variables, ty, &operands[place], place, asked)?;
+        ask_part(
+            alloc,
+            structs,
+            variables,
+            ty,
+            &operands[place],
+            place,
+            asked,
+        )?;
     }
     Ok(())
 }
@@ -166,13 +189,8 @@ fn ask_input(
         asked.old.items asked.new.items) }
 {
     let one = operand_type(alloc, structs, variables, &argument.0)?;
-    match one {
-        Some(one) => {
-            let told = subtyping(structs, &one, &argument.1, asked);
-            told
-        }
-        None => Ok(()),
-    }
+    let told = ask_before(structs, &one, &argument.1, asked);
+    told
 }
 
 // Puts what the operands of a call ask behind the others.
@@ -262,11 +280,7 @@ fn reference_type(
         (type_of (structs_of structs.now) (map tree variables.now) (path_of place.now))) }
 {
     match place_type(alloc, structs, variables, place)? {
-        Some(target) => Ok(Some(Ty::Reference(
-            region,
-            mutable,
-            Box::new(alloc, target)?,
-        ))),
+        Some(target) => Ok(Some(Ty::Reference(region, mutable, Box::new(alloc, target)?))),
         None => Ok(None),
     }
 }
@@ -361,7 +375,9 @@ pub fn asks(
         }
         Statement::Borrow(place, region, mutable, borrowed) => {
             let (region, mutable) = (*region, *mutable);
-            ask_borrow(alloc, structs, variables, place, region, mutable, borrowed, asked)?;
+            ask_borrow(
+                alloc, structs, variables, place, region, mutable, borrowed, asked,
+            )?;
             Ok(())
         }
         Statement::Make(made) => {

@@ -1,4 +1,4 @@
-use Rattle.std.proofs.Common.{◌≡◌, ◌<◌, length, refl, arith}
+use Rattle.std.proofs.Common.{◌<◌, length, refl, arith}
 use Rattle.std.proofs.lemmas.Option.{slice_get_read}
 use Rattle.nll_rules.proofs.PairLemmas.{below_none, below_more, below_all}
 use Rattle.nll_rules.proofs.SubtypeLemmas.{argument_at, arguments_within}

@@ -1,0 +1,30 @@
+use Rattle.std.proofs.Common.{ℕ, List, map, subst}
+use Rattle.nll_types.specs.Declarations.{structs_of}
+use Rattle.nll_types.specs.Operands.{Operand, operand_of}
+use Rattle.nll_types.specs.Places.{path_of}
+use Rattle.nll_types.specs.Types.{TypeTree}
+use Rattle.nll_types.specs.Views.{tree}
+use Rattle.nll_statements.specs.Statements.{call}
+use Rattle.nll_rules.specs.Asking.{Asks}
+use Rattle.nll_rules.specs.Pairs.{AddsPairs}
+use Rattle.nll_rules.proofs.PairLemmas.{adds_same}
+use Rattle.nll_rules.proofs.StatementLemmas.{asks_assign, arguments_seen, pairs_seen}
+use Rattle.nll_rules.proofs.statement.asks.Goals as goal
+
+pub returns-in_ok-ask_assign-in-Assign : goal.returns-in_ok-ask_assign-in-Assign
+returns-in_ok-ask_assign-in-Assign c =
+    rw c.in-Assign.is (adds_same _ _ _ _ (λ x. asks_assign (structs_of c.args.structs.now) (map tree c.args.variables.now) (path_of c.in-Assign.place) (operand_of c.in-Assign.operand) x) c.in_ok-ask_assign-in-Assign.ensures)
+
+pub returns-in_ok-ask_call-in-Call : goal.returns-in_ok-ask_call-in-Call
+returns-in_ok-ask_call-in-Call c =
+    let structs = structs_of c.args.structs.now in
+    let types = map tree c.args.variables.now in
+    let called = c.in-Call.call.value in
+    let old = c.args.asked.now.items in
+    let new = c.ask_call.new.asked.items in
+    let told = rw c.deref-in-Call.ensures at c.in_ok-ask_call-in-Call.ensures in
+    rw c.in-Call.is
+    (subst (λ (as' : List (Operand × TypeTree)). AddsPairs (Asks structs types (call (path_of called.place) as' (tree called.result) (map {B = ℕ × ℕ} (λ w. (w.0, w.1)) called.wheres.items) called.target called.unwind)) old new)
+    (arguments_seen operand_of tree called.arguments.items)
+    (subst (λ (ws : List (ℕ × ℕ)). AddsPairs (Asks structs types (call (path_of called.place) (map {B = Operand × TypeTree} (λ a. (operand_of a.0, tree a.1)) called.arguments.items) (tree called.result) ws called.target called.unwind)) old new)
+    (pairs_seen called.wheres.items) told))
