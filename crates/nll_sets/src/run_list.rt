@@ -1,6 +1,7 @@
 //! Lists of runs that ascend and of which no two touch.
 
-ghost use Rattle.std.specs.Prelude.{◌≡◌, ℕ, ◌+◌, ◌≤◌, ◌<◌, true, false, length};
+ghost use Rattle.std.specs.Prelude.{◌≡◌, ℕ, ◌+◌, ◌^◌, ◌≤◌, ◌<◌, true, false, length};
+ghost use Rattle.std.specs.Prelude.{if◌then◌else◌};
 ghost use Rattle.std.specs.Prelude.{IfOk, OnOk, OnErr, IsOk, IfSome, IfNone};
 ghost use Rattle.nll_sets.specs.Runs.{first_of, last_of, IsInRuns, IsWithin};
 ghost use Rattle.nll_sets.specs.RunLists.{AreRuns, Removes, Replaces, Joins, IsTouching, IsHull};
@@ -25,22 +26,37 @@ pub fn ends_from(runs: &[Run], least: u32) -> usize
     if len == 1 || runs[len - 2].last < least {
         return len - 1;
     }
-    // As many turns for each answer, so that no branch has to be foretold.
+    search(runs, least)
+}
+
+// The same, where there is a run, by halves. As many turns for each answer, and no branch in them
+// that has to be foretold.
+fn search(runs: &[Run], least: u32) -> usize
+    requires runs { AreRuns runs.now }
+    requires some { 0 < length runs.now }
+    ensures bound { result ≤ length runs.now }
+    ensures before { (k : ℕ) → k < result → last_of runs.now k < least }
+    ensures after { (k : ℕ) → result ≤ k → k < length runs.now → least ≤ last_of runs.now k }
+{
+    let mut bits = runs.len().ilog2();
     let mut base = 0;
-    let mut size = len;
-    while size > 1 {
-        let half = size / 2;
-        let middle = base + half;
-        if runs[middle].last < least {
-            base = middle;
-        }
-        size -= half;
+    if runs[power_if(true, bits) - 1].last < least {
+        base = runs.len() - power_if(true, bits);
     }
-    if runs[base].last < least {
-        base + 1
-    } else {
-        base
+    while bits > 0 {
+        bits -= 1;
+        let before = runs[base + power_if(true, bits) - 1].last < least;
+        base += power_if(before, bits);
     }
+    base + power_if(runs[base].last < least, 0)
+}
+
+// That power of 2, or else 0. It has no branch.
+fn power_if(is: bool, bits: u32) -> usize
+    requires { bits < 64 }
+    ensures { result ≡ (if is then 2 ^ bits else 0) }
+{
+    (is as usize) << bits
 }
 
 // The place of the first run, from one on, that begins past `most`.

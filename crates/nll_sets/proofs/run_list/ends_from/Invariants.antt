@@ -1,9 +1,0 @@
-use Rattle.std.proofs.Common.{ℕ, ◌+◌, ◌≤◌, ◌<◌, length}
-use Rattle.nll_sets.specs.Runs.{last_of}
-use Rattle.nll_sets.proofs.run_list.ends_from.Given as goal
-
-abbrev pub invariant-loop-size : goal.invariant-loop-size
-invariant-loop-size l = (1 ≤ l.size) × (l.base + l.size ≤ length l.runs) × ((k : ℕ) → k < l.base → last_of l.runs k < l.least) × ((k : ℕ) → l.base + l.size ≤ k → k < length l.runs → l.least ≤ last_of l.runs k)
-
-abbrev pub decreases-loop-size : goal.decreases-loop-size
-decreases-loop-size l = l.size
