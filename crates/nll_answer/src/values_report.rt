@@ -62,12 +62,7 @@ fn push_line(
 }
 
 // Puts the elements of runs at the end, each after a space.
-fn push_runs(
-    out: &mut Vec<u8>,
-    labels: &Labels,
-    points: u32,
-    runs: &[Run],
-) -> Result<(), Memory>
+fn push_runs(out: &mut Vec<u8>, labels: &Labels, points: u32, runs: &[Run]) -> Result<(), Memory>
     requires fit { (k : ℕ) → k < length runs.now → (first_of runs.now k ≤ last_of runs.now k)
         × (last_of runs.now k < points + length labels.now.names) }
     requires room { (k : ℕ) → k < length runs.now → last_of runs.now k + 1 < 4294967296 }

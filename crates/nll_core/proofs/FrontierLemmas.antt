@@ -128,10 +128,10 @@ module _ (g : Graph) (set : List Bool) (e : ℕ) (f : Frontier) (inside : IsIn s
     λ h. ⊎_elim
         (λ early. more x (sym (same x) ∙ early))
         (λ (w : (y : ℕ) × ((y ≡ e) ⊎ IsIn middle y) × LeadsTo (IsStepInside g set) y x). leads_carries (IsStepInside g set) (ReachesFrom g (IsIn set) f.starts)
-            (λ y z t step. (t.0, t.1, reaches_more g (IsIn set) t.0 y z t.2 step.0 step.1))
-            w.0 x
-            (⊎_elim (λ is. subst (ReachesFrom g (IsIn set) f.starts) (sym is) here) (λ in_old. more w.0 (sym (same w.0) ∙ in_old)) w.1)
-            w.2)
+        (λ y z t step. (t.0, t.1, reaches_more g (IsIn set) t.0 y z t.2 step.0 step.1))
+        w.0 x
+        (⊎_elim (λ is. subst (ReachesFrom g (IsIn set) f.starts) (sym is) here) (λ in_old. more w.0 (sym (same w.0) ∙ in_old)) w.1)
+        w.2)
         (r.cause x h),
     λ (w : ReachesFrom g (IsIn set) f.starts x). reaches_carries g (IsIn set) w.0 (IsIn new)
         (λ y z h step within. r.closed y z h step within)

@@ -38,9 +38,9 @@ impl Model for Frontier {
     ghost Value = { spec.Frontier };
 
     ghost view = { λ f. record {
-        starts = f.first ∷ f.others.items;
-        reached = f.search.reached;
-        refused = is_some f.refusal;
+      starts = f.first ∷ f.others.items;
+      reached = f.search.reached;
+      refused = is_some f.refusal;
     } };
 
     ghost invariant = { λ f.
@@ -103,12 +103,7 @@ impl Frontier {
     }
 
     // Whether an element can be reached, once walks may go through it.
-    fn can_reach(
-        &self,
-        graph: &Graph,
-        previous: &Predecessors<'_>,
-        element: Element,
-    ) -> bool
+    fn can_reach(&self, graph: &Graph, previous: &Predecessors<'_>, element: Element) -> bool
         requires previous { previous.now ≡ graph.now }
         requires width { element_count graph.now ≤ length self.now.reached }
         requires element { element < element_count graph.now }

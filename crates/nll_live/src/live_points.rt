@@ -38,11 +38,7 @@ pub fn liveness(alloc: Global, body: &Body) -> Result<LiveSets, Memory>
 }
 
 // The same, over the predecessors of the body's points.
-fn both_sets(
-    alloc: Global,
-    body: &Body,
-    previous: &Predecessors<'_>,
-) -> Result<LiveSets, Memory>
+fn both_sets(alloc: Global, body: &Body, previous: &Predecessors<'_>) -> Result<LiveSets, Memory>
     requires { IsGraphOf body.now previous.now }
     ensures { IfOk result (AreLiveSets body.now) }
 {
@@ -103,7 +99,9 @@ fn live_sets(
     let mut marks = Vec::from_elem(alloc, 0, body.points() as usize)?;
     let mut found = Vec::new(alloc);
     let mut sets = Vec::new(alloc);
-    let told = find_sets(alloc, body, previous, lists, &mut marks, &mut found, &mut sets);
+    let told = find_sets(
+        alloc, body, previous, lists, &mut marks, &mut found, &mut sets,
+    );
     drop(marks);
     drop(found);
     match told {

@@ -1,8 +1,8 @@
 //! Bodies of MIR texts: regions, points, edges, and what is used, defined and dropped.
 use super::comparing::compare;
 use super::reading::read_lines;
-use std::alloc::{AllocError, Global};
 use super::texts::{CALLED, DROPPED, MOVED, REBORROW, RETURNED, TWO_BORROWS};
+use std::alloc::{AllocError, Global};
 
 // Texts, and the bodies that they mean.
 const BODIES: &[(&str, &str)] = &[
@@ -56,7 +56,10 @@ const STATEMENTS: &[(&str, &str)] = &[
     ("_3.0 = copy _1", " to 1 uses 1 3"),
     ("_2 = &'r _1", " to 1 uses 1 defines 2"),
     ("_2.* = move _1", " to 1 uses 1 2"),
-    ("_3 = make (int, int)(copy _1, const)", " to 1 uses 1 defines 3"),
+    (
+        "_3 = make (int, int)(copy _1, const)",
+        " to 1 uses 1 defines 3",
+    ),
     ("_4 = make S(copy _1)", " to 1 uses 1 defines 4"),
     ("read _4.0", " to 1 uses 4"),
     ("live _4", " to 1 defines 4"),
@@ -82,14 +85,12 @@ const TERMINATORS: &[(&str, &str)] = &[
 ];
 
 // What is told of a body where this stands at point 0.
-fn told_of(
-    alloc: Global,
-    statement: &str,
-    rest: &str,
-) -> Result<String, AllocError> {
-    let text = format!(in alloc; "nll-mir 1|region 'r|struct S(int)|let _0: int|let _1: int|\
+fn told_of(alloc: Global, statement: &str, rest: &str) -> Result<String, AllocError> {
+    let text = format!(in alloc;
+        "nll-mir 1|region 'r|struct S(int)|let _0: int|let _1: int|\
         let _2: &'r int|let _3: (int, int)|let _4: S|blocks 2|block bb0|{statement}|{rest}\
-        block bb1|stop|end|")?;
+        block bb1|stop|end|"
+    )?;
     let told = read_lines(alloc, text.as_str());
     drop(text);
     told
@@ -100,8 +101,10 @@ fn told_of(
 fn statements_use_and_define(rt: HostRuntime) {
     for (statement, want) in STATEMENTS {
         let told = told_of(rt.alloc(), statement, "stop|");
-        let want = format!(in rt.alloc(); "universal 'static|region 'r|5 variables|\
-            bb0/0{want}|bb0/1|bb1/0|");
+        let want = format!(in rt.alloc();
+            "universal 'static|region 'r|5 variables|\
+            bb0/0{want}|bb0/1|bb1/0|"
+        );
         match want {
             Ok(want) => compare(&rt, statement, told, want.as_str()),
             Err(_) => assert!(rt; false, "memory"),
@@ -114,8 +117,10 @@ fn statements_use_and_define(rt: HostRuntime) {
 fn terminators_go_on(rt: HostRuntime) {
     for (terminator, want) in TERMINATORS {
         let told = told_of(rt.alloc(), terminator, "");
-        let want = format!(in rt.alloc(); "universal 'static|region 'r|5 variables|\
-            bb0/0{want}|bb1/0|");
+        let want = format!(in rt.alloc();
+            "universal 'static|region 'r|5 variables|\
+            bb0/0{want}|bb1/0|"
+        );
         match want {
             Ok(want) => compare(&rt, terminator, told, want.as_str()),
             Err(_) => assert!(rt; false, "memory"),

@@ -70,11 +70,7 @@ fn write_line(
 }
 
 // Writes what a body says.
-fn write_body(
-    out: &mut String,
-    body: &Body,
-    used: &mut Vec<u32>,
-) -> Result<(), AllocError> {
+fn write_body(out: &mut String, body: &Body, used: &mut Vec<u32>) -> Result<(), AllocError> {
     write_regions(out, body)?;
     write!(out, "{} variables|", body.variables())?;
     for point in 0..body.points() {

@@ -16,18 +16,42 @@ const ORDER: &[(&str, &str)] = &[
     ("nll-mir 1|block bb0|", "line 2: Syntax"),
     ("nll-mir 1|nop|", "line 2: Syntax"),
     ("nll-mir 1|region 'a|universal 'b|", "line 3: Syntax"),
-    ("nll-mir 1|region 'a|outlives 'static 'static|", "line 3: Syntax"),
+    (
+        "nll-mir 1|region 'a|outlives 'static 'static|",
+        "line 3: Syntax",
+    ),
     ("nll-mir 1|let _0: int|struct S()|", "line 3: Syntax"),
     ("nll-mir 1|let _0: int|blocks 1|blocks 1|", "line 4: Syntax"),
-    ("nll-mir 1|let _0: int|blocks 1|let _1: int|", "line 4: Syntax"),
+    (
+        "nll-mir 1|let _0: int|blocks 1|let _1: int|",
+        "line 4: Syntax",
+    ),
     ("nll-mir 1|let _0: int|blocks 1|nop|", "line 4: Syntax"),
     ("nll-mir 1|let _0: int|blocks 1|end|", "line 4: Range"),
-    ("nll-mir 1|let _0: int|blocks 1|block bb0|end|", "line 5: Syntax"),
-    ("nll-mir 1|let _0: int|blocks 1|block bb0|block bb1|", "line 5: Syntax"),
-    ("nll-mir 1|let _0: int|blocks 1|block bb0|stop|nop|", "line 6: Syntax"),
-    ("nll-mir 1|let _0: int|blocks 1|block bb0|stop|stop|", "line 6: Syntax"),
-    ("nll-mir 1|let _0: int|blocks 1|block bb0|stop|end|end|", "line 7: Syntax"),
-    ("nll-mir 1|let _0: int|blocks 1|block bb0|stop|", "line 5: End"),
+    (
+        "nll-mir 1|let _0: int|blocks 1|block bb0|end|",
+        "line 5: Syntax",
+    ),
+    (
+        "nll-mir 1|let _0: int|blocks 1|block bb0|block bb1|",
+        "line 5: Syntax",
+    ),
+    (
+        "nll-mir 1|let _0: int|blocks 1|block bb0|stop|nop|",
+        "line 6: Syntax",
+    ),
+    (
+        "nll-mir 1|let _0: int|blocks 1|block bb0|stop|stop|",
+        "line 6: Syntax",
+    ),
+    (
+        "nll-mir 1|let _0: int|blocks 1|block bb0|stop|end|end|",
+        "line 7: Syntax",
+    ),
+    (
+        "nll-mir 1|let _0: int|blocks 1|block bb0|stop|",
+        "line 5: End",
+    ),
 ];
 
 // Faults of order, and of a text's ends.
@@ -68,12 +92,24 @@ const DECLARATIONS: &[(&str, &str)] = &[
     // Arguments are as many as the parameters, and of their kinds.
     ("struct T<'a +>()|struct S(T)|", "line 3: Shape"),
     ("struct T<'a +>()|struct S(T<int>)|", "line 3: Shape"),
-    ("struct T<'a +, U =>()|struct S(T<int, 'static>)|", "line 3: Shape"),
-    ("struct T<'a +, U =>()|struct S(T<'static>)|", "line 3: Shape"),
-    ("struct T<'a +, U =>()|struct S(T<'static, int>)|", "line 3: End"),
+    (
+        "struct T<'a +, U =>()|struct S(T<int, 'static>)|",
+        "line 3: Shape",
+    ),
+    (
+        "struct T<'a +, U =>()|struct S(T<'static>)|",
+        "line 3: Shape",
+    ),
+    (
+        "struct T<'a +, U =>()|struct S(T<'static, int>)|",
+        "line 3: End",
+    ),
     ("struct S<T +>(T<int>)|", "line 2: Shape"),
     // A name that is declared twice is told before arguments that don't fit.
-    ("struct T<'a +>()|struct S<U +, U +>(T)|", "line 3: Duplicate"),
+    (
+        "struct T<'a +>()|struct S<U +, U +>(T)|",
+        "line 3: Duplicate",
+    ),
     ("struct t()|", "line 2: Syntax"),
     ("struct S<>()|", "line 2: Syntax"),
     ("struct S<T>()|", "line 2: Syntax"),
@@ -92,8 +128,14 @@ const DECLARATIONS: &[(&str, &str)] = &[
     ("let _0: int|blocks 1048577|", "line 3: Limit(Points)"),
     ("let _0: int|blocks 01|", "line 3: Syntax"),
     ("let _0: int|blocks 2|block bb1|", "line 4: Range"),
-    ("let _0: int|blocks 2|block bb0|stop|block bb0|", "line 6: Range"),
-    ("let _0: int|blocks 1|block bb0|stop|block bb1|", "line 6: Range"),
+    (
+        "let _0: int|blocks 2|block bb0|stop|block bb0|",
+        "line 6: Range",
+    ),
+    (
+        "let _0: int|blocks 1|block bb0|stop|block bb1|",
+        "line 6: Range",
+    ),
     ("let _0: int|blocks 2|block bb0|stop|end|", "line 6: Range"),
 ];
 
@@ -214,7 +256,12 @@ fn statements_are_refused(rt: HostRuntime) {
 #[test]
 fn statements_are_taken(rt: HostRuntime) {
     for line in TAKEN {
-        compare(&rt, line, told_of(rt.alloc(), line, "stop|"), "line 15: End");
+        compare(
+            &rt,
+            line,
+            told_of(rt.alloc(), line, "stop|"),
+            "line 15: End",
+        );
     }
     for line in ENDED {
         compare(&rt, line, told_of(rt.alloc(), line, ""), "line 14: End");
@@ -299,5 +346,10 @@ fn cut_off(rt: HostRuntime) {
 #[test]
 fn no_text(rt: HostRuntime) {
     compare(&rt, "header", read(rt.alloc(), b"\xFF"), "line 1: NotUtf8");
-    compare(&rt, "comment", read(rt.alloc(), b"nll-mir 1\n# \xFF\n"), "line 2: NotUtf8");
+    compare(
+        &rt,
+        "comment",
+        read(rt.alloc(), b"nll-mir 1\n# \xFF\n"),
+        "line 2: NotUtf8",
+    );
 }

@@ -29,7 +29,10 @@ fn write_doubling(out: &mut String, count: u32) -> Result<(), AllocError> {
         write!(out, "struct S{number}<T +>(S{before}<(T, T)>)\n")?;
     }
     let last = count - 1;
-    write!(out, "let _0: int\nlet _1: S{last}<&'r int>\nblocks 1\nblock bb0\n")
+    write!(
+        out,
+        "let _0: int\nlet _1: S{last}<&'r int>\nblocks 1\nblock bb0\n"
+    )
 }
 
 // Writes a text of so many variables.
@@ -82,7 +85,10 @@ fn told_of(
 // A type of 4,096 nodes is read, one of 4,097 isn't, however it is made.
 #[test]
 fn large_types(rt: HostRuntime) {
-    for (count, want) in [(4_095, "1 points, 2 variables"), (4_096, "line 3: TypeSize")] {
+    for (count, want) in [
+        (4_095, "1 points, 2 variables"),
+        (4_096, "line 3: TypeSize"),
+    ] {
         let mut text = String::new(rt.alloc());
         let written = write_tuple(&mut text, count);
         compare(&rt, "tuple", told_of(rt.alloc(), written, text), want);
@@ -147,5 +153,10 @@ fn doubling_structs(rt: HostRuntime) {
     let mut text = String::new(rt.alloc());
     let written = write_doubling(&mut text, 1_000);
     let written = written.and(text.push_str("read _1.0.0.0\nstop\nend\n"));
-    compare(&rt, "doubling", told_of(rt.alloc(), written, text), "2 points, 2 variables");
+    compare(
+        &rt,
+        "doubling",
+        told_of(rt.alloc(), written, text),
+        "2 points, 2 variables",
+    );
 }

@@ -80,8 +80,8 @@ pub record AreOfTypes (s : Scope) (shapes : List Node) (ts : List (List TypeNode
   pub same : HaveShapes shapes j.shapes.items (map (λ t. meant s (written t)) ts)
 
 -- What was told of others is told of these types too.
-pub record AddsTypes (s : Scope) (ts : List (List TypeNode)) (before : List Node) (old : JudgedTypes)
-    (after : List Node) (new : JudgedTypes) : Type 0 where
+pub record AddsTypes (s : Scope) (ts : List (List TypeNode)) (before : List Node)
+    (old : JudgedTypes) (after : List Node) (new : JudgedTypes) : Type 0 where
   pub beside : (others : List (List TypeNode)) → AreOfTypes s before others old
       → AreOfTypes s after (others ++ ts) new
 

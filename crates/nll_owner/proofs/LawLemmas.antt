@@ -29,8 +29,8 @@ module _ (q : Problem) (c : Cut) (logs : List (List Growth)) (received : ℕ →
   from_log i b n e li lb t = ⊎_elim
       (λ same. subst (λ xs. IsKnownBefore n xs b e) (list_own c i (log_of logs i) (received i) b same ∙ ap (log_of logs) (sym same)) t)
       (λ other.
-        let u = subst (λ xs. IsKnownBefore n xs b e) (list_other c i (log_of logs i) (received i) b other) t in
-        (u.0, sound.heard i (owner_of c b) li lb (λ x. other (sym x)) u.0 u.1, u.2, u.3, u.4))
+      let u = subst (λ xs. IsKnownBefore n xs b e) (list_other c i (log_of logs i) (received i) b other) t in
+      (u.0, sound.heard i (owner_of c b) li lb (λ x. other (sym x)) u.0 u.1, u.2, u.3, u.4))
       (cases_eq (owner_of c b) i)
 
   -- each growth with a rank below n is in every assignment that satisfies the problem
@@ -39,12 +39,12 @@ module _ (q : Problem) (c : Cut) (logs : List (List Growth)) (received : ℕ →
   below a s (suc n) i g li at lt = ⊎_elim
       (λ b. s.base g.region g.element b)
       (λ (w : (k : Constraint) × Contains q.constraints k × (k.sup ≡ g.region) × Reaches q.graph (IsKnownBefore g.rank (list i k.sub) k.sub) k.at g.element).
-        let k : Constraint = w.0 in
-        let each : (e : ℕ) → IsKnownBefore g.rank (list i k.sub) k.sub e → IsTrue (a k.sub e) = λ e t.
-            let u = from_log i k.sub g.rank e li (sub_owned k w.1) t in
-            let lower : u.0.rank < n = (let x = u.4 in omega arith) in
-            subst (λ r. IsTrue (a r e)) u.2 (subst (λ f. IsTrue (a u.0.region f)) u.3 (below a s n (owner_of c k.sub) u.0 (sub_owned k w.1) u.1 lower)) in
-        subst (λ r. IsTrue (a r g.element)) w.2 (s.each k w.1 g.element (reaches_weaker q.graph _ k.at _ each g.element w.3)))
+      let k : Constraint = w.0 in
+      let each : (e : ℕ) → IsKnownBefore g.rank (list i k.sub) k.sub e → IsTrue (a k.sub e) = λ e t.
+      let u = from_log i k.sub g.rank e li (sub_owned k w.1) t in
+      let lower : u.0.rank < n = (let x = u.4 in omega arith) in
+      subst (λ r. IsTrue (a r e)) u.2 (subst (λ f. IsTrue (a u.0.region f)) u.3 (below a s n (owner_of c k.sub) u.0 (sub_owned k w.1) u.1 lower)) in
+      subst (λ r. IsTrue (a r g.element)) w.2 (s.each k w.1 g.element (reaches_weaker q.graph _ k.at _ each g.element w.3)))
       (sound.supported i li g at)
 
   pub each_least : (i : ℕ) (g : Growth) → i < c.owners → Contains (log_of logs i) g → Least q g.region g.element
@@ -59,11 +59,11 @@ module _ (q : Problem) (c : Cut) (logs : List (List Growth)) (received : ℕ →
     to_list k e h s = ⊎_elim
         (λ same. subst (λ xs. IsKnown xs k.sub e) (ap (log_of logs) same ∙ sym (list_own c i (log_of logs i) (received i) k.sub same)) s)
         (λ other.
-          let told = settled.told i j (sup_owned k h) (sub_owned k h) (λ x. other (sym x)) in
-          let reading : reads q c i k.sub ≡ true = (reads_tells q c i k.sub).1 (other, (k, h, refl, refl)) in
-          let passes : reads q c i s.0.region ≡ true = subst (λ r. reads q c i r ≡ true) (sym s.2) reading in
-          let there = filter_to (λ (g : Growth). reads q c i g.region) (log_of logs j) s.0 s.1 passes in
-          subst (λ xs. IsKnown xs k.sub e) (sym (list_other c i (log_of logs i) (received i) k.sub other ∙ told)) (s.0, there, s.2, s.3))
+        let told = settled.told i j (sup_owned k h) (sub_owned k h) (λ x. other (sym x)) in
+        let reading : reads q c i k.sub ≡ true = (reads_tells q c i k.sub).1 (other, (k, h, refl, refl)) in
+        let passes : reads q c i s.0.region ≡ true = subst (λ r. reads q c i r ≡ true) (sym s.2) reading in
+        let there = filter_to (λ (g : Growth). reads q c i g.region) (log_of logs j) s.0 s.1 passes in
+        subst (λ xs. IsKnown xs k.sub e) (sym (list_other c i (log_of logs i) (received i) k.sub other ∙ told)) (s.0, there, s.2, s.3))
         (cases_eq j i)
       where
         i : ℕ
@@ -89,8 +89,8 @@ module _ (q : Problem) (c : Cut) (logs : List (List Growth)) (received : ℕ →
     in_range r e s = ⊎_elim
         (λ below. below)
         (λ past.
-          let none : log_of logs (owner_of c r) ≡ [] = get_or_past logs (owner_of c r) [] (subst (λ n. n ≤ owner_of c r) (sym sound.counted) past) in
-          absurd (let l = (subst (λ xs. IsKnown xs r e) none s).1.1 in omega arith))
+        let none : log_of logs (owner_of c r) ≡ [] = get_or_past logs (owner_of c r) [] (subst (λ n. n ≤ owner_of c r) (sym sound.counted) past) in
+        absurd (let l = (subst (λ xs. IsKnown xs r e) none s).1.1 in omega arith))
         (cases_lt (owner_of c r) c.owners)
 
     pub least_exact : (r e : ℕ) → IsKnown (log_of logs (owner_of c r)) r e ↔ Least q r e

@@ -43,7 +43,7 @@ known_in xs ys more b e s = (s.0, more s.0 s.1, s.2, s.3)
 pub supported_in : (q : Problem) (old new : ℕ → List Growth) → ((b : ℕ) → IsIn (old b) (new b)) → (log : List Growth) → IsWellSupported q old log → IsWellSupported q new log
 supported_in q old new more log h g at = ⊎_elim inl
     (λ (w : (k : Constraint) × Contains q.constraints k × (k.sup ≡ g.region) × Reaches q.graph (IsKnownBefore g.rank (old k.sub) k.sub) k.at g.element).
-      inr (w.0, w.1, w.2, reaches_weaker q.graph _ w.0.at _ (λ e (t : IsKnownBefore g.rank (old w.0.sub) w.0.sub e). (t.0, more w.0.sub t.0 t.1, t.2, t.3, t.4)) g.element w.3))
+    inr (w.0, w.1, w.2, reaches_weaker q.graph _ w.0.at _ (λ e (t : IsKnownBefore g.rank (old w.0.sub) w.0.sub e). (t.0, more w.0.sub t.0 t.1, t.2, t.3, t.4)) g.element w.3))
     (h g at)
 
 -- a longer log
@@ -57,7 +57,7 @@ list_longer c i log rest received b = go (eqb (owner_of c b) i)
 pub has_grows : (old new : Owner) → Grows old new → (b e : ℕ) → Has old b e → Has new b e
 has_grows old new grows b e h =
     let more : Has (record old { log = new.log; clock = new.clock }) b e = subst (λ log. IsKnown (list_of old.cut old.me log (received_from old) b) b e) (sym grows.begins.1)
-        (known_in _ _ (list_longer old.cut old.me old.log grows.begins.0 (received_from old) b) b e h) in
+    (known_in _ _ (list_longer old.cut old.me old.log grows.begins.0 (received_from old) b) b e h) in
     subst (λ o. Has o b e) (sym grows.others) more
 
 -- ---- an own region grows by an element
@@ -103,11 +103,11 @@ module _ (o : Owner) (values : List (List Bool)) (places : List ℕ) (readers : 
   had : (b e : ℕ) → Has grown b e → Has o b e ⊎ ((b ≡ region) × (e ≡ element))
   had b e h = ⊎_elim
       (λ same.
-        let in_log = subst (λ xs. Contains xs h.0) (list_own o.cut o.me (o.log ++ growth ∷ []) (received_from o) b same) h.1 in
-        ⊎_elim
-          (λ (old : Contains o.log h.0). inl (h.0, subst (λ xs. Contains xs h.0) (sym (list_own o.cut o.me o.log (received_from o) b same)) old, h.2, h.3))
-          (λ (is : growth ≡ h.0). inr (sym h.2 ∙ sym (ap (λ (g : Growth). g.region) is), sym h.3 ∙ sym (ap (λ (g : Growth). g.element) is)))
-          (Contains-push_cases o.log growth h.0 in_log))
+      let in_log = subst (λ xs. Contains xs h.0) (list_own o.cut o.me (o.log ++ growth ∷ []) (received_from o) b same) h.1 in
+      ⊎_elim
+      (λ (old : Contains o.log h.0). inl (h.0, subst (λ xs. Contains xs h.0) (sym (list_own o.cut o.me o.log (received_from o) b same)) old, h.2, h.3))
+      (λ (is : growth ≡ h.0). inr (sym h.2 ∙ sym (ap (λ (g : Growth). g.region) is), sym h.3 ∙ sym (ap (λ (g : Growth). g.element) is)))
+      (Contains-push_cases o.log growth h.0 in_log))
       (λ other. inl (h.0, subst (λ xs. Contains xs h.0) (list_other o.cut o.me (o.log ++ growth ∷ []) (received_from o) b other ∙ sym (list_other o.cut o.me o.log (received_from o) b other)) h.1, h.2, h.3))
       (cases_eq (owner_of o.cut b) o.me)
 
@@ -125,10 +125,10 @@ module _ (o : Owner) (values : List (List Bool)) (places : List ℕ) (readers : 
   grown_supported g h = ⊎_elim
       (λ old. supported_in o.problem (list_in o) (list_in grown) longer o.log kept.sound.supported g old)
       (λ is. subst (λ (g : Growth). IsBase o.problem g.region g.element ⊎ ((k : Constraint) × Contains o.problem.constraints k × (k.sup ≡ g.region) × Reaches o.problem.graph (IsKnownBefore g.rank (list_in grown k.sub) k.sub) k.at g.element)) is
-        (⊎_elim inl
-          (λ (w : (k : Constraint) × Contains o.problem.constraints k × (k.sup ≡ region) × Reaches o.problem.graph (Has o k.sub) k.at element).
-            inr (w.0, w.1, w.2, reaches_weaker o.problem.graph _ w.0.at _ (λ e t. told w.0.sub e t) element w.3))
-          asked))
+      (⊎_elim inl
+      (λ (w : (k : Constraint) × Contains o.problem.constraints k × (k.sup ≡ region) × Reaches o.problem.graph (Has o k.sub) k.at element).
+      inr (w.0, w.1, w.2, reaches_weaker o.problem.graph _ w.0.at _ (λ e t. told w.0.sub e t) element w.3))
+      asked))
       (Contains-push_cases o.log growth g h)
 
   part_longer : (j : ℕ) → part_for grown j ≡ part_for o j ++ part o.problem o.cut j (growth ∷ [])
@@ -160,9 +160,9 @@ module _ (o : Owner) (values : List (List Bool)) (places : List ℕ) (readers : 
     steps = λ g h more. ⊎_elim
         (λ old. let x = kept.sound.steps g old more in (x.0, known_still x.0 x.1, x.2))
         (λ is. ⊎_elim
-          (λ (none : o.clock ≡ 0). absurd (let r = ap (λ (x : Growth). x.rank) is in omega (arith, r)))
-          (λ (t : (h : Growth) × IsNoted o h × (h.rank ≡ o.clock)). (t.0, known_still t.0 t.1, (let r = ap (λ (x : Growth). x.rank) is in let e = t.2 in omega (arith, r, e))))
-          kept.sound.top)
+        (λ (none : o.clock ≡ 0). absurd (let r = ap (λ (x : Growth). x.rank) is in omega (arith, r)))
+        (λ (t : (h : Growth) × IsNoted o h × (h.rank ≡ o.clock)). (t.0, known_still t.0 t.1, (let r = ap (λ (x : Growth). x.rank) is in let e = t.2 in omega (arith, r, e))))
+        kept.sound.top)
         (Contains-push_cases o.log growth g h);
     receivers = kept.sound.receivers;
     given = λ j. omega (arith, kept.sound.given j, ap length (part_longer j), length-append (part_for o j) (part o.problem o.cut j (growth ∷ [])));
@@ -176,8 +176,9 @@ module _ (o : Owner) (values : List (List Bool)) (places : List ℕ) (readers : 
     sound = grown_sound;
     shaped = shaped_gains o.problem _ _ _ kept.shaped gains;
     held = λ r e. (
-        λ h. ⊎_elim (λ old. known_in _ _ (longer r) r e ((kept.held r e).0 old)) (λ is. subst (λ x. Has grown x e) (sym is.0) (subst (λ x. Has grown region x) (sym is.1) grown_has)) (gains.cause r e h),
-        λ h. ⊎_elim (λ old. gains.kept r e ((kept.held r e).1 old)) (λ is. subst (λ x. IsHeld (with_element values region element) x e) (sym is.0) (subst (λ x. IsHeld (with_element values region element) region x) (sym is.1) (held_one values region element within below))) (had r e h));
+      λ h. ⊎_elim (λ old. known_in _ _ (longer r) r e ((kept.held r e).0 old)) (λ is. subst (λ x. Has grown x e) (sym is.0) (subst (λ x. Has grown region x) (sym is.1) grown_has)) (gains.cause r e h),
+      λ h. ⊎_elim (λ old. gains.kept r e ((kept.held r e).1 old)) (λ is. subst (λ x. IsHeld (with_element values region element) x e) (sym is.0) (subst (λ x. IsHeld (with_element values region element) region x) (sym is.1) (held_one values region element within below))) (had r e h),
+    );
     room = grown_few;
     places = kept.places;
     read = kept.read;
@@ -214,8 +215,12 @@ pub called_grows : (old new : Owner) → Grows old new → (r e : ℕ) → IsCal
 called_grows old new grows r e h = ⊎_elim
     (λ b. inl (subst (λ (o : Owner). IsBase o.problem r e) (sym grows.others) b))
     (λ (w : (k : Constraint) × Contains old.problem.constraints k × (k.sup ≡ r) × Reaches old.problem.graph (Has old k.sub) k.at e).
-      inr (w.0, subst (λ (o : Owner). Contains o.problem.constraints w.0) (sym grows.others) w.1, w.2,
-        subst (λ (o : Owner). Reaches o.problem.graph (Has new w.0.sub) w.0.at e) (sym grows.others) (reaches_weaker old.problem.graph _ w.0.at _ (has_grows old new grows w.0.sub) e w.3)))
+    inr (
+      w.0,
+      subst (λ (o : Owner). Contains o.problem.constraints w.0) (sym grows.others) w.1,
+      w.2,
+      subst (λ (o : Owner). Reaches o.problem.graph (Has new w.0.sub) w.0.at e) (sym grows.others) (reaches_weaker old.problem.graph _ w.0.at _ (has_grows old new grows w.0.sub) e w.3),
+    ))
     h
 
 -- ---- what carries over
@@ -333,8 +338,8 @@ filled_from o based closed = record { base = based; each = λ k there own e h. c
 pub filled_after : (old middle new : Owner) → ((r e : ℕ) → owner_of old.cut r ≡ old.me → IsBase old.problem r e → Has middle r e) → Grows old middle → Grows middle new → IsClosed new → IsDone new
 filled_after old middle new based p q closed = filled_from new
     (λ r e own b. has_grows middle new q r e (based r e
-      (subst (λ (o : Owner). owner_of o.cut r ≡ o.me → owner_of old.cut r ≡ old.me) (sym (grows_append old middle new p q).others) (λ h. h) own)
-      (subst (λ (o : Owner). IsBase o.problem r e → IsBase old.problem r e) (sym (grows_append old middle new p q).others) (λ h. h) b)))
+    (subst (λ (o : Owner). owner_of o.cut r ≡ o.me → owner_of old.cut r ≡ old.me) (sym (grows_append old middle new p q).others) (λ h. h) own)
+    (subst (λ (o : Owner). IsBase o.problem r e → IsBase old.problem r e) (sym (grows_append old middle new p q).others) (λ h. h) b)))
     closed
 
 -- ---- the marks of a call
@@ -351,7 +356,7 @@ marked_sound o loaded broken s based = record {
   supported = s.supported;
   based = based;
   elements = s.elements;
-    few = s.few;
+  few = s.few;
   senders = s.senders;
   heard = s.heard;
   own_ranks = s.own_ranks;
@@ -427,9 +432,9 @@ module _ (o : Owner) (values : List (List Bool)) (places : List ℕ) (readers : 
   received_cases : (j : ℕ) (h : Growth) → Contains (received_from told_of j) h → Contains (received_from o j) h ⊎ ((j ≡ from) × (g ≡ h))
   received_cases j h at = ⊎_elim
       (λ same. ⊎_elim
-          (λ old. inl (subst (λ i. Contains (received_from o i) h) (sym same) old))
-          (λ is. inr (same, is))
-          (Contains-push_cases (received_from o from) g h (subst (λ xs. Contains xs h) received_here (subst (λ i. Contains (received_from told_of i) h) same at))))
+      (λ old. inl (subst (λ i. Contains (received_from o i) h) (sym same) old))
+      (λ is. inr (same, is))
+      (Contains-push_cases (received_from o from) g h (subst (λ xs. Contains xs h) received_here (subst (λ i. Contains (received_from told_of i) h) same at))))
       (λ differs. inl (subst (λ xs. Contains xs h) (received_other j differs) at))
       (cases_eq j from)
 
@@ -453,9 +458,9 @@ module _ (o : Owner) (values : List (List Bool)) (places : List ℕ) (readers : 
   told_had b e h = ⊎_elim
       (λ same. inl (h.0, subst (λ xs. Contains xs h.0) (list_own o.cut o.me o.log (received_from told_of) b same ∙ sym (list_own o.cut o.me o.log (received_from o) b same)) h.1, h.2, h.3))
       (λ differs. ⊎_elim
-          (λ old. inl (h.0, subst (λ xs. Contains xs h.0) (sym (list_other o.cut o.me o.log (received_from o) b differs)) old, h.2, h.3))
-          (λ (is : (owner_of o.cut b ≡ from) × (g ≡ h.0)). inr (sym h.2 ∙ sym (ap (λ (x : Growth). x.region) is.1), sym h.3 ∙ sym (ap (λ (x : Growth). x.element) is.1)))
-          (received_cases (owner_of o.cut b) h.0 (subst (λ xs. Contains xs h.0) (list_other o.cut o.me o.log (received_from told_of) b differs) h.1)))
+      (λ old. inl (h.0, subst (λ xs. Contains xs h.0) (sym (list_other o.cut o.me o.log (received_from o) b differs)) old, h.2, h.3))
+      (λ (is : (owner_of o.cut b ≡ from) × (g ≡ h.0)). inr (sym h.2 ∙ sym (ap (λ (x : Growth). x.region) is.1), sym h.3 ∙ sym (ap (λ (x : Growth). x.element) is.1)))
+      (received_cases (owner_of o.cut b) h.0 (subst (λ xs. Contains xs h.0) (list_other o.cut o.me o.log (received_from told_of) b differs) h.1)))
       (cases_eq (owner_of o.cut b) o.me)
 
   told_gains : Gains (λ r e. (r ≡ g.region) × (e ≡ g.element)) values (with_element values g.region g.element)
@@ -488,9 +493,9 @@ module _ (o : Owner) (values : List (List Bool)) (places : List ℕ) (readers : 
     heard_ranks = λ j h at. ⊎_elim (λ old. (let l = kept.sound.heard_ranks j h old in omega (arith, clock_up))) (λ (is : (j ≡ from) × (g ≡ h)). subst (λ (x : Growth). x.rank ≤ clock) is.1 rank_low) (received_cases j h at);
     top = ⊎_elim
         (λ (same : clock ≡ o.clock). ⊎_elim
-          (λ (none : o.clock ≡ 0). inl (same ∙ none))
-          (λ (t : (h : Growth) × IsNoted o h × (h.rank ≡ o.clock)). inr (t.0, told_known t.0 t.1, t.2 ∙ sym same))
-          kept.sound.top)
+        (λ (none : o.clock ≡ 0). inl (same ∙ none))
+        (λ (t : (h : Growth) × IsNoted o h × (h.rank ≡ o.clock)). inr (t.0, told_known t.0 t.1, t.2 ∙ sym same))
+        kept.sound.top)
         (λ (is : clock ≡ g.rank). inr (g, inr (from, subst (λ xs. Contains xs g) (sym received_here) (Contains-push (received_from o from) g)), sym is))
         either;
     steps = λ h at more. let x = kept.sound.steps h at more in (x.0, told_known x.0 x.1, x.2);
@@ -503,8 +508,9 @@ module _ (o : Owner) (values : List (List Bool)) (places : List ℕ) (readers : 
     sound = told_sound;
     shaped = shaped_gains o.problem _ _ _ kept.shaped told_gains;
     held = λ r e. (
-        λ h. ⊎_elim (λ old. known_in _ _ (told_longer r) r e ((kept.held r e).0 old)) (λ is. subst (λ x. Has told_of x e) (sym is.0) (subst (λ x. Has told_of g.region x) (sym is.1) told_has)) (told_gains.cause r e h),
-        λ h. ⊎_elim (λ old. told_gains.kept r e ((kept.held r e).1 old)) (λ is. subst (λ x. IsHeld (with_element values g.region g.element) x e) (sym is.0) (subst (λ x. IsHeld (with_element values g.region g.element) g.region x) (sym is.1) (held_one values g.region g.element told_region told_element))) (told_had r e h));
+      λ h. ⊎_elim (λ old. known_in _ _ (told_longer r) r e ((kept.held r e).0 old)) (λ is. subst (λ x. Has told_of x e) (sym is.0) (subst (λ x. Has told_of g.region x) (sym is.1) told_has)) (told_gains.cause r e h),
+      λ h. ⊎_elim (λ old. told_gains.kept r e ((kept.held r e).1 old)) (λ is. subst (λ x. IsHeld (with_element values g.region g.element) x e) (sym is.0) (subst (λ x. IsHeld (with_element values g.region g.element) g.region x) (sym is.1) (held_one values g.region g.element told_region told_element))) (told_had r e h),
+    );
     room = omega (arith, no_fewer, kept.room);
     places = kept.places;
     read = kept.read;
@@ -626,7 +632,7 @@ module _ (o : Owner) (values : List (List Bool)) (places : List ℕ) (readers : 
         (cases_eq j to);
     given = λ j. ⊎_elim
         (λ same. subst (λ i. given_to given_of i ≡ length (part o.problem o.cut i (take (get_or (set places to (place + 1)) i 0) o.log))) (sym same)
-          (here ∙ (counted ∙ ap (λ k. length (part o.problem o.cut to (take k o.log))) (sym place_here))))
+        (here ∙ (counted ∙ ap (λ k. length (part o.problem o.cut to (take k o.log))) (sym place_here))))
         (λ differs. there_other j differs ∙ (kept.given j ∙ ap (λ k. length (part o.problem o.cut j (take k o.log))) (sym (get_or-set_other places to j (place + 1) 0 differs))))
         (cases_eq j to);
   }

@@ -120,11 +120,7 @@ pub fn drive(owners: &mut [Owner], turns: &[Turn]) -> Result<(), Stop> {
 }
 
 // The owners of a cut.
-fn owners_of<'q>(
-    alloc: Global,
-    problem: &'q Problem,
-    cut: &'q Cut,
-) -> Result<Vec<Owner<'q>>, Stop>
+fn owners_of<'q>(alloc: Global, problem: &'q Problem, cut: &'q Cut) -> Result<Vec<Owner<'q>>, Stop>
     requires { length cut.now.list ≡ problem.now.regions }
 {
     let mut owners = Vec::new(alloc);
@@ -167,18 +163,17 @@ fn write_values(out: &mut String, owners: &[Owner], cut: &Cut, regions: u32) -> 
 fn write_counts(out: &mut String, owners: &[Owner]) -> Result<(), AllocError> {
     for owner in owners {
         let counts = owner.counts();
-        write!(out, "{} {} {}|", counts.grown, counts.given, counts.received)?;
+        write!(
+            out,
+            "{} {} {}|",
+            counts.grown, counts.given, counts.received
+        )?;
     }
     Ok(())
 }
 
 // Makes the owners of a cut, drives them, and tells what they have.
-fn driven_over(
-    alloc: Global,
-    problem: &Problem,
-    cut: &Cut,
-    turns: &[Turn],
-) -> Result<String, Stop>
+fn driven_over(alloc: Global, problem: &Problem, cut: &Cut, turns: &[Turn]) -> Result<String, Stop>
     requires { length cut.now.list ≡ problem.now.regions }
 {
     let mut out = String::new(alloc);

@@ -9,6 +9,6 @@ mod driving;
 #[cfg(test)]
 mod problems;
 #[cfg(test)]
-mod turns;
-#[cfg(test)]
 mod refusals;
+#[cfg(test)]
+mod turns;

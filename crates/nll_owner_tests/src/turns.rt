@@ -45,8 +45,8 @@ const THREE_BACK: &[Turn] = &[
     Hand(0, 1),
 ];
 
-// Problems, how many owners there are, what they have in the end (the value of each region, and what
-// each owner has grown, given and received), and orders of turns that come to it.
+// Problems, how many owners there are, what they have in the end (the value of each region, and
+// what each owner has grown, given and received), and orders of turns that come to it.
 type Row = (Written, u16, &'static str, &'static [&'static [Turn]]);
 
 const ROWS: &[Row] = &[
@@ -69,7 +69,12 @@ const ROWS: &[Row] = &[
         "0: 0 1 2|1: 0 1|2: 0 1|5 2 2|2 2 2|",
         &[TWO, TWO_LATE, TWO_FAST],
     ),
-    (FILLED_HOLE, 1, "0: 0 1 2 3|1: 0 1 2|2: 0 1 2|3: 1|11 0 0|", &[&[Load(0)]]),
+    (
+        FILLED_HOLE,
+        1,
+        "0: 0 1 2 3|1: 0 1 2|2: 0 1 2|3: 1|11 0 0|",
+        &[&[Load(0)]],
+    ),
     (
         FILLED_HOLE,
         2,

@@ -219,7 +219,11 @@ fn write_effects(
     statement.uses(&mut used)?;
     statement.targets(&mut blocks)?;
     let (defined, dropped) = (statement.defines(), statement.drops());
-    let (used, blocks, last) = (used.as_slice(), blocks.as_slice(), statement.is_terminator());
+    let (used, blocks, last) = (
+        used.as_slice(),
+        blocks.as_slice(),
+        statement.is_terminator(),
+    );
     write!(out, "{used:?} {defined:?} {dropped:?} {blocks:?} {last}")?;
     Ok(())
 }

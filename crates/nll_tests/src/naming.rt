@@ -57,11 +57,7 @@ fn write_meant(
 }
 
 // What is told of a type.
-fn told_of(
-    alloc: Global,
-    scope: &Scope<'_>,
-    text: &TypeText<'_>,
-) -> Result<String, BuildError> {
+fn told_of(alloc: Global, scope: &Scope<'_>, text: &TypeText<'_>) -> Result<String, BuildError> {
     let mut out = String::new(alloc);
     let mut table = TypeTable::new(alloc);
     let judged = write_judged(&mut out, alloc, scope, &mut table, text);

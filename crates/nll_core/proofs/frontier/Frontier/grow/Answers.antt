@@ -32,7 +32,7 @@ returns-clause-reached g c =
     let d = (goal.at.returns-clause-reached g c).After-can_reach in
     on_ok_weaker c.resume-told.result
     (λ resumes. frontier_more c.args.graph.now (g.S.ElementSet.flags c.args.seen.now) c.args.element (wide g d) c.requires.element (wide_is g d)
-      (c.can_reach.ensures.0 c.if-not-can_reach.false) c.widen.new.self.reached c.resume-told.new.search.reached (λ x. refl) resumes)
+    (c.can_reach.ensures.0 c.if-not-can_reach.false) c.widen.new.self.reached c.resume-told.new.search.reached (λ x. refl) resumes)
     c.resume-told.ensures.resumes
 
 pub returns-clause-out : goal.returns-clause-out

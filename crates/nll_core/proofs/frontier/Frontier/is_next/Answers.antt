@@ -14,18 +14,26 @@ has_one-requires-else-element-points c = λ x h.
 pub returns-then-element-points : goal.returns-then-element-points
 returns-then-element-points c = rw (← c.element.view_is) (
   λ h. let w = c.has_one.ensures.0 h in (w.0, w.1, inl ((rw c.requires.previous at c.previous_of.ensures.each w.0).0 w.2)),
-  λ w. c.has_one.ensures.1 (w.0, w.1, (rw c.requires.previous at c.previous_of.ensures.each w.0).1 (⊎_elim
-      (λ next. next)
-      (λ ends. absurd (let low = ends.1.0 in omega (arith, low, c.if-element-points.true, c.points.ensures.value)))
-      w.2)),
+  λ w. c.has_one.ensures.1 (
+    w.0,
+    w.1,
+    (rw c.requires.previous at c.previous_of.ensures.each w.0).1 (⊎_elim
+        (λ next. next)
+        (λ ends. absurd (let low = ends.1.0 in omega (arith, low, c.if-element-points.true, c.points.ensures.value)))
+        w.2),
+  ),
 )
 
 pub returns-else-element-points : goal.returns-else-element-points
 returns-else-element-points c = rw (← c.element.view_is) (
   λ h. let w = c.has_one-else-element-points.ensures.0 h in
       (w.0, w.1, inr (subst (λ (xs : List ℕ). Contains xs w.0) c.returns.ensures.value w.2, (omega (arith, c.if-element-points.false, c.points.ensures.value), omega (arith, c.requires.element, c.element.view_is)))),
-  λ w. c.has_one-else-element-points.ensures.1 (w.0, w.1, subst (λ (xs : List ℕ). Contains xs w.0) (sym c.returns.ensures.value) (⊎_elim
-      (λ next. absurd (let range = c.points.ensures.sound.edges_in_range w.0 c.element.inside.0 next in omega (arith, range.1, c.if-element-points.false, c.points.ensures.value)))
-      (λ ends. ends.0)
-      w.2)),
+  λ w. c.has_one-else-element-points.ensures.1 (
+    w.0,
+    w.1,
+    subst (λ (xs : List ℕ). Contains xs w.0) (sym c.returns.ensures.value) (⊎_elim
+        (λ next. absurd (let range = c.points.ensures.sound.edges_in_range w.0 c.element.inside.0 next in omega (arith, range.1, c.if-element-points.false, c.points.ensures.value)))
+        (λ ends. ends.0)
+        w.2),
+  ),
 )

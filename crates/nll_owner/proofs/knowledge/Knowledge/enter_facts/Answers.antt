@@ -33,8 +33,8 @@ loop-fact-preserved c =
       grows = grows_append _ _ _ c.loop-fact.invariant.grows c.enter_fact.ensures.grows;
       covers = λ k r e l h own. ⊎_elim
           (λ same. subst (λ (p : ℕ × ℕ). owner_of c.args.self.now.cut p.0 ≡ c.args.self.now.me → Has c.enter_fact.new.self p.0 p.1)
-              (sym (is r e (subst (λ i. get_or facts i (r, e) ≡ (r, e)) same h)))
-              (λ own. c.in_ok-enter_fact.ensures.covers (own_still _ _ c.loop-fact.invariant.grows item.0 own)) own)
+          (sym (is r e (subst (λ i. get_or facts i (r, e) ≡ (r, e)) same h)))
+          (λ own. c.in_ok-enter_fact.ensures.covers (own_still _ _ c.loop-fact.invariant.grows item.0 own)) own)
           (λ other. has_grows _ _ c.enter_fact.ensures.grows _ _ (c.loop-fact.invariant.covers k r e (omega arith) h own))
           (cases_eq k c.loop-fact.fact-index);
     }

@@ -12,5 +12,5 @@ returns-clause-covers c = λ e own b.
     ⊎_elim
     (λ low. has_grows _ _ c.grow.ensures.grows _ _ (c.in_ok-enter_points.ensures.covers e (omega (arith, low, same, c.points-points.ensures.value))))
     (λ is. let end : ◌≡◌ {A = ℕ} (c.points-points.result + c.region.inside.0) e = omega (arith, is, same, c.points-points.ensures.value, c.region.view_is) in
-      subst (λ x. Has c.grow.new.self c.args.region x) end c.in_ok-grow.ensures.has)
+    subst (λ x. Has c.grow.new.self c.args.region x) end c.in_ok-grow.ensures.has)
     b
