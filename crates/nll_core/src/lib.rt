@@ -2,7 +2,8 @@
 //! The problem is that of `nll_problem`, the sets are those of `nll_sets`; both are found here too.
 //!
 //! Reading order: `values`, `bases`, `lines` (with `line_ends`, `jumps`), `stretches`, `walk`,
-//! `pairs`, `meeting`, `order`, `solver`; `search`, `reachability`, `frontier`, `outliving`, `fault_check`.
+//! `pairs`, `meeting`, `order`, `solver`; `search`, `reachability`, `frontier`,
+//! `outliving`, `fault_check`.
 //! The definitions are in specs/.
 #![tactic(auto)]
 

@@ -1,7 +1,7 @@
 //! What an owner knows: its values and copies, its log, and what it received.
 
-ghost use Rattle.std.specs.Prelude.{◌≡◌, ◌⊎◌, ◌↔◌, ℕ, ◌+◌, ◌<◌, ◌≤◌, ◌^◌, true, false, max, [], Some};
-ghost use Rattle.std.specs.Prelude.{Err, Contains, length, take, slice_get, slice_set, IsTrue, map};
+ghost use Rattle.std.specs.Prelude.{◌≡◌, ◌⊎◌, ◌↔◌, ℕ, ◌+◌, ◌<◌, ◌≤◌, ◌^◌, true, false, max, []};
+ghost use Rattle.std.specs.Prelude.{Some, Err, Contains, length, take, slice_get, slice_set, IsTrue, map};
 ghost use Rattle.std.specs.Prelude.{replicate, IfOk, OnOk, OnErr, IfSome, IfNone};
 ghost use Rattle.std.specs.Prelude.{min, ◌-◌};
 ghost use Rattle.std.specs.List.{sum, sum_by};

@@ -1,8 +1,8 @@
 //! An owner of regions.
 
 ghost use Rattle.std.specs.Prelude.{◌≡◌, ◌⊎◌, ◌↔◌, ◌+◌, ◌<◌, ◌≤◌, ◌^◌, true, false, max, Some, Err};
-ghost use Rattle.std.specs.Prelude.{length, slice_get, slice_set, IsTrue, IfOk, OnOk, OnErr, IfSome};
-ghost use Rattle.std.specs.Prelude.{IfNone, min, ◌-◌};
+ghost use Rattle.std.specs.Prelude.{length, slice_get, slice_set, IsTrue, IfOk, OnOk, OnErr};
+ghost use Rattle.std.specs.Prelude.{IfSome, IfNone, min, ◌-◌};
 ghost use Rattle.std.specs.List.{sum, sum_by};
 ghost use Rattle.nll_problem.specs.Graph.{element_count};
 ghost use Rattle.nll_owner.specs.Logs.{IsPrefix};

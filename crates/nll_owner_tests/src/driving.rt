@@ -2,7 +2,7 @@
 ghost use Rattle.std.specs.Prelude.{◌≡◌, length};
 
 use super::problems::{Written, problem_of};
-use nll_core::{BuildError, Element, Problem, RegionId};
+use nll_core::{BuildError, Element, Memory, Problem, RegionId};
 use nll_cut::{Cut, CutError};
 use nll_mail::Growth;
 use nll_owner::{Owner, OwnerError};
@@ -45,6 +45,12 @@ impl From<CutError> for Stop {
 impl From<OwnerError> for Stop {
     fn from(error: OwnerError) -> Stop {
         Stop::Owner(error)
+    }
+}
+
+impl From<Memory> for Stop {
+    fn from(_: Memory) -> Stop {
+        Stop::Memory
     }
 }
 
@@ -172,8 +178,9 @@ fn write_counts(out: &mut String, owners: &[Owner]) -> Result<(), AllocError> {
     Ok(())
 }
 
-// Makes the owners of a cut, drives them, and tells what they have.
-fn driven_over(
+/// What the owners of a cut have once they are driven: the value of each region, and how many
+/// growths each owner has grown, given and received.
+pub fn driven_over(
     alloc: Global,
     problem: &Problem,
     cut: &Cut,

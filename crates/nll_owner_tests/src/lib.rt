@@ -7,8 +7,12 @@
 #[cfg(test)]
 mod driving;
 #[cfg(test)]
+mod frontiers;
+#[cfg(test)]
 mod problems;
 #[cfg(test)]
-mod turns;
+mod random;
 #[cfg(test)]
 mod refusals;
+#[cfg(test)]
+mod turns;

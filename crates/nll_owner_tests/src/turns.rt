@@ -45,8 +45,8 @@ const THREE_BACK: &[Turn] = &[
     Hand(0, 1),
 ];
 
-// Problems, how many owners there are, what they have in the end (the value of each region, and what
-// each owner has grown, given and received), and orders of turns that come to it.
+// Problems, how many owners there are, what they have in the end (the value of each region, and
+// what each owner has grown, given and received), and orders of turns that come to it.
 type Row = (Written, u16, &'static str, &'static [&'static [Turn]]);
 
 const ROWS: &[Row] = &[

@@ -1,7 +1,8 @@
 //! Sets of elements as lists of runs.
 
 ghost use Rattle.std.specs.Prelude.{◌≡◌, ℕ, ◌≤◌, ◌<◌, true, false, not, length, slice_set, []};
-ghost use Rattle.std.specs.Prelude.{replicate, max, IfOk, IsOk, IsOkAnd, OnOk, OnErr, IfSome, IfNone};
+ghost use Rattle.std.specs.Prelude.{replicate, max, IfOk, IsOk, IsOkAnd, OnOk, OnErr, IfSome};
+ghost use Rattle.std.specs.Prelude.{IfNone};
 ghost use Rattle.nll_sets.specs.ElementSet.{flag, elements};
 ghost use Rattle.nll_sets.specs.Runs.{first_of, last_of, run_of, IsRunFrom, IsRunCount, MakeUp};
 ghost use Rattle.nll_sets.specs.Runs.{Fills, IsWithin, Touches};
