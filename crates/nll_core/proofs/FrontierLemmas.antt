@@ -1,19 +1,19 @@
 -- A frontier goes on from an element, and is again what walks reach.
-use Rattle.std.proofs.Common.{◌≡◌, ◌≢◌, ◌⊎◌, ◌↔◌, ℕ, zero, suc, ◌+◌, ◌<◌, ◌≤◌, Bool, true, false, List, [], ◌∷◌, ◌++◌, Contains, AllPairs, length, get_or, Result, Ok, Err, refl, sym, ap, ◌∙◌, subst, inl, inr, ⊎_elim, arith}
+use Rattle.std.proofs.Common.{◌≡◌, ◌≢◌, ◌⊎◌, ◌↔◌, ℕ, zero, suc, ◌+◌, ◌<◌, ◌≤◌, Bool, true, false, List, [], ◌∷◌, ◌++◌, Contains, AllPairs, length, get_or, set, replicate, Result, Ok, Err, refl, sym, ap, ◌∙◌, subst, inl, inr, ⊎_elim, arith}
 use Rattle.std.specs.Prelude.{⊤}
 use Rattle.std.specs.List.Sorted.{IsBinarySearchResult}
 use Rattle.std.specs.Ordering.{nat_cmp}
 use Rattle.std.specs.Result.{is_ok}
 use Rattle.std.proofs.lemmas.Bool.{cases_eq, cases_lt, false≢true}
 use Rattle.std.proofs.lemmas.List.Sorted.{searched}
-use Rattle.std.proofs.lemmas.List.{get_or_default}
+use Rattle.std.proofs.lemmas.List.{get_or_default, get_or-set_other}
 use Rattle.nll_sets.specs.ElementSet.{flag}
 use Rattle.nll_problem.specs.Graph.{Graph, IsStep}
 use Rattle.nll_problem.specs.Walks.{Reaches}
 use Rattle.nll_problem.proofs.WalkLemmas.{reaches_first, reaches_starts, reaches_more, reaches_carries, reaches_weaker}
 use Rattle.nll_core.specs.Search.{Search, LeadsTo, IsIn, IsStepInside, Adds, Visits, IsPending, Spreads}
 use Rattle.nll_core.specs.Frontiers.{Frontier, ReachesFrom, IsFrontierIn, IsOtherOf, ListsNew, IsReachable, IsClosedBut, Resumes, IsAscending}
-use Rattle.nll_core.proofs.SearchLemmas.{adds_append, adds_weaker, contains_at, contains_from, leads_first, leads_carries}
+use Rattle.nll_core.proofs.SearchLemmas.{none_in_empty, adds_append, adds_weaker, contains_at, contains_from, leads_first, leads_carries}
 
 -- ---- where walks begin
 
@@ -156,3 +156,28 @@ module _ (old new : List Bool) (same : (x : ℕ) → flag new x ≡ flag old x) 
   -- and a list has what is new after it just where it had what is new before
   pub lists_widened : (last : List Bool) (before after : List ℕ) → ListsNew new last before after → ListsNew old last before after
   lists_widened last before after w = (w.0, w.1, λ x. (λ h. (((w.2 x).0 h).0, sym (same x) ∙ ((w.2 x).0 h).1), λ h. (w.2 x).1 (h.0, same x ∙ h.1)), w.3)
+
+-- ---- other words for the same set
+
+-- a frontier of walks inside one set is one of walks inside any that has the same elements
+pub frontier_alike : (g : Graph) (inside other : ℕ → Type 0) (f : Frontier) → ((x : ℕ) → inside x ↔ other x) → IsFrontierIn g inside f → IsFrontierIn g other f
+frontier_alike g inside other f same is x = (
+  λ h. let w = (is x).0 h in (w.0, w.1, reaches_weaker g inside w.0 other (λ y t. (same y).0 t) x w.2),
+  λ w. (is x).1 (w.0, w.1, reaches_weaker g other w.0 inside (λ y t. (same y).1 t) x w.2),
+)
+
+-- what a set had before an element came is what it has beside it
+pub other_of_inserted : (old : List Bool) (e : ℕ) → flag old e ≡ false → (x : ℕ) → IsIn old x ↔ IsOtherOf (set old e true) e x
+other_of_inserted old e fresh x = (
+  λ h.
+      let other : x ≢ e = λ is. false≢true (sym fresh ∙ subst (IsIn old) is h) in
+      (get_or-set_other old e x true false other ∙ h, other),
+  λ h. sym (get_or-set_other old e x true false h.1) ∙ h.0,
+)
+
+-- a frontier that has reached nothing is one of walks inside the empty set
+pub frontier_none : (g : Graph) (n : ℕ) (starts : List ℕ) → (x : ℕ) → IsIn [] x ↔ ReachesFrom g (IsIn (replicate n false)) starts x
+frontier_none g n starts x = (
+  λ h. absurd (false≢true h),
+  λ w. absurd (none_in_empty n w.0 (reaches_starts g (IsIn (replicate n false)) w.0 x w.2)),
+)

@@ -1,8 +1,7 @@
 -- How an owner keeps what it has, and what its steps add.
 -- Source: project's choice. Private contracts alone cite this file.
 use Rattle.std.specs.Prelude.{◌≡◌, ◌⊎◌, ◌↔◌, ℕ, ◌+◌, ◌<◌, ◌≤◌, Bool, true, false, List, Contains}
-use Rattle.std.specs.Prelude.{length}
-use Rattle.std.specs.Prelude.{take, slice_index_or}
+use Rattle.std.specs.Prelude.{length, take, slice_index_or}
 use Rattle.nll_problem.specs.Solution.{Asks}
 use Rattle.nll_problem.specs.declared.constraint.Constraint.{Constraint}
 use Rattle.nll_core.specs.Growing.{missing_pairs}

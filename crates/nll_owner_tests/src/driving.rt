@@ -2,7 +2,7 @@
 ghost use Rattle.std.specs.Prelude.{◌≡◌, length};
 
 use super::problems::{Written, problem_of};
-use nll_core::{BuildError, Element, Problem, RegionId};
+use nll_core::{BuildError, Element, Memory, Problem, RegionId};
 use nll_cut::{Cut, CutError};
 use nll_mail::Growth;
 use nll_owner::{Owner, OwnerError};
@@ -45,6 +45,12 @@ impl From<CutError> for Stop {
 impl From<OwnerError> for Stop {
     fn from(error: OwnerError) -> Stop {
         Stop::Owner(error)
+    }
+}
+
+impl From<Memory> for Stop {
+    fn from(_: Memory) -> Stop {
+        Stop::Memory
     }
 }
 
@@ -120,7 +126,11 @@ pub fn drive(owners: &mut [Owner], turns: &[Turn]) -> Result<(), Stop> {
 }
 
 // The owners of a cut.
-fn owners_of<'q>(alloc: Global, problem: &'q Problem, cut: &'q Cut) -> Result<Vec<Owner<'q>>, Stop>
+fn owners_of<'q>(
+    alloc: Global,
+    problem: &'q Problem,
+    cut: &'q Cut,
+) -> Result<Vec<Owner<'q>>, Stop>
     requires { length cut.now.list ≡ problem.now.regions }
 {
     let mut owners = Vec::new(alloc);
@@ -163,17 +173,19 @@ fn write_values(out: &mut String, owners: &[Owner], cut: &Cut, regions: u32) -> 
 fn write_counts(out: &mut String, owners: &[Owner]) -> Result<(), AllocError> {
     for owner in owners {
         let counts = owner.counts();
-        write!(
-            out,
-            "{} {} {}|",
-            counts.grown, counts.given, counts.received
-        )?;
+        write!(out, "{} {} {}|", counts.grown, counts.given, counts.received)?;
     }
     Ok(())
 }
 
-// Makes the owners of a cut, drives them, and tells what they have.
-fn driven_over(alloc: Global, problem: &Problem, cut: &Cut, turns: &[Turn]) -> Result<String, Stop>
+/// What the owners of a cut have once they are driven: the value of each region, and how many
+/// growths each owner has grown, given and received.
+pub fn driven_over(
+    alloc: Global,
+    problem: &Problem,
+    cut: &Cut,
+    turns: &[Turn],
+) -> Result<String, Stop>
     requires { length cut.now.list ≡ problem.now.regions }
 {
     let mut out = String::new(alloc);

@@ -7,7 +7,11 @@
 #[cfg(test)]
 mod driving;
 #[cfg(test)]
+mod frontiers;
+#[cfg(test)]
 mod problems;
+#[cfg(test)]
+mod random;
 #[cfg(test)]
 mod refusals;
 #[cfg(test)]

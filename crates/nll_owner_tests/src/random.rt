@@ -1,0 +1,160 @@
+//! Owners of random problems and random cuts, driven in a random order, come to the values that
+//! `solve` gives.
+ghost use Rattle.std.specs.Prelude.{◌≡◌, ◌<◌, ◌≤◌, length};
+
+use super::driving::Turn::{Hand, Load};
+use super::driving::{Stop, Turn, driven_over};
+use nll_core::{BuildError, Constraint, Problem, ProblemBuilder, RegionId, Values, solve};
+use nll_cut::Cut;
+use std::alloc::{AllocError, Global};
+
+// A number that looks random.
+fn mixed(seed: u32, place: u32) -> u32 {
+    let sum = seed.wrapping_mul(2_654_435_761) ^ place.wrapping_mul(2_246_822_519);
+    let once = (sum ^ (sum >> 15)).wrapping_mul(3_266_489_917);
+    (once ^ (once >> 13)).wrapping_mul(668_265_263) >> 4
+}
+
+// Puts a random fact of nine points and nine regions into a builder.
+fn enter_one(builder: &mut ProblemBuilder, number: u32) -> Result<(), BuildError> {
+    let (first, second, third) = (number / 8 % 9, number / 72 % 9, number / 648 % 9);
+    match number % 8 {
+        0 => builder.next(first, second),
+        1 | 2 => builder.next(first, (first + 1) % 9),
+        3 | 4 => builder.base(RegionId(first), second),
+        5 if third < 3 => builder.ret(first),
+        _ => builder.constraint(Constraint {
+            sup: RegionId(first),
+            sub: RegionId(second),
+            at: third,
+        }),
+    }
+}
+
+// Puts random facts into a builder of two universal regions, and seven regions before them.
+fn enter_all(builder: &mut ProblemBuilder, seed: u32) -> Result<(), BuildError> {
+    for _ in 0..7 {
+        builder.region()?;
+    }
+    for place in 0..20 + seed % 60 {
+        enter_one(builder, mixed(seed, place))?;
+    }
+    Ok(())
+}
+
+// A random problem.
+fn problem_of(alloc: Global, seed: u32) -> Result<Problem, BuildError> {
+    let mut builder = ProblemBuilder::new(alloc, 9, 2)?;
+    let entered = enter_all(&mut builder, seed);
+    entered.and(builder.finish())
+}
+
+// A random owner for each region.
+fn list_of(alloc: Global, regions: u32, owners: u16, seed: u32) -> Result<Vec<u16>, AllocError>
+    requires { 0 < owners }
+{
+    let mut list = Vec::new(alloc);
+    for region in 0..regions {
+        list.push((mixed(seed, 1000 + region) % owners as u32) as u16)?;
+    }
+    Ok(list)
+}
+
+// Random turns, and then each possible one.
+fn turns_of(alloc: Global, owners: u16, seed: u32) -> Result<Vec<Turn>, AllocError>
+    requires { 0 < owners }
+{
+    let mut turns = Vec::new(alloc);
+    for place in 0..40 {
+        let number = mixed(seed, 2000 + place);
+        let from = (number / 8 % owners as u32) as u16;
+        let to = (number / 512 % owners as u32) as u16;
+        turns.push(if number % 8 == 0 {
+            Load(to)
+        } else {
+            Hand(from, to)
+        })?;
+    }
+    for to in 0..owners {
+        turns.push(Load(to))?;
+        for from in 0..owners {
+            turns.push(Hand(from, to))?;
+        }
+    }
+    Ok(turns)
+}
+
+// Writes the value of a region.
+fn write_value(out: &mut String, values: &Values, region: RegionId) -> Result<(), AllocError>
+    requires { region < length values.now }
+{
+    write!(out, "{}:", region.0)?;
+    for element in values.iter(region) {
+        write!(out, " {}", element.0)?;
+    }
+    out.push('|')
+}
+
+// Writes the value of each region.
+fn write_all(out: &mut String, values: &Values, regions: u32) -> Result<(), AllocError>
+    requires { regions ≤ length values.now }
+{
+    for number in 0..regions {
+        write_value(out, values, RegionId(number))?;
+    }
+    Ok(())
+}
+
+// The least values, as `solve` gives them.
+fn solved(alloc: Global, problem: &Problem) -> Result<String, Stop> {
+    let mut out = String::new(alloc);
+    let values = solve(alloc, problem)?;
+    let written = write_all(&mut out, &values, problem.regions());
+    drop(values);
+    written?;
+    Ok(out)
+}
+
+// Whether driven owners come to what `solve` gives.
+fn agree_over(
+    alloc: Global,
+    problem: &Problem,
+    cut: &Cut,
+    turns: &[Turn],
+) -> Result<bool, Stop>
+    requires { length cut.now.list ≡ problem.now.regions }
+{
+    let told = driven_over(alloc, problem, cut, turns)?;
+    let want = solved(alloc, problem)?;
+    Ok(told.as_str().starts_with(want.as_str()))
+}
+
+// The same for a random cut and random turns.
+fn agree_on(alloc: Global, problem: &Problem, seed: u32) -> Result<bool, Stop> {
+    let owners = (1 + seed % 4) as u16;
+    let list = list_of(alloc, problem.regions(), owners, seed)?;
+    let turns = turns_of(alloc, owners, seed)?;
+    if list.len() != problem.regions() as usize {
+        return Err(Stop::Wrong);
+    }
+    let cut = Cut::from_list(alloc, problem.regions(), owners, &list)?;
+    let told = agree_over(alloc, problem, &cut, &turns);
+    drop(cut);
+    told
+}
+
+// The same for a random problem.
+fn agree(alloc: Global, seed: u32) -> Result<bool, Stop> {
+    let problem = problem_of(alloc, seed)?;
+    let told = agree_on(alloc, &problem, seed);
+    drop(problem);
+    told
+}
+
+#[test]
+fn driven_owners_agree_with_one_solver(rt: HostRuntime) {
+    for seed in 0..300 {
+        let told = agree(rt.alloc(), seed);
+        assert!(rt; told == Ok(true), "{seed}: {told:?}");
+    }
+}
