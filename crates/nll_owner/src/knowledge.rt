@@ -1,7 +1,8 @@
 //! What an owner knows: its values and copies, its log, and what it received.
 
 ghost use Rattle.std.specs.Prelude.{◌≡◌, ◌⊎◌, ◌↔◌, ℕ, ◌+◌, ◌<◌, ◌≤◌, ◌^◌, true, false, max, []};
-ghost use Rattle.std.specs.Prelude.{Some, Err, Contains, length, take, slice_get, slice_set, IsTrue, map};
+ghost use Rattle.std.specs.Prelude.{Some, Err, Contains, length, take, slice_get, slice_set};
+ghost use Rattle.std.specs.Prelude.{IsTrue, map};
 ghost use Rattle.std.specs.Prelude.{replicate, IfOk, OnOk, OnErr, IfSome, IfNone};
 ghost use Rattle.std.specs.Prelude.{min, ◌-◌};
 ghost use Rattle.std.specs.List.{sum, sum_by};
@@ -135,8 +136,7 @@ impl<'q> Knowledge<'q> {
         requires sound { IsSound self.old }
         requires own { owner_of self.old.cut region ≡ self.old.me }
         requires region { region < self.old.problem.regions }
-        requires elements
-            { (x : ℕ) → Contains found.now x → x < element_count self.old.problem.graph }
+        requires elements { (x : ℕ) → Contains found.now x → x < element_count self.old.problem.graph }
         requires called { (x : ℕ) → Contains found.now x → IsCalled self.old region x }
         ensures grows { Grows self.old self.new }
         ensures covers { OnOk result ((x : ℕ) → Contains found.now x → Has self.new region x) }
@@ -156,8 +156,8 @@ impl<'q> Knowledge<'q> {
     pub fn enter_received(&mut self, from: u16, growth: Growth) -> Result<(), OwnerError>
         requires { Passes self.old.problem self.old.cut self.old.me from growth }
         ensures ok { OnOk result (self.new ≡ record self.old {
-            received = with_growth self.old.received from growth;
-            clock = max self.old.clock growth.rank;
+          received = with_growth self.old.received from growth;
+          clock = max self.old.clock growth.rank;
         }) }
         ensures err { OnErr result (self.new ≡ self.old) }
         ensures full { result ≡ Err RankFull → ⊥ }
@@ -189,7 +189,7 @@ impl<'q> Knowledge<'q> {
         ensures some { IfSome result (λ growth.
             (slice_get (part_for self.old to) (given_to self.old to) ≡ Some growth)
             × (self.new ≡ record self.old {
-                given = slice_set self.old.given to (given_to self.old to + 1);
+              given = slice_set self.old.given to (given_to self.old to + 1);
             })) }
         ensures none { IfNone result
             ((self.new ≡ self.old) × (given_to self.old to ≡ length (part_for self.old to))) }
@@ -227,7 +227,9 @@ impl<'q> Knowledge<'q> {
             ↔ Passes self.now.problem self.now.cut self.now.me from growth.now }
     {
         let Growth {
-            region, element, ..
+            region,
+            element,
+            ..
         } = *growth;
         if element.0 >= self.problem.points() + self.problem.universals() {
             return false;

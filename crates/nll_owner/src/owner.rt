@@ -79,10 +79,10 @@ impl<'q> Owner<'q> {
         requires { self.old.broken ≡ false → self.old.loaded ≡ false }
         ensures begins { IsPrefix self.old.log self.new.log }
         ensures others { self.new ≡ record self.old {
-            log = self.new.log;
-            clock = self.new.clock;
-            loaded = self.new.loaded;
-            broken = self.new.broken;
+          log = self.new.log;
+          clock = self.new.clock;
+          loaded = self.new.loaded;
+          broken = self.new.broken;
         } }
         ensures done { OnOk result (IsDone self.new) }
         ensures ok { OnOk result
@@ -112,10 +112,10 @@ impl<'q> Owner<'q> {
         requires passes { Passes self.old.problem self.old.cut self.old.me from growth }
         ensures begins { IsPrefix self.old.log self.new.log }
         ensures others { self.new ≡ record self.old {
-            log = self.new.log;
-            received = self.new.received;
-            clock = self.new.clock;
-            broken = self.new.broken;
+          log = self.new.log;
+          received = self.new.received;
+          clock = self.new.clock;
+          broken = self.new.broken;
         } }
         ensures received { OnOk result
             (self.new.received ≡ with_growth self.old.received from growth) }
@@ -174,7 +174,7 @@ impl<'q> Owner<'q> {
         ensures some { IfSome result (λ growth. (self.old.broken ≡ false)
             × (slice_get (part_for self.old to) (given_to self.old to) ≡ Some growth)
             × (self.new ≡ record self.old {
-                given = slice_set self.old.given to (given_to self.old to + 1);
+              given = slice_set self.old.given to (given_to self.old to + 1);
             })) }
         ensures none { IfNone result ((self.new ≡ self.old)
             × (self.old.broken ≡ false → to < self.old.cut.owners
@@ -201,8 +201,7 @@ impl<'q> Owner<'q> {
     pub fn counts(&self) -> Counts
         ensures grown { result.grown ≡ length self.now.log }
         ensures given { result.given ≡ sum self.now.given }
-        ensures received
-            { result.received ≡ min (sum_by length self.now.received) (2 ^ 64 - 1) }
+        ensures received { result.received ≡ min (sum_by length self.now.received) (2 ^ 64 - 1) }
     {
         Counts {
             grown: self.knowledge.entries().len() as u64,
@@ -251,13 +250,12 @@ fn receive_all(
     growth: Growth,
 ) -> Result<(), OwnerError>
     requires loaded { knowledge.old.loaded ≡ true }
-    requires passes
-        { Passes knowledge.old.problem knowledge.old.cut knowledge.old.me from growth }
+    requires passes { Passes knowledge.old.problem knowledge.old.cut knowledge.old.me from growth }
     ensures begins { IsPrefix knowledge.old.log knowledge.new.log }
     ensures others { knowledge.new ≡ record knowledge.old {
-        log = knowledge.new.log;
-        received = knowledge.new.received;
-        clock = knowledge.new.clock;
+      log = knowledge.new.log;
+      received = knowledge.new.received;
+      clock = knowledge.new.clock;
     } }
     ensures received { OnOk result
         (knowledge.new.received ≡ with_growth knowledge.old.received from growth) }

@@ -126,11 +126,7 @@ pub fn drive(owners: &mut [Owner], turns: &[Turn]) -> Result<(), Stop> {
 }
 
 // The owners of a cut.
-fn owners_of<'q>(
-    alloc: Global,
-    problem: &'q Problem,
-    cut: &'q Cut,
-) -> Result<Vec<Owner<'q>>, Stop>
+fn owners_of<'q>(alloc: Global, problem: &'q Problem, cut: &'q Cut) -> Result<Vec<Owner<'q>>, Stop>
     requires { length cut.now.list ≡ problem.now.regions }
 {
     let mut owners = Vec::new(alloc);
@@ -173,7 +169,11 @@ fn write_values(out: &mut String, owners: &[Owner], cut: &Cut, regions: u32) -> 
 fn write_counts(out: &mut String, owners: &[Owner]) -> Result<(), AllocError> {
     for owner in owners {
         let counts = owner.counts();
-        write!(out, "{} {} {}|", counts.grown, counts.given, counts.received)?;
+        write!(
+            out,
+            "{} {} {}|",
+            counts.grown, counts.given, counts.received
+        )?;
     }
     Ok(())
 }

@@ -7,16 +7,19 @@ ghost use Rattle.nll_core.specs.Frontiers.{IsFrontierIn};
 use super::driving::Stop;
 use super::problems::{FILLED_HOLE, problem_of};
 use nll_core::{BitSet, Element, ElementSet, Frontier, Graph, Memory, Problem};
+use nll_problem::Predecessors;
 use std::alloc::{AllocError, Global};
 
 // Puts an element into a set, and lets the frontier go on; writes what it newly reaches.
 fn grow(
     alloc: Global,
     graph: &Graph,
+    previous: &Predecessors<'_>,
     seen: &mut BitSet,
     frontier: &mut Frontier,
     element: Element,
 ) -> Result<Vec<Element>, Memory>
+    requires previous { previous.now ≡ graph.now }
     requires width { length seen.old ≡ element_count graph.now }
     requires fits { length frontier.old.reached ≤ element_count graph.now }
     requires whole { frontier.old.refused ≡ false }
@@ -32,7 +35,7 @@ fn grow(
         return Ok(found);
     }
     seen.insert(element)?;
-    frontier.grow(graph, seen, element, &mut found)?;
+    frontier.grow(graph, previous, seen, element, &mut found)?;
     Ok(found)
 }
 
@@ -49,11 +52,19 @@ fn write_found(out: &mut String, mut found: Vec<Element>) -> Result<(), AllocErr
 fn told_of(alloc: Global, graph: &Graph, numbers: &[u32]) -> Result<String, Stop> {
     let mut out = String::new(alloc);
     let count = graph.points() + graph.universals();
+    let previous = Predecessors::of(alloc, graph)?;
     let mut seen = BitSet::empty(alloc, count)?;
     let mut frontier = Frontier::new(alloc, Element(0));
     for number in numbers {
         if *number < count {
-            let found = grow(alloc, graph, &mut seen, &mut frontier, Element(*number))?;
+            let found = grow(
+                alloc,
+                graph,
+                &previous,
+                &mut seen,
+                &mut frontier,
+                Element(*number),
+            )?;
             write_found(&mut out, found)?;
         }
     }

@@ -116,12 +116,7 @@ fn solved(alloc: Global, problem: &Problem) -> Result<String, Stop> {
 }
 
 // Whether driven owners come to what `solve` gives.
-fn agree_over(
-    alloc: Global,
-    problem: &Problem,
-    cut: &Cut,
-    turns: &[Turn],
-) -> Result<bool, Stop>
+fn agree_over(alloc: Global, problem: &Problem, cut: &Cut, turns: &[Turn]) -> Result<bool, Stop>
     requires { length cut.now.list ≡ problem.now.regions }
 {
     let told = driven_over(alloc, problem, cut, turns)?;
