@@ -1,5 +1,4 @@
 //! Cuts of regions among owners, and who reads what.
-ghost use Rattle.std.specs.Prelude.{◌≤◌, length};
 
 use super::calls::Call::{Holds, Next, Region, Ret};
 use super::calls::{Call, told};
@@ -139,12 +138,12 @@ fn cut_of(alloc: Global, regions: u32, owners: u16, deal: Deal) -> Result<Cut, C
 }
 
 // Writes the owner of each region.
-fn write_owners(out: &mut String, cut: &Cut, regions: u32) -> Result<(), AllocError>
-    requires { regions ≤ length cut.now.list }
-{
+fn write_owners(out: &mut String, cut: &Cut, regions: u32) -> Result<(), AllocError> {
     write!(out, "of {}:", cut.owners())?;
     for number in 0..regions {
-        write!(out, " {}", cut.owner_of(RegionId(number)))?;
+        if (number as usize) < cut.regions() {
+            write!(out, " {}", cut.owner_of(RegionId(number)))?;
+        }
     }
     Ok(())
 }
