@@ -7,8 +7,6 @@
 #[cfg(test)]
 mod driving;
 #[cfg(test)]
-mod frontiers;
-#[cfg(test)]
 mod problems;
 #[cfg(test)]
 mod random;
