@@ -26,7 +26,7 @@ mutual
   any_within structs n (more t ts) w r (inr h) = any_within structs n ts w.1 r h
 
 module _ (structs : List Struct) (order : AreInOrder structs) (n : ℕ) (some : 0 < n) where
-  part_good : (t u : TypeTree) (k : ℕ) → IsWellFormed structs n 0 t → behind structs (Field k) t ≡ Some u → IsWellFormed structs n 0 u
+  pub part_good : (t u : TypeTree) (k : ℕ) → IsWellFormed structs n 0 t → behind structs (Field k) t ≡ Some u → IsWellFormed structs n 0 u
   part_good t u k w h =
       place_good structs order n 0 some (t ∷ []) (All-cons (IsWellFormed structs n 0) t [] w (All-nil (IsWellFormed structs n 0)))
       (record { variable = 0; projections = Field k ∷ [] }) u (ap (option_and_then (behind_all structs [])) h)
