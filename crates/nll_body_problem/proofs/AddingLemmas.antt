@@ -111,7 +111,7 @@ refused_after k l m old mid e h first second = ⊎_elim inl (λ full. inr (full.
         (o.3 c there))
 
 pub refused_same : (k m : Constraint → Type 0) (q : Problem) (e : BuildError) → ((c : Constraint) → k c → m c) → IsRefused k q e → IsRefused m q e
-refused_same k m q e into = refused_after (λ c. ⊥) k m q q e (adds_none (λ c. ⊥) q (λ c no. no)) (λ c no. absurd no) into
+refused_same k m q e into = refused_after (λ c. ⊥) k m q q e (adds_none (λ c. ⊥) q (λ c f. f)) (λ c f. absurd f) into
 
 -- a constraint that a problem has no room for, or memory
 pub refused_one : (q : Problem) (c : Constraint) (e : BuildError) → IsSound q → c.at < q.graph.points → c.sup < q.regions → c.sub < q.regions

@@ -1,20 +1,33 @@
 -- What stands at points asks constraints, one point after another.
-use Rattle.std.proofs.Common.{◌≡◌, ◌⊎◌, ◌↔◌, ℕ, ◌+◌, ◌<◌, ◌≤◌, List, Contains, length, Some, inl, inr, sym, ◌∙◌, subst, ⊎_elim, arith}
+use Rattle.std.proofs.Common.{◌≡◌, ◌⊎◌, ◌↔◌, ℕ, ◌+◌, ◌<◌, ◌≤◌, List, [], Contains, length, Some, inl, inr, sym, ◌∙◌, subst, ⊎_elim, arith}
 use Rattle.std.proofs.lemmas.Bool.{cases_lt}
 use Rattle.std.proofs.lemmas.Option.{slice_get_within}
 use Rattle.nll_problem.specs.Problem.{Problem}
 use Rattle.nll_problem.specs.declared.constraint.Constraint.{Constraint}
 use Rattle.nll_problem.specs.declared.error.BuildError.{BuildError}
 use Rattle.nll_types.specs.Types.{TypeTree}
+use Rattle.nll_types.specs.Structs.{Struct}
 use Rattle.nll_statements.specs.Statements.{Statement}
 use Rattle.nll_body.specs.Bodies.{BodyText, StandsAt, GoesOn}
 use Rattle.nll_rules.specs.Asking.{Asks}
+use Rattle.nll_rules.specs.Pairs.{AddsPairs}
 use Rattle.nll_body_problem.specs.BodyProblem.{IsAskedAt, IsConstraint}
 use Rattle.nll_body_problem.specs.Adding.{AddsConstraints, IsRefused, IsOfPairs, IsAskedBefore}
-use Rattle.nll_body_problem.proofs.AddingLemmas.{adds_none, adds_same, adds_both, refused_after}
+use Rattle.nll_body_problem.proofs.AddingLemmas.{only_new, adds_none, adds_same, adds_both, refused_after}
 
 some_same : (i j : Statement ℕ TypeTree) → Some i ≡ Some j → i ≡ j
 some_same i j e = cc
+
+-- the pairs that came to an empty list are what the statement asks, in the words of the body
+pub only_asked : (body : BodyText) (i : Statement ℕ TypeTree) (structs : List Struct) (variables : List TypeTree) (old new seen : List (ℕ × ℕ)) → structs ≡ body.structs → variables ≡ body.variables
+    → old ≡ [] → seen ≡ new → AddsPairs (Asks structs variables i) old new → (x : ℕ × ℕ) → Contains seen x ↔ Asks body.structs body.variables i x
+only_asked body i structs variables old new seen same_structs same_variables none same h x =
+    let each = only_new old new (Asks structs variables i) none h.each x in (
+      λ there. subst (λ (vs : List TypeTree). Asks body.structs vs i x) same_variables
+      (subst (λ (ss : List Struct). Asks ss variables i x) same_structs (each.0 (subst (λ (xs : List (ℕ × ℕ)). Contains xs x) same there))),
+      λ asks. subst (λ (xs : List (ℕ × ℕ)). Contains xs x) (sym same) (each.1
+      (subst (λ (ss : List Struct). Asks ss variables i x) (sym same_structs) (subst (λ (vs : List TypeTree). Asks body.structs vs i x) (sym same_variables) asks))),
+    )
 
 -- the pairs that a statement asks at the points that may come after it are what it asks
 pub asked_here : (body : BodyText) (p : ℕ) (i : Statement ℕ TypeTree) (next : List ℕ) (asked : List (ℕ × ℕ)) → StandsAt body p i

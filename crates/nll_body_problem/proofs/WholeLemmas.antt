@@ -11,54 +11,61 @@ use Rattle.nll_problem.specs.declared.error.Kind.TheVariants.{Constraints}
 use Rattle.nll_body.specs.Bodies.{BodyText, IsGraphOf}
 use Rattle.nll_live.specs.Live.{IsBaseOf}
 use Rattle.nll_body_problem.specs.BodyProblem.{IsConstraint, IsProblemOf, HasTooMany, IsRuleError}
-use Rattle.nll_body_problem.specs.Adding.{AddsOutlives, AddsBases, AddsConstraints, IsRefused, IsRefusedFor, told_of}
+use Rattle.nll_body_problem.specs.Adding.{AddsOutlives, AddsConstraints, IsRefused, IsRefusedFor, told_of}
 use Rattle.nll_body_problem.proofs.AddingLemmas.{nothing, only_new, no_more}
 
--- the four steps, from the problem of a graph alone
-pub record AreSteps (body : BodyText) (graph : Graph) (live : List (ℕ × ℕ)) (counted known based : Problem) : Type 0 where
+-- the steps in front of the constraints, from the problem of a graph alone
+pub record AreSteps (body : BodyText) (graph : Graph) (counted known based : Problem) : Type 0 where
   pub shown : IsGraphOf body graph
   pub regions : counted ≡ record (bare_problem graph) { regions = length body.names }
   pub outlives : AddsOutlives body.outlives counted known
-  pub bases : AddsBases live known based
-  pub lives : (r p : ℕ) → Contains live (r, p) ↔ IsBaseOf body r p
+  pub others : based ≡ record known { bases = based.bases }
+  pub bases : (r p : ℕ) → Contains based.bases (r, p) ↔ IsBaseOf body r p
 
-module _ (body : BodyText) (graph : Graph) (live : List (ℕ × ℕ)) (counted known based : Problem) (steps : AreSteps body graph live counted known based) where
-  -- what the steps leave as it was
-  pub graph_kept : based.graph ≡ graph
-  graph_kept =
-      ap (λ (q : Problem). q.graph) steps.bases.others
-      ∙ (ap (λ (q : Problem). q.graph) steps.outlives.others ∙ ap (λ (q : Problem). q.graph) steps.regions)
+-- what the first two of them leave as it was
+module _ (body : BodyText) (graph : Graph) (counted known : Problem) (shown : IsGraphOf body graph) (regions : counted ≡ record (bare_problem graph) { regions = length body.names })
+    (outlives : AddsOutlives body.outlives counted known) where
+  pub known_graph : known.graph ≡ graph
+  known_graph = ap (λ (q : Problem). q.graph) outlives.others ∙ ap (λ (q : Problem). q.graph) regions
 
-  pub regions_counted : based.regions ≡ length body.names
-  regions_counted =
-      ap (λ (q : Problem). q.regions) steps.bases.others
-      ∙ (ap (λ (q : Problem). q.regions) steps.outlives.others ∙ ap (λ (q : Problem). q.regions) steps.regions)
+  pub known_points : known.graph.points ≡ length body.points
+  known_points = ap (λ (g : Graph). g.points) known_graph ∙ shown.points
 
-  pub points_counted : based.graph.points ≡ length body.points
-  points_counted = ap (λ (g : Graph). g.points) graph_kept ∙ steps.shown.points
+  pub known_regions : known.regions ≡ length body.names
+  known_regions = ap (λ (q : Problem). q.regions) outlives.others ∙ ap (λ (q : Problem). q.regions) regions
 
-  unconstrained : based.constraints ≡ []
-  unconstrained =
-      ap (λ (q : Problem). q.constraints) steps.bases.others
-      ∙ (ap (λ (q : Problem). q.constraints) steps.outlives.others ∙ ap (λ (q : Problem). q.constraints) steps.regions)
+  pub known_bases : known.bases ≡ []
+  known_bases = ap (λ (q : Problem). q.bases) outlives.others ∙ ap (λ (q : Problem). q.bases) regions
 
-  unbased : known.bases ≡ []
-  unbased = ap (λ (q : Problem). q.bases) steps.outlives.others ∙ ap (λ (q : Problem). q.bases) steps.regions
+  pub known_constraints : known.constraints ≡ []
+  known_constraints = ap (λ (q : Problem). q.constraints) outlives.others ∙ ap (λ (q : Problem). q.constraints) regions
+
+module _ (body : BodyText) (graph : Graph) (counted known based : Problem) (steps : AreSteps body graph counted known based) where
+  based_graph : based.graph ≡ graph
+  based_graph = ap (λ (q : Problem). q.graph) steps.others ∙ known_graph body graph counted known steps.shown steps.regions steps.outlives
+
+  pub based_points : based.graph.points ≡ length body.points
+  based_points = ap (λ (g : Graph). g.points) based_graph ∙ steps.shown.points
+
+  pub based_regions : based.regions ≡ length body.names
+  based_regions = ap (λ (q : Problem). q.regions) steps.others ∙ known_regions body graph counted known steps.shown steps.regions steps.outlives
+
+  based_constraints : based.constraints ≡ []
+  based_constraints = ap (λ (q : Problem). q.constraints) steps.others ∙ known_constraints body graph counted known steps.shown steps.regions steps.outlives
 
   -- the whole problem
   pub whole : (q : Problem) → AddsConstraints (IsConstraint body) based q → IsProblemOf body q
   whole q asked = record {
-    graph = subst (IsGraphOf body) (sym (ap (λ (z : Problem). z.graph) asked.others ∙ graph_kept)) steps.shown;
-    regions = ap (λ (z : Problem). z.regions) asked.others ∙ regions_counted;
+    graph = subst (IsGraphOf body) (sym (ap (λ (z : Problem). z.graph) asked.others ∙ based_graph)) steps.shown;
+    regions = ap (λ (z : Problem). z.regions) asked.others ∙ based_regions;
     bases = λ r p.
-        let same : q.bases ≡ based.bases = ap (λ (z : Problem). z.bases) asked.others in
-        let new = only_new known.bases based.bases (Contains live) unbased steps.bases.each (r, p) in (
-          λ h. (steps.lives r p).0 (new.0 (subst (λ (xs : List (ℕ × ℕ)). Contains xs (r, p)) same h)),
-          λ h. subst (λ (xs : List (ℕ × ℕ)). Contains xs (r, p)) (sym same) (new.1 ((steps.lives r p).1 h)),
+        let same : q.bases ≡ based.bases = ap (λ (z : Problem). z.bases) asked.others in (
+          λ h. (steps.bases r p).0 (subst (λ (xs : List (ℕ × ℕ)). Contains xs (r, p)) same h),
+          λ h. subst (λ (xs : List (ℕ × ℕ)). Contains xs (r, p)) (sym same) ((steps.bases r p).1 h),
         );
-    constraints = only_new based.constraints q.constraints (IsConstraint body) unconstrained asked.each;
+    constraints = only_new based.constraints q.constraints (IsConstraint body) based_constraints asked.each;
     outlives = λ x.
-        let same : q.outlives ≡ known.outlives = ap (λ (z : Problem). z.outlives) asked.others ∙ ap (λ (z : Problem). z.outlives) steps.bases.others in
+        let same : q.outlives ≡ known.outlives = ap (λ (z : Problem). z.outlives) asked.others ∙ ap (λ (z : Problem). z.outlives) steps.others in
         let new = only_new counted.outlives known.outlives (Contains body.outlives) (ap (λ (z : Problem). z.outlives) steps.regions) steps.outlives.each x in (
           λ h. new.0 (subst (λ (xs : List (ℕ × ℕ)). Contains xs x) same h),
           λ h. subst (λ (xs : List (ℕ × ℕ)). Contains xs x) (sym same) (new.1 h),
@@ -67,7 +74,7 @@ module _ (body : BodyText) (graph : Graph) (live : List (ℕ × ℕ)) (counted k
 
   pub whole_refused : (e : BuildError) → IsRefused (IsConstraint body) based e → IsRefusedFor body e
   whole_refused e = ⊎_elim inl (λ h. inr (h.0, (h.1.0, h.1.1, h.1.2, λ c there. ⊎_elim
-      (λ old. absurd (nothing c (subst (λ (cs : List Constraint). Contains cs c) unconstrained old)))
+      (λ old. absurd (nothing c (subst (λ (cs : List Constraint). Contains cs c) based_constraints old)))
       (λ k. k)
       (h.1.3 c there))))
 

@@ -1,7 +1,8 @@
 //! The problem of a body.
 
-ghost use Rattle.std.specs.Prelude.{◌≡◌, IfErr, IfOk, OnOk};
+ghost use Rattle.std.specs.Prelude.{◌≡◌, ◌↔◌, ◌<◌, ℕ, [], length, Contains, IfErr, IfOk, OnOk};
 ghost use Rattle.nll_problem.specs.Problem.{IsSound, SameProblem};
+ghost use Rattle.nll_live.specs.Live.{IsBaseOf};
 ghost use Rattle.nll_body_problem.specs.Adding.{IsBareOf, IsRefusedFor};
 ghost use Rattle.nll_body_problem.specs.BodyProblem.{HasTooMany, IsProblemOf, IsRuleError};
 
@@ -78,14 +79,29 @@ fn fill(alloc: Global, body: &Body, builder: &mut ProblemBuilder) -> Result<(), 
     ensures ok { OnOk result (IsProblemOf body.now builder.new) }
     ensures err { IfErr result (IsRefusedFor body.now) }
 {
+    // No effect at run time. The proof reads from this call that the body is sound.
+    let _ = body.points();
     add_regions(builder, body.universals(), body.regions());
     add_outlives(builder, body.outlives())?;
+    add_live(alloc, body, builder)?;
+    add_constraints(alloc, body, builder)?;
+    Ok(())
+}
+
+// Adds the base elements that the liveness of variables gives regions, where there are none.
+fn add_live(alloc: Global, body: &Body, builder: &mut ProblemBuilder) -> Result<(), BuildError>
+    requires points { builder.old.graph.points ≡ length body.now.points }
+    requires regions { builder.old.regions ≡ length body.now.names }
+    requires none { builder.old.bases ≡ [] }
+    ensures others { OnOk result (builder.new ≡ record builder.old { bases = builder.new.bases }) }
+    ensures each { OnOk result
+        ((r p : ℕ) → Contains builder.new.bases (r, p) ↔ IsBaseOf body.now r p) }
+    ensures err { IfErr result (λ e. e ≡ BuildError.Memory) }
+{
     let live = live_pairs(alloc, body)?;
     let told = add_bases(builder, live.as_slice());
     drop(live);
-    told?;
-    add_constraints(alloc, body, builder)?;
-    Ok(())
+    told
 }
 
 // The base elements that the liveness of variables gives regions.
