@@ -72,5 +72,15 @@ returns-clause-ok c = whole _ _ _ _ _ (steps (goal.at.returns-clause-ok c).In_ok
 
 pub returns-in_err-add_constraints-clause-err : goal.returns-in_err-add_constraints-clause-err
 returns-in_err-add_constraints-clause-err c =
-    let p = err_from_is_err_and c.from_residual.result c.from_residual.ensures.1 in
+    let p = err_from_is_err_and c.from_residual-in_err-add_constraints.result c.from_residual-in_err-add_constraints.ensures.1 in
     rw (p.1, p.2) (whole_refused _ _ _ _ _ (steps (goal.at.returns-in_err-add_constraints-clause-err c).In_ok-add_live) _ c.in_err-add_constraints.ensures.err)
+
+pub returns-in_err-add_outlives-clause-err : goal.returns-in_err-add_outlives-clause-err
+returns-in_err-add_outlives-clause-err c =
+    let p = err_from_is_err_and c.from_residual.result c.from_residual.ensures.1 in
+    rw (p.1, p.2) (inl c.in_err-add_outlives.ensures.err)
+
+pub returns-in_err-add_live-clause-err : goal.returns-in_err-add_live-clause-err
+returns-in_err-add_live-clause-err c =
+    let p = err_from_is_err_and c.from_residual-in_err-add_live.result c.from_residual-in_err-add_live.ensures.1 in
+    rw (p.1, p.2) (inl c.in_err-add_live.ensures.err)

@@ -46,7 +46,7 @@ returns-clause-ok c =
 pub returns-in_err-add_pairs-clause-err : goal.returns-in_err-add_pairs-clause-err
 returns-in_err-add_pairs-clause-err c =
     let d = goal.at.returns-in_err-add_pairs-clause-err c in
-    let p = err_from_is_err_and c.from_residual.result c.from_residual.ensures.1 in
+    let p = err_from_is_err_and c.from_residual-in_err-add_pairs.result c.from_residual-in_err-add_pairs.ensures.1 in
     rw (p.1, p.2) (refused_same _ (IsAskedAt c.args.body.now c.args.point) c.args.builder.now _
     (λ k. (asked_here c.args.body.now c.args.point (meant c.line_at.result.now) c.next_of.result.now c.as_slice.result.now c.line_at.ensures (goes d.After-next_of) (pairs d.After-as_slice) k).0)
     c.in_err-add_pairs.ensures.err)
