@@ -106,6 +106,13 @@ impl Body {
         &self.labels
     }
 
+    /// Its labels alone. Takes no memory.
+    pub fn into_labels(self) -> Labels
+        ensures { result ≡ labels_of self }
+    {
+        self.labels
+    }
+
     /// How many points there are; they are numbered from 0.
     pub fn points(&self) -> u32
         ensures value { result ≡ length self.now.points }
