@@ -6,12 +6,12 @@ use Rattle.std.proofs.lemmas.List.{take-append-drop}
 use Rattle.std.proofs.lemmas.List.Elements.{Contains-push, Contains-push_cases, Contains-append_left}
 use Rattle.std.proofs.lemmas.Map.Made.{length-le_from_is_member, IsDistinct-from_AllPairs}
 use Rattle.nll_problem.specs.Answers.{AddsFact}
-use Rattle.nll_problem.specs.Building.{first_error, same_constraint, has_constraint, is_full, constraint_error}
+use Rattle.nll_problem.specs.Building.{first_error, same_constraint, is_point, is_region, has_constraint, is_full, constraint_error}
 use Rattle.nll_problem.specs.Limits.{most_constraints}
 use Rattle.nll_problem.specs.Problem.{Problem, IsOnce, IsSound}
 use Rattle.nll_problem.specs.declared.constraint.Constraint.{Constraint}
 use Rattle.nll_problem.specs.declared.error.BuildError.{BuildError}
-use Rattle.nll_problem.specs.declared.error.BuildError.TheVariants.{Limit, Memory}
+use Rattle.nll_problem.specs.declared.error.BuildError.TheVariants.{PointRange, RegionRange, Limit, Memory}
 use Rattle.nll_problem.specs.declared.error.Kind.TheVariants.{Constraints}
 use Rattle.nll_problem.proofs.FactLemmas.{exact_equivalence, constraint_is, constraint_same, constraint_found, once_constraint_absent}
 use Rattle.nll_body_problem.specs.Adding.{AddsOutlives, AddsBases, AddsConstraints, Overflows, IsRefused, IsOfPair, IsOfPairs}
@@ -113,13 +113,20 @@ refused_after k l m old mid e h first second = ⊎_elim inl (λ full. inr (full.
 pub refused_same : (k m : Constraint → Type 0) (q : Problem) (e : BuildError) → ((c : Constraint) → k c → m c) → IsRefused k q e → IsRefused m q e
 refused_same k m q e into = refused_after (λ c. ⊥) k m q q e (adds_none (λ c. ⊥) q (λ c f. f)) (λ c f. absurd f) into
 
+-- the first rows don't hold
+passed : (at sup sub : Bool) (one other : BuildError) (rows : List (Bool × BuildError)) → at ≡ true → sup ≡ true → sub ≡ true
+    → first_error ((not at, one) ∷ (not (sup && sub), other) ∷ rows) ≡ first_error rows
+passed at sup sub one other rows p q r = rw (p, q, r) refl
+
 -- a constraint that a problem has no room for, or memory
 pub refused_one : (q : Problem) (c : Constraint) (e : BuildError) → IsSound q → c.at < q.graph.points → c.sup < q.regions → c.sub < q.regions
     → (constraint_error q c ≡ Some e) ⊎ ((constraint_error q c ≡ None) × (e ≡ Memory)) → IsRefused (λ d. c ≡ d) q e
 refused_one q c e sound at sup sub answers = ⊎_elim (λ due. by (has_constraint q c) refl (is_full q) refl (sym past ∙ due)) (λ none. inl none.1) answers
   where
     past : constraint_error q c ≡ first_error ((not (has_constraint q c) && is_full q, Limit Constraints) ∷ [])
-    past = rw (lt-ltb c.at q.graph.points at, lt-ltb c.sup q.regions sup, lt-ltb c.sub q.regions sub) refl
+    past =
+        passed (is_point q c.at) (is_region q c.sup) (is_region q c.sub) PointRange RegionRange ((not (has_constraint q c) && is_full q, Limit Constraints) ∷ [])
+        (lt-ltb c.at q.graph.points at) (lt-ltb c.sup q.regions sup) (lt-ltb c.sub q.regions sub)
 
     limit_is : Some (Limit Constraints) ≡ Some e → e ≡ Limit Constraints
     limit_is due = cc
@@ -142,7 +149,7 @@ refused_one q c e sound at sup sub answers = ⊎_elim (λ due. by (has_constrain
 pub no_more : (some all : List Constraint) → IsOnce some → ((c : Constraint) → Contains some c → Contains all c) → length some ≤ length all
 no_more some all once among =
     length-le_from_is_member (exact_equivalence same_constraint constraint_is constraint_same) some all
-    (IsDistinct-from_AllPairs (λ c d. (constraint_is c d, λ is. subst (λ (z : Constraint). same_constraint c z ≡ true) is (constraint_same c))) some once)
+    (IsDistinct-from_AllPairs {eq = same_constraint} (λ c d. (constraint_is c d, λ is. subst (λ (z : Constraint). same_constraint c z ≡ true) is (constraint_same c))) some once)
     (λ c h. (constraint_found all c).1 (among c ((constraint_found some c).0 h)))
 
 -- ---- pairs of regions at points
