@@ -100,8 +100,8 @@ pub fn read(alloc: Global, text: &[u8]) -> Result<String, AllocError> {
     }
 }
 
-// Writes a text of lines that end with `|`.
-fn write_lines(text: &mut Vec<u8>, lines: &str) -> Result<(), AllocError> {
+/// Writes a text of lines that end with `|`.
+pub fn write_lines(text: &mut Vec<u8>, lines: &str) -> Result<(), AllocError> {
     for byte in lines.as_bytes() {
         text.push(if *byte == b'|' { b'\n' } else { *byte })?;
     }

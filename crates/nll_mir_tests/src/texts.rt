@@ -28,3 +28,7 @@ pub const RETURNED: &str = "nll-mir 1|universal 'a|universal 'b|let _0: &'a int|
 pub const CALLED: &str = "nll-mir 1|region 'a|region 'b|region 'c|let _0: int|let _1: &'a int|\
     let _2: &'b int|blocks 2|block bb0|_2 = call f(copy _1: &'c int): &'c int -> bb1|block bb1|\
     read _2.*|return|end|";
+
+/// A reference is returned twice as one of a universal region that it is known to outlive.
+pub const RETURNED_TWICE: &str = "nll-mir 1|universal 'a|universal 'b|outlives 'b 'a|\
+    let _0: &'a int|let _1: &'b int|blocks 1|block bb0|_0 = copy _1|_0 = copy _1|return|end|";
