@@ -1,0 +1,2 @@
+pub mod PostingLemmas
+pub mod NetworkLemmas
