@@ -1,7 +1,6 @@
 -- Owners and the mailboxes between them: what they say once they are settled.
-use Rattle.std.proofs.Common.{◌≡◌, ◌≢◌, ◌↔◌, ℕ, ◌<◌, List, [], length, map, get_or, slice_get, Some, Contains, refl, sym, ap, ◌∙◌, subst, arith}
+use Rattle.std.proofs.Common.{◌≡◌, ◌≢◌, ◌↔◌, ℕ, ◌<◌, List, [], ◌∷◌, length, map, get_or, slice_get, Some, Contains, refl, sym, ap, ◌∙◌, subst, ⊎_elim, arith}
 use Rattle.std.proofs.lemmas.List.{get_or-map, length-map}
-use Rattle.std.proofs.lemmas.List.Elements.{Contains-map, Contains-map_from}
 use Rattle.std.proofs.lemmas.Option.{slice_get-get_or}
 use Rattle.nll_problem.specs.Problem.{Problem, IsSound as IsSoundProblem}
 use Rattle.nll_problem.specs.Solution.{Least}
@@ -9,10 +8,26 @@ use Rattle.nll_cut.specs.Partition.{Cut, owner_of, reads}
 use Rattle.nll_mail.specs.declared.growth.Growth.{Growth}
 use Rattle.nll_owner.specs.Logs.{IsWellFormed, IsWellSupported, IsSaturated, IsCutOf, IsKnown, AreSound, AreSettled, list_of, log_of, part}
 use Rattle.nll_owner.specs.Owner.{Owner, first_owner, part_for, received_from}
-use Rattle.nll_owner.proofs.LogLemmas.{filter_from}
+use Rattle.nll_owner.proofs.LogLemmas.{contains_head, contains_tail, contains_cases, filter_from}
 use Rattle.nll_owner.proofs.LawLemmas.{least_exact}
 use Rattle.nll_owner.proofs.OwnerLemmas.{get_at}
 use Rattle.nll_owner_tests.specs.Network.{IsPair, IsOwner, InStep, AreGiven, AreLoaded, AreDelivered, SayLeast, SaysOf, SayOfAll, logs_of}
+
+-- ---- lists of what a function gives
+
+contains_mapped : {X Y : Type 0} (f : X → Y) (xs : List X) (y : Y) → Contains (map f xs) y → (x : X) × Contains xs x × (f x ≡ y)
+contains_mapped f [] y h = absurd (let l = h.1 in omega arith)
+contains_mapped f (x ∷ xs) y h = ⊎_elim
+    (λ (is : f x ≡ y). (x, contains_head x xs, is))
+    (λ (w : Contains (map f xs) y). let r = contains_mapped f xs y w in (r.0, contains_tail x xs r.0 r.1, r.2))
+    (contains_cases (f x) (map f xs) y h)
+
+contains_map : {X Y : Type 0} (f : X → Y) (xs : List X) (x : X) → Contains xs x → Contains (map f xs) (f x)
+contains_map f [] x h = absurd (let l = h.1 in omega arith)
+contains_map f (z ∷ xs) x h = ⊎_elim
+    (λ (same : z ≡ x). subst (λ y. Contains (f z ∷ map f xs) (f y)) same (contains_head (f z) (map f xs)))
+    (λ (w : Contains xs x). contains_tail (f z) (map f xs) (f x) (contains_map f xs x w))
+    (contains_cases z xs x h)
 
 module _ {C P : Type 0} (tied : C → Type 0) (ends : C → ℕ × ℕ) (sent received : C → List Growth) (post_ends : P → ℕ × ℕ) (post_sent post_received : P → List Growth)
     (q : Problem) (c : Cut) (owners : List Owner) (channels : List C) (posts : List P)
@@ -110,13 +125,13 @@ module _ {C P : Type 0} (tied : C → Type 0) (ends : C → ℕ × ℕ) (sent re
   are_delivered = record {
     pairs = λ pair. (
       λ h.
-          let p = Contains-map_from post_ends posts pair h in
+          let p = contains_mapped post_ends posts pair h in
           let w = says.only p.0 p.1 in
           subst (IsPair c.owners) (sym w.2.same_ends ∙ p.2) (pair_of w.0 w.1),
       λ h.
           let x = s.all_pairs.all pair h in
           let w = says.each x.0 x.1 in
-          subst (Contains (map post_ends posts)) (w.2.same_ends ∙ x.2) (Contains-map post_ends posts w.0 w.1),
+          subst (Contains (map post_ends posts)) (w.2.same_ends ∙ x.2) (contains_map post_ends posts w.0 w.1),
     );
     whole_part = λ p h.
         let w = says.only p h in
