@@ -245,7 +245,7 @@ module _ (r e : ℕ) (o : Owner) (f : Following) (w : IsFollowing (Pair r e) o f
   set_here = get_or-set_same f.seen r (set (set_of f.seen r) e true) [] within_values
 
   set_there : (s : ℕ) → s ≢ r → set_of seen_then s ≡ set_of f.seen s
-  set_there s other = get_or-set_other f.seen s r (set (set_of f.seen r) e true) [] other
+  set_there s other = get_or-set_other f.seen r s (set (set_of f.seen r) e true) [] other
 
   pub width_then : length (set_of seen_then r) ≡ element_count o.problem.graph
   width_then = gains.widths r ∙ w.shaped.elements r in_regions
@@ -269,14 +269,14 @@ module _ (r e : ℕ) (o : Owner) (f : Following) (w : IsFollowing (Pair r e) o f
       }
 
   module _ (n : Owner) (g : Grows o n) (row : List Link) (same : map link_shape row ≡ map link_shape (row_of f r)) (followed : (l : Link) → Contains row l → IsFollowed n (IsIn (set_of seen_then r)) l) where
-    abbrev then : Following
-    then = record f { rows = set f.rows r row; seen = seen_then }
+    abbrev after : Following
+    after = record f { rows = set f.rows r row; seen = seen_then }
 
-    row_here : row_of then r ≡ row
+    row_here : row_of after r ≡ row
     row_here = get_or-set_same f.rows r row [] within_rows
 
-    row_there : (s : ℕ) → s ≢ r → row_of then s ≡ row_of f s
-    row_there s other = get_or-set_other f.rows s r row [] other
+    row_there : (s : ℕ) → s ≢ r → row_of after s ≡ row_of f s
+    row_there s other = get_or-set_other f.rows r s row [] other
 
     left_then : (s x : ℕ) → Has n s x → IsHeld seen_then s x ⊎ (IsKnown (drop f.place n.log) s x ⊎ Nothing s x)
     left_then s x h = ⊎_elim
@@ -290,7 +290,7 @@ module _ (r e : ℕ) (o : Owner) (f : Following) (w : IsFollowing (Pair r e) o f
         (λ k. inr (inl (k.0, behind o n g f.place w.within k.0 (inr k.1), k.2, k.3)))
         (has_grown o n g s x h)
 
-    pub following_more : IsFollowing Nothing n then
+    pub following_more : IsFollowing Nothing n after
     following_more = record {
       same_graph = w.same_graph ∙ ap (λ (q : Problem). q.graph) (sym (same_problem o n g));
       count = length-set f.rows r row ∙ (w.count ∙ ap (λ (q : Problem). q.regions) (sym (same_problem o n g)));
@@ -302,12 +302,12 @@ module _ (r e : ℕ) (o : Owner) (f : Following) (w : IsFollowing (Pair r e) o f
           (gains.cause s x h));
       left = left_then;
       links = λ s l. ⊎_elim
-          (λ (is : s ≡ r). subst (λ y. AreLinksOf n.cut n.me y n.problem.constraints (row_of then y)) (sym is)
+          (λ (is : s ≡ r). subst (λ y. AreLinksOf n.cut n.me y n.problem.constraints (row_of after y)) (sym is)
           (subst (λ xs. AreLinksOf n.cut n.me r n.problem.constraints xs) (sym row_here) (links_grow o n g r row (same_links o.cut o.me r o.problem.constraints (row_of f r) row same (w.links r in_regions)))))
           (λ other. subst (λ xs. AreLinksOf n.cut n.me s n.problem.constraints xs) (sym (row_there s other)) (links_grow o n g s (row_of f s) (w.links s (region_before o n g s l))))
           (cases_eq s r);
       followed = λ s l h. ⊎_elim
-          (λ (is : s ≡ r). subst (λ y. IsFollowed n (IsHeld seen_then y) l) (sym is) (followed l (subst (λ xs. Contains xs l) (ap (row_of then) is ∙ row_here) h)))
+          (λ (is : s ≡ r). subst (λ y. IsFollowed n (IsHeld seen_then y) l) (sym is) (followed l (subst (λ xs. Contains xs l) (ap (row_of after) is ∙ row_here) h)))
           (λ other. subst (λ xs. IsFollowed n (IsIn xs) l) (sym (set_there s other)) (followed_grows o n g (IsHeld f.seen s) l (w.followed s l (subst (λ xs. Contains xs l) (row_there s other) h))))
           (cases_eq s r);
     }
