@@ -1,7 +1,8 @@
 -- What an owner has followed up after a step.
 use Rattle.std.proofs.Common.{◌≡◌, ◌≢◌, ◌↔◌, ◌⊎◌, ⊎_elim, ℕ, zero, suc, ◌+◌, ◌<◌, ◌≤◌, Bool, true, false, List, [], ◌∷◌, ◌++◌, length, map, set, replicate, get_or, drop, Contains, refl, sym, ap, ◌∙◌, subst, inl, inr, arith}
-use Rattle.std.proofs.lemmas.Bool.{cases_eq, false≢true}
-use Rattle.std.proofs.lemmas.List.{get_or-set_same, get_or-set_other, length-set}
+use Rattle.std.proofs.lemmas.Bool.{cases_eq, cases_lt, false≢true, true≢false}
+use Rattle.std.specs.Prelude.{Result, Ok, Err, OnOk, is_err}
+use Rattle.std.proofs.lemmas.List.{get_or-set_same, get_or-set_other, get_or_past, length-set}
 use Rattle.std.proofs.lemmas.List.Elements.{Contains-append_left}
 use Rattle.nll_problem.specs.Graph.{element_count}
 use Rattle.nll_problem.specs.Problem.{Problem}
@@ -388,3 +389,82 @@ module _ (q : Problem) (c : Cut) (i : ℕ) (rows : List (List Link)) (nothing : 
         λ h. absurd (false≢true h),
         λ t. absurd (nothing_held q.regions (element_count q.graph) r t.0 (reaches_starts q.graph (IsHeld (empty_values q) r) t.0 x t.2)),
       )
+
+-- ---- what stands in the log
+
+-- a growth of the log is of a region of the problem
+pub log_region : (o : Owner) → IsSound o → (g : Growth) → Contains o.log g → g.region < o.problem.regions
+log_region o sound g h = ⊎_elim
+    (λ within. omega (arith, within, sound.cut.regions))
+    (λ past. absurd (let own = sound.well_formed.own g h in let none = get_or_past o.cut.list g.region o.cut.owners past in omega (arith, own, none, sound.me)))
+    (cases_lt g.region (length o.cut.list))
+
+-- and the owner has it
+pub log_has : (o : Owner) → IsSound o → (g : Growth) → Contains o.log g → Has o g.region g.element
+log_has o sound g h = (g, subst (λ xs. Contains xs g) (sym (list_own o.cut o.me o.log (received_from o) g.region (sound.well_formed.own g h))) h, refl, refl)
+
+-- ---- where what was given out, or the marks, alone changed
+
+pub following_given : (due : ℕ → ℕ → Type 0) (old new : Owner) (f : Following) → new ≡ record old { given = new.given } → IsFollowing due old f → IsFollowing due new f
+following_given due old new f same w = subst (λ o. IsFollowing due o f) (sym same) (record {
+  same_graph = w.same_graph;
+  count = w.count;
+  shaped = w.shaped;
+  within = w.within;
+  known = w.known;
+  left = w.left;
+  links = w.links;
+  followed = λ r l h. let x = w.followed r l h in record { whole = x.whole; fits = x.fits; reached = x.reached; filled = x.filled };
+})
+
+pub following_marked : (due : ℕ → ℕ → Type 0) (old new : Owner) (f : Following) → new ≡ record old { loaded = new.loaded; broken = new.broken } → IsFollowing due old f → IsFollowing due new f
+following_marked due old new f same w = subst (λ o. IsFollowing due o f) (sym same) (record {
+  same_graph = w.same_graph;
+  count = w.count;
+  shaped = w.shaped;
+  within = w.within;
+  known = w.known;
+  left = w.left;
+  links = w.links;
+  followed = λ r l h. let x = w.followed r l h in record { whole = x.whole; fits = x.fits; reached = x.reached; filled = x.filled };
+})
+
+-- ---- a received growth is due
+
+pub following_told : (old new : Owner) (f : Following) (g : Growth) (from : ℕ) → new ≡ record old { received = new.received; clock = new.clock }
+    → ((r e : ℕ) → Has old r e → Has new r e) → ((r e : ℕ) → Has new r e → Has old r e ⊎ ((r ≡ g.region) × (e ≡ g.element)))
+    → IsFollowing Nothing old f → IsFollowing (Pair g.region g.element) new f
+following_told old new f g from same more cases w =
+    let q : new.problem ≡ old.problem = ap (λ (o : Owner). o.problem) same in
+    let log : new.log ≡ old.log = ap (λ (o : Owner). o.log) same in
+    record {
+      same_graph = w.same_graph ∙ ap (λ (x : Problem). x.graph) (sym q);
+      count = w.count ∙ ap (λ (x : Problem). x.regions) (sym q);
+      shaped = subst (λ x. IsShaped x f.seen) (sym q) w.shaped;
+      within = subst (λ xs. f.place ≤ length xs) (sym log) w.within;
+      known = λ r e h. more r e (w.known r e h);
+      left = λ r e h. ⊎_elim
+          (λ before. ⊎_elim
+          (λ (seen : IsHeld f.seen r e). inl seen)
+          (λ later. ⊎_elim
+          (λ (k : IsKnown (drop f.place old.log) r e). inr (inl (subst (λ xs. IsKnown (drop f.place xs) r e) (sym log) k)))
+          (λ (never : Nothing r e). absurd never)
+          later)
+          (w.left r e before))
+          (λ (is : (r ≡ g.region) × (e ≡ g.element)). inr (inr is))
+          (cases r e h);
+      links = λ r l. subst (λ (o : Owner). AreLinksOf o.cut o.me r o.problem.constraints (row_of f r)) (sym same) (w.links r (subst (λ (x : Problem). r < x.regions) q l));
+      followed = λ r l h. let x = w.followed r l h in record {
+        whole = x.whole;
+        fits = subst (λ (p : Problem). length l.frontier.reached ≤ element_count p.graph) (sym q) x.fits;
+        reached = subst (λ (p : Problem). IsFrontierIn p.graph (IsHeld f.seen r) l.frontier) (sym q) x.reached;
+        filled = λ y at. more l.sup y (x.filled y at);
+      };
+    }
+
+-- ---- results
+
+-- what holds of an Ok where the result is no error
+pub unless_err : {T E P : Type 0} (r : Result T E) → OnOk r P → is_err r ≡ false → P
+unless_err (Ok x) p h = p
+unless_err (Err e) p h = absurd (true≢false h)

@@ -159,7 +159,7 @@ pub point_below : (c : Cut) (me r place : ℕ) (ks : List Constraint) (k : Const
 point_below c me r place ks k row ascend within is w l p h sup at =
     let j = (w.each l h).points p at in
     let early : j.0 < place = (let x = j.1 in omega (arith, x, length-take place ks)) in
-    let there : get_or ks j.0 (constraint_of r l.sup p) ≡ constraint_of r l.sup p = sym (get_or-take ks j.0 place (constraint_of r l.sup p) early) ∙ j.2 in
+    let there : get_or ks j.0 (constraint_of r l.sup p) ≡ constraint_of r l.sup p = sym (get_or-take place ks j.0 (constraint_of r l.sup p) early) ∙ j.2 in
     let lower = ascend j.0 place k early within in
     ⊎_elim
     (λ (less : (constraint_of r l.sup p).sup < k.sup). absurd (omega (arith, less, sup)))
