@@ -1,17 +1,20 @@
 -- Owners and the mailboxes between them: what they say once they are settled.
-use Rattle.std.proofs.Common.{◌≡◌, ◌≢◌, ◌↔◌, ℕ, ◌<◌, List, [], ◌∷◌, length, map, get_or, slice_get, Some, Contains, refl, sym, ap, ◌∙◌, subst, ⊎_elim, arith}
-use Rattle.std.proofs.lemmas.List.{get_or-map, length-map}
+use Rattle.std.proofs.Common.{◌≡◌, ◌≢◌, ◌↔◌, ◌⊎◌, inl, inr, ℕ, zero, suc, ◌<◌, ◌≤◌, List, [], ◌∷◌, length, map, set, take, get_or, slice_get, Some, Contains, AllPairs, refl, sym, ap, ◌∙◌, subst, ⊎_elim, arith}
+use Rattle.std.proofs.lemmas.Bool.{cases_eq, cases_lt}
+use Rattle.std.proofs.lemmas.List.{get_or-map, get_or-set_same, get_or-set_other, get_or_default, length-map, length-set}
+use Rattle.std.proofs.Math.Seq.{map-set_same}
 use Rattle.std.proofs.lemmas.Option.{slice_get-get_or}
 use Rattle.nll_problem.specs.Problem.{Problem, IsSound as IsSoundProblem}
 use Rattle.nll_problem.specs.Solution.{Least}
 use Rattle.nll_cut.specs.Partition.{Cut, owner_of, reads}
 use Rattle.nll_mail.specs.declared.growth.Growth.{Growth}
 use Rattle.nll_owner.specs.Logs.{IsWellFormed, IsWellSupported, IsSaturated, IsCutOf, IsKnown, AreSound, AreSettled, list_of, log_of, part}
-use Rattle.nll_owner.specs.Owner.{Owner, first_owner, part_for, received_from}
+use Rattle.nll_owner.specs.Owner.{Owner, first_owner, given_to, part_for, received_from}
 use Rattle.nll_owner.proofs.LogLemmas.{contains_head, contains_tail, contains_cases, filter_from}
 use Rattle.nll_owner.proofs.LawLemmas.{least_exact}
 use Rattle.nll_owner.proofs.OwnerLemmas.{get_at}
-use Rattle.nll_owner_tests.specs.Network.{IsPair, IsOwner, InStep, AreGiven, AreLoaded, AreDelivered, SayLeast, SaysOf, SayOfAll, logs_of}
+use Rattle.nll_owner.proofs.LinkingLemmas.{in_set}
+use Rattle.nll_owner_tests.specs.Network.{IsPair, IsOwner, AreOwners, AreAllPairs, IsCarried, InStep, AreGiven, AreLoaded, AreDelivered, SayLeast, SaysOf, SayOfAll, logs_of}
 
 -- ---- lists of what a function gives
 
@@ -28,6 +31,91 @@ contains_map f (z ∷ xs) x h = ⊎_elim
     (λ (same : z ≡ x). subst (λ y. Contains (f z ∷ map f xs) (f y)) same (contains_head (f z) (map f xs)))
     (λ (w : Contains xs x). contains_tail (f z) (map f xs) (f x) (contains_map f xs x w))
     (contains_cases z xs x h)
+
+-- ---- one owner and one channel change
+
+pair_is : (x y : ℕ × ℕ) → x.0 ≡ y.0 → x.1 ≡ y.1 → x ≡ y
+pair_is x y first last = ap (λ n. (n, x.1)) first ∙ ap (λ n. (y.0, n)) last
+
+set_cases : {X : Type 0} (xs : List X) (i j : ℕ) (y z : X) → slice_get (set xs i y) j ≡ Some z → ((j ≡ i) × (z ≡ y)) ⊎ (slice_get xs j ≡ Some z)
+set_cases [] zero j y z h = inr h
+set_cases [] (suc i) j y z h = inr h
+set_cases (x ∷ xs) zero zero y z h = inl (refl, sym (cc h))
+set_cases (x ∷ xs) zero (suc j) y z h = inr h
+set_cases (x ∷ xs) (suc i) zero y z h = inr h
+set_cases (x ∷ xs) (suc i) (suc j) y z h = ⊎_elim
+    (λ (t : (j ≡ i) × (z ≡ y)). inl (ap suc t.0, t.1))
+    (λ (t : slice_get xs j ≡ Some z). inr t)
+    (set_cases xs i j y z h)
+
+-- two places of a list in which nothing is twice hold different things
+differ_at : {X : Type 0} (xs : List X) (j k : ℕ) (x y : X) → AllPairs (λ a b. a ≢ b) xs → j ≢ k → j < length xs → k < length xs → get_or xs j x ≡ x → get_or xs k y ≡ y → x ≢ y
+differ_at xs j k x y once other lj lk is_x is_y same = ⊎_elim
+    (λ (less : j < k). once j k x less lk (is_x ∙ (same ∙ sym (get_or_default xs k x y lk ∙ is_y))))
+    (λ (more : k ≤ j). once k j x (omega (arith, more, other)) lj (get_or_default xs k x y lk ∙ (is_y ∙ (sym same ∙ sym is_x))))
+    (cases_lt j k)
+
+module _ {C : Type 0} (tied : C → Type 0) (ends : C → ℕ × ℕ) (sent received : C → List Growth) (q : Problem) (c : Cut) (owners : List Owner) (channels : List C)
+    (s : InStep tied ends sent received q c owners channels) (i : ℕ) (o n : Owner) (at_i : slice_get owners i ≡ Some o) (is_owner : IsOwner q c i n) where
+  are_owners_then : AreOwners q c (set owners i n)
+  are_owners_then = record {
+    count = length-set owners i n ∙ s.are_owners.count;
+    each = λ j p h. ⊎_elim
+        (λ (t : (j ≡ i) × (p ≡ n)). subst (λ x. IsOwner q c x p) (sym t.0) (subst (IsOwner q c i) (sym t.1) is_owner))
+        (λ (t : slice_get owners j ≡ Some p). s.are_owners.each j p t)
+        (set_cases owners i j n p h);
+  }
+
+  -- a channel of the list that isn't between the changed ends carries what it carried
+  module _ (x : C) (pair : ℕ × ℕ) (gives : i ≡ pair.0 → (j : ℕ) → j ≢ pair.1 → take (given_to n j) (part_for n j) ≡ take (given_to o j) (part_for o j))
+      (gives_not : i ≢ pair.0 → (j : ℕ) → take (given_to n j) (part_for n j) ≡ take (given_to o j) (part_for o j))
+      (hears : i ≡ pair.1 → (j : ℕ) → j ≢ pair.0 → received_from n j ≡ received_from o j)
+      (hears_not : i ≢ pair.1 → (j : ℕ) → received_from n j ≡ received_from o j) where
+    carried_other : (z : C) → Contains channels z → ends z ≢ pair → IsCarried (set owners i n) (ends z) (sent z) (received z)
+    carried_other z h other = record {
+      given_out = λ p at. ⊎_elim
+          (λ (t : ((ends z).0 ≡ i) × (p ≡ n)).
+          let before = (s.are_carried z h).given_out o (subst (λ j. slice_get owners j ≡ Some o) (sym t.0) at_i) in
+          subst (λ y. sent z ≡ take (given_to y (ends z).1) (part_for y (ends z).1)) (sym t.1) (before ∙ sym (⊎_elim
+          (λ (first : i ≡ pair.0). gives first (ends z).1 (λ last. other (pair_is (ends z) pair (t.0 ∙ first) last)))
+          (λ not_first. gives_not not_first (ends z).1)
+          (cases_eq i pair.0))))
+          (λ (t : slice_get owners (ends z).0 ≡ Some p). (s.are_carried z h).given_out p t)
+          (set_cases owners i (ends z).0 n p at);
+      taken = λ p at. ⊎_elim
+          (λ (t : ((ends z).1 ≡ i) × (p ≡ n)).
+          let before = (s.are_carried z h).taken o (subst (λ j. slice_get owners j ≡ Some o) (sym t.0) at_i) in
+          subst (λ y. received z ≡ received_from y (ends z).0) (sym t.1) (before ∙ sym (⊎_elim
+          (λ (last : i ≡ pair.1). hears last (ends z).0 (λ first. other (pair_is (ends z) pair first (t.0 ∙ last))))
+          (λ not_last. hears_not not_last (ends z).0)
+          (cases_eq i pair.1))))
+          (λ (t : slice_get owners (ends z).1 ≡ Some p). (s.are_carried z h).taken p t)
+          (set_cases owners i (ends z).1 n p at);
+    }
+
+    -- the channel at the place is another end of the same mailbox, and carries what the owners say
+    pub in_step_then : (k : ℕ) (y : C) → k < length channels → get_or channels k x ≡ x → ends x ≡ pair → ends y ≡ pair → tied y → IsCarried (set owners i n) pair (sent y) (received y)
+        → InStep tied ends sent received q c (set owners i n) (set channels k y)
+    in_step_then k y within is_x ends_x ends_y tied_y carried = record {
+      problem = s.problem;
+      cut = s.cut;
+      are_owners = are_owners_then;
+      all_pairs = subst (AreAllPairs c.owners) (sym (map-set_same ends channels k y x (ends_y ∙ (sym ends_x ∙ ap ends (sym is_x))))) s.all_pairs;
+      are_tied = λ z h. ⊎_elim
+          (λ (same : z ≡ y). subst tied (sym same) tied_y)
+          (λ (before : Contains channels z). s.are_tied z before)
+          (in_set channels k x y within is_x z h);
+      are_carried = λ z h. ⊎_elim
+          (λ (here : h.0 ≡ k).
+          let same : z ≡ y = sym h.2 ∙ (ap (λ j. get_or (set channels k y) j z) here ∙ get_or-set_same channels k y z within) in
+          subst (λ w. IsCarried (set owners i n) (ends w) (sent w) (received w)) (sym same) (subst (λ e. IsCarried (set owners i n) e (sent y) (received y)) (sym ends_y) carried))
+          (λ elsewhere.
+          let low : h.0 < length channels = (let l = h.1 in omega (arith, l, length-set channels k y)) in
+          let is_z : get_or channels h.0 z ≡ z = sym (get_or-set_other channels k h.0 y z elsewhere) ∙ h.2 in
+          carried_other z (h.0, low, is_z) (λ same. differ_at (map ends channels) h.0 k (ends z) (ends x) s.all_pairs.once elsewhere (omega (arith, low, length-map channels ends)) (omega (arith, within, length-map channels ends))
+          (get_or-map ends channels h.0 z (ends z) low ∙ ap ends is_z) (get_or-map ends channels k x (ends x) within ∙ ap ends is_x) (same ∙ sym ends_x)))
+          (cases_eq h.0 k);
+    }
 
 module _ {C P : Type 0} (tied : C → Type 0) (ends : C → ℕ × ℕ) (sent received : C → List Growth) (post_ends : P → ℕ × ℕ) (post_sent post_received : P → List Growth)
     (q : Problem) (c : Cut) (owners : List Owner) (channels : List C) (posts : List P)
@@ -76,7 +164,7 @@ module _ {C P : Type 0} (tied : C → Type 0) (ends : C → ℕ × ℕ) (sent re
   -- ---- each channel
 
   pair_of : (x : C) → Contains channels x → IsPair c.owners (ends x)
-  pair_of x h = s.all_pairs.each x h
+  pair_of x h = (s.all_pairs.each (ends x)).0 (contains_map ends channels x h)
 
   sent_is : (x : C) → Contains channels x → sent x ≡ part q c (ends x).1 (log_of logs (ends x).0)
   sent_is x h =
@@ -98,7 +186,7 @@ module _ {C P : Type 0} (tied : C → Type 0) (ends : C → ℕ × ℕ) (sent re
 
   told : (i j : ℕ) → i < c.owners → j < c.owners → i ≢ j → heard i j ≡ part q c i (log_of logs j)
   told i j li lj differ =
-      let w = s.all_pairs.all (j, i) (lj, li, λ e. differ (sym e)) in
+      let w = contains_mapped ends channels (j, i) ((s.all_pairs.each (j, i)).1 (lj, li, λ e. differ (sym e))) in
       sym (ap (λ (e : ℕ × ℕ). heard e.1 e.0) w.2)
       ∙ (sym (received_is w.0 w.1) ∙ (all_received w.0 w.1 ∙ (sent_is w.0 w.1 ∙ ap (λ (e : ℕ × ℕ). part q c e.1 (log_of logs e.0)) w.2)))
 
@@ -129,7 +217,7 @@ module _ {C P : Type 0} (tied : C → Type 0) (ends : C → ℕ × ℕ) (sent re
           let w = says.only p.0 p.1 in
           subst (IsPair c.owners) (sym w.2.same_ends ∙ p.2) (pair_of w.0 w.1),
       λ h.
-          let x = s.all_pairs.all pair h in
+          let x = contains_mapped ends channels pair ((s.all_pairs.each pair).1 h) in
           let w = says.each x.0 x.1 in
           subst (Contains (map post_ends posts)) (w.2.same_ends ∙ x.2) (contains_map post_ends posts w.0 w.1),
     );

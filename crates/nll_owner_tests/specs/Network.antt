@@ -62,26 +62,20 @@ pub record IsCarried (owners : List Owner) (ends : ℕ × ℕ) (sent received : 
   pub taken :
       (o : Owner) → slice_get owners ends.1 ≡ Some o → received ≡ received_from o ends.0
 
--- A channel for each ordered pair of owners, and no other.
-pub record AreAllPairs {C : Type 0} (ends : C → ℕ × ℕ) (count : ℕ) (channels : List C)
-    : Type 0 where
-  pub each : (x : C) → Contains channels x → IsPair count (ends x)
-  pub apart : AllPairs (λ x y. ends x ≢ ends y) channels
-  pub all :
-      (pair : ℕ × ℕ) → IsPair count pair → (x : C) × Contains channels x × (ends x ≡ pair)
+-- The list is of all ordered pairs of different owners, each once.
+pub record AreAllPairs (count : ℕ) (pairs : List (ℕ × ℕ)) : Type 0 where
+  pub each : (pair : ℕ × ℕ) → Contains pairs pair ↔ IsPair count pair
+  pub once : AllPairs (λ x y. x ≢ y) pairs
 
 -- the pair comes before another, by its first number and then by its second
 abbrev pub IsBefore : ℕ → ℕ → ℕ × ℕ → Type 0
 IsBefore first second pair = (pair.0 < first) ⊎ ((pair.0 ≡ first) × (pair.1 < second))
 
--- A channel for each ordered pair of owners that comes before this one, and no other.
-pub record AreAllBefore {C : Type 0} (ends : C → ℕ × ℕ) (count first second : ℕ)
-    (channels : List C) : Type 0 where
-  pub each : (x : C) → Contains channels x → IsPair count (ends x) × IsBefore first second (ends x)
-  pub apart : AllPairs (λ x y. ends x ≢ ends y) channels
-  pub all :
-      (pair : ℕ × ℕ) → IsPair count pair → IsBefore first second pair
-      → (x : C) × Contains channels x × (ends x ≡ pair)
+-- The list is of all such pairs that come before this one, each once.
+pub record AreAllBefore (count first second : ℕ) (pairs : List (ℕ × ℕ)) : Type 0 where
+  pub each :
+      (pair : ℕ × ℕ) → Contains pairs pair ↔ (IsPair count pair × IsBefore first second pair)
+  pub once : AllPairs (λ x y. x ≢ y) pairs
 
 -- The owners of a cut with a channel for each ordered pair of them, each of whose ends belong to one
 -- mailbox, which carries what its owners say.
@@ -91,7 +85,7 @@ pub record InStep {C : Type 0} (tied : C → Type 0) (ends : C → ℕ × ℕ)
   pub problem : IsSoundProblem q
   pub cut : IsCutOf q c
   pub are_owners : AreOwners q c owners
-  pub all_pairs : AreAllPairs ends c.owners channels
+  pub all_pairs : AreAllPairs c.owners (map ends channels)
   pub are_tied : (x : C) → Contains channels x → tied x
   pub are_carried :
       (x : C) → Contains channels x → IsCarried owners (ends x) (sent x) (received x)

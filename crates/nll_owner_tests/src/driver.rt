@@ -2,7 +2,7 @@
 //! left to do, and settles the mailboxes then.
 
 ghost use Rattle.std.specs.Prelude.{◌≡◌, ◌+◌, ◌<◌, ℕ, [], length, Contains, IfOk, OnOk, IfSome};
-ghost use Rattle.std.specs.Prelude.{IsTrue, Some, slice_get};
+ghost use Rattle.std.specs.Prelude.{◌×◌, IsTrue, Some, map, slice_get};
 ghost use Rattle.nll_owner.specs.Owner.{first_owner};
 ghost use Rattle.nll_owner_tests.specs.Network.{AreOwners, AreAllPairs, AreAllBefore, InStep};
 ghost use Rattle.nll_owner_tests.specs.Network.{AreGiven, AreLoaded, AreDelivered, SayLeast};
@@ -139,7 +139,7 @@ fn owners_of<'q>(alloc: Global, problem: &'q Problem, cut: &'q Cut) -> Result<Ve
 // A channel for each ordered pair of owners.
 fn channels_of<M: Mail>(alloc: Global, mail: &M, owners: u16) -> Result<Vec<Channel<M>>, Stop>
     ensures pairs { IfOk result (λ channels.
-        AreAllPairs (λ x. (x.from, x.to)) owners channels.items) }
+        AreAllPairs owners (map (λ x. (x.from, x.to)) channels.items)) }
     ensures tied { IfOk result (λ channels. (x : _) → Contains channels.items x
         → M.pairs x.sender x.receiver) }
     ensures new { IfOk result (λ channels. (x : _) → Contains channels.items x
@@ -161,12 +161,12 @@ fn add_channels_from<M: Mail>(
     owners: u16,
 ) -> Result<(), Stop>
     requires from { from < owners }
-    requires pairs { AreAllBefore (λ x. (x.from, x.to)) owners from 0 channels.old.items }
+    requires pairs { AreAllBefore owners from 0 (map (λ x. (x.from, x.to)) channels.old.items) }
     requires tied { (x : _) → Contains channels.old.items x → M.pairs x.sender x.receiver }
     requires new { (x : _) → Contains channels.old.items x
         → (M.sent x.sender ≡ []) × (M.received x.receiver ≡ []) }
     ensures pairs { OnOk result
-        (AreAllBefore (λ x. (x.from, x.to)) owners (from + 1) 0 channels.new.items) }
+        (AreAllBefore owners (from + 1) 0 (map (λ x. (x.from, x.to)) channels.new.items)) }
     ensures tied { OnOk result ((x : _) → Contains channels.new.items x
         → M.pairs x.sender x.receiver) }
     ensures new { OnOk result ((x : _) → Contains channels.new.items x
