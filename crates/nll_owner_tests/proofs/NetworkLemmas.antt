@@ -1,20 +1,24 @@
 -- Owners and the mailboxes between them: what they say once they are settled.
-use Rattle.std.proofs.Common.{◌≡◌, ◌≢◌, ◌↔◌, ◌⊎◌, inl, inr, ℕ, zero, suc, ◌<◌, ◌≤◌, List, [], ◌∷◌, length, map, set, take, get_or, slice_get, Some, Contains, AllPairs, refl, sym, ap, ◌∙◌, subst, ⊎_elim, arith}
+use Rattle.std.proofs.Common.{◌≡◌, ◌≢◌, ◌↔◌, ◌⊎◌, inl, inr, ℕ, zero, suc, ◌<◌, ◌≤◌, Bool, true, List, [], ◌∷◌, length, map, set, take, get_or, slice_get, Some, Contains, AllPairs, refl, sym, ap, ◌∙◌, subst, ⊎_elim, arith}
 use Rattle.std.proofs.lemmas.Bool.{cases_eq, cases_lt}
 use Rattle.std.proofs.lemmas.List.{get_or-map, get_or-set_same, get_or-set_other, get_or_default, length-map, length-set}
 use Rattle.std.proofs.Math.Seq.{map-set_same}
-use Rattle.std.proofs.lemmas.Option.{slice_get-get_or}
+use Rattle.std.proofs.lemmas.Option.{slice_get-get_or, slice_get_within}
+use Rattle.std.proofs.lemmas.List.{take-append-le}
+use Rattle.std.proofs.lemmas.List.Elements.{filter-append}
+use Rattle.std.specs.List.{filter}
 use Rattle.nll_problem.specs.Problem.{Problem, IsSound as IsSoundProblem}
 use Rattle.nll_problem.specs.Solution.{Least}
 use Rattle.nll_cut.specs.Partition.{Cut, owner_of, reads}
 use Rattle.nll_mail.specs.declared.growth.Growth.{Growth}
-use Rattle.nll_owner.specs.Logs.{IsWellFormed, IsWellSupported, IsSaturated, IsCutOf, IsKnown, AreSound, AreSettled, list_of, log_of, part}
-use Rattle.nll_owner.specs.Owner.{Owner, first_owner, given_to, part_for, received_from}
+use Rattle.nll_owner.specs.Logs.{IsPrefix, IsWellFormed, IsWellSupported, IsSaturated, IsCutOf, IsKnown, AreSound, AreSettled, list_of, log_of, part}
+use Rattle.nll_owner.specs.Owner.{Owner, IsSound, IsDone, first_owner, given_to, part_for, received_from}
 use Rattle.nll_owner.proofs.LogLemmas.{contains_head, contains_tail, contains_cases, filter_from}
 use Rattle.nll_owner.proofs.LawLemmas.{least_exact}
 use Rattle.nll_owner.proofs.OwnerLemmas.{get_at}
 use Rattle.nll_owner.proofs.LinkingLemmas.{in_set}
-use Rattle.nll_owner_tests.specs.Network.{IsPair, IsOwner, AreOwners, AreAllPairs, IsCarried, InStep, AreGiven, AreLoaded, AreDelivered, SayLeast, SaysOf, SayOfAll, logs_of}
+use Rattle.nll_owner_tests.proofs.PostingLemmas.{take_all}
+use Rattle.nll_owner_tests.specs.Network.{GivesAll, Hears, IsPair, IsOwner, AreOwners, AreAllPairs, IsCarried, InStep, AreGiven, AreLoaded, AreDelivered, SayLeast, SaysOf, SayOfAll, logs_of}
 
 -- ---- lists of what a function gives
 
@@ -47,6 +51,12 @@ set_cases (x ∷ xs) (suc i) (suc j) y z h = ⊎_elim
     (λ (t : (j ≡ i) × (z ≡ y)). inl (ap suc t.0, t.1))
     (λ (t : slice_get xs j ≡ Some z). inr t)
     (set_cases xs i j y z h)
+
+-- at the place itself stands what was put there
+set_there : {X : Type 0} (xs : List X) (i : ℕ) (y z : X) → i < length xs → slice_get (set xs i y) i ≡ Some z → z ≡ y
+set_there [] i y z l h = absurd (omega arith)
+set_there (x ∷ xs) zero y z l h = sym (cc h)
+set_there (x ∷ xs) (suc i) y z l h = set_there xs i y z (omega arith) h
 
 -- two places of a list in which nothing is twice hold different things
 differ_at : {X : Type 0} (xs : List X) (j k : ℕ) (x y : X) → AllPairs (λ a b. a ≢ b) xs → j ≢ k → j < length xs → k < length xs → get_or xs j x ≡ x → get_or xs k y ≡ y → x ≢ y
@@ -116,6 +126,138 @@ module _ {C : Type 0} (tied : C → Type 0) (ends : C → ℕ × ℕ) (sent rece
           (get_or-map ends channels h.0 z (ends z) low ∙ ap ends is_z) (get_or-map ends channels k x (ends x) within ∙ ap ends is_x) (same ∙ sym ends_x)))
           (cases_eq h.0 k);
     }
+
+-- ---- what an owner's step leaves
+
+-- a longer log begins each part as before
+part_begins : (o n : Owner) (j : ℕ) → n.problem ≡ o.problem → n.cut ≡ o.cut → IsPrefix o.log n.log → (k : ℕ) → k ≤ length (part_for o j) → take k (part_for n j) ≡ take k (part_for o j)
+part_begins o n j problem cut begins k low =
+    let test : Growth → Bool = λ g. reads o.problem o.cut j g.region in
+    ap (λ p. take k (part p n.cut j n.log)) problem
+    ∙ (ap (λ d. take k (part o.problem d j n.log)) cut
+    ∙ (ap (λ xs. take k (part o.problem o.cut j xs)) begins.1
+    ∙ (ap (take k) (filter-append test o.log begins.0) ∙ take-append-le k (part_for o j) (filter test begins.0) low)))
+
+module _ (q : Problem) (c : Cut) (i : ℕ) (o n : Owner) (w : IsOwner q c i o) (sound : IsSound n) where
+  -- it gave out all that it had for another
+  pub owner_given : (to : ℕ) → GivesAll to o n → IsOwner q c i n
+  owner_given to g = record {
+    problem = ap (λ (x : Owner). x.problem) g.others ∙ w.problem;
+    cut = ap (λ (x : Owner). x.cut) g.others ∙ w.cut;
+    me = ap (λ (x : Owner). x.me) g.others ∙ w.me;
+    sound = sound;
+    whole = ap (λ (x : Owner). x.broken) g.others ∙ w.whole;
+    done = λ loaded. subst IsDone (sym g.others) (w.done (sym (ap (λ (x : Owner). x.loaded) g.others) ∙ loaded));
+  }
+
+  -- it received something, or nothing
+  pub owner_heard : n ≡ record o { log = n.log; received = n.received; clock = n.clock } → (n.loaded ≡ true → IsDone n) → IsOwner q c i n
+  owner_heard others done = record {
+    problem = ap (λ (x : Owner). x.problem) others ∙ w.problem;
+    cut = ap (λ (x : Owner). x.cut) others ∙ w.cut;
+    me = ap (λ (x : Owner). x.me) others ∙ w.me;
+    sound = sound;
+    whole = ap (λ (x : Owner). x.broken) others ∙ w.whole;
+    done = done;
+  }
+
+  -- it was loaded
+  pub owner_loaded : n ≡ record o { log = n.log; clock = n.clock; loaded = true } → IsDone n → IsOwner q c i n
+  owner_loaded others done = record {
+    problem = ap (λ (x : Owner). x.problem) others ∙ w.problem;
+    cut = ap (λ (x : Owner). x.cut) others ∙ w.cut;
+    me = ap (λ (x : Owner). x.me) others ∙ w.me;
+    sound = sound;
+    whole = ap (λ (x : Owner). x.broken) others ∙ w.whole;
+    done = λ _. done;
+  }
+
+module _ {C : Type 0} (tied : C → Type 0) (ends : C → ℕ × ℕ) (sent received : C → List Growth) (q : Problem) (c : Cut) (owners : List Owner) (channels : List C)
+    (s : InStep tied ends sent received q c owners channels) (o n : Owner) (k : ℕ) (x y : C) (within : k < length channels) (is_x : get_or channels k x ≡ x)
+    (same_ends : ends y ≡ ends x) (tied_y : tied x → tied y) (sound : IsSound n) where
+  in_channels : Contains channels x
+  in_channels = (k, within, is_x)
+
+  is_pair : IsPair c.owners (ends x)
+  is_pair = (s.all_pairs.each (ends x)).0 (contains_map ends channels x in_channels)
+
+  -- the owner of the one end gave out all that it had for the other, and it was posted
+  pub given_step : slice_get owners (ends x).0 ≡ Some o → GivesAll (ends x).1 o n → sent y ≡ part_for o (ends x).1 → received y ≡ received x
+      → InStep tied ends sent received q c (set owners (ends x).0 n) (set channels k y)
+  given_step at g posted heard =
+      in_step_then tied ends sent received q c owners channels s (ends x).0 o n at (owner_given q c (ends x).0 o n (s.are_owners.each (ends x).0 o at) sound (ends x).1 g) x (ends x)
+      (λ _ j other. ap (λ m. take m (part_for n j)) (g.other_given j other) ∙ ap (λ xs. take (given_to o j) xs) (part_same j))
+      (λ not_first. absurd (not_first refl))
+      (λ _ j _. received_same j)
+      (λ _ j. received_same j)
+      k y within is_x refl same_ends (tied_y (s.are_tied x in_channels))
+      (record {
+        given_out = λ p h. subst (λ z. sent y ≡ take (given_to z (ends x).1) (part_for z (ends x).1)) (sym (set_there owners (ends x).0 n p (slice_get_within owners (ends x).0 o at) h))
+            (posted ∙ sym (ap (λ m. take m (part_for n (ends x).1)) g.given ∙ (ap (λ xs. take (length (part_for o (ends x).1)) xs) (part_same (ends x).1) ∙ take_all (part_for o (ends x).1))));
+        taken = λ p h. ⊎_elim
+            (λ (t : ((ends x).1 ≡ (ends x).0) × (p ≡ n)). absurd (is_pair.2 (sym t.0)))
+            (λ (t : slice_get owners (ends x).1 ≡ Some p). heard ∙ (s.are_carried x in_channels).taken p t)
+            (set_cases owners (ends x).0 (ends x).1 n p h);
+      })
+    where
+      part_same : (j : ℕ) → part_for n j ≡ part_for o j
+      part_same j = ap (λ (z : Owner). part_for z j) g.others
+
+      received_same : (j : ℕ) → received_from n j ≡ received_from o j
+      received_same j = ap (λ (z : Owner). received_from z j) g.others
+
+  -- the owner of the other end heard what was taken, or nothing was
+  pub heard_step : slice_get owners (ends x).1 ≡ Some o → Hears (ends x).0 (received y) o n → n ≡ record o { log = n.log; received = n.received; clock = n.clock } → (n.loaded ≡ true → IsDone n)
+      → sent y ≡ sent x → InStep tied ends sent received q c (set owners (ends x).1 n) (set channels k y)
+  heard_step at h others done same_sent =
+      in_step_then tied ends sent received q c owners channels s (ends x).1 o n at (owner_heard q c (ends x).1 o n (s.are_owners.each (ends x).1 o at) sound others done) x (ends x)
+      (λ first. absurd (is_pair.2 (sym first)))
+      (λ _ j. taken_same j)
+      (λ _ j other. h.from_others j other)
+      (λ not_last. absurd (not_last refl))
+      k y within is_x refl same_ends (tied_y (s.are_tied x in_channels))
+      (record {
+        given_out = λ p g. ⊎_elim
+            (λ (t : ((ends x).0 ≡ (ends x).1) × (p ≡ n)). absurd (is_pair.2 t.0))
+            (λ (t : slice_get owners (ends x).0 ≡ Some p). same_sent ∙ (s.are_carried x in_channels).given_out p t)
+            (set_cases owners (ends x).1 (ends x).0 n p g);
+        taken = λ p g. subst (λ z. received y ≡ received_from z (ends x).0) (sym (set_there owners (ends x).1 n p (slice_get_within owners (ends x).1 o at) g)) (sym h.from_it);
+      })
+    where
+      taken_same : (j : ℕ) → take (given_to n j) (part_for n j) ≡ take (given_to o j) (part_for o j)
+      taken_same j =
+          ap (λ (xs : List ℕ). take (get_or xs j 0) (part_for n j)) h.given
+          ∙ part_begins o n j (ap (λ (z : Owner). z.problem) others) (ap (λ (z : Owner). z.cut) others) h.begins (given_to o j) ((s.are_owners.each (ends x).1 o at).sound.given j)
+
+-- an owner was loaded
+module _ {C : Type 0} (tied : C → Type 0) (ends : C → ℕ × ℕ) (sent received : C → List Growth) (q : Problem) (c : Cut) (owners : List Owner) (channels : List C)
+    (s : InStep tied ends sent received q c owners channels) (i : ℕ) (o n : Owner) (at : slice_get owners i ≡ Some o) (sound : IsSound n)
+    (others : n ≡ record o { log = n.log; clock = n.clock; loaded = true }) (begins : IsPrefix o.log n.log) (done : IsDone n) where
+  pub loaded_step : InStep tied ends sent received q c (set owners i n) channels
+  loaded_step = record {
+    problem = s.problem;
+    cut = s.cut;
+    are_owners = are_owners_then tied ends sent received q c owners channels s i o n at (owner_loaded q c i o n (s.are_owners.each i o at) sound others done);
+    all_pairs = s.all_pairs;
+    are_tied = s.are_tied;
+    are_carried = λ z h. record {
+      given_out = λ p g. ⊎_elim
+          (λ (t : ((ends z).0 ≡ i) × (p ≡ n)). subst (λ w. sent z ≡ take (given_to w (ends z).1) (part_for w (ends z).1)) (sym t.1)
+          ((s.are_carried z h).given_out o (subst (λ j. slice_get owners j ≡ Some o) (sym t.0) at) ∙ sym (taken_same (ends z).1)))
+          (λ (t : slice_get owners (ends z).0 ≡ Some p). (s.are_carried z h).given_out p t)
+          (set_cases owners i (ends z).0 n p g);
+      taken = λ p g. ⊎_elim
+          (λ (t : ((ends z).1 ≡ i) × (p ≡ n)). subst (λ w. received z ≡ received_from w (ends z).0) (sym t.1)
+          ((s.are_carried z h).taken o (subst (λ j. slice_get owners j ≡ Some o) (sym t.0) at) ∙ sym (ap (λ (w : Owner). received_from w (ends z).0) others)))
+          (λ (t : slice_get owners (ends z).1 ≡ Some p). (s.are_carried z h).taken p t)
+          (set_cases owners i (ends z).1 n p g);
+    };
+  }
+    where
+      taken_same : (j : ℕ) → take (given_to n j) (part_for n j) ≡ take (given_to o j) (part_for o j)
+      taken_same j =
+          ap (λ (z : Owner). take (given_to z j) (part_for n j)) others
+          ∙ part_begins o n j (ap (λ (z : Owner). z.problem) others) (ap (λ (z : Owner). z.cut) others) begins (given_to o j) ((s.are_owners.each i o at).sound.given j)
 
 module _ {C P : Type 0} (tied : C → Type 0) (ends : C → ℕ × ℕ) (sent received : C → List Growth) (post_ends : P → ℕ × ℕ) (post_sent post_received : P → List Growth)
     (q : Problem) (c : Cut) (owners : List Owner) (channels : List C) (posts : List P)
