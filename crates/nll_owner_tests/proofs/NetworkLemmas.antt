@@ -1,7 +1,7 @@
 -- Owners and the mailboxes between them: what they say once they are settled.
-use Rattle.std.proofs.Common.{◌≡◌, ◌≢◌, ◌↔◌, ◌⊎◌, inl, inr, ℕ, zero, suc, ◌<◌, ◌≤◌, Bool, true, List, [], ◌∷◌, length, map, set, take, get_or, slice_get, Some, Contains, AllPairs, refl, sym, ap, ◌∙◌, subst, ⊎_elim, arith}
-use Rattle.std.proofs.lemmas.Bool.{cases_eq, cases_lt}
-use Rattle.std.proofs.lemmas.List.{get_or-map, get_or-set_same, get_or-set_other, get_or_default, length-map, length-set}
+use Rattle.std.proofs.Common.{◌≡◌, ◌≢◌, ◌↔◌, ◌⊎◌, inl, inr, ℕ, zero, suc, ◌<◌, ◌≤◌, Bool, true, List, [], ◌∷◌, length, map, set, replicate, take, get_or, slice_get, Some, Contains, AllPairs, refl, sym, ap, ◌∙◌, subst, ⊎_elim, arith}
+use Rattle.std.proofs.lemmas.Bool.{cases_eq, cases_lt, false≢true}
+use Rattle.std.proofs.lemmas.List.{get_or-map, get_or-set_same, get_or-set_other, get_or-replicate, get_or_default, get_or_past, length-map, length-replicate, length-set}
 use Rattle.std.proofs.Math.Seq.{map-set_same}
 use Rattle.std.proofs.lemmas.Option.{slice_get-get_or, slice_get_within}
 use Rattle.std.proofs.lemmas.List.{take-append-le}
@@ -15,7 +15,7 @@ use Rattle.nll_owner.specs.Logs.{IsPrefix, IsWellFormed, IsWellSupported, IsSatu
 use Rattle.nll_owner.specs.Owner.{Owner, IsSound, IsDone, first_owner, given_to, part_for, received_from}
 use Rattle.nll_owner.proofs.LogLemmas.{contains_head, contains_tail, contains_cases, filter_from}
 use Rattle.nll_owner.proofs.LawLemmas.{least_exact}
-use Rattle.nll_owner.proofs.OwnerLemmas.{get_at}
+use Rattle.nll_owner.proofs.OwnerLemmas.{get_at, first_sound}
 use Rattle.nll_owner.proofs.LinkingLemmas.{in_set}
 use Rattle.nll_owner_tests.proofs.PostingLemmas.{take_all}
 use Rattle.nll_owner_tests.specs.Network.{GivesAll, Hears, IsPair, IsOwner, AreOwners, AreAllPairs, IsCarried, InStep, AreGiven, AreLoaded, AreDelivered, SayLeast, SaysOf, SayOfAll, logs_of}
@@ -258,6 +258,43 @@ module _ {C : Type 0} (tied : C → Type 0) (ends : C → ℕ × ℕ) (sent rece
       taken_same j =
           ap (λ (z : Owner). take (given_to z j) (part_for n j)) others
           ∙ part_begins o n j (ap (λ (z : Owner). z.problem) others) (ap (λ (z : Owner). z.cut) others) begins (given_to o j) ((s.are_owners.each i o at).sound.given j)
+
+-- ---- nothing was done yet
+
+take_nil : (k : ℕ) (xs : List Growth) → xs ≡ [] → take k xs ≡ []
+take_nil zero xs is = refl
+take_nil (suc k) xs is = ap (λ ys. take (suc k) ys) is
+
+no_list : (n j : ℕ) → ◌≡◌ {A = List Growth} (get_or (replicate n []) j []) []
+no_list n j = ⊎_elim
+    (λ within. get_or-replicate n j [] [] within)
+    (λ past. get_or_past (replicate n []) j [] (omega (arith, past, length-replicate {A = List Growth} n [])))
+    (cases_lt j n)
+
+pub first_is : (q : Problem) (c : Cut) (i : ℕ) → IsSoundProblem q → IsCutOf q c → i < c.owners → IsOwner q c i (first_owner q c i)
+first_is q c i problem cut me = record {
+  problem = refl;
+  cut = refl;
+  me = refl;
+  sound = first_sound q c i problem cut.cut cut.regions me;
+  whole = refl;
+  done = λ loaded. absurd (false≢true loaded);
+}
+
+module _ {C : Type 0} (tied : C → Type 0) (ends : C → ℕ × ℕ) (sent received : C → List Growth) (q : Problem) (c : Cut) (owners : List Owner) (channels : List C) where
+  pub first_in_step : IsSoundProblem q → IsCutOf q c → AreOwners q c owners → ((i : ℕ) (o : Owner) → slice_get owners i ≡ Some o → o ≡ first_owner q c i) → AreAllPairs c.owners (map ends channels)
+      → ((x : C) → Contains channels x → tied x) → ((x : C) → Contains channels x → (sent x ≡ []) × (received x ≡ [])) → InStep tied ends sent received q c owners channels
+  first_in_step problem cut are_owners first pairs are_tied new = record {
+    problem = problem;
+    cut = cut;
+    are_owners = are_owners;
+    all_pairs = pairs;
+    are_tied = are_tied;
+    are_carried = λ x h. record {
+      given_out = λ o at. (new x h).0 ∙ sym (ap (λ (z : Owner). take (given_to z (ends x).1) (part_for z (ends x).1)) (first (ends x).0 o at) ∙ take_nil (given_to (first_owner q c (ends x).0) (ends x).1) (part_for (first_owner q c (ends x).0) (ends x).1) refl);
+      taken = λ o at. (new x h).1 ∙ sym (ap (λ (z : Owner). received_from z (ends x).0) (first (ends x).1 o at) ∙ no_list c.owners (ends x).0);
+    };
+  }
 
 module _ {C P : Type 0} (tied : C → Type 0) (ends : C → ℕ × ℕ) (sent received : C → List Growth) (post_ends : P → ℕ × ℕ) (post_sent post_received : P → List Growth)
     (q : Problem) (c : Cut) (owners : List Owner) (channels : List C) (posts : List P)

@@ -62,6 +62,8 @@ pub fn drive<'q, M: Mail>(
     ensures least { IfOk result (λ settled.
         SayLeast problem.now cut.now (logs_of settled.owners.items)) }
 {
+    // No effect at run time. The proof reads from this call that the problem is sound.
+    let _regions = problem.regions();
     let owners = owners_of(alloc, problem, cut)?;
     match channels_of(alloc, mail, cut.owners()) {
         Ok(channels) => settled(alloc, problem, cut, owners, channels, turns),
