@@ -1,2 +1,3 @@
+pub mod PairLemmas
 pub mod PostingLemmas
 pub mod NetworkLemmas

@@ -17,6 +17,7 @@ use Rattle.nll_owner.proofs.LogLemmas.{contains_head, contains_tail, contains_ca
 use Rattle.nll_owner.proofs.LawLemmas.{least_exact}
 use Rattle.nll_owner.proofs.OwnerLemmas.{get_at, first_sound}
 use Rattle.nll_owner.proofs.LinkingLemmas.{in_set}
+use Rattle.nll_owner_tests.proofs.PairLemmas.{pair_is}
 use Rattle.nll_owner_tests.proofs.PostingLemmas.{take_all}
 use Rattle.nll_owner_tests.specs.Network.{GivesAll, Hears, IsPair, IsOwner, AreOwners, AreAllPairs, IsCarried, InStep, AreGiven, AreLoaded, AreDelivered, SayLeast, SaysOf, SayOfAll, logs_of}
 
@@ -37,9 +38,6 @@ contains_map f (z ∷ xs) x h = ⊎_elim
     (contains_cases z xs x h)
 
 -- ---- one owner and one channel change
-
-pair_is : (x y : ℕ × ℕ) → x.0 ≡ y.0 → x.1 ≡ y.1 → x ≡ y
-pair_is x y first last = ap (λ n. (n, x.1)) first ∙ ap (λ n. (y.0, n)) last
 
 set_cases : {X : Type 0} (xs : List X) (i j : ℕ) (y z : X) → slice_get (set xs i y) j ≡ Some z → ((j ≡ i) × (z ≡ y)) ⊎ (slice_get xs j ≡ Some z)
 set_cases [] zero j y z h = inr h
