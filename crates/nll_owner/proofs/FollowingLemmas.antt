@@ -22,7 +22,7 @@ use Rattle.nll_cut.specs.Partition.{Cut, owner_of}
 use Rattle.nll_mail.specs.declared.growth.Growth.{Growth}
 use Rattle.nll_owner.specs.Logs.{IsKnown, list_of}
 use Rattle.nll_owner.specs.Owner.{Owner, Has, IsCalled, IsSound, received_from, first_owner}
-use Rattle.nll_owner.specs.Keeping.{Grows, IsClosed}
+use Rattle.nll_owner.specs.Keeping.{Grows, HasBeside, IsClosed}
 use Rattle.nll_owner.specs.Following.{IsLinkOf, AreLinksOf, AreFresh, link_shape, constraint_of, Following, following_of, row_of, IsFollowed, IsFollowing, HasFollowed, Nothing, Pair}
 use Rattle.nll_owner.specs.declared.link.Link.{Link}
 use Rattle.nll_owner.proofs.LogLemmas.{contains_head, contains_tail, contains_cases, list_own, list_other}
@@ -431,18 +431,17 @@ following_marked due old new f same w = subst (λ o. IsFollowing due o f) (sym s
 
 -- ---- a received growth is due
 
-pub following_told : (old new : Owner) (f : Following) (g : Growth) (from : ℕ) → new ≡ record old { received = new.received; clock = new.clock }
-    → ((r e : ℕ) → Has old r e → Has new r e) → ((r e : ℕ) → Has new r e → Has old r e ⊎ ((r ≡ g.region) × (e ≡ g.element)))
+pub following_told : (old new : Owner) (f : Following) (g : Growth) → new ≡ record old { received = new.received; clock = new.clock } → HasBeside g old new
     → IsFollowing Nothing old f → IsFollowing (Pair g.region g.element) new f
-following_told old new f g from same more cases w =
-    let q : new.problem ≡ old.problem = ap (λ (o : Owner). o.problem) same in
+following_told old new f g same has w =
+  let q : new.problem ≡ old.problem = ap (λ (o : Owner). o.problem) same in
     let log : new.log ≡ old.log = ap (λ (o : Owner). o.log) same in
     record {
       same_graph = w.same_graph ∙ ap (λ (x : Problem). x.graph) (sym q);
       count = w.count ∙ ap (λ (x : Problem). x.regions) (sym q);
       shaped = subst (λ x. IsShaped x f.seen) (sym q) w.shaped;
       within = subst (λ xs. f.place ≤ length xs) (sym log) w.within;
-      known = λ r e h. more r e (w.known r e h);
+      known = λ r e h. has.kept r e (w.known r e h);
       left = λ r e h. ⊎_elim
           (λ before. ⊎_elim
           (λ (seen : IsHeld f.seen r e). inl seen)
@@ -452,13 +451,13 @@ following_told old new f g from same more cases w =
           later)
           (w.left r e before))
           (λ (is : (r ≡ g.region) × (e ≡ g.element)). inr (inr is))
-          (cases r e h);
+          (has.cause r e h);
       links = λ r l. subst (λ (o : Owner). AreLinksOf o.cut o.me r o.problem.constraints (row_of f r)) (sym same) (w.links r (subst (λ (x : Problem). r < x.regions) q l));
       followed = λ r l h. let x = w.followed r l h in record {
         whole = x.whole;
         fits = subst (λ (p : Problem). length l.frontier.reached ≤ element_count p.graph) (sym q) x.fits;
         reached = subst (λ (p : Problem). IsFrontierIn p.graph (IsHeld f.seen r) l.frontier) (sym q) x.reached;
-        filled = λ y at. more l.sup y (x.filled y at);
+        filled = λ y at. has.kept l.sup y (x.filled y at);
       };
     }
 
