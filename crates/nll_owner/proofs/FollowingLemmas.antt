@@ -96,8 +96,7 @@ same_links c me r ks old new same w = record {
   each = λ l h. let m = like_in new old same l h in same_link c me r ks m.0 l m.2 (w.each m.0 m.1);
   all = λ k h sub other own.
       let t = w.all k h sub other own in
-      let m = like_in old new (sym same) t.0 t.1 in
-      (
+      let m = like_in old new (sym same) t.0 t.1 in (
         m.0,
         m.1,
         ap (λ (p : ℕ × List ℕ). p.0) m.2 ∙ t.2,
@@ -434,7 +433,7 @@ following_marked due old new f same w = subst (λ o. IsFollowing due o f) (sym s
 pub following_told : (old new : Owner) (f : Following) (g : Growth) → new ≡ record old { received = new.received; clock = new.clock } → HasBeside g old new
     → IsFollowing Nothing old f → IsFollowing (Pair g.region g.element) new f
 following_told old new f g same has w =
-  let q : new.problem ≡ old.problem = ap (λ (o : Owner). o.problem) same in
+    let q : new.problem ≡ old.problem = ap (λ (o : Owner). o.problem) same in
     let log : new.log ≡ old.log = ap (λ (o : Owner). o.log) same in
     record {
       same_graph = w.same_graph ∙ ap (λ (x : Problem). x.graph) (sym q);

@@ -48,13 +48,16 @@ module _ (n f t : ℕ) (xs : List (ℕ × ℕ)) (w : AreAllBefore n f t xs) wher
   before_skip same = record {
     each = λ pair. (
       λ h. let b = (w.each pair).0 h in (b.0, wider pair b.1),
-      λ h. (w.each pair).1 (h.0, ⊎_elim
-          (λ (l : pair.0 < f). inl l)
-          (λ (s : (pair.0 ≡ f) × (pair.1 < t + 1)). ⊎_elim
-          (λ (here : pair.1 ≡ t). absurd (h.0.2 (s.0 ∙ (same ∙ sym here))))
-          (λ before. inr (s.0, (let l = s.1 in omega (arith, l, before))))
-          (cases_eq pair.1 t))
-          h.1),
+      λ h. (w.each pair).1 (
+        h.0,
+        ⊎_elim
+            (λ (l : pair.0 < f). inl l)
+            (λ (s : (pair.0 ≡ f) × (pair.1 < t + 1)). ⊎_elim
+            (λ (here : pair.1 ≡ t). absurd (h.0.2 (s.0 ∙ (same ∙ sym here))))
+            (λ before. inr (s.0, (let l = s.1 in omega (arith, l, before))))
+            (cases_eq pair.1 t))
+            h.1,
+      ),
     );
     once = w.once;
   }
@@ -66,10 +69,13 @@ before_row n f xs w = record {
     λ h.
         let b = (w.each pair).0 h in
         (b.0, inl (⊎_elim (λ (l : pair.0 < f). omega arith) (λ (s : (pair.0 ≡ f) × (pair.1 < n)). (let e = s.0 in omega (arith, e))) b.1)),
-    λ h. (w.each pair).1 (h.0, ⊎_elim
-        (λ (l : pair.0 < f + 1). ⊎_elim (λ (same : pair.0 ≡ f). inr (same, h.0.1)) (λ other. inl (omega (arith, l, other))) (cases_eq pair.0 f))
-        (λ (s : (pair.0 ≡ f + 1) × (pair.1 < 0)). absurd (let l = s.1 in omega arith))
-        h.1),
+    λ h. (w.each pair).1 (
+      h.0,
+      ⊎_elim
+          (λ (l : pair.0 < f + 1). ⊎_elim (λ (same : pair.0 ≡ f). inr (same, h.0.1)) (λ other. inl (omega (arith, l, other))) (cases_eq pair.0 f))
+          (λ (s : (pair.0 ≡ f + 1) × (pair.1 < 0)). absurd (let l = s.1 in omega arith))
+          h.1,
+    ),
   );
   once = w.once;
 }
