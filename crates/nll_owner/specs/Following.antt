@@ -80,8 +80,8 @@ following_of g links handed next = record { graph = g; rows = links; seen = hand
 abbrev pub row_of : Following → ℕ → List Link
 row_of f r = slice_index_or f.rows r []
 
--- The link of an own region has reached just what walks inside this set reach, and the owner has all
--- of it in that region.
+-- The link of an own region has reached just what walks inside this set reach, and the owner has
+-- all of it in that region.
 pub record IsFollowed (o : Owner) (inside : ℕ → Type 0) (l : Link) : Type 0 where
   pub whole : l.frontier.refused ≡ false
   pub fits : length l.frontier.reached ≤ element_count o.problem.graph

@@ -21,8 +21,8 @@ IsPair count pair = (pair.0 < count) × (pair.1 < count) × (pair.0 ≢ pair.1)
 abbrev pub logs_of : List Owner → List (List Growth)
 logs_of owners = map (λ (o : Owner). o.log) owners
 
--- There is a settled mailbox for each ordered pair of owners, and no other; what was sent through it
--- is the part of the sender's log that the receiver reads; and all of it was received.
+-- There is a settled mailbox for each ordered pair of owners, and no other; what was sent through
+-- it is the part of the sender's log that the receiver reads; and all of it was received.
 pub record AreDelivered {P : Type 0} (ends : P → ℕ × ℕ) (sent received : P → List Growth)
     (q : Problem) (c : Cut) (logs : List (List Growth)) (posts : List P) : Type 0 where
   pub pairs : (pair : ℕ × ℕ) → Contains (map ends posts) pair ↔ IsPair c.owners pair
@@ -77,8 +77,8 @@ pub record AreAllBefore (count first second : ℕ) (pairs : List (ℕ × ℕ)) :
       (pair : ℕ × ℕ) → Contains pairs pair ↔ (IsPair count pair × IsBefore first second pair)
   pub once : AllPairs (λ x y. x ≢ y) pairs
 
--- The owners of a cut with a channel for each ordered pair of them, each of whose ends belong to one
--- mailbox, which carries what its owners say.
+-- The owners of a cut with a channel for each ordered pair of them, each of whose ends belong to
+-- one mailbox, which carries what its owners say.
 pub record InStep {C : Type 0} (tied : C → Type 0) (ends : C → ℕ × ℕ)
     (sent received : C → List Growth) (q : Problem) (c : Cut) (owners : List Owner)
     (channels : List C) : Type 0 where
