@@ -66,13 +66,13 @@ pub fn drive<'q, M: Mail>(
     let _regions = problem.regions();
     let owners = owners_of(alloc, problem, cut)?;
     match channels_of(alloc, mail, cut.owners()) {
-        Ok(channels) => settled(alloc, problem, cut, owners, channels, turns),
+        Ok(channels) => drive_from(alloc, problem, cut, owners, channels, turns),
         Err(stop) => Err(stop),
     }
 }
 
 // Drives owners that have done nothing yet, and settles the mailboxes.
-fn settled<'q, M: Mail>(
+fn drive_from<'q, M: Mail>(
     alloc: Global,
     problem: &'q Problem,
     cut: &'q Cut,

@@ -2,6 +2,6 @@
 use Rattle.nll_owner_tests.proofs.NetworkLemmas.{first_in_step}
 use Rattle.nll_owner_tests.proofs.driver.drive.Goals as goal
 
-pub settled-requires : goal.settled-requires
-settled-requires g c = first_in_step _ _ _ _ _ _ _ _ c.regions.ensures.sound (record { cut = c.owners.ensures.sound; regions = c.requires }) c.in_ok-owners.ensures.owners c.in_ok-owners.ensures.first
+pub drive_from-requires : goal.drive_from-requires
+drive_from-requires g c = first_in_step _ _ _ _ _ _ _ _ c.regions.ensures.sound (record { cut = c.owners.ensures.sound; regions = c.requires }) c.in_ok-owners.ensures.owners c.in_ok-owners.ensures.first
     c.in_ok-channels.ensures.pairs c.in_ok-channels.ensures.tied c.in_ok-channels.ensures.new
