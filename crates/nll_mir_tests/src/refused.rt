@@ -282,14 +282,10 @@ const CHANGED: &[(&str, &str, &str)] = &[
 
 // The text with the first place of some bytes as others.
 fn changed(alloc: Global, from: &str, to: &str) -> Result<String, AllocError> {
-    let mut text = String::new(alloc);
-    let Some((front, back)) = DROPPED.split_once(from) else {
-        return Ok(text);
-    };
-    text.push_str(front)?;
-    text.push_str(to)?;
-    text.push_str(back)?;
-    Ok(text)
+    match DROPPED.split_once(from) {
+        Some((front, back)) => format!(in alloc; "{front}{to}{back}"),
+        None => Ok(String::new(alloc)),
+    }
 }
 
 // Faults of that text with one line changed.
