@@ -77,11 +77,10 @@ fn visit(body: &Body, variable: u32, flags: &mut Vec<bool>, point: u32) -> bool
 
 // Whether a point isn't flagged, goes on to a flagged one and doesn't define the variable.
 fn is_new(body: &Body, variable: u32, flags: &[bool], point: u32) -> bool
-    requires width { length flags.now ≡ length body.now.points }
-    requires point { point < length body.now.points }
+    requires { point < length body.now.points }
     ensures { IsTrue result ↔ IsNew body.now variable flags.now point }
 {
-    if flags[point as usize] {
+    if is_flagged(flags, point) {
         return false;
     }
     goes_on(body, variable, flags, point)
@@ -89,14 +88,14 @@ fn is_new(body: &Body, variable: u32, flags: &[bool], point: u32) -> bool
 
 // Whether a point goes on to a flagged one and doesn't define the variable.
 fn goes_on(body: &Body, variable: u32, flags: &[bool], point: u32) -> bool
-    requires width { length flags.now ≡ length body.now.points }
-    requires point { point < length body.now.points }
+    requires { point < length body.now.points }
     ensures { IsTrue result ↔ GoesOnToFlagged body.now variable flags.now point }
 {
     if defines(body, variable, point) {
         return false;
     }
-    is_any(flags, body.graph().next_of(point))
+    let graph = body.graph();
+    is_any(flags, graph.next_of(point))
 }
 
 // Whether one of the points is flagged.
@@ -115,7 +114,10 @@ fn is_any(flags: &[bool], points: &[u32]) -> bool
 pub(crate) fn is_flagged(flags: &[bool], point: u32) -> bool
     ensures { IsTrue result ↔ (flag flags.now point ≡ true) }
 {
-    flags.get(point as usize).copied().unwrap_or(false)
+    if (point as usize) < flags.len() {
+        return flags[point as usize];
+    }
+    false
 }
 
 // Whether a point defines the variable.
