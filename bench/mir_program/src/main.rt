@@ -37,7 +37,8 @@ fn asked_count(alloc: Global, command: &str, body: &Body) -> Result<usize, Memor
 fn told(alloc: Global, command: &str, body: &Body) -> Result<String, Memory> {
     let count = asked_count(alloc, command, body)?;
     let (points, regions, variables) = (body.points(), body.regions(), body.variables());
-    Ok(format!(in alloc; "points {points} regions {regions} variables {variables} bases {count}\n")?)
+    let much = format!(in alloc; "points {points} regions {regions} variables {variables}")?;
+    Ok(format!(in alloc; "{much} bases {count}\n")?)
 }
 
 // A line for want of memory where there is none.
