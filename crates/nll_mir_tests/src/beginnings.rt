@@ -8,8 +8,9 @@ use std::test::Fail;
 
 // The number of a text's last line.
 fn last_line(text: &[u8]) -> u64 {
+    let lines = text.strip_suffix(b"\n").unwrap_or(text);
     let mut line = 1u64;
-    for byte in text.strip_suffix(b"\n").unwrap_or(text) {
+    for byte in lines {
         if *byte == b'\n' {
             line = line.saturating_add(1);
         }
