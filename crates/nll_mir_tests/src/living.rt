@@ -141,12 +141,7 @@ fn write_variables(
 }
 
 // Writes the base elements of a body.
-fn write_bases(
-    alloc: Global,
-    out: &mut String,
-    body: &Body,
-    sets: &LiveSets,
-) -> Result<(), Memory>
+fn write_bases(alloc: Global, out: &mut String, body: &Body, sets: &LiveSets) -> Result<(), Memory>
     requires { AreLiveSets body.now sets.now }
 {
     let pairs = bases(alloc, body, sets)?;
