@@ -83,12 +83,12 @@ module _ (body : BodyText) (x : ℕ) where
     same = λ h. let both = neither changed new h in same both.1 ∙ r.same both.0;
     fewer = fewer_more changed new first now next r.same same r.fewer fewer;
     closed = λ h p q low on step.
-      let both = neither changed new h in
-      let here : now ≡ first = r.same both.0 in
-      ⊎_elim
-          (λ at. subst (λ z. flag z p ≡ true) here (subst (λ k. flag now k ≡ true) (sym at) (closed both.1 q (subst (λ z. flag z q ≡ true) (sym here) on) (subst (λ k. GoesOnUndefined body x k q) at step))))
-          (λ other. r.closed both.0 p q (omega (arith, low, other)) on step)
-          (cases_eq p count);
+        let both = neither changed new h in
+        let here : now ≡ first = r.same both.0 in
+        ⊎_elim
+        (λ at. subst (λ z. flag z p ≡ true) here (subst (λ k. flag now k ≡ true) (sym at) (closed both.1 q (subst (λ z. flag z q ≡ true) (sym here) on) (subst (λ k. GoesOnUndefined body x k q) at step))))
+        (λ other. r.closed both.0 p q (omega (arith, low, other)) on step)
+        (cases_eq p count);
   }
 
   pub rounding_closed : (first now : List Bool) (changed : Bool) (count : ℕ) → length body.points ≤ count → Rounding first now changed count → changed ≡ false → (p q : ℕ) → flag first q ≡ true → GoesOnUndefined body x p q → flag first p ≡ true

@@ -35,7 +35,10 @@ fn assert_judged(rt: &impl Abort, text: &[u8], beginning: &[u8], told: Option<Te
             assert!(rt; !is_whole, "the first {length} bytes");
             assert!(rt; line == last_line(beginning), "the first {length} bytes");
             let is_end = kind == TextKind::End;
-            assert!(rt; is_end || !ends_a_line(text, length), "the first {length} bytes");
+            assert!(rt;
+                is_end || !ends_a_line(text, length),
+                "the first {length} bytes"
+            );
         }
     }
 }

@@ -30,7 +30,10 @@ fn write_doubling(out: &mut String, more: u32) -> Result<(), AllocError> {
         let number = before + 1;
         write!(out, "struct S{number}<T +>(S{before}<(T, T)>)\n")?;
     }
-    write!(out, "let _0: int\nlet _1: S{more}<&'r int>\nblocks 1\nblock bb0\n")
+    write!(
+        out,
+        "let _0: int\nlet _1: S{more}<&'r int>\nblocks 1\nblock bb0\n"
+    )
 }
 
 // Writes a text of so many variables.
@@ -202,6 +205,11 @@ fn told_of_doubled(alloc: Global, projections: &str) -> Result<String, AllocErro
 #[test]
 fn doubling_structs(rt: HostRuntime) {
     for (projections, want) in DOUBLED {
-        compare(&rt, projections, told_of_doubled(rt.alloc(), projections), want);
+        compare(
+            &rt,
+            projections,
+            told_of_doubled(rt.alloc(), projections),
+            want,
+        );
     }
 }
