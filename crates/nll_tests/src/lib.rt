@@ -5,8 +5,10 @@
 //! Reading order: `rounds`, `comparing`, `telling`, `calls`, `making`, then each module of tests.
 #![tactic(auto)]
 
+mod live_rounds;
 mod rounds;
 
+pub use live_rounds::live_by_rounds;
 pub use rounds::solve_by_rounds;
 
 #[cfg(test)]

@@ -1,0 +1,9 @@
+use Rattle.std.proofs.Common.{length}
+use Rattle.nll_tests.specs.LiveRounds.{Flags, unflagged}
+use Rattle.nll_tests.proofs.live_rounds.live_by_rounds.Given as goal
+
+abbrev pub invariant-loop : goal.invariant-loop
+invariant-loop l = Flags l.body l.variable l.ends l.flags.items
+
+abbrev pub decreases-loop : goal.decreases-loop
+decreases-loop l = unflagged l.flags.items
