@@ -125,8 +125,8 @@ pub fn drive(owners: &mut [Owner], turns: &[Turn]) -> Result<(), Stop> {
     Err(Stop::Rounds)
 }
 
-// The owners of a cut.
-fn owners_of<'q>(
+/// The owners of a cut.
+pub fn owners_of<'q>(
     alloc: Global,
     problem: &'q Problem,
     cut: &'q Cut,
