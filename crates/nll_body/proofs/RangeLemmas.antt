@@ -1,6 +1,6 @@
 -- The regions of a type that keeps to what is declared are in range, and so are its drop regions.
-use Rattle.std.proofs.Common.{◌≡◌, ◌⊎◌, ℕ, ◌<◌, List, [], ◌∷◌, length, Some, inl, inr, ap, subst, arith, get_or, ⊎_elim}
-use Rattle.std.specs.Prelude.{All, option_and_then}
+use Rattle.std.proofs.Common.{◌≡◌, ℕ, ◌<◌, List, [], ◌∷◌, Some, inl, inr, ap, subst, ⊎_elim}
+use Rattle.std.specs.Prelude.{option_and_then}
 use Rattle.std.proofs.lemmas.Option.{slice_get_within, get_or_from_slice_get}
 use Rattle.std.proofs.lemmas.List.Elements.{All-contains, All-nil, All-cons}
 use Rattle.nll_types.specs.Types.{TypeTree, TypeTrees, int, parameter, reference, tuple, named, none, more, HasRegion, AnyHasRegion}
@@ -46,6 +46,6 @@ module _ (structs : List Struct) (order : AreInOrder structs) (n : ℕ) (some : 
   drop_region_within t w r h =
       let good = leads_good t h.0 (named h.1 h.2 h.3) w h.4 in
       ⊎_elim
-          (λ own. subst (λ x. x < n) (get_or_from_slice_get h.2 own.0 r r own.1) (good.3 own.0 r (slice_get_within h.2 own.0 r own.1)))
-          (λ own. region_within structs n own.1 (well_formed_at structs n 0 h.3 own.0 own.1 good.4 own.2) r own.4)
-          h.5.1
+      (λ own. subst (λ x. x < n) (get_or_from_slice_get h.2 own.0 r r own.1) (good.3 own.0 r (slice_get_within h.2 own.0 r own.1)))
+      (λ own. region_within structs n own.1 (well_formed_at structs n 0 h.3 own.0 own.1 good.4 own.2) r own.4)
+      h.5.1
