@@ -1,4 +1,3 @@
-use Rattle.std.proofs.Common.{◌≡◌}
 use Rattle.nll_live.proofs.AskLemmas.{base_within}
 use Rattle.nll_live.proofs.base_elements.pairs_asked_for.Goals as goal
 
