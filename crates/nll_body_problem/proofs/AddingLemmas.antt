@@ -1,5 +1,5 @@
 -- Facts that come to a problem, and constraints for which there is no room.
-use Rattle.std.proofs.Common.{◌≡◌, ◌⊎◌, ◌↔◌, ℕ, ◌+◌, ◌<◌, ◌≤◌, Bool, true, false, not, List, [], ◌∷◌, ◌++◌, Contains, length, take, drop, Option, Some, None, inl, inr, refl, sym, ap, ◌∙◌, subst, ⊎_elim, arith, length-append}
+use Rattle.std.proofs.Common.{◌≡◌, ◌⊎◌, ◌↔◌, ℕ, ◌<◌, ◌≤◌, Bool, true, false, not, List, [], ◌∷◌, ◌++◌, Contains, length, take, drop, Some, None, inl, inr, refl, sym, ap, ◌∙◌, subst, ⊎_elim, arith, length-append}
 use Rattle.std.specs.Prelude.{◌&&◌}
 use Rattle.std.proofs.lemmas.Bool.{lt-ltb, leb-true}
 use Rattle.std.proofs.lemmas.List.{take-append-drop}
@@ -105,10 +105,15 @@ pub refused_after : (k l m : Constraint → Type 0) (old mid : Problem) (e : Bui
 refused_after k l m old mid e h first second = ⊎_elim inl (λ full. inr (full.0, over full.1))
   where
     over : Overflows l mid → Overflows m old
-    over o = (o.0, o.1, o.2, λ c there. ⊎_elim
-        (λ in_mid. ⊎_elim inl (λ y. inr (first c y)) ((h.each c).0 in_mid))
-        (λ y. inr (second c y))
-        (o.3 c there))
+    over o = (
+      o.0,
+      o.1,
+      o.2,
+      λ c there. ⊎_elim
+          (λ in_mid. ⊎_elim inl (λ y. inr (first c y)) ((h.each c).0 in_mid))
+          (λ y. inr (second c y))
+          (o.3 c there),
+    )
 
 pub refused_same : (k m : Constraint → Type 0) (q : Problem) (e : BuildError) → ((c : Constraint) → k c → m c) → IsRefused k q e → IsRefused m q e
 refused_same k m q e into = refused_after (λ c. ⊥) k m q q e (adds_none (λ c. ⊥) q (λ c f. f)) (λ c f. absurd f) into
@@ -136,12 +141,15 @@ refused_one q c e sound at sup sub answers = ⊎_elim (λ due. by (has_constrain
     by false absent false full due = absurd cc
     by false absent true full due =
         let most : most_constraints ≤ length q.constraints = leb-true most_constraints (length q.constraints) full in
-        inr (limit_is due, (
-          q.constraints ++ c ∷ [],
-          once_constraint_absent q.constraints c absent sound.constraints_once,
-          omega (arith, most, length-append q.constraints (c ∷ [])),
-          λ d there. Contains-push_cases q.constraints c d there,
-        ))
+        inr (
+          limit_is due,
+          (
+            q.constraints ++ c ∷ [],
+            once_constraint_absent q.constraints c absent sound.constraints_once,
+            omega (arith, most, length-append q.constraints (c ∷ [])),
+            λ d there. Contains-push_cases q.constraints c d there,
+          ),
+        )
 
 -- ---- how many there are
 

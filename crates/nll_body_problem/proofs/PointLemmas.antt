@@ -1,5 +1,5 @@
 -- What stands at points asks constraints, one point after another.
-use Rattle.std.proofs.Common.{◌≡◌, ◌⊎◌, ◌↔◌, ℕ, ◌+◌, ◌<◌, ◌≤◌, List, [], Contains, length, Some, inl, inr, sym, ◌∙◌, subst, ⊎_elim, arith}
+use Rattle.std.proofs.Common.{◌≡◌, ◌⊎◌, ◌↔◌, ℕ, ◌+◌, ◌≤◌, List, [], Contains, length, Some, inl, inr, sym, ◌∙◌, subst, ⊎_elim, arith}
 use Rattle.std.proofs.lemmas.Bool.{cases_lt}
 use Rattle.std.proofs.lemmas.Option.{slice_get_within}
 use Rattle.nll_problem.specs.Problem.{Problem}
@@ -24,9 +24,9 @@ pub only_asked : (body : BodyText) (i : Statement ℕ TypeTree) (structs : List 
 only_asked body i structs variables old new seen same_structs same_variables none same h x =
     let each = only_new old new (Asks structs variables i) none h.each x in (
       λ there. subst (λ (vs : List TypeTree). Asks body.structs vs i x) same_variables
-      (subst (λ (ss : List Struct). Asks ss variables i x) same_structs (each.0 (subst (λ (xs : List (ℕ × ℕ)). Contains xs x) same there))),
+          (subst (λ (ss : List Struct). Asks ss variables i x) same_structs (each.0 (subst (λ (xs : List (ℕ × ℕ)). Contains xs x) same there))),
       λ asks. subst (λ (xs : List (ℕ × ℕ)). Contains xs x) (sym same) (each.1
-      (subst (λ (ss : List Struct). Asks ss variables i x) (sym same_structs) (subst (λ (vs : List TypeTree). Asks body.structs vs i x) (sym same_variables) asks))),
+          (subst (λ (ss : List Struct). Asks ss variables i x) (sym same_structs) (subst (λ (vs : List TypeTree). Asks body.structs vs i x) (sym same_variables) asks))),
     )
 
 -- the pairs that a statement asks at the points that may come after it are what it asks

@@ -1,5 +1,5 @@
 -- What a statement asks is of regions of the body.
-use Rattle.std.proofs.Common.{◌≡◌, ◌⊎◌, ℕ, zero, suc, ◌+◌, ◌<◌, List, [], ◌∷◌, ◌++◌, Contains, length, map, get_or, Option, Some, inl, inr, refl, sym, ap, ◌∙◌, subst, ⊎_elim, arith}
+use Rattle.std.proofs.Common.{◌≡◌, ℕ, zero, suc, ◌<◌, List, [], ◌∷◌, ◌++◌, Contains, length, map, get_or, Some, inl, inr, refl, sym, ap, ◌∙◌, subst, ⊎_elim, arith}
 use Rattle.std.specs.Prelude.{slice_get, option_map}
 use Rattle.std.specs.List.{flat_map}
 use Rattle.std.proofs.lemmas.Option.{get_or_from_slice_get, slice_get_within, slice_get-map}
@@ -109,15 +109,15 @@ module _ (body : BodyText) (sound : IsSound body) where
   subtypes (make q made ops) p at t u h =
       let good : IsGood made = sound.written_types p made (make q made ops) at (first made []) in
       ⊎_elim
-          (λ w. (operand w.1 t w.3, part_good body.structs sound.in_order (length body.names) some_region made u w.0 good w.4))
-          (λ w. (subst IsGood (sym w.0) good, place q u w.1))
-          h
+      (λ w. (operand w.1 t w.3, part_good body.structs sound.in_order (length body.names) some_region made u w.0 good w.4))
+      (λ w. (subst IsGood (sym w.0) good, place q u w.1))
+      h
   subtypes (call q args result wheres b unwind) p at t u h =
       let good : IsGood result = sound.written_types p result (call q args result wheres b unwind) at (Contains-push (map type_in args) result) in
       ⊎_elim
-          (λ w. (operand w.1 t w.3, sound.written_types p u (call q args result wheres b unwind) at (argument_there args result w.0 w.1 u w.2)))
-          (λ w. (subst IsGood (sym w.0) good, place q u w.1))
-          h
+      (λ w. (operand w.1 t w.3, sound.written_types p u (call q args result wheres b unwind) at (argument_there args result w.0 w.1 u w.2)))
+      (λ w. (subst IsGood (sym w.0) good, place q u w.1))
+      h
   subtypes (read q) p at t u h = absurd h
   subtypes (live x) p at t u h = absurd h
   subtypes (dead x) p at t u h = absurd h

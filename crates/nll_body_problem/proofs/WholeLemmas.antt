@@ -1,5 +1,5 @@
 -- A problem to which all facts of a body came is the body's.
-use Rattle.std.proofs.Common.{◌≡◌, ◌⊎◌, ◌↔◌, ℕ, ◌<◌, ◌≤◌, List, [], Contains, length, inl, inr, sym, ap, ◌∙◌, subst, ⊎_elim, arith}
+use Rattle.std.proofs.Common.{◌≡◌, ◌↔◌, ℕ, List, [], Contains, length, inl, inr, sym, ap, ◌∙◌, subst, ⊎_elim, arith}
 use Rattle.nll_problem.specs.Building.{bare_problem}
 use Rattle.nll_problem.specs.Graph.{Graph}
 use Rattle.nll_problem.specs.Problem.{Problem, IsSound, SameProblem}
@@ -73,10 +73,18 @@ module _ (body : BodyText) (graph : Graph) (counted known based : Problem) (step
   }
 
   pub whole_refused : (e : BuildError) → IsRefused (IsConstraint body) based e → IsRefusedFor body e
-  whole_refused e = ⊎_elim inl (λ h. inr (h.0, (h.1.0, h.1.1, h.1.2, λ c there. ⊎_elim
-      (λ old. absurd (nothing c (subst (λ (cs : List Constraint). Contains cs c) based_constraints old)))
-      (λ k. k)
-      (h.1.3 c there))))
+  whole_refused e = ⊎_elim inl (λ h. inr (
+    h.0,
+    (
+      h.1.0,
+      h.1.1,
+      h.1.2,
+      λ c there. ⊎_elim
+          (λ old. absurd (nothing c (subst (λ (cs : List Constraint). Contains cs c) based_constraints old)))
+          (λ k. k)
+          (h.1.3 c there),
+    ),
+  ))
 
 -- a finished problem is the body's where the builder's was
 pub finished_is : (body : BodyText) (p q : Problem) → IsProblemOf body p → SameProblem p q → q ≡ record p { bases = q.bases; outlives = q.outlives } → IsProblemOf body q

@@ -105,7 +105,14 @@ fn add_pair(
 {
     let (sup, sub) = pair;
     for point in points {
-        add_constraint(builder, Constraint { sup, sub, at: *point })?;
+        add_constraint(
+            builder,
+            Constraint {
+                sup,
+                sub,
+                at: *point,
+            },
+        )?;
     }
     Ok(())
 }

@@ -1,4 +1,4 @@
-use Rattle.std.proofs.Common.{ℕ, ◌<◌, List, Contains, length, sym, subst}
+use Rattle.std.proofs.Common.{ℕ, List, Contains, sym, subst}
 use Rattle.std.proofs.lemmas.Result.{on_ok_weaker}
 use Rattle.nll_body_problem.specs.Adding.{AddsBases}
 use Rattle.nll_body_problem.proofs.AddingLemmas.{only_new}

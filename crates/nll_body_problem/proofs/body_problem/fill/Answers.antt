@@ -1,8 +1,6 @@
-use Rattle.std.proofs.Common.{◌≡◌, ◌<◌, ◌≤◌, ap, sym, subst, inl, ◌∙◌, arith, length}
+use Rattle.std.proofs.Common.{◌≡◌, ap, sym, inl, ◌∙◌, arith, length}
 use Rattle.std.proofs.lemmas.Result.{err_from_is_err_and}
 use Rattle.nll_problem.specs.Building.{bare_problem}
-use Rattle.nll_problem.specs.Graph.{Graph}
-use Rattle.nll_problem.specs.Limits.{most_regions}
 use Rattle.nll_problem.specs.Problem.{Problem}
 use Rattle.nll_body_problem.specs.Adding.{AddsOutlives}
 use Rattle.nll_body_problem.proofs.WholeLemmas.{AreSteps, known_points, known_regions, known_bases, based_points, based_regions, whole, whole_refused}

@@ -1,4 +1,3 @@
-use Rattle.std.proofs.Common.{sym}
 use Rattle.nll_body_problem.proofs.WholeLemmas.{finished_is, not_too_many, is_no_point_range, is_no_region_range, told}
 use Rattle.nll_body_problem.proofs.body_problem.filled.Goals as goal
 

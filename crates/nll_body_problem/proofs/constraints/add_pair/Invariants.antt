@@ -3,4 +3,4 @@ use Rattle.nll_body_problem.specs.Adding.{AddsConstraints, IsOfPair}
 use Rattle.nll_body_problem.proofs.constraints.add_pair.Given as goal
 
 abbrev pub invariant-loop-point : goal.invariant-loop-point
-invariant-loop-point l = AddsConstraints (IsOfPair (take l.point-index l.points) l.pair) l.fn.builder l.builder
+invariant-loop-point l = AddsConstraints (IsOfPair (take l.point-index l.points) l.fn.pair) l.fn.builder l.builder

@@ -2,7 +2,7 @@ use Rattle.std.proofs.Common.{ℕ, ◌<◌, List, Contains, take, ap, sym, subst
 use Rattle.std.proofs.lemmas.List.{take_more, take_all}
 use Rattle.std.proofs.lemmas.Result.{err_from_is_err_and}
 use Rattle.nll_problem.specs.Problem.{Problem}
-use Rattle.nll_body_problem.specs.Adding.{AddsConstraints, AreRegions, IsOfPairs}
+use Rattle.nll_body_problem.specs.Adding.{AddsConstraints, IsOfPairs}
 use Rattle.nll_body_problem.proofs.AddingLemmas.{pairs_none, pairs_more, pairs_refused}
 use Rattle.nll_body_problem.proofs.constraints.add_pairs.Goals as goal
 use Rattle.nll_body_problem.proofs.constraints.add_pairs.Goals.{After-pair-item}

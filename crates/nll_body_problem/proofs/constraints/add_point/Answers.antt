@@ -1,11 +1,9 @@
-use Rattle.std.proofs.Common.{◌≡◌, ◌↔◌, ℕ, ◌<◌, Contains, length, sym, subst, arith}
+use Rattle.std.proofs.Common.{◌↔◌, ℕ, ◌<◌, Contains, sym, subst, arith}
 use Rattle.std.proofs.lemmas.Result.{err_from_is_err_and}
-use Rattle.nll_problem.specs.declared.constraint.Constraint.{Constraint}
 use Rattle.nll_rules.specs.Asking.{Asks}
 use Rattle.nll_body.specs.Bodies.{GoesOn}
 use Rattle.nll_body.specs.Views.{meant}
 use Rattle.nll_body_problem.specs.BodyProblem.{IsAskedAt}
-use Rattle.nll_body_problem.specs.Adding.{IsOfPairs}
 use Rattle.nll_body_problem.proofs.AddingLemmas.{adds_same, refused_same}
 use Rattle.nll_body_problem.proofs.PointLemmas.{asked_here, only_asked}
 use Rattle.nll_body_problem.proofs.RegionLemmas.{asks_below}
