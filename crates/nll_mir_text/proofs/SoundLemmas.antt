@@ -1,11 +1,11 @@
 -- What the lines of a text that fits say is a sound body.
-use Rattle.std.proofs.Common.{◌≡◌, ◌⊎◌, ℕ, suc, ◌+◌, ◌<◌, ◌≤◌, Bool, true, false, not, cond, List, [], ◌∷◌, ◌++◌, Option, Some, None, Contains, length, map, inl, inr, refl, sym, ap, ◌∙◌, subst, ⊎_elim, arith, length-append, slice_get, get_or}
-use Rattle.std.specs.Prelude.{◌&&◌, ◌==◌, nat_le, nat_lt, All, slice_index_or, codes}
+use Rattle.std.proofs.Common.{◌≡◌, ◌⊎◌, ℕ, ◌+◌, ◌<◌, ◌≤◌, Bool, true, false, not, cond, List, [], ◌∷◌, ◌++◌, Some, None, Contains, length, map, inl, inr, refl, sym, ap, ◌∙◌, subst, ⊎_elim, arith, length-append, slice_get}
+use Rattle.std.specs.Prelude.{◌&&◌, ◌==◌, nat_le, nat_lt, All, codes}
 use Rattle.std.specs.List.{list_all, list_any}
 use Rattle.std.specs.List.Sorted.{IsStrictlyIncreasing}
 use Rattle.std.proofs.lemmas.Bool.{cases_lt, and_parts, not-true, not-false, leb-true, leb-false, ltb-true, ltb-false, eqb-true, eqb-false}
 use Rattle.std.proofs.lemmas.List.{get_or_append_left, get_or_at, append-nil}
-use Rattle.std.proofs.lemmas.List.Elements.{Contains-push_cases, All-cons, All-push, All-weaker, All-nil, All-contains, All-get_or}
+use Rattle.std.proofs.lemmas.List.Elements.{Contains-push_cases, All-cons, All-push, All-weaker, All-nil, All-contains}
 use Rattle.std.proofs.lemmas.List.Sums.{sum_by_push}
 use Rattle.std.proofs.lemmas.Option.{get_or_from_slice_get, slice_get_within, slice_get-get_or}
 use Rattle.nll_problem.specs.Building.{same_pair}
@@ -20,20 +20,18 @@ use Rattle.nll_statements.specs.Written.{regions_written, variables_written}
 use Rattle.nll_statements.proofs.MapLemmas.{regions_mapped, types_mapped}
 use Rattle.nll_mir_grammar.specs.MirForms.{Form, WrittenParameter, universal, outlives, further, struct_line, variable, blocks, block, at_point, end}
 use Rattle.nll_naming.specs.Naming.{meant, is_among, has_arguments, have_arguments, is_known, are_known}
-use Rattle.nll_reading.specs.Labels.{AreFirstPoints}
 use Rattle.nll_reading.specs.Text.{Fits, skipped, of_form, Says, IsText}
-use Rattle.nll_body.specs.Bodies.{BodyText, StandsAt, GoesOn}
 use Rattle.nll_body.specs.Edges.{edges_from, edge_count}
 use Rattle.nll_body.specs.Sound.{IsSound}
 use Rattle.nll_body.proofs.PointLemmas.{same_targets, same_end}
 use Rattle.nll_mir_text.specs.MirSaid.{Said, said, says, nothing_said, statement_meant, body_scope, field_scope, declared, is_region}
-use Rattle.nll_mir_text.specs.MirFaults.{is_universal, first_fault, is_in_order, has_targets, shapes_fit, knows, are_declared}
+use Rattle.nll_mir_text.specs.MirFaults.{is_universal, first_fault, has_targets, shapes_fit, knows, are_declared}
 use Rattle.nll_typing.specs.Typing.{types_agree}
 use Rattle.nll_mir_text.specs.MirReading.{AreKinds}
 use Rattle.nll_mir_text.specs.MirText.{mir, body_said}
 use Rattle.nll_mir_text.proofs.FaultLemmas.{faultless}
 use Rattle.nll_mir_text.proofs.GoodFieldLemmas.{well_formed}
-use Rattle.nll_mir_text.proofs.SaidLemmas.{said_push, in_order, reached_at_end}
+use Rattle.nll_mir_text.proofs.SaidLemmas.{said_push, reached_at_end}
 use Rattle.nll_mir_text.proofs.StructLemmas.{order_push, kinds_pushed, regions_declared, types_declared, good_fields}
 
 -- ---- tests
