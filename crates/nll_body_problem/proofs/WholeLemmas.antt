@@ -96,6 +96,23 @@ finished_is body p q h same others = record {
   outlives = λ x. (λ there. (h.outlives x).0 ((same.outlives x).1 there), λ k. (same.outlives x).0 ((h.outlives x).1 k));
 }
 
+-- what is told by the same facts is the same
+both_ways : {A B C : Type 0} → (A ↔ C) → (B ↔ C) → A ↔ B
+both_ways one other = (λ a. other.1 (one.0 a), λ b. one.1 (other.0 b))
+
+-- a body has one problem at most
+pub same_problem : (body : BodyText) (p q : Problem) → IsProblemOf body p → IsProblemOf body q → SameProblem p q
+same_problem body p q one other = record {
+  points = one.graph.points ∙ sym other.graph.points;
+  universals = one.graph.universals ∙ sym other.graph.universals;
+  regions = one.regions ∙ sym other.regions;
+  edges = λ x. both_ways (one.graph.next x.0 x.1) (other.graph.next x.0 x.1);
+  returns = λ r. both_ways (one.graph.returns r) (other.graph.returns r);
+  bases = λ x. both_ways (one.bases x.0 x.1) (other.bases x.0 x.1);
+  constraints = λ c. both_ways (one.constraints c) (other.constraints c);
+  outlives = λ x. both_ways (one.outlives x) (other.outlives x);
+}
+
 -- a body that has a problem hasn't too many constraints
 pub not_too_many : (body : BodyText) (q : Problem) → IsProblemOf body q → IsSound q → HasTooMany body → ⊥
 not_too_many body q h sound many =

@@ -105,14 +105,8 @@ fn add_pair(
 {
     let (sup, sub) = pair;
     for point in points {
-        add_constraint(
-            builder,
-            Constraint {
-                sup,
-                sub,
-                at: *point,
-            },
-        )?;
+        let at = *point;
+        add_constraint(builder, Constraint { sup, sub, at })?;
     }
     Ok(())
 }

@@ -1,13 +1,16 @@
 //! Problems of bodies: the graph, the base elements that liveness gives, and the constraints that
 //! the statements ask. It knows no text.
 //!
-//! Reading order: `error`, `body_problem`, `facts`, `constraints`. The definitions are in specs/.
+//! Reading order: `error`, `body_problem`, `facts`, `constraints`, `laws`. The definitions are in
+//! specs/.
 #![tactic(auto)]
 
 mod body_problem;
 mod constraints;
 mod error;
 mod facts;
+mod laws;
 
 pub use body_problem::problem_of;
 pub use error::RuleError;
+pub use laws::one_problem;

@@ -1,0 +1,12 @@
+//! Tests of the problems of bodies, by public calls alone. Expected values are found by hand from
+//! the definitions.
+//!
+//! Reading order: `telling`, `problems`, `limits`.
+#![tactic(auto)]
+
+#[cfg(test)]
+mod limits;
+#[cfg(test)]
+mod problems;
+#[cfg(test)]
+mod telling;

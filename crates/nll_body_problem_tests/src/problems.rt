@@ -1,0 +1,78 @@
+//! The problems of worked texts, and of texts that ask for something in each way.
+use super::telling::problem_told;
+use nll_worked_texts::{CALLED, DROPPED, MOVED, REBORROW, RETURNED, TWO_BORROWS};
+
+// Texts, and the problems of their bodies. Regions and points go by their numbers; constraints
+// stand by the region that is outlived, the one that outlives it and the point.
+const WORKED: &[(&str, &str)] = &[
+    (
+        TWO_BORROWS,
+        "4 regions|base 1 1|base 1 2|base 1 4|base 1 5|2: 1 @ 1|3: 1 @ 4|",
+    ),
+    (
+        REBORROW,
+        "5 regions|base 1 0|base 2 0|base 4 1|1: 3 @ 1|2: 3 @ 1|3: 4 @ 1|",
+    ),
+    (DROPPED, "2 regions|base 1 0|base 1 1|"),
+    (
+        MOVED,
+        "5 regions|base 1 0|base 2 0|base 3 1|base 4 1|4: 2 @ 1|1: 3 @ 1|2: 4 @ 1|",
+    ),
+    (RETURNED, "3 regions|base 1 1|base 2 0|2: 1 @ 1|"),
+    (CALLED, "4 regions|base 1 0|base 2 1|3: 2 @ 1|1: 3 @ 1|"),
+];
+
+const FURTHER: &[(&str, &str)] = &[
+    // A reborrow goes on behind a `mut` reference, and stops behind a shared one.
+    (
+        "nll-mir 1|region 'a|region 'b|region 'r|region 's|let _0: int|let _1: &'a mut &'b int|\
+        let _2: &'s int|blocks 1|block bb0|_2 = &'r _1.*.*|read _2.*|return|end|",
+        "5 regions|base 1 0|base 2 0|base 4 1|2: 3 @ 1|3: 4 @ 1|",
+    ),
+    // An outlives fact, and one pair of regions at two points.
+    (
+        "nll-mir 1|universal 'a|universal 'b|outlives 'b 'a|let _0: &'a int|let _1: &'b int|\
+        blocks 1|block bb0|_0 = copy _1|_0 = copy _1|return|end|",
+        "3 regions|outlives 2 1|base 1 2|base 2 0|base 2 1|2: 1 @ 1|2: 1 @ 2|",
+    ),
+    // A struct of two operands: of a covariant and an invariant parameter.
+    (
+        "nll-mir 1|region 'a|region 'b|region 'c|region 'd|region 'e|\
+        struct P<'x +, 'y => (&'x int, &'y int)|let _0: int|let _1: &'a int|let _2: P<'d, 'e>|\
+        blocks 1|block bb0|_2 = make P<'b, 'c>(copy _1, copy _1)|read _2|return|end|",
+        "6 regions|base 1 0|base 4 1|base 5 1|\
+        1: 2 @ 1|1: 3 @ 1|5: 3 @ 1|2: 4 @ 1|3: 5 @ 1|",
+    ),
+    // A call with a pair of its own asks it, and of its result, in both blocks.
+    (
+        "nll-mir 1|region 'a|region 'b|let _0: int|let _1: &'a int|blocks 3|block bb0|\
+        _1 = call f(): &'b int where 'a: 'b -> bb1 unwind bb2|block bb1|read _1|return|block bb2|\
+        stop|end|",
+        "3 regions|base 1 1|2: 1 @ 1|2: 1 @ 3|1: 2 @ 1|1: 2 @ 3|",
+    ),
+    // Two calls ask one constraint: it is there once.
+    (
+        "nll-mir 1|region 'a|region 'b|let _0: int|let _1: &'a int|blocks 4|block bb0|\
+        switch const bb1 bb2|block bb1|_1 = call f(): &'b int -> bb3|block bb2|\
+        _1 = call g(): &'b int -> bb3|block bb3|return|end|",
+        "3 regions|2: 1 @ 3|",
+    ),
+    // The region of a marked parameter is not held at a drop.
+    (
+        "nll-mir 1|region 'w|struct W<'x + ?> drop (&'x int)|let _0: int|let _1: W<'w>|blocks 2|\
+        block bb0|nop|drop _1 -> bb1|block bb1|return|end|",
+        "2 regions|",
+    ),
+];
+
+#[test]
+fn problems_are_found(rt: HostRuntime) {
+    for rows in [WORKED, FURTHER] {
+        for (lines, want) in rows {
+            match problem_told(rt.alloc(), lines) {
+                Ok(told) => assert!(rt; told.as_str() == *want, "{lines}: {told}"),
+                Err(_) => assert!(rt; false, "{lines}: memory"),
+            }
+        }
+    }
+}
