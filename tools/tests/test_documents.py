@@ -1,0 +1,67 @@
+"""What documents show below a `$` is what the definitions give, by the slow programs of bench/."""
+
+import pathlib
+import re
+import subprocess
+import sys
+import unittest
+
+ROOT = pathlib.Path(__file__).resolve().parents[2]
+DOCUMENTS = ["README.md", "docs/LEARNING.md", "docs/TUTORIAL.md"]
+ANSWER = re.compile(r"\./nllc\.sh (values|check) ")
+
+
+def shown(document):
+    """The commands of a document that ask for an answer, each with the lines shown below it."""
+    command, lines = None, []
+    for line in (ROOT / document).read_text().splitlines():
+        if line.startswith("    $ "):
+            if command:
+                yield command, lines
+            command, lines = line[6:], []
+        elif line.startswith("    "):
+            lines.append(line[4:])
+        else:
+            if command:
+                yield command, lines
+            command, lines = None, []
+    if command:
+        yield command, lines
+
+
+def answered(command):
+    """What the slow programs print for a command of a document."""
+    reference = f"{sys.executable} bench/reference.py"
+    asked = ANSWER.sub(lambda found: f"{reference} {found[1]} ", command)
+    run = subprocess.run(asked, shell=True, cwd=ROOT, capture_output=True, text=True)
+    return run.stdout.splitlines()
+
+
+class Documents(unittest.TestCase):
+    def test_shown_answers(self):
+        for document in DOCUMENTS:
+            asked = [(command, lines) for command, lines in shown(document) if ANSWER.search(command)]
+            self.assertTrue(asked, document)
+            for command, lines in asked:
+                with self.subTest(document=document, command=command):
+                    self.assertEqual(answered(command), lines)
+
+    def test_shown_texts(self):
+        """A text that the tutorial shows in part stands line by line, in this order, in its example."""
+        text = (ROOT / "docs/TUTORIAL.md").read_text()
+        for block in re.findall(r"(?:^    .*\n)+", text, re.MULTILINE):
+            lines = [line[4:].split("    ")[0].rstrip() for line in block.splitlines()]
+            if not any(line.startswith("block ") for line in lines):
+                continue
+            with self.subTest(block=lines[0]):
+                self.assertTrue(any(stands_in(lines, path) for path in (ROOT / "examples").glob("*.mir")))
+
+
+def stands_in(lines, path):
+    """Whether the lines stand in a text in this order, where `..` stands for any lines."""
+    rest = iter(path.read_text().splitlines())
+    return all(line == ".." or line in rest for line in lines)
+
+
+if __name__ == "__main__":
+    unittest.main()
