@@ -10,7 +10,7 @@ ghost use Rattle.nll_mir_grammar.specs.Lines.{point_form};
 ghost use Rattle.nll_mir_grammar.specs.Parts.{operands};
 
 use crate::place::{operand_at, place_at};
-use crate::right::{CallResult, borrow_at, make_at, signature_at};
+use crate::right::{borrow_at, make_at, signature_at};
 use crate::words::{after_sign, after_word, word_at};
 use nll_sets::Memory;
 use nll_statements::{Call, Make, Statement};
@@ -47,7 +47,7 @@ fn made<'t, 'a>(
         → MatchOption o (HasNone rights ts)
         (λ p. IsRightSide ts (path_of place) (point_form p.0) (views p.1.now))) }
 {
-    let Some((ty, operands, rest)) = make_at(alloc, tokens)? else {
+    let Some(((ty, operands), rest)) = make_at(alloc, tokens)? else {
         return Ok(None);
     };
     let make = Make {
@@ -72,19 +72,15 @@ fn called<'t, 'a>(
     let Some((_, behind)) = word_at(tokens) else {
         return Ok(None);
     };
-    let Some((arguments, call, rest)) = signature_at(alloc, behind)? else {
+    let Some(((arguments, (result, (wheres, (target, unwind)))), rest)) =
+        signature_at(alloc, behind)?
+    else {
         return Ok(None);
     };
-    let CallResult {
-        ty,
-        wheres,
-        target,
-        unwind,
-    } = call;
     let call = Call {
         place,
         arguments,
-        result: ty,
+        result,
         wheres,
         target,
         unwind,
