@@ -47,9 +47,10 @@ fn made<'t, 'a>(
         → MatchOption o (HasNone rights ts)
         (λ p. IsRightSide ts (path_of place) (point_form p.0) (views p.1.now))) }
 {
-    let Some(((ty, operands), rest)) = make_at(alloc, tokens)? else {
+    let Some((made, rest)) = make_at(alloc, tokens)? else {
         return Ok(None);
     };
+    let (ty, operands) = made;
     let make = Make {
         place,
         ty,
@@ -72,11 +73,12 @@ fn called<'t, 'a>(
     let Some((_, behind)) = word_at(tokens) else {
         return Ok(None);
     };
-    let Some(((arguments, (result, (wheres, (target, unwind)))), rest)) =
-        signature_at(alloc, behind)?
-    else {
+    let Some((signature, rest)) = signature_at(alloc, behind)? else {
         return Ok(None);
     };
+    let (arguments, answer) = signature;
+    let (result, end) = answer;
+    let (wheres, (target, unwind)) = end;
     let call = Call {
         place,
         arguments,

@@ -84,10 +84,7 @@ pub fn let_line<'t, 'a>(
 }
 
 // Whether a struct has a drop of its own, and its fields.
-fn fields_at<'t, 'a>(
-    alloc: Global,
-    tokens: &'t [Token<'a>],
-) -> Read<'t, 'a, (bool, TupleText<'a>)>
+fn fields_at<'t, 'a>(alloc: Global, tokens: &'t [Token<'a>]) -> Read<'t, 'a, (bool, TupleText<'a>)>
     ensures { IfOk result
         (λ o. MatchOption o (HasNone (pair drop_marks tuples) (views tokens.now))
         (λ p. Begins (pair drop_marks tuples) (views tokens.now) (p.0.0, parts (written p.0.1))

@@ -80,10 +80,7 @@ fn enclosed_operands<'t, 'a>(
 }
 
 /// The operands between `(` and `)`.
-pub fn operands_in<'t, 'a>(
-    alloc: Global,
-    tokens: &'t [Token<'a>],
-) -> Read<'t, 'a, Vec<Operand>>
+pub fn operands_in<'t, 'a>(alloc: Global, tokens: &'t [Token<'a>]) -> Read<'t, 'a, Vec<Operand>>
     ensures { IfOk result
         (λ o. MatchOption o (HasNone (parentheses parts.operands) (views tokens.now))
         (λ p. Begins (parentheses parts.operands) (views tokens.now) (map operand_of p.0.items)

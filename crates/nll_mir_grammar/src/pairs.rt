@@ -11,7 +11,7 @@ pub type Read<'t, 'a, T> = Result<Option<(T, &'t [Token<'a>])>, Memory>;
 
 /// A value that was read, with what is read behind it.
 pub fn with<'t, 'a, A: Drop, B>(first: A, second: Read<'t, 'a, B>) -> Read<'t, 'a, (A, B)>
-    ensures { result ≡ both first.entry second.entry }
+    ensures { result ≡ both first second.entry }
 {
     match second {
         Ok(Some((second, rest))) => Ok(Some(((first, second), rest))),
