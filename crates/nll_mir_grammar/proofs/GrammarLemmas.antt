@@ -1,6 +1,7 @@
 -- Grammars that are made of others.
 use Rattle.std.proofs.Common.{◌≡◌, ℕ, ◌<◌, ◌≤◌, ◌+◌, ◌-◌, drop, false, eqb, List, [], ◌∷◌, ◌++◌, length, map, refl, sym, ap, ◌∙◌, subst, append_assoc, arith}
 use Rattle.std.specs.List.{AllByRecursion, flat_map}
+use Rattle.std.specs.Prelude.{Option, Some, None, Result, Ok, Err, IfOk, MatchOption}
 use Rattle.std.proofs.lemmas.Bool.{eq-eqb, false≢true}
 use Rattle.std.proofs.lemmas.List.{length-append, map-append, length-drop, length-map}
 use Rattle.std.specs.List.{drop-map}
@@ -8,7 +9,7 @@ use Rattle.std.proofs.lemmas.Grind.{flat_map-append}
 use Rattle.nll_text.specs.Tokens.{Token, sign, view, views}
 use Rattle.nll_text.specs.declared.token.Token.{Token as InLine}
 use Rattle.nll_mir_grammar.specs.MirForms.{parted}
-use Rattle.nll_mir_grammar.specs.Grammars.{Grammar, Begins, HasNone, IsOne, IsNotNext, behind, empty, pair, many, commas, parentheses, by_kind, MayFollowLast}
+use Rattle.nll_mir_grammar.specs.Grammars.{both, Grammar, Begins, HasNone, IsOne, IsNotNext, behind, empty, pair, many, commas, parentheses, by_kind, MayFollowLast}
 
 -- ---- tokens
 
@@ -441,3 +442,17 @@ kinds_one {K} P g one apart ts p q r s x y =
     subst (λ (l : K). (b : P l) → Begins (g l) ts b s → (p ≡ (l, b)) × (r ≡ s)) e
     (λ b z. let same = one p.0 ts p.1 b r s (record { joined = x.joined; allowed = x.allowed; follows = x.follows }) z in (ap (λ (w : P p.0). (p.0, w)) same.0, same.1))
     q.1 (record { joined = y.joined; allowed = y.allowed; follows = y.follows })
+
+-- ---- what readers answer
+
+-- what stands behind a token is read with it
+pub read_behind : {A R E : Type 0} (g : Grammar A) (t : Token) (ts rest : List Token) (value : R → A) (after : R → List Token) (r : Result (Option R) E) → ts ≡ t ∷ rest → IfOk r (λ o. MatchOption o (HasNone g rest) (λ p. Begins g rest (value p) (after p))) → IfOk r (λ o. MatchOption o (HasNone (behind t g) ts) (λ p. Begins (behind t g) ts (value p) (after p)))
+read_behind g t ts rest value after (Ok None) e h = behind_none g t ts rest e h
+read_behind g t ts rest value after (Ok (Some p)) e h = behind_found g t ts rest (value p) (after p) e h
+read_behind g t ts rest value after (Err x) e h = tt
+
+-- a value is read, and then another
+pub read_pair : {A B V W S E : Type 0} (g : Grammar A) (h : Grammar B) → IsOne g → Joins g h → (ts mid : List Token) (v : V) (value : V → A) (other : W → B) (after : S → List Token) (r : Result (Option (W × S)) E) → Begins g ts (value v) mid → IfOk r (λ o. MatchOption o (HasNone h mid) (λ p. Begins h mid (other p.0) (after p.1))) → IfOk (both v r) (λ o. MatchOption o (HasNone (pair g h) ts) (λ p. Begins (pair g h) ts (value p.0.0, other p.0.1) (after p.1)))
+read_pair g h one joins ts mid v value other after (Ok None) b x = pair_none_behind g h one joins ts mid (value v) b x
+read_pair g h one joins ts mid v value other after (Ok (Some (w, s))) b x = pair_found g h ts mid (after s) (value v) (other w) b x
+read_pair g h one joins ts mid v value other after (Err e) b x = tt

@@ -2,6 +2,7 @@
 use Rattle.std.proofs.Common.{◌≡◌, ◌==◌, true, false, length, ℕ, Bool, List, [], ◌∷◌, map, refl, sym, ap, ◌∙◌, subst, Option, Some, None}
 use Rattle.std.specs.List.{AllByRecursion}
 use Rattle.std.specs.Prelude.{codes}
+use Rattle.std.specs.Prelude.{Result, Ok, Err, IfOk, MatchOption}
 use Rattle.nll_text.specs.Tokens.{Token, word, sign, view, views}
 use Rattle.nll_text.specs.declared.token.Token.{Token as InLine}
 use Rattle.std.proofs.lemmas.Bool.{eqb-true, false≢true}
@@ -96,6 +97,18 @@ no_keyword_line ts mid k e none = no_lines (Some k) ts (ap line_kind e ∙ line_
 pub no_assignment : (ts : List Token) → HasNoKeyword ts → HasNone (line_grammars None) ts → HasNone lines ts
 no_assignment ts other none (None, p) r b = none p r (record { joined = b.joined; allowed = b.allowed; follows = b.follows })
 no_assignment ts other none (Some k, p) r b = other k _ b.joined
+
+-- a line is read behind its keyword
+pub read_keyword_line : {R E : Type 0} (ts mid : List Token) (k : Keyword) (form : R → Form) (after : R → List Token) (r : Result (Option R) E) → ts ≡ word (keyword_name k) ∷ mid → IfOk r (λ o. MatchOption o (HasNone (tails k) mid) (λ p. IsBehind k mid (form p) (after p))) → IfOk r (λ o. MatchOption o (HasNone lines ts) (λ p. IsLine ts (form p) (after p)))
+read_keyword_line ts mid k form after (Ok None) e none = no_keyword_line ts mid k e none
+read_keyword_line ts mid k form after (Ok (Some p)) e found = keyword_line ts mid k (form p) (after p) e found
+read_keyword_line ts mid k form after (Err x) e h = tt
+
+-- a line is read that begins with no keyword
+pub read_assignment : {R E : Type 0} (ts : List Token) (form : R → Form) (after : R → List Token) (r : Result (Option R) E) → HasNoKeyword ts → IfOk r (λ o. MatchOption o (HasNone (line_grammars None) ts) (λ p. IsLine ts (form p) (after p))) → IfOk r (λ o. MatchOption o (HasNone lines ts) (λ p. IsLine ts (form p) (after p)))
+read_assignment ts form after (Ok None) other none = no_assignment ts other none
+read_assignment ts form after (Ok (Some p)) other found = found
+read_assignment ts form after (Err x) other h = tt
 
 -- a word that is no keyword
 pub no_keyword : (ts mid : List Token) (w : List ℕ) → Begins any_words ts w mid → ((k : Keyword) → w ≡ keyword_name k → ⊥) → HasNoKeyword ts

@@ -1,6 +1,7 @@
 -- Grammars: how values are spelled by tokens at the front of others.
 -- Source: project's choice. Only private contracts cite this file.
 use Rattle.std.specs.Prelude.{◌≡◌, ◌<◌, List, [], ◌∷◌, ◌++◌, map, length}
+use Rattle.std.specs.Prelude.{Option, Some, None, Result, Ok, Err}
 use Rattle.std.specs.List.{AllByRecursion, flat_map}
 use Rattle.nll_text.specs.Tokens.{Token, sign}
 use Rattle.nll_mir_grammar.specs.MirForms.{parted, in_parentheses}
@@ -97,3 +98,12 @@ by_kind Payload g = record {
   IsAllowed = λ p. (g p.0).IsAllowed p.1;
   MayFollow = λ p r. (g p.0).MayFollow p.1 r;
 }
+
+-- ---- what readers answer
+
+-- what was read, with a value that stands before it
+abbrev pub both :
+    {A B R E : Type 0} → A → Result (Option (B × R)) E → Result (Option ((A × B) × R)) E
+both a (Ok (Some (b, r))) = Ok (Some ((a, b), r))
+both a (Ok None) = Ok None
+both a (Err e) = Err e

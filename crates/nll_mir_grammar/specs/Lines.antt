@@ -1,10 +1,11 @@
 -- The code's lines and statements as the forms that they are.
 -- Source: project's choice.
-use Rattle.std.specs.Prelude.{ℕ, List, map}
+use Rattle.std.specs.Prelude.{ℕ, List, map, Option}
 use Rattle.std.specs.Borrow.{Bor}
+use Rattle.std.specs.Global.{Vec}
 use Rattle.nll_types.specs.Operands.{Operand, operand_of}
 use Rattle.nll_types.specs.declared.operand.Operand.{Operand as Written}
-use Rattle.nll_type_grammar.specs.WrittenTypes.{WrittenType}
+use Rattle.nll_type_grammar.specs.WrittenTypes.{Name, WrittenType}
 use Rattle.nll_type_grammar.specs.TypeTexts.{written}
 use Rattle.nll_type_grammar.specs.declared.type_text.TypeNode.{TypeNode}
 use Rattle.nll_statements.specs.Statements.{map_statement}
@@ -22,6 +23,12 @@ use Rattle.nll_mir_grammar.specs.declared.line.ParameterText.TheVariants as para
 -- an argument of a call in the code
 abbrev pub argument_of : Written × List TypeNode → Operand × WrittenType
 argument_of a = (operand_of a.0, written a.1)
+
+-- the result of a call in the code, its bounds, and where it goes on
+abbrev pub result_of :
+    List TypeNode × (Vec (Bor (List ℕ) × Bor (List ℕ)) × (ℕ × Option ℕ))
+    → WrittenType × (List (Name × Name) × (ℕ × Option ℕ))
+result_of r = (written r.0, (map (λ w. (w.0.now, w.1.now)) r.1.0.items, r.1.1))
 
 -- a parameter of the code
 abbrev pub parameter_of : ParameterText → WrittenParameter

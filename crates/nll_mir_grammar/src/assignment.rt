@@ -10,7 +10,7 @@ ghost use Rattle.nll_mir_grammar.specs.Lines.{point_form};
 ghost use Rattle.nll_mir_grammar.specs.Parts.{operands};
 
 use crate::place::{operand_at, place_at};
-use crate::right::{CallResult, borrow_at, make_at, signature_at};
+use crate::right::{borrow_at, make_at, signature_at};
 use crate::words::{after_sign, after_word, word_at};
 use nll_sets::Memory;
 use nll_statements::{Call, Make, Statement};
@@ -47,9 +47,10 @@ fn made<'t, 'a>(
         → MatchOption o (HasNone rights ts)
         (λ p. IsRightSide ts (path_of place) (point_form p.0) (views p.1.now))) }
 {
-    let Some((ty, operands, rest)) = make_at(alloc, tokens)? else {
+    let Some((made, rest)) = make_at(alloc, tokens)? else {
         return Ok(None);
     };
+    let (ty, operands) = made;
     let make = Make {
         place,
         ty,
@@ -72,19 +73,16 @@ fn called<'t, 'a>(
     let Some((_, behind)) = word_at(tokens) else {
         return Ok(None);
     };
-    let Some((arguments, call, rest)) = signature_at(alloc, behind)? else {
+    let Some((signature, rest)) = signature_at(alloc, behind)? else {
         return Ok(None);
     };
-    let CallResult {
-        ty,
-        wheres,
-        target,
-        unwind,
-    } = call;
+    let (arguments, answer) = signature;
+    let (result, end) = answer;
+    let (wheres, (target, unwind)) = end;
     let call = Call {
         place,
         arguments,
-        result: ty,
+        result,
         wheres,
         target,
         unwind,

@@ -1,15 +1,19 @@
 //! The bounds of a call: of which regions one must outlive another.
 
-ghost use Rattle.std.specs.Prelude.{IfOk, MatchOption, map};
+ghost use Rattle.std.specs.Prelude.{◌≡◌, [], IfOk, MatchOption, map};
 ghost use Rattle.nll_text.specs.Tokens as lex;
 ghost use Rattle.nll_text.specs.Tokens.{views};
 ghost use Rattle.nll_mir_grammar.specs.Grammars.{Begins, HasNone, behind, commas};
 ghost use Rattle.nll_mir_grammar.specs.Parts as parts;
 
+use crate::pairs::Read;
 use crate::words::{after_sign, after_word, region_at};
 use nll_sets::Memory;
 use nll_text::Token;
 use std::alloc::Global;
+
+/// Of each pair the first region must outlive the second.
+pub type Bounds<'a> = Vec<(&'a [u8], &'a [u8])>;
 
 // The bound at the front.
 fn bound_at<'t, 'a>(tokens: &'t [Token<'a>]) -> Option<(&'a [u8], &'a [u8], &'t [Token<'a>])>
@@ -33,42 +37,41 @@ fn next_bound<'t, 'a>(tokens: &'t [Token<'a>]) -> Option<(&'a [u8], &'a [u8], &'
     Some((longer, shorter, rest))
 }
 
-// Bounds parted by commas, as many as there are.
-fn bounds_at<'t, 'a>(
-    alloc: Global,
+// Puts bounds parted by commas into the list, as many as there are.
+fn list_bounds<'t, 'a>(
     tokens: &'t [Token<'a>],
-) -> Result<Option<(Vec<(&'a [u8], &'a [u8])>, &'t [Token<'a>])>, Memory>
+    bounds: &mut Bounds<'a>,
+) -> Result<Option<&'t [Token<'a>]>, Memory>
+    requires { bounds.old.items ≡ [] }
     ensures { IfOk result (λ o. MatchOption o (HasNone (commas parts.bounds) (views tokens.now))
-        (λ p. Begins (commas parts.bounds) (views tokens.now)
-        (map (λ w. (w.0.now, w.1.now)) p.0.items) (views p.1.now))) }
+        (λ rest. Begins (commas parts.bounds) (views tokens.now)
+        (map (λ w. (w.0.now, w.1.now)) bounds.new.items) (views rest.now))) }
 {
     let Some((longer, shorter, behind)) = bound_at(tokens) else {
         return Ok(None);
     };
     let mut at = tokens.len() - behind.len();
-    let mut bounds = Vec::new(alloc);
     bounds.push((longer, shorter))?;
     while let Some((longer, shorter, behind)) = next_bound(&tokens[at..]) {
         bounds.push((longer, shorter))?;
         at = tokens.len() - behind.len();
     }
-    Ok(Some((bounds, &tokens[at..])))
+    Ok(Some(&tokens[at..]))
 }
 
 /// The bounds behind `where`, or none.
-pub fn bounds_in<'t, 'a>(
-    alloc: Global,
-    tokens: &'t [Token<'a>],
-) -> Result<Option<(Vec<(&'a [u8], &'a [u8])>, &'t [Token<'a>])>, Memory>
+pub fn bounds_in<'t, 'a>(alloc: Global, tokens: &'t [Token<'a>]) -> Read<'t, 'a, Bounds<'a>>
     ensures { IfOk result (λ o. MatchOption o (HasNone parts.bound_lists (views tokens.now))
         (λ p. Begins parts.bound_lists (views tokens.now)
         (map (λ w. (w.0.now, w.1.now)) p.0.items) (views p.1.now))) }
 {
+    let mut bounds = Vec::new(alloc);
     let Some(inner) = after_word(tokens, b"where") else {
-        return Ok(Some((Vec::new(alloc), tokens)));
+        return Ok(Some((bounds, tokens)));
     };
-    let Some((bounds, rest)) = bounds_at(alloc, inner)? else {
-        return Ok(None);
-    };
-    Ok(Some((bounds, rest)))
+    match list_bounds(inner, &mut bounds) {
+        Ok(Some(rest)) => Ok(Some((bounds, rest))),
+        Ok(None) => Ok(None),
+        Err(memory) => Err(memory),
+    }
 }

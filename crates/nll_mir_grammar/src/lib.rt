@@ -11,6 +11,7 @@ mod laws;
 mod line;
 mod lines;
 mod operands;
+mod pairs;
 mod parameters;
 mod place;
 mod points;

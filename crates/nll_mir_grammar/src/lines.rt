@@ -1,18 +1,20 @@
 //! Lines that begin with a word of their own, behind that word.
 
-ghost use Rattle.std.specs.Prelude.{IfOk, MatchOption};
+ghost use Rattle.std.specs.Prelude.{IfOk, MatchOption, map};
 ghost use Rattle.nll_text.specs.Tokens.{views};
-ghost use Rattle.nll_mir_grammar.specs.Grammars.{HasNone};
+ghost use Rattle.nll_type_grammar.specs.TypeTexts.{written};
+ghost use Rattle.nll_mir_grammar.specs.Grammars.{Begins, HasNone, pair};
 ghost use Rattle.nll_mir_grammar.specs.Kinds.{IsBehind, tails};
-ghost use Rattle.nll_mir_grammar.specs.Lines.{form_of};
+ghost use Rattle.nll_mir_grammar.specs.Lines.{form_of, parameter_of};
+ghost use Rattle.nll_mir_grammar.specs.Parts.{drop_marks, parameter_lists, tuples};
+ghost use Rattle.nll_mir_grammar.specs.Tuples.{parts};
 ghost use Rattle.nll_mir_grammar.specs.declared.keyword.Keyword.TheVariants as keyword;
 
-use crate::line::{Line, StructText};
+use crate::line::{Line, ParameterText, StructText, TupleText};
+use crate::pairs::{Read, with};
 use crate::parameters::parameters_in;
-use crate::type_front::{tuple_front, type_front};
-use crate::words::{
-    after_sign, block_at, drop_mark_at, name_at, number_at, region_at, variable_at,
-};
+use crate::type_front::{tuple_front, type_behind};
+use crate::words::{block_at, drop_mark_at, name_at, number_at, region_at, variable_at};
 use nll_sets::Memory;
 use nll_text::Token;
 use std::alloc::Global;
@@ -75,13 +77,39 @@ pub fn let_line<'t, 'a>(
     let Some((variable, behind)) = variable_at(tokens) else {
         return Ok(None);
     };
-    let Some(behind) = after_sign(behind, b':') else {
-        return Ok(None);
-    };
-    let Some((ty, rest)) = type_front(alloc, behind)? else {
+    let Some((ty, rest)) = type_behind(alloc, behind)? else {
         return Ok(None);
     };
     Ok(Some((Line::Let(variable, ty), rest)))
+}
+
+// Whether a struct has a drop of its own, and its fields.
+fn fields_at<'t, 'a>(alloc: Global, tokens: &'t [Token<'a>]) -> Read<'t, 'a, (bool, TupleText<'a>)>
+    ensures { IfOk result
+        (λ o. MatchOption o (HasNone (pair drop_marks tuples) (views tokens.now))
+        (λ p. Begins (pair drop_marks tuples) (views tokens.now) (p.0.0, parts (written p.0.1))
+        (views p.1.now))) }
+{
+    let (has_drop, behind) = drop_mark_at(tokens);
+    with(has_drop, tuple_front(alloc, behind))
+}
+
+// What stands behind the name of a struct: its parameters, whether it has a drop of its own, and
+// its fields.
+fn struct_behind<'t, 'a>(
+    alloc: Global,
+    tokens: &'t [Token<'a>],
+) -> Read<'t, 'a, (Vec<ParameterText<'a>>, (bool, TupleText<'a>))>
+    ensures { IfOk result
+        (λ o. MatchOption o
+        (HasNone (pair parameter_lists (pair drop_marks tuples)) (views tokens.now))
+        (λ p. Begins (pair parameter_lists (pair drop_marks tuples)) (views tokens.now)
+        (map parameter_of p.0.0.items, (p.0.1.0, parts (written p.0.1.1))) (views p.1.now))) }
+{
+    let Some((parameters, behind)) = parameters_in(alloc, tokens)? else {
+        return Ok(None);
+    };
+    with(parameters, fields_at(alloc, behind))
 }
 
 /// Behind `struct`.
@@ -96,11 +124,7 @@ pub fn struct_line<'t, 'a>(
     let Some((name, behind)) = name_at(tokens) else {
         return Ok(None);
     };
-    let Some((parameters, behind)) = parameters_in(alloc, behind)? else {
-        return Ok(None);
-    };
-    let (has_drop, behind) = drop_mark_at(behind);
-    let Some((fields, rest)) = tuple_front(alloc, behind)? else {
+    let Some(((parameters, (has_drop, fields)), rest)) = struct_behind(alloc, behind)? else {
         return Ok(None);
     };
     let text = StructText {

@@ -1,6 +1,6 @@
 //! The parameters of a struct.
 
-ghost use Rattle.std.specs.Prelude.{IfOk, MatchOption, map};
+ghost use Rattle.std.specs.Prelude.{◌≡◌, [], IfOk, MatchOption, map};
 ghost use Rattle.nll_text.specs.Tokens as lex;
 ghost use Rattle.nll_text.specs.Tokens.{views};
 ghost use Rattle.nll_mir_grammar.specs.Grammars.{Begins, HasNone, behind, commas};
@@ -8,6 +8,7 @@ ghost use Rattle.nll_mir_grammar.specs.Lines.{parameter_of};
 ghost use Rattle.nll_mir_grammar.specs.Parts as parts;
 
 use crate::line::ParameterText;
+use crate::pairs::Read;
 use crate::words::{after_sign, name_at, region_at};
 use nll_sets::Memory;
 use nll_text::Token;
@@ -76,47 +77,66 @@ fn next_parameter<'t, 'a>(tokens: &'t [Token<'a>]) -> Option<(ParameterText<'a>,
     Some((parameter, rest))
 }
 
-// Parameters parted by commas, as many as there are.
-fn parameters_at<'t, 'a>(
-    alloc: Global,
+// Puts parameters parted by commas into the list, as many as there are.
+fn list_parameters<'t, 'a>(
     tokens: &'t [Token<'a>],
-) -> Result<Option<(Vec<ParameterText<'a>>, &'t [Token<'a>])>, Memory>
+    parameters: &mut Vec<ParameterText<'a>>,
+) -> Result<Option<&'t [Token<'a>]>, Memory>
+    requires { parameters.old.items ≡ [] }
     ensures { IfOk result
         (λ o. MatchOption o (HasNone (commas parts.parameters) (views tokens.now))
-        (λ p. Begins (commas parts.parameters) (views tokens.now) (map parameter_of p.0.items)
-        (views p.1.now))) }
+        (λ rest. Begins (commas parts.parameters) (views tokens.now)
+        (map parameter_of parameters.new.items) (views rest.now))) }
 {
     let Some((first, behind)) = parameter_at(tokens) else {
         return Ok(None);
     };
     let mut at = tokens.len() - behind.len();
-    let mut parameters = Vec::new(alloc);
     parameters.push(first)?;
     while let Some((parameter, behind)) = next_parameter(&tokens[at..]) {
         parameters.push(parameter)?;
         at = tokens.len() - behind.len();
     }
-    Ok(Some((parameters, &tokens[at..])))
+    Ok(Some(&tokens[at..]))
+}
+
+// Puts the parameters between `<` and `>` into the list, where there are any.
+fn enclosed_parameters<'t, 'a>(
+    tokens: &'t [Token<'a>],
+    parameters: &mut Vec<ParameterText<'a>>,
+) -> Result<Option<&'t [Token<'a>]>, Memory>
+    requires { parameters.old.items ≡ [] }
+    ensures { IfOk result
+        (λ o. MatchOption o (HasNone parts.parameter_lists (views tokens.now))
+        (λ rest. Begins parts.parameter_lists (views tokens.now)
+        (map parameter_of parameters.new.items) (views rest.now))) }
+{
+    let Some(inner) = after_sign(tokens, b'<') else {
+        return Ok(Some(tokens));
+    };
+    let Some(behind) = list_parameters(inner, parameters)? else {
+        return Ok(None);
+    };
+    let Some(rest) = after_sign(behind, b'>') else {
+        return Ok(None);
+    };
+    Ok(Some(rest))
 }
 
 /// The parameters between `<` and `>`, or none.
 pub fn parameters_in<'t, 'a>(
     alloc: Global,
     tokens: &'t [Token<'a>],
-) -> Result<Option<(Vec<ParameterText<'a>>, &'t [Token<'a>])>, Memory>
+) -> Read<'t, 'a, Vec<ParameterText<'a>>>
     ensures { IfOk result
         (λ o. MatchOption o (HasNone parts.parameter_lists (views tokens.now))
         (λ p. Begins parts.parameter_lists (views tokens.now) (map parameter_of p.0.items)
         (views p.1.now))) }
 {
-    let Some(inner) = after_sign(tokens, b'<') else {
-        return Ok(Some((Vec::new(alloc), tokens)));
-    };
-    let Some((parameters, behind)) = parameters_at(alloc, inner)? else {
-        return Ok(None);
-    };
-    let Some(rest) = after_sign(behind, b'>') else {
-        return Ok(None);
-    };
-    Ok(Some((parameters, rest)))
+    let mut parameters = Vec::new(alloc);
+    match enclosed_parameters(tokens, &mut parameters) {
+        Ok(Some(rest)) => Ok(Some((parameters, rest))),
+        Ok(None) => Ok(None),
+        Err(memory) => Err(memory),
+    }
 }

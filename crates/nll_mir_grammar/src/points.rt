@@ -50,7 +50,7 @@ pub fn drop_line<'t, 'a>(tokens: &'t [Token<'a>]) -> Option<(Line<'a>, &'t [Toke
         (λ p. IsBehind keyword.Drop (views tokens.now) (form_of p.0) (views p.1.now)) }
 {
     let (variable, behind) = variable_at(tokens)?;
-    let (target, unwind, rest) = exits_at(behind)?;
+    let ((target, unwind), rest) = exits_at(behind)?;
     Some((Line::At(Statement::Drop(variable, target, unwind)), rest))
 }
 

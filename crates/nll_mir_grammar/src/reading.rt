@@ -1,11 +1,12 @@
 //! Reading a line from its tokens.
 
-ghost use Rattle.std.specs.Prelude.{◌≡◌, ◌∷◌, IfOk, MatchOption};
+ghost use Rattle.std.specs.Prelude.{◌≡◌, ◌∷◌, IfOk, MatchOption, None};
 ghost use Rattle.nll_text.specs.Tokens as lex;
 ghost use Rattle.nll_text.specs.Tokens.{views};
 ghost use Rattle.nll_mir_grammar.specs.Grammars.{HasNone};
 ghost use Rattle.nll_mir_grammar.specs.Kinds as kinds;
-ghost use Rattle.nll_mir_grammar.specs.Kinds.{HasNoKeyword, IsBehind, IsLine, keyword_name, tails};
+ghost use Rattle.nll_mir_grammar.specs.Kinds.{HasNoKeyword, IsBehind, IsLine, keyword_name};
+ghost use Rattle.nll_mir_grammar.specs.Kinds.{line_grammars, tails};
 ghost use Rattle.nll_mir_grammar.specs.Lines.{form_of};
 ghost use Rattle.nll_mir_grammar.specs.MirForms.{Form, IsSpelled};
 
@@ -15,6 +16,7 @@ use crate::line::Line;
 use crate::lines::{
     block_line, blocks_line, let_line, outlives_line, region_line, struct_line, universal_line,
 };
+use crate::pairs::Read;
 use crate::points::{dead_line, drop_line, goto_line, live_line, read_line, switch_line};
 use crate::words::word_at;
 use nll_sets::Memory;
@@ -27,7 +29,7 @@ fn line_behind<'t, 'a>(
     alloc: Global,
     keyword: Keyword,
     tokens: &'t [Token<'a>],
-) -> Result<Option<(Line<'a>, &'t [Token<'a>])>, Memory>
+) -> Read<'t, 'a, Line<'a>>
     ensures { IfOk result
         (λ o. MatchOption o (HasNone (tails keyword) (views tokens.now))
         (λ p. IsBehind keyword (views tokens.now) (form_of p.0) (views p.1.now))) }
@@ -36,28 +38,16 @@ fn line_behind<'t, 'a>(
         Keyword::Universal => Ok(universal_line(tokens)),
         Keyword::Outlives => Ok(outlives_line(tokens)),
         Keyword::Region => Ok(region_line(tokens)),
-        Keyword::Struct => {
-            let line = struct_line(alloc, tokens)?;
-            Ok(line)
-        }
-        Keyword::Let => {
-            let line = let_line(alloc, tokens)?;
-            Ok(line)
-        }
+        Keyword::Struct => struct_line(alloc, tokens),
+        Keyword::Let => let_line(alloc, tokens),
         Keyword::Blocks => Ok(blocks_line(tokens)),
         Keyword::Block => Ok(block_line(tokens)),
-        Keyword::Read => {
-            let line = read_line(alloc, tokens)?;
-            Ok(line)
-        }
+        Keyword::Read => read_line(alloc, tokens),
         Keyword::Live => Ok(live_line(tokens)),
         Keyword::Dead => Ok(dead_line(tokens)),
         Keyword::Nop => Ok(Some((Line::At(Statement::Nop), tokens))),
         Keyword::Goto => Ok(goto_line(tokens)),
-        Keyword::Switch => {
-            let line = switch_line(alloc, tokens)?;
-            Ok(line)
-        }
+        Keyword::Switch => switch_line(alloc, tokens),
         Keyword::Drop => Ok(drop_line(tokens)),
         Keyword::Return => Ok(Some((Line::At(Statement::Return), tokens))),
         Keyword::Stop => Ok(Some((Line::At(Statement::Stop), tokens))),
@@ -75,27 +65,26 @@ fn keyword_at<'t, 'a>(tokens: &'t [Token<'a>]) -> Option<(Keyword, &'t [Token<'a
     Some((keyword, rest))
 }
 
+// The line at the front, where that is an assignment.
+fn assignment_line<'t, 'a>(alloc: Global, tokens: &'t [Token<'a>]) -> Read<'t, 'a, Line<'a>>
+    ensures { IfOk result
+        (λ o. MatchOption o (HasNone (line_grammars None) (views tokens.now))
+        (λ p. IsLine (views tokens.now) (form_of p.0) (views p.1.now))) }
+{
+    let Some((statement, rest)) = assignment_at(alloc, tokens)? else {
+        return Ok(None);
+    };
+    Ok(Some((Line::At(statement), rest)))
+}
+
 // The line at the front.
-fn line_at<'t, 'a>(
-    alloc: Global,
-    tokens: &'t [Token<'a>],
-) -> Result<Option<(Line<'a>, &'t [Token<'a>])>, Memory>
+fn line_at<'t, 'a>(alloc: Global, tokens: &'t [Token<'a>]) -> Read<'t, 'a, Line<'a>>
     ensures { IfOk result (λ o. MatchOption o (HasNone kinds.lines (views tokens.now))
         (λ p. IsLine (views tokens.now) (form_of p.0) (views p.1.now))) }
 {
     match keyword_at(tokens) {
-        Some((keyword, rest)) => {
-            let Some((line, rest)) = line_behind(alloc, keyword, rest)? else {
-                return Ok(None);
-            };
-            Ok(Some((line, rest)))
-        }
-        None => {
-            let Some((statement, rest)) = assignment_at(alloc, tokens)? else {
-                return Ok(None);
-            };
-            Ok(Some((Line::At(statement), rest)))
-        }
+        Some((keyword, rest)) => line_behind(alloc, keyword, rest),
+        None => assignment_line(alloc, tokens),
     }
 }
 
@@ -112,6 +101,7 @@ pub fn line_of<'a>(alloc: Global, tokens: &[Token<'a>]) -> Result<Option<Line<'a
         return Ok(None);
     };
     if !rest.is_empty() {
+        drop(line);
         return Ok(None);
     }
     Ok(Some(line))

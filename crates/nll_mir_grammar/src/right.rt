@@ -1,18 +1,21 @@
 //! The right sides of assignments, by their first tokens.
 
 ghost use Rattle.std.specs.Prelude.{IfOk, MatchOption, map};
+ghost use Rattle.nll_text.specs.Tokens as lex;
 ghost use Rattle.nll_text.specs.Tokens.{views};
 ghost use Rattle.nll_types.specs.Places.{path_of};
 ghost use Rattle.nll_types.specs.Operands.{operand_of};
 ghost use Rattle.nll_type_grammar.specs.TypeTexts.{written};
-ghost use Rattle.nll_mir_grammar.specs.Grammars.{Begins, HasNone};
+ghost use Rattle.nll_mir_grammar.specs.Grammars.{Begins, HasNone, behind, pair};
 ghost use Rattle.nll_mir_grammar.specs.Kinds.{borrows, makes, results, signatures};
-ghost use Rattle.nll_mir_grammar.specs.Lines.{argument_of};
+ghost use Rattle.nll_mir_grammar.specs.Lines.{argument_of, result_of};
+ghost use Rattle.nll_mir_grammar.specs.Parts.{bound_lists, exits};
 
-use crate::arguments::arguments_in;
-use crate::bounds::bounds_in;
-use crate::exits::exits_at;
+use crate::arguments::{Argument, arguments_in};
+use crate::bounds::{Bounds, bounds_in};
+use crate::exits::{Exits, exits_at};
 use crate::operands::operands_in;
+use crate::pairs::{Read, with};
 use crate::place::place_at;
 use crate::type_front::type_front;
 use crate::words::{after_sign, mutability_at, region_at};
@@ -44,93 +47,67 @@ pub fn borrow_at<'t, 'a>(
 pub fn make_at<'t, 'a>(
     alloc: Global,
     tokens: &'t [Token<'a>],
-) -> Result<Option<(TypeText<'a>, Vec<Operand>, &'t [Token<'a>])>, Memory>
+) -> Read<'t, 'a, (TypeText<'a>, Vec<Operand>)>
     ensures { IfOk result (λ o. MatchOption o (HasNone makes (views tokens.now))
-        (λ p. Begins makes (views tokens.now) (written p.0, map operand_of p.1.items)
-        (views p.2.now))) }
+        (λ p. Begins makes (views tokens.now) (written p.0.0, map operand_of p.0.1.items)
+        (views p.1.now))) }
 {
     let Some((ty, behind)) = type_front(alloc, tokens)? else {
         return Ok(None);
     };
-    let Some((operands, rest)) = operands_in(alloc, behind)? else {
-        return Ok(None);
-    };
-    Ok(Some((ty, operands, rest)))
+    with(ty, operands_in(alloc, behind))
 }
 
-/// What a call has behind its arguments.
-#[derive(Drop)]
-pub struct CallResult<'a> {
-    pub ty: TypeText<'a>,
-    pub wheres: Vec<(&'a [u8], &'a [u8])>,
-    pub target: u32,
-    pub unwind: Option<u32>,
+/// What a call has behind its arguments: the type of its result, bounds, and where it goes on.
+pub type CallResult<'a> = (TypeText<'a>, (Bounds<'a>, Exits));
+
+// The bounds of a call, and where it goes on.
+fn call_end_at<'t, 'a>(alloc: Global, tokens: &'t [Token<'a>]) -> Read<'t, 'a, (Bounds<'a>, Exits)>
+    ensures { IfOk result (λ o. MatchOption o (HasNone (pair bound_lists exits) (views tokens.now))
+        (λ p. Begins (pair bound_lists exits) (views tokens.now)
+        (map (λ w. (w.0.now, w.1.now)) p.0.0.items, p.0.1) (views p.1.now))) }
+{
+    let Some((bounds, behind)) = bounds_in(alloc, tokens)? else {
+        return Ok(None);
+    };
+    with(bounds, Ok(exits_at(behind)))
 }
 
 /// What stands behind the `:` of a call.
-pub fn result_at<'t, 'a>(
-    alloc: Global,
-    tokens: &'t [Token<'a>],
-) -> Result<Option<(CallResult<'a>, &'t [Token<'a>])>, Memory>
+pub fn result_at<'t, 'a>(alloc: Global, tokens: &'t [Token<'a>]) -> Read<'t, 'a, CallResult<'a>>
     ensures { IfOk result (λ o. MatchOption o (HasNone results (views tokens.now))
-        (λ p. Begins results (views tokens.now) (
-          written p.0.ty,
-          (
-            map (λ w. (w.0.now, w.1.now)) p.0.wheres.items,
-            (p.0.target, p.0.unwind),
-          ),
-        ) (views p.1.now))) }
+        (λ p. Begins results (views tokens.now) (result_of p.0) (views p.1.now))) }
 {
     let Some((ty, behind)) = type_front(alloc, tokens)? else {
         return Ok(None);
     };
-    let Some((wheres, behind)) = bounds_in(alloc, behind)? else {
-        return Ok(None);
-    };
-    let Some((target, unwind, rest)) = exits_at(behind) else {
-        return Ok(None);
-    };
-    let call = CallResult {
-        ty,
-        wheres,
-        target,
-        unwind,
-    };
-    Ok(Some((call, rest)))
+    with(ty, call_end_at(alloc, behind))
+}
+
+// The `:` of a call, and what stands behind it.
+fn result_behind<'t, 'a>(alloc: Global, tokens: &'t [Token<'a>]) -> Read<'t, 'a, CallResult<'a>>
+    ensures { IfOk result
+        (λ o. MatchOption o (HasNone (behind (lex.sign 58) results) (views tokens.now))
+        (λ p. Begins (behind (lex.sign 58) results) (views tokens.now) (result_of p.0)
+        (views p.1.now))) }
+{
+    match after_sign(tokens, b':') {
+        Some(behind) => result_at(alloc, behind),
+        None => Ok(None),
+    }
 }
 
 /// What stands behind the name of a function that is called: arguments, and the rest of the call.
 pub fn signature_at<'t, 'a>(
     alloc: Global,
     tokens: &'t [Token<'a>],
-) -> Result<
-    Option<
-        (
-            Vec<(Operand, TypeText<'a>)>,
-            CallResult<'a>,
-            &'t [Token<'a>],
-        ),
-    >,
-    Memory,
->
+) -> Read<'t, 'a, (Vec<Argument<'a>>, CallResult<'a>)>
     ensures { IfOk result (λ o. MatchOption o (HasNone signatures (views tokens.now))
-        (λ p. Begins signatures (views tokens.now) (
-          map argument_of p.0.items,
-          (
-            written p.1.ty,
-            (map (λ w. (w.0.now, w.1.now)) p.1.wheres.items, (p.1.target, p.1.unwind)),
-          ),
-        )
-        (views p.2.now))) }
+        (λ p. Begins signatures (views tokens.now) (map argument_of p.0.0.items, result_of p.0.1)
+        (views p.1.now))) }
 {
     let Some((arguments, behind)) = arguments_in(alloc, tokens)? else {
         return Ok(None);
     };
-    let Some(behind) = after_sign(behind, b':') else {
-        return Ok(None);
-    };
-    let Some((call, rest)) = result_at(alloc, behind)? else {
-        return Ok(None);
-    };
-    Ok(Some((arguments, call, rest)))
+    with(arguments, result_behind(alloc, behind))
 }

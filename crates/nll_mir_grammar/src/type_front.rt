@@ -1,13 +1,15 @@
 //! Types at the front of tokens.
 
 ghost use Rattle.std.specs.Prelude.{IfOk, MatchOption};
+ghost use Rattle.nll_text.specs.Tokens as lex;
 ghost use Rattle.nll_text.specs.Tokens.{views};
 ghost use Rattle.nll_type_grammar.specs.TypeTexts.{written};
-ghost use Rattle.nll_mir_grammar.specs.Grammars.{Begins, HasNone};
+ghost use Rattle.nll_mir_grammar.specs.Grammars.{Begins, HasNone, behind};
 ghost use Rattle.nll_mir_grammar.specs.Parts as parts;
 ghost use Rattle.nll_mir_grammar.specs.Tuples.{parts as parts_of_tuple};
 
 use crate::line::TupleText;
+use crate::pairs::Read;
 use crate::words::after_sign;
 use nll_sets::Memory;
 use nll_text::Token;
@@ -24,6 +26,19 @@ pub fn type_front<'t, 'a>(
 {
     match type_at(alloc, tokens)? {
         Some((ty, count)) => { Ok(Some((ty, &tokens[count..]))) }
+        None => Ok(None),
+    }
+}
+
+/// The type behind a `:`.
+pub fn type_behind<'t, 'a>(alloc: Global, tokens: &'t [Token<'a>]) -> Read<'t, 'a, TypeText<'a>>
+    ensures { IfOk result
+        (λ o. MatchOption o (HasNone (behind (lex.sign 58) parts.types) (views tokens.now))
+        (λ p. Begins (behind (lex.sign 58) parts.types) (views tokens.now) (written p.0)
+        (views p.1.now))) }
+{
+    match after_sign(tokens, b':') {
+        Some(behind) => type_front(alloc, behind),
         None => Ok(None),
     }
 }

@@ -1,5 +1,5 @@
 use Rattle.nll_mir_grammar.proofs.PartLemmas.{no_bounds}
 use Rattle.nll_mir_grammar.proofs.bounds.bounds_in.Goals as goal
 
-pub returns-in_default-2 : goal.returns-in_default-2
-returns-in_default-2 c = let none = rw c.in_default-2.is at c.in_ok-bounds.ensures in no_bounds _ _ c.in-Some.ensures none
+pub returns-in-Ok-None : goal.returns-in-Ok-None
+returns-in-Ok-None c = let none = rw c.in-Ok-None.field-0-is at c.in-Ok-None.ensures in no_bounds _ _ c.in-Some.ensures none

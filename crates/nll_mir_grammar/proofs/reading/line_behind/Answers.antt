@@ -27,14 +27,14 @@ returns-in-Goto c = rw c.in-Goto.is c.goto_line.ensures
 pub returns-in-Drop : goal.returns-in-Drop
 returns-in-Drop c = rw c.in-Drop.is c.drop_line.ensures
 
-pub returns-in_ok-line-in-Struct : goal.returns-in_ok-line-in-Struct
-returns-in_ok-line-in-Struct c = rw c.in-Struct.is c.in_ok-line-in-Struct.ensures
+pub returns-in-Struct : goal.returns-in-Struct
+returns-in-Struct c = rw c.in-Struct.is c.struct_line.ensures
 
-pub returns-in_ok-line-in-Let : goal.returns-in_ok-line-in-Let
-returns-in_ok-line-in-Let c = rw c.in-Let.is c.in_ok-line-in-Let.ensures
+pub returns-in-Let : goal.returns-in-Let
+returns-in-Let c = rw c.in-Let.is c.let_line.ensures
 
-pub returns-in_ok-line-in-Read : goal.returns-in_ok-line-in-Read
-returns-in_ok-line-in-Read c = rw c.in-Read.is c.in_ok-line-in-Read.ensures
+pub returns-in-Read : goal.returns-in-Read
+returns-in-Read c = rw c.in-Read.is c.read_line.ensures
 
-pub returns-in_ok-line-in-Switch : goal.returns-in_ok-line-in-Switch
-returns-in_ok-line-in-Switch c = rw c.in-Switch.is c.in_ok-line-in-Switch.ensures
+pub returns-in-Switch : goal.returns-in-Switch
+returns-in-Switch c = rw c.in-Switch.is c.switch_line.ensures

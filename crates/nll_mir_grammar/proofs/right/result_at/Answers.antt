@@ -1,20 +1,18 @@
+use Rattle.std.proofs.Common.{map}
+use Rattle.nll_text.specs.Tokens.{views}
+use Rattle.nll_type_grammar.specs.TypeTexts.{written}
 use Rattle.nll_mir_grammar.specs.Grammars.{pair}
 use Rattle.nll_mir_grammar.specs.Parts as parts
-use Rattle.nll_mir_grammar.proofs.GrammarLemmas.{pair_none, pair_none_behind}
-use Rattle.nll_mir_grammar.proofs.PartLemmas.{types_one, bound_lists_one}
-use Rattle.nll_mir_grammar.proofs.KindLemmas.{results_join, bounds_join}
+use Rattle.nll_mir_grammar.proofs.GrammarLemmas.{pair_none, read_pair}
+use Rattle.nll_mir_grammar.proofs.PartLemmas.{types_one}
+use Rattle.nll_mir_grammar.proofs.KindLemmas.{results_join}
 use Rattle.nll_mir_grammar.proofs.right.result_at.Goals as goal
 
-pub returns-in_default-2 : goal.returns-in_default-2
-returns-in_default-2 c =
-    let found = rw c.in-Some.is at c.in_ok-ty.ensures in
-    let none = rw c.in_default-2.is at c.in_ok-wheres.ensures in
-    pair_none_behind parts.types (pair parts.bound_lists parts.exits) types_one results_join _ _ _ found
-    (pair_none parts.bound_lists parts.exits bounds_join _ none)
+pub returns-in_default : goal.returns-in_default
+returns-in_default c = let none = rw c.in_default.is at c.in_ok-ty.ensures in pair_none parts.types (pair parts.bound_lists parts.exits) results_join _ none
 
-pub returns-in_default-exits_at : goal.returns-in_default-exits_at
-returns-in_default-exits_at c =
+pub returns : goal.returns
+returns c =
     let found = rw c.in-Some.is at c.in_ok-ty.ensures in
-    let listed = rw c.in-Some-2.is at c.in_ok-wheres.ensures in
-    pair_none_behind parts.types (pair parts.bound_lists parts.exits) types_one results_join _ _ _ found
-    (pair_none_behind parts.bound_lists parts.exits bound_lists_one bounds_join _ _ _ listed c.in_default-exits_at.ensures)
+    rw c.with.ensures
+    (read_pair parts.types (pair parts.bound_lists parts.exits) types_one results_join _ _ c.in-Some.ty written (λ e. (map (λ w. (w.0.now, w.1.now)) e.0.items, e.1)) (λ r. views r.now) _ found c.call_end_at.ensures)

@@ -2,7 +2,7 @@ use Rattle.std.proofs.Common.{◌-◌, length, map}
 use Rattle.nll_mir_grammar.specs.Lines.{parameter_of}
 use Rattle.nll_mir_grammar.specs.Parts as parts
 use Rattle.nll_mir_grammar.proofs.GrammarLemmas.{ListsTo}
-use Rattle.nll_mir_grammar.proofs.parameters.parameters_at.Given as goal
+use Rattle.nll_mir_grammar.proofs.parameters.list_parameters.Given as goal
 
 abbrev pub invariant-loop-parameter : goal.invariant-loop-parameter
 invariant-loop-parameter l = ListsTo parts.parameters l.tokens (map parameter_of l.parameters.items) l.at

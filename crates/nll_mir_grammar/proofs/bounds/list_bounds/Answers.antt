@@ -1,7 +1,7 @@
 use Rattle.std.proofs.lemmas.List.{take_rest, map-append}
 use Rattle.nll_mir_grammar.specs.Parts as parts
 use Rattle.nll_mir_grammar.proofs.GrammarLemmas.{lists_on}
-use Rattle.nll_mir_grammar.proofs.bounds.bounds_at.Goals as goal
+use Rattle.nll_mir_grammar.proofs.bounds.list_bounds.Goals as goal
 
 pub loop-longer-preserved : goal.loop-longer-preserved
 loop-longer-preserved c =

@@ -2,7 +2,7 @@ use Rattle.std.proofs.lemmas.List.{take_rest, map-append}
 use Rattle.nll_mir_grammar.specs.Parts as parts
 use Rattle.nll_mir_grammar.proofs.GrammarLemmas.{commas_none, lists_on}
 use Rattle.nll_mir_grammar.proofs.PartLemmas.{parameters_listable}
-use Rattle.nll_mir_grammar.proofs.parameters.parameters_at.Goals as goal
+use Rattle.nll_mir_grammar.proofs.parameters.list_parameters.Goals as goal
 
 pub returns-in_default : goal.returns-in_default
 returns-in_default c = commas_none parts.parameters parameters_listable.comma _ c.in_default.ensures
