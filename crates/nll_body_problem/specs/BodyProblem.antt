@@ -27,6 +27,7 @@ IsConstraint body c = (p : ℕ) × IsAskedAt body p c
 
 -- The problem is the body's: it has the body's graph and regions, a base fact just where a variable
 -- that is live asks for one, just the constraints that are asked, and the body's outlives facts.
+-- (That a universal region holds all points and its own end needs no fact: `IsBase`.)
 pub record IsProblemOf (body : BodyText) (q : Problem) : Type 0 where
   pub graph : IsGraphOf body q.graph
   pub regions : q.regions ≡ length body.names
