@@ -1,10 +1,8 @@
-//! Each beginning of worked texts is judged, and by its last line.
-use super::reading::{fault_of, text_of};
-use super::texts::{CALLED, DROPPED, MOVED, REBORROW, RETURNED, TWO_BORROWS};
+//! Each beginning of worked texts is judged by its last line.
+use super::reading::fault_of;
 use nll_reading::{TextError, TextKind};
-use std::alloc::Global;
-use std::process::Abort;
-use std::test::Fail;
+use nll_worked_texts::{CALLED, DROPPED, MOVED, REBORROW, RETURNED, TWO_BORROWS, text_of};
+use std::alloc::{AllocError, Global};
 
 // The number of a text's last line.
 fn last_line(text: &[u8]) -> u64 {
@@ -24,40 +22,45 @@ fn ends_a_line(text: &[u8], length: usize) -> bool {
     last == Some(b'\n') || text.get(length).copied() == Some(b'\n')
 }
 
-// Asserts what is told of the first bytes of a text, all of whose lines are right: that it lacks
-// its end where its last line is whole, or else what is wrong with that line.
-fn assert_judged(rt: &impl Abort, text: &[u8], beginning: &[u8], told: Option<TextError>) {
-    let length = beginning.len();
-    let is_whole = length.saturating_add(1) >= text.len();
-    match told {
-        None => assert!(rt; is_whole, "the first {length} bytes"),
-        Some(TextError { line, kind }) => {
-            assert!(rt; !is_whole, "the first {length} bytes");
-            assert!(rt; line == last_line(beginning), "the first {length} bytes");
-            let is_end = kind == TextKind::End;
-            assert!(rt;
-                is_end || !ends_a_line(text, length),
-                "the first {length} bytes"
-            );
-        }
+// Whether that is what is told of the first bytes of a text, all of whose lines are right: they
+// lack the text's end where their last line is whole, or else something is wrong with that line.
+fn is_right(text: &[u8], beginning: &[u8], fault: TextError) -> bool {
+    let is_end = fault.kind == TextKind::End;
+    fault.line == last_line(beginning) && (is_end || !ends_a_line(text, beginning.len()))
+}
+
+// Whether a beginning of a text is judged so. Nothing is wrong where the last line feed alone is
+// missing.
+fn is_judged(alloc: Global, text: &[u8], beginning: &[u8]) -> bool {
+    match fault_of(alloc, beginning) {
+        None => beginning.len().saturating_add(1) == text.len(),
+        Some(fault) => is_right(text, beginning, fault),
     }
 }
 
-// Asserts what is told of each beginning of a text.
-fn assert_beginnings(rt: &impl Abort, alloc: Global, text: &[u8]) {
-    for length in 0..=text.len() {
-        let beginning = &text[..length];
-        assert_judged(rt, text, beginning, fault_of(alloc, beginning));
+// The length of the first beginning of a text that isn't judged so.
+fn misjudged(alloc: Global, text: &[u8]) -> Option<usize> {
+    for length in 0..text.len() {
+        if !is_judged(alloc, text, &text[..length]) {
+            return Some(length);
+        }
     }
+    None
+}
+
+// The same of a text of lines that end with `|`.
+fn misjudged_lines(alloc: Global, lines: &str) -> Result<Option<usize>, AllocError> {
+    let text = text_of(alloc, lines)?;
+    let found = misjudged(alloc, text.as_slice());
+    drop(text);
+    Ok(found)
 }
 
 // The fault of a beginning is in its last line.
 #[test]
-fn beginnings_are_judged(rt: HostRuntime) -> Result<(), Fail> {
+fn beginnings_are_judged(rt: HostRuntime) {
     for lines in [TWO_BORROWS, REBORROW, DROPPED, MOVED, RETURNED, CALLED] {
-        let text = text_of(rt.alloc(), lines)?;
-        assert_beginnings(&rt, rt.alloc(), text.as_slice());
-        drop(text);
+        let found = misjudged_lines(rt.alloc(), lines);
+        assert!(&rt; found == Ok(None), "{lines}: {found:?}");
     }
-    Ok(())
 }

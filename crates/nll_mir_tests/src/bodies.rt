@@ -1,8 +1,7 @@
-//! Bodies of MIR texts: regions, points, edges, and what is used, defined and dropped.
+//! Bodies of worked texts: regions, points, edges, and what is used, defined and dropped.
 use super::comparing::compare;
 use super::reading::read_lines;
-use super::texts::{CALLED, DROPPED, MOVED, REBORROW, RETURNED, TWO_BORROWS};
-use std::alloc::{AllocError, Global};
+use nll_worked_texts::{CALLED, DROPPED, MOVED, REBORROW, RETURNED, TWO_BORROWS};
 
 // Texts, and the bodies that they mean.
 const BODIES: &[(&str, &str)] = &[
@@ -47,83 +46,27 @@ fn bodies_are_read(rt: HostRuntime) {
     }
 }
 
-// What each form of statement and terminator uses, defines and drops. Each stands at point 0 of a
-// body with the variables `_0: int`, `_1: int`, `_2: &'r int`, `_3: (int, int)` and `_4: S`.
-const STATEMENTS: &[(&str, &str)] = &[
-    ("_1 = const", " to 1 defines 1"),
-    ("_1 = copy _0", " to 1 uses 0 defines 1"),
-    ("_1 = move _3.1", " to 1 uses 3 defines 1"),
-    ("_3.0 = copy _1", " to 1 uses 1 3"),
-    ("_2 = &'r _1", " to 1 uses 1 defines 2"),
-    ("_2.* = move _1", " to 1 uses 1 2"),
-    (
-        "_3 = make (int, int)(copy _1, const)",
-        " to 1 uses 1 defines 3",
-    ),
-    ("_4 = make S(copy _1)", " to 1 uses 1 defines 4"),
-    ("read _4.0", " to 1 uses 4"),
-    ("live _4", " to 1 defines 4"),
-    ("dead _4", " to 1 defines 4"),
-    ("nop", " to 1"),
-];
+// The text in which a struct is dropped, with other blanks, remarks and empty lines.
+const SPACED: &str = "\tnll-mir \t 1\r|  | # the region of a W|region\t'w\r||\
+    struct W < 'x+ > drop(& 'x int)|let _0:int|let _1 : W<'w>|blocks   2|\tblock bb0|nop\r|\
+    #||drop _1->bb1|# the other block|block bb1|return|end\t|  |# no more|";
 
-// The same of terminators; the body has one block more, at point 1.
-const TERMINATORS: &[(&str, &str)] = &[
-    ("goto bb1", " to 1"),
-    ("goto bb0", " to 0"),
-    ("switch copy _1 bb1 bb0 bb1", " to 1 0 uses 1"),
-    ("switch const bb1", " to 1"),
-    ("drop _4 -> bb1", " to 1 drops 4"),
-    ("drop _4 -> bb1 unwind bb0", " to 1 0 drops 4"),
-    ("_1 = call f(): int -> bb1", " to 1 defines 1"),
-    (
-        "_4.0 = call f(copy _1: int, move _3.0: int): int where 'r: 'r -> bb1 unwind bb0",
-        " to 1 0 uses 1 3 4",
-    ),
-    ("return", " returns uses 0"),
-    ("stop", ""),
-];
-
-// What is told of a body where this stands at point 0.
-fn told_of(alloc: Global, statement: &str, rest: &str) -> Result<String, AllocError> {
-    let text = format!(in alloc;
-        "nll-mir 1|region 'r|struct S(int)|let _0: int|let _1: int|\
-        let _2: &'r int|let _3: (int, int)|let _4: S|blocks 2|block bb0|{statement}|{rest}\
-        block bb1|stop|end|"
-    )?;
-    let told = read_lines(alloc, text.as_str());
-    drop(text);
-    told
+// Blanks may stand between any two tokens, and are needed between words alone.
+#[test]
+fn blanks_and_remarks_say_nothing(rt: HostRuntime) {
+    let want = "universal 'static|region 'w|2 variables|\
+        bb0/0 to 1|bb0/1 to 2 drops 1|bb1/0 returns uses 0|";
+    compare(&rt, "blanks", read_lines(rt.alloc(), SPACED), want);
 }
 
-// Statements, each before a `stop`.
-#[test]
-fn statements_use_and_define(rt: HostRuntime) {
-    for (statement, want) in STATEMENTS {
-        let told = told_of(rt.alloc(), statement, "stop|");
-        let want = format!(in rt.alloc();
-            "universal 'static|region 'r|5 variables|\
-            bb0/0{want}|bb0/1|bb1/0|"
-        );
-        match want {
-            Ok(want) => compare(&rt, statement, told, want.as_str()),
-            Err(_) => assert!(rt; false, "memory"),
-        }
-    }
-}
+// A body in which two universal regions are known to outlive others, one of them by two lines.
+const OUTLIVING: &str = "nll-mir 1|universal 'a|universal 'b|outlives 'b 'a|outlives 'a 'static|\
+    outlives 'b 'a|region 'c|let _0: &'c int|blocks 1|block bb0|stop|end|";
 
-// Terminators.
+// A repeated line says nothing new.
 #[test]
-fn terminators_go_on(rt: HostRuntime) {
-    for (terminator, want) in TERMINATORS {
-        let told = told_of(rt.alloc(), terminator, "");
-        let want = format!(in rt.alloc();
-            "universal 'static|region 'r|5 variables|\
-            bb0/0{want}|bb1/0|"
-        );
-        match want {
-            Ok(want) => compare(&rt, terminator, told, want.as_str()),
-            Err(_) => assert!(rt; false, "memory"),
-        }
-    }
+fn outlives_are_kept_once(rt: HostRuntime) {
+    let want = "universal 'static|universal 'a|universal 'b|region 'c|\
+        outlives 2 1|outlives 1 0|1 variables|bb0/0|";
+    compare(&rt, "outlives", read_lines(rt.alloc(), OUTLIVING), want);
 }

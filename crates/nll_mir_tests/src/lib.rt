@@ -1,31 +1,28 @@
-//! Tests of the reader of MIR texts, of the bodies that it makes and of liveness, by their public
-//! calls alone. Expected values are found by hand from the rules of the format and from the
-//! definitions. The plain program, `live_rounds`, has a contract of the same words as `liveness`.
+//! Tests of the reader of MIR texts and of the bodies that it makes, by their public calls alone.
+//! Expected values are found by hand from the rules of the format and from the definitions.
 //!
-//! Reading order: `live_rounds`, `texts`, `reading`, `living`, then each module of tests.
+//! Reading order: `reading`, `bodies`, then each further module.
 #![tactic(auto)]
-
-mod live_rounds;
-
-pub use live_rounds::live_by_rounds;
 
 #[cfg(test)]
 mod beginnings;
 #[cfg(test)]
 mod bodies;
 #[cfg(test)]
+mod changes;
+#[cfg(test)]
 mod comparing;
 #[cfg(test)]
-mod liveness;
+mod copies;
 #[cfg(test)]
-mod living;
-#[cfg(test)]
-mod random_bodies;
+mod limits;
 #[cfg(test)]
 mod reading;
 #[cfg(test)]
 mod refused;
 #[cfg(test)]
+mod repeating;
+#[cfg(test)]
 mod sizes;
 #[cfg(test)]
-mod texts;
+mod statements;

@@ -1,7 +1,7 @@
 //! MIR texts with a fault: the line, and the first kind of fault that it has.
 use super::comparing::compare;
 use super::reading::{read, read_lines};
-use super::texts::DROPPED;
+use nll_worked_texts::DROPPED;
 use std::alloc::{AllocError, Global};
 
 // Texts whose lines end with `|`, and their faults.
