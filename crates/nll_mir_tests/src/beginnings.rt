@@ -56,10 +56,12 @@ fn misjudged_lines(alloc: Global, lines: &str) -> Result<Option<usize>, AllocErr
     Ok(found)
 }
 
+const WORKED: &[&str] = &[TWO_BORROWS, REBORROW, DROPPED, MOVED, RETURNED, CALLED];
+
 // The fault of a beginning is in its last line.
 #[test]
 fn beginnings_are_judged(rt: HostRuntime) {
-    for lines in [TWO_BORROWS, REBORROW, DROPPED, MOVED, RETURNED, CALLED] {
+    for lines in WORKED {
         let found = misjudged_lines(rt.alloc(), lines);
         assert!(&rt; found == Ok(None), "{lines}: {found:?}");
     }

@@ -56,10 +56,12 @@ fn misjudged_bytes(alloc: Global, lines: &str) -> Result<Option<usize>, AllocErr
     Ok(None)
 }
 
+const WORKED: &[&str] = &[TWO_BORROWS, DROPPED, CALLED];
+
 // A byte that stands in no token is told at its line, wherever it stands.
 #[test]
 fn changed_bytes_are_told(rt: HostRuntime) {
-    for lines in [TWO_BORROWS, DROPPED, CALLED] {
+    for lines in WORKED {
         let found = misjudged_bytes(rt.alloc(), lines);
         assert!(&rt; found == Ok(None), "{lines}: {found:?}");
     }

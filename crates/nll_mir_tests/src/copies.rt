@@ -43,16 +43,12 @@ fn part_behind(alloc: Global) -> Result<Place, AllocError> {
     })
 }
 
-// The operands `const`, `copy _3.*.1` and `move _2`.
-fn operands(alloc: Global) -> Result<Vec<Operand>, Memory> {
-    let mut operands = Vec::new(alloc);
-    operands.push(Operand::Const)?;
-    operands.push(Operand::Copy(part_behind(alloc)?))?;
-    operands.push(Operand::Move(Place {
-        variable: 2,
+// The whole of a variable.
+fn variable(alloc: Global, variable: u32) -> Place {
+    Place {
+        variable,
         projections: Vec::new(alloc),
-    }))?;
-    Ok(operands)
+    }
 }
 
 // Writes a copy of a place.
@@ -73,12 +69,17 @@ fn write_copied(alloc: Global, out: &mut String, operand: &Operand) -> Result<()
     Ok(())
 }
 
-// Writes a copy of all operands, and one of each.
+// Writes a copy of all operands.
 fn write_all_copied(alloc: Global, out: &mut String, all: &[Operand]) -> Result<(), Memory> {
     let copied = copy_operands(alloc, all)?;
     let written = write_operands(out, copied.as_slice());
     drop(copied);
     written?;
+    Ok(())
+}
+
+// Writes a copy of each operand.
+fn write_each_copied(alloc: Global, out: &mut String, all: &[Operand]) -> Result<(), Memory> {
     for operand in all {
         write_copied(alloc, out, operand)?;
     }
@@ -94,13 +95,15 @@ fn place_told(alloc: Global) -> Result<String, Memory> {
     written.and(Ok(out))
 }
 
-// What is told of copies of operands.
+// What is told of copies of the operands `const`, `copy _3.*.1` and `move _2`.
 fn operands_told(alloc: Global) -> Result<String, Memory> {
     let mut out = String::new(alloc);
-    let all = operands(alloc)?;
-    let written = write_all_copied(alloc, &mut out, all.as_slice());
+    let (copied, moved) = (part_behind(alloc)?, variable(alloc, 2));
+    let all = [Operand::Const, Operand::Copy(copied), Operand::Move(moved)];
+    let together = write_all_copied(alloc, &mut out, &all);
+    let each = write_each_copied(alloc, &mut out, &all);
     drop(all);
-    written.and(Ok(out))
+    together.and(each).and(Ok(out))
 }
 
 // A place is copied with all that is taken of it.

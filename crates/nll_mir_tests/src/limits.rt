@@ -1,7 +1,8 @@
 //! Texts at the limits of the format, and past them.
 use super::comparing::compare;
 use super::reading::read_size;
-use super::repeating::{Numbered, Repeated, read_numbered, read_repeated};
+use super::repeating::{Numbered, Repeated, read_numbered, read_repeated, read_written};
+use super::repeating::write_numbered;
 use nll_reading::MAX_TEXT;
 use std::alloc::{AllocError, Global};
 
@@ -76,6 +77,34 @@ fn many_blocks(rt: HostRuntime) {
     let told = read_numbered(rt.alloc(), BLOCKS, 50_000);
     let want = "1 regions, 1 variables|bb49999/0 to 1|";
     compare(&rt, "50,000 blocks", told, want);
+}
+
+// Writes a text of 2,048 blocks each of which goes on to all of them, and of a block more with this
+// line.
+fn write_edges(out: &mut String, last: &str) -> Result<(), AllocError> {
+    out.push_str("nll-mir 1\nlet _0: int\nblocks 2049\n")?;
+    for block in 0..2_048u32 {
+        write!(out, "block bb{block}\nswitch const")?;
+        write_numbered(out, (" bb", ""), 2_048)?;
+        out.push('\n')?;
+    }
+    write!(out, "block bb2048\n{last}\nend\n")
+}
+
+// What is told of such a text.
+fn told_of_edges(alloc: Global, last: &str) -> Result<String, AllocError> {
+    let mut text = String::new(alloc);
+    let written = write_edges(&mut text, last);
+    read_written(alloc, written, text)
+}
+
+// As many edges as the limit allows are taken, and one more is refused.
+#[test]
+fn many_edges(rt: HostRuntime) {
+    let told = told_of_edges(rt.alloc(), "stop");
+    compare(&rt, "4,194,304 edges", told, "1 regions, 1 variables|bb2048/0|");
+    let told = told_of_edges(rt.alloc(), "goto bb0");
+    compare(&rt, "an edge more", told, "line 4101: Limit(Edges)");
 }
 
 // Lines of a mebibyte.

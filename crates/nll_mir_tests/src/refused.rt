@@ -139,15 +139,19 @@ const DECLARATIONS: &[(&str, &str)] = &[
     ("let _0: int|blocks 2|block bb0|stop|end|", "line 6: Range"),
 ];
 
+// What is told of a text of these lines behind the header.
+fn told_behind_header(alloc: Global, lines: &str) -> Result<String, AllocError> {
+    let text = format!(in alloc; "nll-mir 1|{lines}")?;
+    let told = read_lines(alloc, text.as_str());
+    drop(text);
+    told
+}
+
 // Faults of declarations.
 #[test]
 fn declarations_are_refused(rt: HostRuntime) {
     for (lines, want) in DECLARATIONS {
-        let text = format!(in rt.alloc(); "nll-mir 1|{lines}");
-        match text {
-            Ok(text) => compare(&rt, lines, read_lines(rt.alloc(), text.as_str()), want),
-            Err(_) => assert!(rt; false, "memory"),
-        }
+        compare(&rt, lines, told_behind_header(rt.alloc(), lines), want);
     }
 }
 
@@ -155,53 +159,53 @@ fn declarations_are_refused(rt: HostRuntime) {
 // variables `_0: int`, `_1: &'r int`, `_2: &'q mut int`, `_3: (int, &'r int)`, `_4: S<'r>` with
 // one field `&'x int`, `_5: D<int>` with a field of its type parameter, and one block.
 const STATEMENTS: &[(&str, &str)] = &[
-    ("_6 = const", "Unknown"),
-    ("live _6", "Unknown"),
-    ("dead _6", "Unknown"),
-    ("drop _6 -> bb0", "Unknown"),
-    ("read _6.*", "Unknown"),
-    ("_0 = copy _6", "Unknown"),
-    ("_1 = &'z _0", "Unknown"),
-    ("_1 = make U(const)", "Unknown"),
-    ("_0 = call f(): int where 'z: 'r -> bb0", "Unknown"),
-    ("_0 = call f(const: &'z int): int -> bb0", "Unknown"),
-    ("_0 = call f(): U -> bb0", "Unknown"),
+    ("_6 = const", "line 14: Unknown"),
+    ("live _6", "line 14: Unknown"),
+    ("dead _6", "line 14: Unknown"),
+    ("drop _6 -> bb0", "line 14: Unknown"),
+    ("read _6.*", "line 14: Unknown"),
+    ("_0 = copy _6", "line 14: Unknown"),
+    ("_1 = &'z _0", "line 14: Unknown"),
+    ("_1 = make U(const)", "line 14: Unknown"),
+    ("_0 = call f(): int where 'z: 'r -> bb0", "line 14: Unknown"),
+    ("_0 = call f(const: &'z int): int -> bb0", "line 14: Unknown"),
+    ("_0 = call f(): U -> bb0", "line 14: Unknown"),
     // A region of a struct's own is unknown in a body.
-    ("_1 = &'x _0", "Unknown"),
-    ("goto bb1", "Range"),
-    ("switch const bb0 bb1", "Range"),
-    ("drop _0 -> bb0 unwind bb1", "Range"),
-    ("_0 = call f(): int -> bb1", "Range"),
+    ("_1 = &'x _0", "line 14: Unknown"),
+    ("goto bb1", "line 14: Range"),
+    ("switch const bb0 bb1", "line 14: Range"),
+    ("drop _0 -> bb0 unwind bb1", "line 14: Range"),
+    ("_0 = call f(): int -> bb1", "line 14: Range"),
     // The kinds are judged over the whole line.
-    ("_0 = call f(copy _1: int): int -> bb1", "Range"),
-    ("drop _6 -> bb1", "Unknown"),
-    ("read _0.*", "Shape"),
-    ("read _0.0", "Shape"),
-    ("read _1.0", "Shape"),
-    ("read _3.*", "Shape"),
-    ("read _3.2", "Shape"),
-    ("read _4.1", "Shape"),
-    ("read _4.*", "Shape"),
-    ("_0 = copy _1", "Shape"),
-    ("_1 = const", "Shape"),
-    ("_1 = copy _2", "Shape"),
-    ("_1 = &'r mut _0", "Shape"),
-    ("_2 = &'r _0", "Shape"),
-    ("_1 = &'r _1", "Shape"),
-    ("_3 = make (int, int)(const, const)", "Shape"),
-    ("_3 = make (int, &'r int)(const)", "Shape"),
-    ("_3 = make (int, &'r int)(const, copy _1, const)", "Shape"),
-    ("_0 = make int()", "Shape"),
-    ("_4 = make S(copy _1)", "Shape"),
-    ("_4 = make S<'r>(const)", "Shape"),
-    ("_5 = make D<int>(copy _1)", "Shape"),
-    ("switch copy _1 bb0", "Shape"),
-    ("_0 = call f(copy _1: int): int -> bb0", "Shape"),
-    ("_0 = call f(): &'r int -> bb0", "Shape"),
-    ("goto bb", "Syntax"),
-    ("switch const", "Syntax"),
-    ("_0 = call (): int -> bb0", "Syntax"),
-    ("_0 = fn", "Syntax"),
+    ("_0 = call f(copy _1: int): int -> bb1", "line 14: Range"),
+    ("drop _6 -> bb1", "line 14: Unknown"),
+    ("read _0.*", "line 14: Shape"),
+    ("read _0.0", "line 14: Shape"),
+    ("read _1.0", "line 14: Shape"),
+    ("read _3.*", "line 14: Shape"),
+    ("read _3.2", "line 14: Shape"),
+    ("read _4.1", "line 14: Shape"),
+    ("read _4.*", "line 14: Shape"),
+    ("_0 = copy _1", "line 14: Shape"),
+    ("_1 = const", "line 14: Shape"),
+    ("_1 = copy _2", "line 14: Shape"),
+    ("_1 = &'r mut _0", "line 14: Shape"),
+    ("_2 = &'r _0", "line 14: Shape"),
+    ("_1 = &'r _1", "line 14: Shape"),
+    ("_3 = make (int, int)(const, const)", "line 14: Shape"),
+    ("_3 = make (int, &'r int)(const)", "line 14: Shape"),
+    ("_3 = make (int, &'r int)(const, copy _1, const)", "line 14: Shape"),
+    ("_0 = make int()", "line 14: Shape"),
+    ("_4 = make S(copy _1)", "line 14: Shape"),
+    ("_4 = make S<'r>(const)", "line 14: Shape"),
+    ("_5 = make D<int>(copy _1)", "line 14: Shape"),
+    ("switch copy _1 bb0", "line 14: Shape"),
+    ("_0 = call f(copy _1: int): int -> bb0", "line 14: Shape"),
+    ("_0 = call f(): &'r int -> bb0", "line 14: Shape"),
+    ("goto bb", "line 14: Syntax"),
+    ("switch const", "line 14: Syntax"),
+    ("_0 = call (): int -> bb0", "line 14: Syntax"),
+    ("_0 = fn", "line 14: Syntax"),
 ];
 
 // Statements and terminators that are taken at the first point of that body.
@@ -244,11 +248,8 @@ fn told_of(alloc: Global, line: &str, rest: &str) -> Result<String, AllocError> 
 // Faults of statements and terminators.
 #[test]
 fn statements_are_refused(rt: HostRuntime) {
-    for (line, kind) in STATEMENTS {
-        match format!(in rt.alloc(); "line 14: {kind}") {
-            Ok(want) => compare(&rt, line, told_of(rt.alloc(), line, "stop|"), want.as_str()),
-            Err(_) => assert!(rt; false, "memory"),
-        }
+    for (line, want) in STATEMENTS {
+        compare(&rt, line, told_of(rt.alloc(), line, "stop|"), want);
     }
 }
 
@@ -256,13 +257,14 @@ fn statements_are_refused(rt: HostRuntime) {
 #[test]
 fn statements_are_taken(rt: HostRuntime) {
     for line in TAKEN {
-        compare(
-            &rt,
-            line,
-            told_of(rt.alloc(), line, "stop|"),
-            "line 15: End",
-        );
+        let told = told_of(rt.alloc(), line, "stop|");
+        compare(&rt, line, told, "line 15: End");
     }
+}
+
+// The same of terminators.
+#[test]
+fn terminators_are_taken(rt: HostRuntime) {
     for line in ENDED {
         compare(&rt, line, told_of(rt.alloc(), line, ""), "line 14: End");
     }
@@ -288,14 +290,19 @@ fn changed(alloc: Global, from: &str, to: &str) -> Result<String, AllocError> {
     }
 }
 
+// What is told of that text.
+fn told_of_changed(alloc: Global, from: &str, to: &str) -> Result<String, AllocError> {
+    let text = changed(alloc, from, to)?;
+    let told = read_lines(alloc, text.as_str());
+    drop(text);
+    told
+}
+
 // Faults of that text with one line changed.
 #[test]
 fn one_line_changed(rt: HostRuntime) {
     for (from, to, want) in CHANGED {
-        match changed(rt.alloc(), from, to) {
-            Ok(text) => compare(&rt, to, read_lines(rt.alloc(), text.as_str()), want),
-            Err(_) => assert!(rt; false, "memory"),
-        }
+        compare(&rt, to, told_of_changed(rt.alloc(), from, to), want);
     }
 }
 

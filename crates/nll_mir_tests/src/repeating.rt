@@ -17,8 +17,8 @@ fn write_often(out: &mut String, piece: &str, count: u32) -> Result<(), AllocErr
     Ok(())
 }
 
-// Writes numbers that count up from 0, each between two words.
-fn write_numbered(
+/// Writes numbers that count up from 0, each between two words.
+pub fn write_numbered(
     out: &mut String,
     (before, behind): (&str, &str),
     count: u32,
