@@ -109,7 +109,12 @@ fn operands_told(alloc: Global) -> Result<String, Memory> {
 // A place is copied with all that is taken of it.
 #[test]
 fn places_are_copied(rt: HostRuntime) {
-    compare(&rt, "place", place_told(rt.alloc()), "_3 [Deref, Field(1)]|");
+    compare(
+        &rt,
+        "place",
+        place_told(rt.alloc()),
+        "_3 [Deref, Field(1)]|",
+    );
 }
 
 // Operands are copied in their order, and one by one.

@@ -1,8 +1,9 @@
 //! Texts at the limits of the format, and past them.
 use super::comparing::compare;
 use super::reading::read_size;
-use super::repeating::{Numbered, Repeated, read_numbered, read_repeated, read_written};
-use super::repeating::write_numbered;
+use super::repeating::{
+    Numbered, Repeated, read_numbered, read_repeated, read_written, write_numbered,
+};
 use nll_reading::MAX_TEXT;
 use std::alloc::{AllocError, Global};
 
@@ -102,7 +103,12 @@ fn told_of_edges(alloc: Global, last: &str) -> Result<String, AllocError> {
 #[test]
 fn many_edges(rt: HostRuntime) {
     let told = told_of_edges(rt.alloc(), "stop");
-    compare(&rt, "4,194,304 edges", told, "1 regions, 1 variables|bb2048/0|");
+    compare(
+        &rt,
+        "4,194,304 edges",
+        told,
+        "1 regions, 1 variables|bb2048/0|",
+    );
     let told = told_of_edges(rt.alloc(), "goto bb0");
     compare(&rt, "an edge more", told, "line 4101: Limit(Edges)");
 }

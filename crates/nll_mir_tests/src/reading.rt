@@ -84,12 +84,7 @@ fn write_ways(out: &mut String, graph: &Graph, point: u32) -> Result<(), AllocEr
 }
 
 // Writes the variables that are used at a point.
-fn write_uses(
-    alloc: Global,
-    out: &mut String,
-    body: &Body,
-    point: u32,
-) -> Result<(), AllocError>
+fn write_uses(alloc: Global, out: &mut String, body: &Body, point: u32) -> Result<(), AllocError>
     requires { point < length body.now.points }
 {
     let mut used = Vec::new(alloc);
@@ -103,12 +98,7 @@ fn write_uses(
 }
 
 // Writes what is used, defined and dropped at a point.
-fn write_effects(
-    alloc: Global,
-    out: &mut String,
-    body: &Body,
-    point: u32,
-) -> Result<(), AllocError>
+fn write_effects(alloc: Global, out: &mut String, body: &Body, point: u32) -> Result<(), AllocError>
     requires { point < length body.now.points }
 {
     write_uses(alloc, out, body, point)?;
@@ -118,12 +108,7 @@ fn write_effects(
 }
 
 // Writes where a point leads, and what is used, defined and dropped at it.
-fn write_line(
-    alloc: Global,
-    out: &mut String,
-    body: &Body,
-    point: u32,
-) -> Result<(), AllocError>
+fn write_line(alloc: Global, out: &mut String, body: &Body, point: u32) -> Result<(), AllocError>
     requires { point < length body.now.points }
 {
     write_point(out, body.labels(), point)?;

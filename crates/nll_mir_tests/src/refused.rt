@@ -168,7 +168,10 @@ const STATEMENTS: &[(&str, &str)] = &[
     ("_1 = &'z _0", "line 14: Unknown"),
     ("_1 = make U(const)", "line 14: Unknown"),
     ("_0 = call f(): int where 'z: 'r -> bb0", "line 14: Unknown"),
-    ("_0 = call f(const: &'z int): int -> bb0", "line 14: Unknown"),
+    (
+        "_0 = call f(const: &'z int): int -> bb0",
+        "line 14: Unknown",
+    ),
     ("_0 = call f(): U -> bb0", "line 14: Unknown"),
     // A region of a struct's own is unknown in a body.
     ("_1 = &'x _0", "line 14: Unknown"),
@@ -194,7 +197,10 @@ const STATEMENTS: &[(&str, &str)] = &[
     ("_1 = &'r _1", "line 14: Shape"),
     ("_3 = make (int, int)(const, const)", "line 14: Shape"),
     ("_3 = make (int, &'r int)(const)", "line 14: Shape"),
-    ("_3 = make (int, &'r int)(const, copy _1, const)", "line 14: Shape"),
+    (
+        "_3 = make (int, &'r int)(const, copy _1, const)",
+        "line 14: Shape",
+    ),
     ("_0 = make int()", "line 14: Shape"),
     ("_4 = make S(copy _1)", "line 14: Shape"),
     ("_4 = make S<'r>(const)", "line 14: Shape"),

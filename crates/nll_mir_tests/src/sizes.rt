@@ -45,10 +45,7 @@ fn too_deep_types(rt: HostRuntime) {
 // Projections of a variable whose type is the last of structs that double one another. So many
 // fields inwards its type has three times two to the power of their number of nodes.
 const DOUBLED: &[(&str, &str)] = &[
-    (
-        ".0.0.0.0.0.0.0.0.0.0",
-        "2 regions, 2 variables|bb0/1|",
-    ),
+    (".0.0.0.0.0.0.0.0.0.0", "2 regions, 2 variables|bb0/1|"),
     (".0.0.0.0.0.0.0.0.0.0.0", "line 1007: TypeSize"),
     // That there is no such field is told first.
     (".0.0.0.0.0.0.0.0.0.0.0.1", "line 1007: Shape"),

@@ -13,6 +13,7 @@ use std::alloc::{AllocError, Global};
 // The lines in front of the first point of a body, and how it is told.
 const DECLARED: &str = "nll-mir 1|region 'r|struct S(int)|let _0: int|let _1: int|\
     let _2: &'r int|let _3: (int, int)|let _4: S|blocks 2|block bb0|";
+
 const TOLD: &str = "universal 'static|region 'r|5 variables|bb0/0";
 
 // What each form of statement uses, defines and drops. Each stands before a `stop`.
