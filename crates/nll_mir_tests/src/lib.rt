@@ -26,3 +26,5 @@ mod repeating;
 mod sizes;
 #[cfg(test)]
 mod statements;
+#[cfg(test)]
+mod types;
