@@ -2,7 +2,7 @@
 """Times programs and prints Markdown tables; the scripts of this folder call it.
 
     measure.py reading --nllc PATH --baseline PATH --texts FOLDER [--sizes SIZES] [--runs N]
-    measure.py bodies --nllc PATH --baseline PATH --texts FOLDER [--runs N]
+    measure.py bodies --nllc PATH --baseline PATH --texts FOLDER [--runs N] [--parts PARTS]
     measure.py real --nllc PATH --baseline PATH --inputs FOLDER --outputs FOLDER [--runs N]
     measure.py line --nllc PATH --texts FOLDER [--most MIB]
     measure.py solving --nllc PATH --baseline PATH --texts FOLDER --outputs FOLDER [--runs N]
@@ -96,12 +96,15 @@ def reading(args):
 
 
 def bodies_rows(args, name):
-    """The rows of one body: reading it, its problem (the baseline alone), and the whole."""
+    """The rows of one body: reading it, its base elements, its problem (the baseline alone), and
+    the whole, as far as these parts are wanted."""
     text = os.path.join(args.texts, name + ".accepted")
     refused = os.path.join(args.texts, name + ".refused")
     commands = {
         "read": {"nllc": [args.nllc, "check", refused],
                  "baseline": [args.baseline, "read", refused]},
+        "bases": {who: [program, "bases", text]
+                  for who, program in (("nllc", args.nllc), ("baseline", args.baseline))},
         "problem": {"baseline": [args.baseline, "problem", text]},
         "check": {who: [program, "check", text]
                   for who, program in (("nllc", args.nllc), ("baseline", args.baseline))},
@@ -109,7 +112,8 @@ def bodies_rows(args, name):
                    for who, program in (("nllc", args.nllc), ("baseline", args.baseline))},
     }
     fine = True
-    for part, programs in commands.items():
+    for part in args.parts.split():
+        programs = commands[part]
         runs = {who: [] for who in programs}
         for _ in range(args.runs):
             for who, command in programs.items():
@@ -254,6 +258,8 @@ def main():
                         help="MiB that a process may take beside the text of one line")
     parser.add_argument("--texts", help="folder of the texts to measure on")
     parser.add_argument("--sizes", default="8 64")
+    parser.add_argument("--parts", default="read problem check values",
+                        help="what is measured of whole bodies, `bases` among it")
     parser.add_argument("--inputs", help="folder of facts and MIR texts")
     parser.add_argument("--outputs", help="folder for the two outputs that are compared")
     parser.add_argument("--runs", type=int, default=5)

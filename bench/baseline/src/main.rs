@@ -4,7 +4,8 @@
 //! `problem`, `solve`, `runs`, `report`; for MIR texts `shapes`, `body`, `mir`, `rules`.
 //!
 //! `baseline read FILE` and `baseline problem FILE` print one line of counts, of what is read and
-//! of the problem that it means; `baseline values FILE` and `baseline check FILE` print what
+//! of the problem that it means; `baseline bases FILE` prints those of a body with its base
+//! elements (of a facts text it is `problem`); `baseline values FILE` and `baseline check FILE` print what
 //! `nllc` prints; with `--runs` before the command, by the algorithm that `nllc` has. Status: 0
 //! answered, 1 `check` found faults, 2 words, file or text refused, 3 output failed.
 
@@ -27,6 +28,8 @@ use std::fs::File;
 use std::io::{self, Read, Write};
 use std::process::exit;
 use text::Fault;
+
+const USAGE: &str = "usage: baseline [--runs] read|bases|problem|values|check FILE";
 
 /// The greatest length of a text in bytes.
 const TEXT_LIMIT: u64 = 67_108_864;
@@ -55,6 +58,11 @@ fn problem<'t>(command: &str, text: &'t [u8]) -> Result<Problem<'t>, Fault> {
         let status = report::body_counts(&body, &mut io::stdout().lock()).map(|()| 0);
         exit(status.unwrap_or_else(|_| cannot_write()))
     }
+    if command == "bases" {
+        let (count, mut out) = (rules::base_count(&body), io::stdout().lock());
+        let status = report::base_counts(&body, count, &mut out).map(|()| 0);
+        exit(status.unwrap_or_else(|_| cannot_write()))
+    }
     Ok(rules::problem(body).unwrap_or_else(|| refuse("nllc: limit constraints")))
 }
 
@@ -77,7 +85,7 @@ fn report<V: report::Value>(
 fn answer(command: &str, by_runs: bool, problem: &Problem) -> io::Result<i32> {
     let mut out = io::stdout().lock();
     match command {
-        "read" | "problem" => report::counts(problem, &mut out).map(|()| 0),
+        "read" | "bases" | "problem" => report::counts(problem, &mut out).map(|()| 0),
         _ if by_runs => report(command, problem, &runs::solve(problem), &mut out),
         _ => report(command, problem, &solve::solve(problem), &mut out),
     }
@@ -101,10 +109,10 @@ fn main() {
     let by_runs = words.first().is_some_and(|word| word == "--runs");
     words.drain(..by_runs as usize);
     let [command, path] = words.as_slice() else {
-        refuse("usage: baseline [--runs] read|problem|values|check FILE");
+        refuse(USAGE);
     };
-    if !["read", "problem", "values", "check"].contains(&command.as_str()) {
-        refuse("usage: baseline [--runs] read|problem|values|check FILE");
+    if !["read", "bases", "problem", "values", "check"].contains(&command.as_str()) {
+        refuse(USAGE);
     }
     let Ok(mut text) = bytes_of(path) else {
         refuse(&format!("nllc: cannot read {path}"));

@@ -34,6 +34,17 @@ pub fn body_counts(body: &Body, out: &mut impl Write) -> io::Result<()> {
     )
 }
 
+/// Writes how much a body has, and how many base elements.
+pub fn base_counts(body: &Body, bases: usize, out: &mut impl Write) -> io::Result<()> {
+    writeln!(
+        out,
+        "points {} regions {} variables {} bases {bases}",
+        body.lines.len(),
+        body.names.list.len(),
+        body.variables.len(),
+    )
+}
+
 /// The value of a region, in whichever form.
 pub trait Value {
     fn has(&self, e: u32) -> bool;

@@ -374,6 +374,11 @@ fn constraints(body: &Body, successors: &Lists) -> Option<Vec<Constraint>> {
     Some(keys.into_iter().map(constraint).collect())
 }
 
+/// How many pairs of a region and one of its base points a body has.
+pub fn base_count(body: &Body<'_>) -> usize {
+    bases(body, &successors(body)).iter().map(Vec::len).sum()
+}
+
 /// The problem of a body, or None where its constraints are too many.
 pub fn problem(body: Body<'_>) -> Option<Problem<'_>> {
     let successors = successors(&body);

@@ -1,7 +1,7 @@
 //! Names of regions and of points.
 use super::comparing::compare;
 use nll_core::{BuildError, Memory, Problem, ProblemBuilder, solve};
-use nll_mir::Labels;
+use nll_mir::{Labels, read_mir};
 use nll_reading::Names;
 use nll_report::values_text;
 use std::alloc::{AllocError, Global};
@@ -114,6 +114,13 @@ fn values_report(alloc: Global, problem: &Problem, labels: &Labels) -> Result<Ve
     report
 }
 
+// A report as text.
+fn as_text(alloc: Global, report: Result<Vec<u8>, Memory>) -> Result<String, BuildError> {
+    let report = report?;
+    let text = str::from_utf8(report.as_slice()).unwrap_or("not utf-8");
+    Ok(String::from_str(alloc, text)?)
+}
+
 // A problem of 'static and so many points.
 fn problem_of(alloc: Global, points: u32) -> Result<Problem, BuildError> {
     let builder = ProblemBuilder::new(alloc, points, 1)?;
@@ -125,9 +132,7 @@ fn report_told(alloc: Global, points: u32, labels: &Labels) -> Result<String, Bu
     let problem = problem_of(alloc, points)?;
     let report = values_report(alloc, &problem, labels);
     drop(problem);
-    let report = report?;
-    let text = str::from_utf8(report.as_slice()).unwrap_or("not utf-8");
-    Ok(String::from_str(alloc, text)?)
+    as_text(alloc, report)
 }
 
 // The same, where points are named by blocks that begin at 0 and at 2.
@@ -145,5 +150,67 @@ fn reports_points_by_blocks(rt: HostRuntime) -> Result<(), Fail> {
     let report = report_by_blocks(rt.alloc(), 3)?;
     let want = "'static: bb0/0 bb0/1 bb1/0 end('static)\n";
     compare(&rt, "blocks", Ok(report), want);
+    Ok(())
+}
+
+// A body of two blocks, in which a struct is dropped.
+const BODY: &[u8] = b"nll-mir 1
+region 'w
+struct W<'x +> drop (&'x int)
+let _0: int
+let _1: W<'w>
+blocks 2
+block bb0
+nop
+drop _1 -> bb1
+block bb1
+return
+end
+";
+
+// Adds the graph of that body, and its region with the points at which the struct may be dropped.
+fn add_body(builder: &mut ProblemBuilder) -> Result<(), BuildError> {
+    builder.next(0, 1)?;
+    builder.next(1, 2)?;
+    builder.ret(2)?;
+    let region = builder.region()?;
+    builder.base(region, 0)?;
+    builder.base(region, 1)?;
+    Ok(())
+}
+
+// The problem of that body.
+fn problem_of_body(alloc: Global) -> Result<Problem, BuildError> {
+    let mut builder = ProblemBuilder::new(alloc, 3, 1)?;
+    let added = add_body(&mut builder);
+    added.and(builder.finish())
+}
+
+// The values report of a problem whose points and regions a body's labels name.
+fn report_by_body(alloc: Global, problem: &Problem) -> Result<String, BuildError> {
+    match read_mir(alloc, BODY) {
+        Ok(body) => {
+            let report = values_report(alloc, problem, body.labels());
+            drop(body);
+            as_text(alloc, report)
+        }
+        Err(error) => Ok(format!(in alloc; "{error}")?),
+    }
+}
+
+// The same, of that body's problem.
+fn body_report(alloc: Global) -> Result<String, BuildError> {
+    let problem = problem_of_body(alloc)?;
+    let report = report_by_body(alloc, &problem);
+    drop(problem);
+    report
+}
+
+// A report names points and regions as the text of a body does.
+#[test]
+fn reports_by_the_labels_of_a_body(rt: HostRuntime) -> Result<(), Fail> {
+    let report = body_report(rt.alloc())?;
+    let want = "'static: bb0/0 bb0/1 bb1/0 end('static)\n'w: bb0/0 bb0/1\n";
+    compare(&rt, "a body", Ok(report), want);
     Ok(())
 }

@@ -1,0 +1,68 @@
+//! Worked texts with one byte set to another one, which stands in no token.
+use super::reading::fault_of;
+use nll_reading::{TextError, TextKind};
+use nll_worked_texts::{CALLED, DROPPED, TWO_BORROWS, text_of};
+use std::alloc::{AllocError, Global};
+
+// What is wrong with a line that has some byte: with the header, and with any other line.
+type Wrong = (u8, TextKind, TextKind);
+
+// A byte that stands in no token, and one that is no text.
+const WRONG: &[Wrong] = &[
+    (b'$', TextKind::Header, TextKind::Syntax),
+    (0, TextKind::Header, TextKind::Syntax),
+    (255, TextKind::NotUtf8, TextKind::NotUtf8),
+];
+
+// Whether that is the fault of a text with this byte in a line.
+fn is_told(fault: Option<TextError>, line: u64, wrong: Wrong) -> bool {
+    let kind = if line == 1 { wrong.1 } else { wrong.2 };
+    fault == Some(TextError { line, kind })
+}
+
+// The first place of a text where the byte doesn't lead to its fault in the line of the place.
+fn misjudged(alloc: Global, text: &mut [u8], wrong: Wrong) -> Option<usize> {
+    let mut line = 1u64;
+    for place in 0..text.len() {
+        let kept = text[place];
+        text[place] = wrong.0;
+        if !is_told(fault_of(alloc, text), line, wrong) {
+            return Some(place);
+        }
+        text[place] = kept;
+        if kept == b'\n' {
+            line = line.saturating_add(1);
+        }
+    }
+    None
+}
+
+// The same of a text of lines that end with `|`.
+fn misjudged_lines(alloc: Global, lines: &str, wrong: Wrong) -> Result<Option<usize>, AllocError> {
+    let mut text = text_of(alloc, lines)?;
+    let found = misjudged(alloc, text.as_mut_slice(), wrong);
+    drop(text);
+    Ok(found)
+}
+
+// The same of all such bytes.
+fn misjudged_bytes(alloc: Global, lines: &str) -> Result<Option<usize>, AllocError> {
+    for wrong in WRONG {
+        let found = misjudged_lines(alloc, lines, *wrong)?;
+        if found.is_some() {
+            return Ok(found);
+        }
+    }
+    Ok(None)
+}
+
+const WORKED: &[&str] = &[TWO_BORROWS, DROPPED, CALLED];
+
+// A byte that stands in no token is told at its line, wherever it stands.
+#[test]
+fn changed_bytes_are_told(rt: HostRuntime) {
+    for lines in WORKED {
+        let found = misjudged_bytes(rt.alloc(), lines);
+        assert!(&rt; found == Ok(None), "{lines}: {found:?}");
+    }
+}

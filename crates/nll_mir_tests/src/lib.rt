@@ -1,0 +1,30 @@
+//! Tests of the reader of MIR texts and of the bodies that it makes, by their public calls alone.
+//! Expected values are found by hand from the rules of the format and from the definitions.
+//!
+//! Reading order: `reading`, `bodies`, then each further module.
+#![tactic(auto)]
+
+#[cfg(test)]
+mod beginnings;
+#[cfg(test)]
+mod bodies;
+#[cfg(test)]
+mod changes;
+#[cfg(test)]
+mod comparing;
+#[cfg(test)]
+mod copies;
+#[cfg(test)]
+mod limits;
+#[cfg(test)]
+mod reading;
+#[cfg(test)]
+mod refused;
+#[cfg(test)]
+mod repeating;
+#[cfg(test)]
+mod sizes;
+#[cfg(test)]
+mod statements;
+#[cfg(test)]
+mod types;

@@ -1,0 +1,87 @@
+//! Types at the limit of their nodes and past it, however they are written.
+use super::comparing::compare;
+use super::repeating::{Repeated, read_repeated, read_written};
+use std::alloc::{AllocError, Global};
+
+// A tuple of an `int` and more.
+const TUPLE: Repeated = (
+    "nll-mir 1\nlet _0: int\nlet _1: (int",
+    ", int",
+    ")\nblocks 1\nblock bb0\nstop\nend\n",
+);
+
+// A tuple of 4,095 parts has 4,096 nodes, which is the most.
+#[test]
+fn large_tuples(rt: HostRuntime) {
+    let told = read_repeated(rt.alloc(), TUPLE, 4_094);
+    compare(&rt, "4,096 nodes", told, "1 regions, 2 variables|bb0/0|");
+    let told = read_repeated(rt.alloc(), TUPLE, 4_095);
+    compare(&rt, "4,097 nodes", told, "line 3: TypeSize");
+}
+
+// References to one another and to an `int`.
+const DEEP: Repeated = (
+    "nll-mir 1\nregion 'r\nlet _0: int\nlet _1: ",
+    "&'r ",
+    "int\nblocks 1\nblock bb0\nstop\nend\n",
+);
+
+// The deepest type has 4,095 references.
+#[test]
+fn deep_types(rt: HostRuntime) {
+    let told = read_repeated(rt.alloc(), DEEP, 4_095);
+    compare(&rt, "4,096 nodes", told, "2 regions, 2 variables|bb0/0|");
+}
+
+// A type that is too large is refused, however deep it is: the last one is a line of a mebibyte.
+#[test]
+fn too_deep_types(rt: HostRuntime) {
+    let told = read_repeated(rt.alloc(), DEEP, 4_096);
+    compare(&rt, "4,097 nodes", told, "line 4: TypeSize");
+    let told = read_repeated(rt.alloc(), DEEP, 262_144);
+    compare(&rt, "262,145 nodes", told, "line 4: TypeSize");
+}
+
+// Projections of a variable whose type is the last of structs that double one another. So many
+// fields inwards its type has three times two to the power of their number of nodes.
+const DOUBLED: &[(&str, &str)] = &[
+    (".0.0.0.0.0.0.0.0.0.0", "2 regions, 2 variables|bb0/1|"),
+    (".0.0.0.0.0.0.0.0.0.0.0", "line 1007: TypeSize"),
+    // That there is no such field is told first.
+    (".0.0.0.0.0.0.0.0.0.0.0.1", "line 1007: Shape"),
+];
+
+// Writes a struct and so many more, each of which has the one before it of a pair of its
+// parameter.
+fn write_structs(out: &mut String, more: u32) -> Result<(), AllocError> {
+    out.push_str("nll-mir 1\nregion 'r\nstruct S0<T +>(T)\n")?;
+    for before in 0..more {
+        let number = before + 1;
+        write!(out, "struct S{number}<T +>(S{before}<(T, T)>)\n")?;
+    }
+    Ok(())
+}
+
+// Writes a text of a thousand such structs, and of a place in a variable of the last one's type.
+fn write_doubling(out: &mut String, projections: &str) -> Result<(), AllocError> {
+    write_structs(out, 999)?;
+    out.push_str("let _0: int\nlet _1: S999<&'r int>\nblocks 1\nblock bb0\n")?;
+    write!(out, "read _1{projections}\nstop\nend\n")
+}
+
+// What is told of such a text.
+fn told_of_doubling(alloc: Global, projections: &str) -> Result<String, AllocError> {
+    let mut text = String::new(alloc);
+    let written = write_doubling(&mut text, projections);
+    read_written(alloc, written, text)
+}
+
+// Structs that double one another are declared quickly, and the first type that is too large is
+// told.
+#[test]
+fn doubling_structs(rt: HostRuntime) {
+    for (projections, want) in DOUBLED {
+        let told = told_of_doubling(rt.alloc(), projections);
+        compare(&rt, projections, told, want);
+    }
+}
