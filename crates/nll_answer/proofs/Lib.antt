@@ -1,1 +1,2 @@
 pub mod ReportLemmas
+pub mod MeaningLemmas

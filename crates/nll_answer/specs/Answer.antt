@@ -4,14 +4,11 @@ use Rattle.std.specs.Prelude.{◌≡◌, ℕ, List, [], ◌∷◌}
 use Rattle.nll_problem.specs.Problem.{Problem}
 use Rattle.nll_problem.specs.Solution.{Least}
 use Rattle.nll_problem.specs.Faults.{AreFaults}
-use Rattle.nll_facts.specs.FactsText.{Means, facts}
 use Rattle.nll_reading.specs.Labels.{Labels}
-use Rattle.nll_reading.specs.Text.{IsFault}
 use Rattle.nll_answer.specs.Report.{IsValuesReport, faults_report}
 use Rattle.nll_answer.specs.declared.answers.Command.{Command}
 use Rattle.nll_answer.specs.declared.answers.Command.TheVariants.{Values, Check}
-use Rattle.nll_answer.specs.declared.error.AnswerError.{AnswerError}
-use Rattle.nll_answer.specs.declared.error.AnswerError.TheVariants.{Text, Memory}
+use Rattle.nll_answer.specs.Texts.{IsMeaning}
 
 -- 1 where there is a fault, else 0
 abbrev pub status_of_faults : List (ℕ × ℕ) → ℕ
@@ -37,10 +34,5 @@ IsProblemAnswer Check q labels report status = IsCheckReport q labels report sta
 pub record IsAnswer (command : Command) (text report : List ℕ) (status : ℕ) : Type 0 where
   pub problem : Problem
   pub labels : Labels
-  pub meaning : Means text problem labels
+  pub meaning : IsMeaning text problem labels
   pub answer : IsProblemAnswer command problem labels report status
-
--- the error tells the text's fault, or that a growth of memory was refused
-abbrev pub IsAnswerError : List ℕ → AnswerError → Type 0
-IsAnswerError text (Text error) = IsFault facts text error.line error.kind
-IsAnswerError text Memory = Unit {0}

@@ -1,2 +1,3 @@
 pub mod Report
+pub mod Texts
 pub mod Answer

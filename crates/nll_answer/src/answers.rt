@@ -4,16 +4,17 @@ ghost use Rattle.std.specs.Prelude.{◌≡◌, ◌≤◌, IfErr, IfOk, length};
 ghost use Rattle.nll_problem.specs.Faults.{AreFaults};
 ghost use Rattle.nll_problem.specs.Problem.{IsSound};
 ghost use Rattle.nll_problem.specs.Solution.{Least};
-ghost use Rattle.nll_facts.specs.FactsText.{Means};
-ghost use Rattle.nll_answer.specs.Answer.{IsAnswer, IsAnswerError, IsCheckReport};
+ghost use Rattle.nll_answer.specs.Answer.{IsAnswer, IsCheckReport};
 ghost use Rattle.nll_answer.specs.Answer.{IsProblemAnswer, status_of_faults};
 ghost use Rattle.nll_answer.specs.Report.{IsValuesReport};
+ghost use Rattle.nll_answer.specs.Texts.{IsAnswerError};
 
 use crate::error::AnswerError;
 use crate::faults_report::faults_text;
+use crate::meanings::meaning;
 use crate::values_report::values_text;
 use nll_core::{Memory, Problem, RegionId, faults, solve};
-use nll_mir::{Facts, TextKind, read_facts};
+use nll_mir::Facts;
 use std::alloc::Global;
 
 /// What is asked of a text.
@@ -25,35 +26,21 @@ pub enum Command {
     Check,
 }
 
-/// Answers a command on a text: the report's bytes and the program's status.
+/// Answers a command on a facts text or a MIR text: the report's bytes and the program's status.
 ///
 /// # Errors
 /// - `Text`: the text's fault, at its line.
+/// - `Rule`: the body that the text means has more than `MAX_CONSTRAINTS` constraints.
 /// - `Memory`.
 pub fn answer(alloc: Global, command: Command, text: &[u8]) -> Result<(Vec<u8>, u8), AnswerError>
     ensures ok { IfOk result (λ r. IsAnswer command text.now r.0.items r.1) }
     ensures status { IfOk result (λ r. r.1 ≤ 1) }
     ensures err { IfErr result (IsAnswerError text.now) }
 {
-    let facts = facts_of(alloc, text)?;
+    let facts = meaning(alloc, text)?;
     let answer = answer_of(alloc, command, &facts);
     drop(facts);
     Ok(answer?)
-}
-
-// The meaning of a text.
-fn facts_of(alloc: Global, text: &[u8]) -> Result<Facts, AnswerError>
-    ensures ok { IfOk result (λ facts. Means text.now facts.problem facts.labels) }
-    ensures named { IfOk result (λ facts. length facts.labels.names ≡ facts.problem.regions) }
-    ensures err { IfErr result (IsAnswerError text.now) }
-{
-    match read_facts(alloc, text) {
-        Ok(facts) => Ok(facts),
-        Err(error) => match error.kind {
-            TextKind::Memory => Err(AnswerError::Memory),
-            _ => Err(AnswerError::Text(error)),
-        },
-    }
 }
 
 // The answer to the command on facts.

@@ -1,5 +1,6 @@
 //! Why a text has no answer.
 
+use nll_body_problem::RuleError;
 use nll_core::Memory;
 use nll_mir::TextError;
 use thiserror::Error;
@@ -10,6 +11,9 @@ pub enum AnswerError {
     /// The text is faulty.
     #[error(transparent)]
     Text(TextError),
+    /// The body that the text means has no problem.
+    #[error(transparent)]
+    Rule(RuleError),
     /// A growth of memory was refused.
     #[error("memory was refused")]
     Memory,

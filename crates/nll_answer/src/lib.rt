@@ -1,14 +1,17 @@
-//! The answer to a text: its problem's least values or their faults, as the bytes of a report.
+//! The answer to a facts text or a MIR text: its problem's least values or their faults, as the
+//! bytes of a report.
 //!
-//! Read `answers` first, then `values_report` and `faults_report`.
+//! Read `answers` first, then `meanings`, `values_report` and `faults_report`.
 #![tactic(auto)]
 
 mod answers;
 mod error;
 mod faults_report;
+mod meanings;
 mod values_report;
 
 pub use answers::{Command, answer};
 pub use error::AnswerError;
 pub use faults_report::faults_text;
+pub use meanings::meaning;
 pub use values_report::values_text;

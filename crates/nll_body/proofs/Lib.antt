@@ -3,3 +3,4 @@ pub mod PointLemmas
 pub mod GraphLemmas
 pub mod EffectLemmas
 pub mod KeptLemmas
+pub mod RangeLemmas

@@ -6,13 +6,15 @@ use Rattle.nll_problem.specs.Limits.{most_variables}
 use Rattle.nll_reading.specs.Labels.{AreFirstPoints}
 use Rattle.nll_types.specs.Types.{TypeTree}
 use Rattle.nll_types.specs.Structs.{AreInOrder, IsWellFormed}
-use Rattle.nll_statements.specs.Statements.{Statement}
+use Rattle.nll_statements.specs.Statements.{Statement, types_written}
 use Rattle.nll_statements.specs.Effects.{targets}
+use Rattle.nll_statements.specs.Written.{regions_written}
 use Rattle.nll_body.specs.Bodies.{BodyText, StandsAt, GoesOn}
 use Rattle.nll_body.specs.Edges.{edge_count}
 
 -- The points, the regions and the variables keep to the limits, each edge leads to a point, each
--- target is one of the blocks, the outlives pairs are of universal regions, and the types of the
+-- target is one of the blocks, the outlives pairs are of universal regions, the regions that are
+-- written at the points are declared, and the types that are written there and those of the
 -- variables keep to what is declared.
 pub record IsSound (body : BodyText) : Type 0 where
   pub some_point : 0 < length body.points
@@ -31,3 +33,7 @@ pub record IsSound (body : BodyText) : Type 0 where
       → b < length body.starts
   pub in_order : AreInOrder body.structs
   pub types : All (IsWellFormed body.structs (length body.names) 0) body.variables
+  pub written_regions : (p r : ℕ) (i : Statement ℕ TypeTree) → StandsAt body p i
+      → Contains (regions_written i) r → r < length body.names
+  pub written_types : (p : ℕ) (t : TypeTree) (i : Statement ℕ TypeTree) → StandsAt body p i
+      → Contains (types_written i) t → IsWellFormed body.structs (length body.names) 0 t

@@ -1,6 +1,6 @@
 //! A body, with its graph and its labels.
 
-ghost use Rattle.std.specs.Prelude.{◌≡◌, ◌≢◌, ◌↔◌, ◌<◌, ◌++◌, ℕ, length, Some};
+ghost use Rattle.std.specs.Prelude.{◌≡◌, ◌≢◌, ◌↔◌, ◌<◌, ◌++◌, ℕ, length, map, Some};
 ghost use Rattle.std.specs.Prelude.{AllPairs, Contains, IfErr, IfOk, OnOk};
 ghost use Rattle.nll_types.specs.Declarations.{structs_of};
 ghost use Rattle.nll_types.specs.DropRegions.{IsDropRegion};
@@ -106,6 +106,13 @@ impl Body {
         &self.labels
     }
 
+    /// Its labels alone. Takes no memory.
+    pub fn into_labels(self) -> Labels
+        ensures { result ≡ labels_of self }
+    {
+        self.labels
+    }
+
     /// How many points there are; they are numbered from 0.
     pub fn points(&self) -> u32
         ensures value { result ≡ length self.now.points }
@@ -134,6 +141,13 @@ impl Body {
         ensures sound { IsSound self.now }
     {
         self.variables.len()
+    }
+
+    /// The types of its variables.
+    pub fn variable_types(&self) -> &[Ty]
+        ensures { map tree result.now ≡ self.now.variables }
+    {
+        self.variables.as_slice()
     }
 
     /// The pairs of universal regions of which the first is known to outlive the second.

@@ -7,7 +7,11 @@ use Rattle.nll_sets.specs.Runs.{IsInRuns, MakeUp}
 use Rattle.nll_sets.specs.declared.run.Run.{Run}
 use Rattle.nll_types.specs.Types.{TypeTree}
 use Rattle.nll_body.specs.Bodies.{BodyText, HasType}
-use Rattle.nll_live.specs.Live.{AsksForUse, AsksForDrop, IsBaseOf}
+use Rattle.nll_body.specs.Sound.{IsSound}
+use Rattle.nll_body.proofs.KeptLemmas.{good_type}
+use Rattle.nll_body.proofs.RangeLemmas.{region_within, drop_region_within}
+use Rattle.nll_live.proofs.WalkLemmas.{live_within}
+use Rattle.nll_live.specs.Live.{UsesAt, DropsAt, AsksForUse, AsksForDrop, IsBaseOf}
 use Rattle.nll_live.specs.LiveSets.{AreSetsOf}
 use Rattle.nll_live.specs.Stretches.{Covers, Gains}
 use Rattle.nll_live.specs.declared.stretch.Stretch.{Stretch}
@@ -77,3 +81,19 @@ asked_last body n all r p = (
     declared : (x : ℕ) → AsksForUse body x r p ⊎ AsksForDrop body x r p → x < length body.variables
     declared x (inl h) = slice_get_within body.variables x h.0 h.1
     declared x (inr h) = slice_get_within body.variables x h.0 h.1
+
+-- ---- ranges
+
+-- base elements are points, and of regions of the body
+pub base_within : (body : BodyText) → IsSound body → (r p : ℕ) → IsBaseOf body r p → (r < length body.names) × (p < length body.points)
+base_within body sound r p h = by h.0 h.1
+  where
+    by : (x : ℕ) → AsksForUse body x r p ⊎ AsksForDrop body x r p → (r < length body.names) × (p < length body.points)
+    by x (inl a) = (
+      region_within body.structs (length body.names) a.0 (good_type body sound x a.0 a.1) r a.3,
+      live_within body (UsesAt body x) x (λ q u. slice_get_within body.points q u.0 u.1) p a.2,
+    )
+    by x (inr a) = (
+      drop_region_within body.structs sound.in_order (length body.names) (omega (arith, sound.some_universal, sound.all_universals)) a.0 (good_type body sound x a.0 a.1) r a.3,
+      live_within body (DropsAt body x) x (λ q d. slice_get_within body.points q d.0 d.1) p a.2,
+    )

@@ -3,6 +3,7 @@
 ghost use Rattle.std.specs.Prelude.{◌≡◌, ◌↔◌, ◌^◌, ◌<◌, ℕ, [], length, AllPairs, Contains};
 ghost use Rattle.std.specs.Prelude.{IfOk, OnOk};
 ghost use Rattle.nll_problem.specs.Problem.{IsEarlier};
+ghost use Rattle.nll_body.specs.Sound.{IsSound};
 ghost use Rattle.nll_live.specs.Live.{AsksForUse, AsksForDrop, IsBaseOf};
 ghost use Rattle.nll_live.specs.LiveSets.{AreLiveSets};
 ghost use Rattle.nll_live.specs.Stretches.{Covers, Gains};
@@ -31,6 +32,8 @@ pub fn bases(alloc: Global, body: &Body, sets: &LiveSets) -> Result<Vec<(RegionI
     requires { AreLiveSets body.now sets.now }
     ensures each { IfOk result (λ v. (r p : ℕ) → Contains v.items (r, p) ↔ IsBaseOf body.now r p) }
     ensures ascending { IfOk result (λ v. AllPairs IsEarlier v.items) }
+    ensures within { IfOk result (λ v. (r p : ℕ) → Contains v.items (r, p)
+        → (r < length body.now.names) × (p < length body.now.points)) }
 {
     let mut stretches = Vec::new(alloc);
     let pairs = pairs_asked_for(alloc, body, sets, &mut stretches);
@@ -49,6 +52,8 @@ fn pairs_asked_for(
     requires nothing { stretches.old.items ≡ [] }
     ensures each { IfOk result (λ v. (r p : ℕ) → Contains v.items (r, p) ↔ IsBaseOf body.now r p) }
     ensures ascending { IfOk result (λ v. AllPairs IsEarlier v.items) }
+    ensures within { IfOk result (λ v. (r p : ℕ) → Contains v.items (r, p)
+        → (r < length body.now.names) × (p < length body.now.points)) }
 {
     push_variables(alloc, body, sets, stretches)?;
     let pairs = pairs_of(alloc, stretches)?;
@@ -64,7 +69,9 @@ fn push_variables(
 ) -> Result<(), Memory>
     requires sets { AreLiveSets body.now sets.now }
     requires nothing { stretches.old.items ≡ [] }
-    ensures { OnOk result ((r p : ℕ) → Covers stretches.new.items r p ↔ IsBaseOf body.now r p) }
+    ensures each { OnOk result
+        ((r p : ℕ) → Covers stretches.new.items r p ↔ IsBaseOf body.now r p) }
+    ensures sound { OnOk result (IsSound body.now) }
 {
     for variable in 0..body.variables() {
         push_uses(alloc, body, sets, variable as u32, stretches)?;

@@ -4,14 +4,14 @@ use Rattle.std.specs.Borrow.{Bor}
 use Rattle.nll_reading.specs.Names.{number_of}
 use Rattle.nll_types.specs.Types.{TypeTree}
 use Rattle.nll_types.specs.Places.{PlacePath}
-use Rattle.nll_types.specs.Operands.{Operand, operand_of}
+use Rattle.nll_types.specs.Operands.{Operand}
 use Rattle.nll_types.specs.Views.{tree}
 use Rattle.nll_types.specs.declared.operand.Operand.{Operand as KeptOperand}
 use Rattle.nll_types.specs.declared.ty.Ty.{Ty}
 use Rattle.nll_type_grammar.specs.WrittenTypes.{Name, WrittenType}
 use Rattle.nll_type_grammar.specs.TypeTexts.{written}
 use Rattle.nll_type_grammar.specs.declared.type_text.TypeNode.{TypeNode}
-use Rattle.nll_statements.specs.Statements.{Statement, map_statement, call}
+use Rattle.nll_statements.specs.Statements.{map_statement, call}
 use Rattle.nll_statements.specs.Kept.{arguments_of}
 use Rattle.nll_naming.specs.Naming.{Scope, meant}
 use Rattle.nll_mir_text.specs.Stating.{bound_numbers, argument_kept, argument_in, meant_in}

@@ -1,8 +1,8 @@
 -- A struct line with which nothing is wrong is taken.
-use Rattle.std.proofs.Common.{◌≡◌, ℕ, ◌+◌, ◌<◌, ◌≤◌, ◌^◌, ◌-◌, Bool, None, List, [], ◌∷◌, ◌++◌, length, map, refl, sym, ap, ◌∙◌, subst, arith, length-append}
+use Rattle.std.proofs.Common.{◌≡◌, ◌+◌, ◌<◌, ◌≤◌, ◌^◌, ◌-◌, Bool, None, List, [], ◌∷◌, ◌++◌, length, map, refl, sym, ap, ◌∙◌, subst, arith, length-append}
 use Rattle.std.proofs.lemmas.Bool.{leb-true}
 use Rattle.std.proofs.lemmas.List.{length-map, map_push}
-use Rattle.nll_problem.specs.Limits.{most_bytes, most_structs}
+use Rattle.nll_problem.specs.Limits.{most_bytes}
 use Rattle.nll_types.specs.Structs.{Struct, HasGoodFields}
 use Rattle.nll_types.specs.Tables.{Tables}
 use Rattle.nll_types.specs.Views.{trees}
@@ -20,7 +20,7 @@ use Rattle.nll_naming.specs.Naming.{all_meant}
 use Rattle.nll_mir_text.specs.MirSaid.{Said, says, declared, field_scope, is_region, regions_in, types_in}
 use Rattle.nll_mir_text.specs.MirFaults.{first_fault}
 use Rattle.nll_mir_text.specs.MirReading.{said_by, AreKinds, AreShapes, IsDue, IsTaken, struct_form}
-use Rattle.nll_mir_text.specs.Declaring.{AreOwn, own_scope, region_names}
+use Rattle.nll_mir_text.specs.Declaring.{AreOwn, own_scope}
 use Rattle.nll_mir_text.specs.declared.own_names.OwnNames.{OwnNames}
 use Rattle.nll_mir_text.specs.declared.reader.Reader.{Reader}
 use Rattle.nll_mir_text.specs.declared.tables.StructNames.{StructNames}

@@ -1,8 +1,7 @@
 -- The names that a line declares are UTF-8.
-use Rattle.std.proofs.Common.{◌≡◌, ℕ, List, [], ◌∷◌, ◌++◌, map, refl, sym, subst}
+use Rattle.std.proofs.Common.{ℕ, List, [], ◌∷◌, ◌++◌, map, subst}
 use Rattle.std.specs.List.{AllByRecursion, flat_map}
-use Rattle.std.specs.Str.{IsUtf8}
-use Rattle.nll_text.specs.Tokens.{Token, word, region, arrow, sign, IsMadeOf, AreTokens}
+use Rattle.nll_text.specs.Tokens.{Token, sign, AreTokens}
 use Rattle.nll_text.proofs.Utf8Lemmas.{IsUtf8-word}
 use Rattle.nll_text.proofs.TokenLemmas.{made_of_tokens}
 use Rattle.nll_mir_grammar.specs.MirForms.{Form, universal, outlives, further, struct_line, variable, blocks, block, at_point, end, HasForm, spelled_form, spelled_parameter, spelled_parameters, WrittenParameter, region_parameter, type_parameter}

@@ -2,7 +2,7 @@
 use Rattle.std.proofs.Common.{◌≡◌, ℕ, List, refl, sym, ap, ◌∙◌, subst}
 use Rattle.nll_text.specs.Tokens.{Token}
 use Rattle.nll_text.proofs.TokenLemmas.{one_token_list_lem}
-use Rattle.nll_reading.specs.Text.{IsText, IsFault}
+use Rattle.nll_reading.specs.Text.{IsFault}
 use Rattle.nll_reading.specs.declared.error.TextKind.{TextKind}
 use Rattle.nll_reading.proofs.TextLaws as laws
 use Rattle.nll_mir_grammar.specs.MirForms.{Form, IsSpelled, HasForm}

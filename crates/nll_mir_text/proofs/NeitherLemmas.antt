@@ -1,5 +1,5 @@
 -- No text has neither a meaning nor a fault.
-use Rattle.std.proofs.Common.{◌≡◌, ◌≤◌, ◌<◌, ◌+◌, ℕ, true, false, List, [], ◌∷◌, ◌++◌, Option, Some, None, length, refl, sym, ap, ◌∙◌, ⊎_elim, arith}
+use Rattle.std.proofs.Common.{◌≡◌, ◌≤◌, ◌<◌, ◌+◌, ℕ, false, List, [], ◌∷◌, ◌++◌, Option, Some, None, length, refl, ap, ⊎_elim, arith}
 use Rattle.std.specs.Str.{IsUtf8}
 use Rattle.std.proofs.lemmas.Bool.{cases_Bool, cases_lt}
 use Rattle.std.proofs.lemmas.List.Splits.{length-slice_split}
@@ -8,7 +8,7 @@ use Rattle.nll_text.specs.Lines.{lines_of, without_last_feed, is_skipped}
 use Rattle.nll_text.proofs.DecisionLemmas.{utf8_or_not}
 use Rattle.nll_problem.specs.Limits.{most_bytes}
 use Rattle.nll_problem.specs.declared.error.Kind.TheVariants.{Text}
-use Rattle.nll_reading.specs.Text.{IsHeader, Fits, skipped, of_form, IsFaulty, not_utf8, no_form, at_form, Says, IsCut, IsHeaded, IsText, IsFault, too_long, header_not_utf8, no_header, at_line, no_end}
+use Rattle.nll_reading.specs.Text.{Fits, skipped, of_form, IsFaulty, not_utf8, no_form, at_form, Says, IsCut, IsHeaded, IsText, IsFault, too_long, header_not_utf8, no_header, at_line, no_end}
 use Rattle.nll_reading.specs.declared.error.TextKind.{TextKind}
 use Rattle.nll_reading.specs.declared.error.TextKind.TheVariants.{NotUtf8, Header, Syntax, Limit, End}
 use Rattle.nll_mir_grammar.specs.MirForms.{Form, HasForm}

@@ -1,6 +1,6 @@
 -- The shapes of variables stay, and one more comes.
-use Rattle.std.proofs.Common.{◌≡◌, ℕ, zero, suc, ◌+◌, ◌<◌, List, [], ◌∷◌, ◌++◌, length, map, refl, sym, ap, ◌∙◌, arith, Bool, ◌≤◌}
-use Rattle.std.specs.Prelude.{slice_index, nat_le}
+use Rattle.std.proofs.Common.{◌≡◌, ℕ, zero, suc, ◌<◌, List, [], ◌∷◌, ◌++◌, length, map, refl, sym, ap, ◌∙◌, arith, ◌≤◌}
+use Rattle.std.specs.Prelude.{nat_le}
 use Rattle.nll_problem.specs.Limits.{most_nodes}
 use Rattle.std.specs.List.{list_all}
 use Rattle.nll_types.specs.Types.{TypeTree, TypeTrees, none, more}

@@ -1,11 +1,11 @@
 -- What the lines of a text that fits say is a sound body.
-use Rattle.std.proofs.Common.{◌≡◌, ◌⊎◌, ℕ, suc, ◌+◌, ◌<◌, ◌≤◌, Bool, true, false, not, cond, List, [], ◌∷◌, ◌++◌, Option, Some, None, Contains, length, map, inl, inr, refl, sym, ap, ◌∙◌, subst, ⊎_elim, arith, length-append, slice_get, get_or}
-use Rattle.std.specs.Prelude.{◌&&◌, ◌==◌, nat_le, nat_lt, All, slice_index_or}
+use Rattle.std.proofs.Common.{◌≡◌, ◌⊎◌, ℕ, ◌+◌, ◌<◌, ◌≤◌, Bool, true, false, not, cond, List, [], ◌∷◌, ◌++◌, Some, None, Contains, length, map, inl, inr, refl, sym, ap, ◌∙◌, subst, ⊎_elim, arith, length-append, slice_get}
+use Rattle.std.specs.Prelude.{◌&&◌, ◌==◌, nat_le, nat_lt, All, codes}
 use Rattle.std.specs.List.{list_all, list_any}
 use Rattle.std.specs.List.Sorted.{IsStrictlyIncreasing}
 use Rattle.std.proofs.lemmas.Bool.{cases_lt, and_parts, not-true, not-false, leb-true, leb-false, ltb-true, ltb-false, eqb-true, eqb-false}
 use Rattle.std.proofs.lemmas.List.{get_or_append_left, get_or_at, append-nil}
-use Rattle.std.proofs.lemmas.List.Elements.{Contains-push_cases, All-cons, All-push, All-weaker, All-nil, All-contains, All-get_or}
+use Rattle.std.proofs.lemmas.List.Elements.{Contains-push_cases, All-cons, All-push, All-weaker, All-nil, All-contains}
 use Rattle.std.proofs.lemmas.List.Sums.{sum_by_push}
 use Rattle.std.proofs.lemmas.Option.{get_or_from_slice_get, slice_get_within, slice_get-get_or}
 use Rattle.nll_problem.specs.Building.{same_pair}
@@ -14,23 +14,24 @@ use Rattle.nll_problem.specs.Limits.{most_points, most_edges, most_universals, m
 use Rattle.nll_types.specs.Types.{TypeTree}
 use Rattle.nll_types.specs.Structs.{Struct, AreInOrder, IsWellFormed}
 use Rattle.nll_type_grammar.specs.WrittenTypes.{Name, WrittenType, WrittenTypes}
-use Rattle.nll_statements.specs.Statements.{Statement, is_terminator, map_statement}
+use Rattle.nll_statements.specs.Statements.{Statement, is_terminator, map_statement, types_written}
 use Rattle.nll_statements.specs.Effects.{targets}
+use Rattle.nll_statements.specs.Written.{regions_written, variables_written}
+use Rattle.nll_statements.proofs.MapLemmas.{regions_mapped, types_mapped}
 use Rattle.nll_mir_grammar.specs.MirForms.{Form, WrittenParameter, universal, outlives, further, struct_line, variable, blocks, block, at_point, end}
-use Rattle.nll_naming.specs.Naming.{meant, has_arguments, have_arguments, is_known, are_known}
-use Rattle.nll_reading.specs.Labels.{AreFirstPoints}
+use Rattle.nll_naming.specs.Naming.{meant, is_among, has_arguments, have_arguments, is_known, are_known}
 use Rattle.nll_reading.specs.Text.{Fits, skipped, of_form, Says, IsText}
-use Rattle.nll_body.specs.Bodies.{BodyText, StandsAt, GoesOn}
 use Rattle.nll_body.specs.Edges.{edges_from, edge_count}
 use Rattle.nll_body.specs.Sound.{IsSound}
 use Rattle.nll_body.proofs.PointLemmas.{same_targets, same_end}
 use Rattle.nll_mir_text.specs.MirSaid.{Said, said, says, nothing_said, statement_meant, body_scope, field_scope, declared, is_region}
-use Rattle.nll_mir_text.specs.MirFaults.{is_universal, first_fault, is_in_order, has_targets, shapes_fit, knows}
+use Rattle.nll_mir_text.specs.MirFaults.{is_universal, first_fault, has_targets, shapes_fit, knows, are_declared}
+use Rattle.nll_typing.specs.Typing.{types_agree}
 use Rattle.nll_mir_text.specs.MirReading.{AreKinds}
 use Rattle.nll_mir_text.specs.MirText.{mir, body_said}
 use Rattle.nll_mir_text.proofs.FaultLemmas.{faultless}
 use Rattle.nll_mir_text.proofs.GoodFieldLemmas.{well_formed}
-use Rattle.nll_mir_text.proofs.SaidLemmas.{said_push, in_order, reached_at_end}
+use Rattle.nll_mir_text.proofs.SaidLemmas.{said_push, reached_at_end}
 use Rattle.nll_mir_text.proofs.StructLemmas.{order_push, kinds_pushed, regions_declared, types_declared, good_fields}
 
 -- ---- tests
@@ -49,6 +50,14 @@ below_all n (x ∷ xs) h =
     let both = and_parts (nat_lt x n) (list_all (λ b. nat_lt b n) xs) h in
     let first : x < n = ltb-true x n both.0 in
     All-cons (λ b. b < n) x xs first (below_all n xs both.1)
+
+-- names that are declared have numbers
+numbers_below : (names xs : List Name) → list_all (is_among names) xs ≡ true → All (λ q. q < length names) (map (number_of names) xs)
+numbers_below names [] h = All-nil (λ q. q < length names)
+numbers_below names (x ∷ xs) h =
+    let both = and_parts (is_among names x) (list_all (is_among names) xs) h in
+    let first : number_of names x < length names = ltb-true (number_of names x) (length names) both.0 in
+    All-cons (λ q. q < length names) (number_of names x) (map (number_of names) xs) first (numbers_below names xs both.1)
 
 -- ---- lists
 
@@ -133,9 +142,27 @@ record ArePlaced (reached count : ℕ) (starts : List ℕ) (points : List (State
   goes_on : (p : ℕ) (i : Statement ℕ TypeTree) → slice_get points p ≡ Some i → is_terminator i ≡ false → p + 1 < ends points owes
   leads : (p b : ℕ) (i : Statement ℕ TypeTree) → slice_get points p ≡ Some i → Contains (targets i) b → b < count
 
+-- The regions and the types that are written at the points keep to what is declared.
+record AreWritten (names : List Name) (structs : List Struct) (points : List (Statement ℕ TypeTree)) : Type 0 where
+  regions : (p r : ℕ) (i : Statement ℕ TypeTree) → slice_get points p ≡ Some i → Contains (regions_written i) r → r < length names
+  types : (p : ℕ) (t : TypeTree) (i : Statement ℕ TypeTree) → slice_get points p ≡ Some i → Contains (types_written i) t → IsWellFormed structs (length names) 0 t
+
 record IsWell (s : Said) : Type 0 where
   declares : IsDeclared s.reached s.universals s.names s.outlives s.struct_names s.kinds s.structs s.variables
   places : ArePlaced s.reached s.blocks s.starts s.points s.owes
+  written : AreWritten s.names s.structs s.points
+
+-- nothing is written where there are no points
+written_nowhere : (names : List Name) (structs : List Struct) (points : List (Statement ℕ TypeTree)) → length points ≡ 0 → AreWritten names structs points
+written_nowhere names structs points none = record {
+  regions = λ p r i at h. absurd (nothing_at points p i none at);
+  types = λ p t i at h. absurd (nothing_at points p i none at);
+}
+
+-- a line in front of the blocks stands in front of all points
+written_early : (reached count : ℕ) (starts : List ℕ) (points : List (Statement ℕ TypeTree)) (owes : Bool) → ArePlaced reached count starts points owes → reached < 7
+    → (names : List Name) (structs : List Struct) → AreWritten names structs points
+written_early reached count starts points owes h early names structs = written_nowhere names structs points (h.none_yet early)
 
 -- ---- no line yet
 
@@ -168,6 +195,7 @@ well_nothing = record {
     goes_on = λ p i at. absurd (nothing_at [] p i refl at);
     leads = λ p b i at. absurd (nothing_at [] p i refl at);
   };
+  written = written_nowhere (codes "static" ∷ []) [] [] refl;
 }
 
 -- ---- one more line
@@ -239,6 +267,7 @@ module _ (s : Said) (w : IsWell s) where
           keep = keeps_none _ _ _ _ _ _ _ _ (omega (arith, le)) d (IsWellFormed s.structs (length (s.names ++ a ∷ [])) 0);
         };
         places = places_early _ _ _ _ _ 1 w.places le (omega arith);
+        written = written_early _ _ _ _ _ w.places (omega (arith, le)) (s.names ++ a ∷ []) s.structs;
       }
 
   well_outlives : (a b : Name) → first_fault s (outlives a b) ≡ None → IsWell (says s (outlives a b))
@@ -263,6 +292,7 @@ module _ (s : Said) (w : IsWell s) where
           keep = d.keep;
         };
         places = places_early _ _ _ _ _ 2 w.places le (omega arith);
+        written = written_early _ _ _ _ _ w.places (omega (arith, le)) s.names s.structs;
       }
 
   well_further : (x : Name) → first_fault s (further x) ≡ None → IsWell (says s (further x))
@@ -287,6 +317,7 @@ module _ (s : Said) (w : IsWell s) where
           keep = keeps_none _ _ _ _ _ _ _ _ (omega (arith, le)) d (IsWellFormed s.structs (length (s.names ++ x ∷ [])) 0);
         };
         places = places_early _ _ _ _ _ 3 w.places le (omega arith);
+        written = written_early _ _ _ _ _ w.places (omega (arith, le)) (s.names ++ x ∷ []) s.structs;
       }
 
   well_struct : (n : Name) (ps : List WrittenParameter) (has_drop : Bool) (fields : WrittenTypes) → first_fault s (struct_line n ps has_drop fields) ≡ None → IsWell (says s (struct_line n ps has_drop fields))
@@ -313,6 +344,7 @@ module _ (s : Said) (w : IsWell s) where
           keep = keeps_none _ _ _ _ _ _ _ _ (omega (arith, le)) d (IsWellFormed (s.structs ++ more ∷ []) (length s.names) 0);
         };
         places = places_early _ _ _ _ _ 4 w.places le (omega arith);
+        written = written_early _ _ _ _ _ w.places (omega (arith, le)) s.names (s.structs ++ more ∷ []);
       }
 
   well_variable : (x : ℕ) (t : WrittenType) → first_fault s (variable x t) ≡ None → IsWell (says s (variable x t))
@@ -339,6 +371,7 @@ module _ (s : Said) (w : IsWell s) where
           keep = All-push (IsWellFormed s.structs (length s.names) 0) s.variables (meant (body_scope s) t) d.keep (well_formed (body_scope s) s.structs d.takes d.named t known has);
         };
         places = places_early _ _ _ _ _ 5 w.places le (omega arith);
+        written = written_early _ _ _ _ _ w.places (omega (arith, le)) s.names s.structs;
       }
 
   well_blocks : (n : ℕ) → first_fault s (blocks n) ≡ None → IsWell (says s (blocks n))
@@ -363,6 +396,7 @@ module _ (s : Said) (w : IsWell s) where
           goes_on = p.goes_on;
           leads = λ q b i stands. absurd (nothing_at s.points q i none stands);
         };
+        written = w.written;
       }
 
   -- a block begins where no terminator is owed
@@ -390,6 +424,7 @@ module _ (s : Said) (w : IsWell s) where
       record {
         declares = declares_late _ _ _ _ _ _ _ _ 7 w.declares (omega arith);
         places = begins (not-true s.owes order.2) (leb-true 6 s.reached order.0);
+        written = w.written;
       }
 
   -- a statement or terminator stands where a terminator is owed
@@ -421,6 +456,36 @@ module _ (s : Said) (w : IsWell s) where
             (pushed_at s.points j q k at);
       }
 
+  -- types whose names are known and have arguments keep to what is declared
+  types_good : (ts : List WrittenType) → list_all (is_known (body_scope s)) ts ≡ true → list_all (has_arguments (body_scope s)) ts ≡ true
+      → All (IsWellFormed s.structs (length s.names) 0) (map (meant (body_scope s)) ts)
+  types_good [] k h = All-nil (IsWellFormed s.structs (length s.names) 0)
+  types_good (t ∷ ts) k h =
+      let known = and_parts (is_known (body_scope s) t) (list_all (is_known (body_scope s)) ts) k in
+      let has = and_parts (has_arguments (body_scope s) t) (list_all (has_arguments (body_scope s)) ts) h in
+      let d = w.declares in
+      let first : IsWellFormed s.structs (length s.names) 0 (meant (body_scope s) t) = well_formed (body_scope s) s.structs d.takes d.named t known.0 has.0 in
+      All-cons (IsWellFormed s.structs (length s.names) 0) (meant (body_scope s) t) (map (meant (body_scope s)) ts) first (types_good ts known.1 has.1)
+
+  -- what is written in one more statement keeps to what is declared
+  writes : (i : Statement Name WrittenType) → knows s i ≡ true → shapes_fit s i ≡ true → AreWritten s.names s.structs (s.points ++ statement_meant s i ∷ [])
+  writes i known fit =
+      let j = statement_meant s i in
+      let names = three (are_declared s (variables_written i)) (list_all (is_among s.names) (regions_written i)) (list_all (is_known (body_scope s)) (types_written i)) known in
+      let args = and_parts (list_all (has_arguments (body_scope s)) (types_written i)) (types_agree s.structs s.variables j) fit in
+      record {
+        regions = λ p r k at h. ⊎_elim
+            (λ old. w.written.regions p r k old h)
+            (λ new. All-contains (λ q. q < length s.names) (map (number_of s.names) (regions_written i)) r (numbers_below s.names (regions_written i) names.1)
+            (subst (λ (rs : List ℕ). Contains rs r) (ap regions_written new.1 ∙ regions_mapped (number_of s.names) (meant (body_scope s)) i) h))
+            (pushed_at s.points j p k at);
+        types = λ p t k at h. ⊎_elim
+            (λ old. w.written.types p t k old h)
+            (λ new. All-contains (IsWellFormed s.structs (length s.names) 0) (map (meant (body_scope s)) (types_written i)) t (types_good (types_written i) names.2 args.0)
+            (subst (λ (ts : List TypeTree). Contains ts t) (ap types_written new.1 ∙ types_mapped (number_of s.names) (meant (body_scope s)) i) h))
+            (pushed_at s.points j p k at);
+      }
+
   well_at_point : (i : Statement Name WrittenType) → first_fault s (at_point i) ≡ None → IsWell (says s (at_point i))
   well_at_point i e =
       let no = faultless s (at_point i) e in
@@ -431,6 +496,7 @@ module _ (s : Said) (w : IsWell s) where
       record {
         declares = declares_late _ _ _ _ _ _ _ _ 7 w.declares (omega arith);
         places = stands i at order.1 (not-false (has_targets s i) no.range) few_points few_edges;
+        written = writes i (not-false (knows s i) no.unknown) (not-false (shapes_fit s i) no.shape);
       }
 
   well_end : first_fault s end ≡ None → IsWell (says s end)
@@ -456,6 +522,7 @@ module _ (s : Said) (w : IsWell s) where
           goes_on = p.goes_on;
           leads = p.leads;
         };
+        written = w.written;
       }
 
   well_says : (f : Form) → first_fault s f ≡ None → IsWell (says s f)
@@ -514,6 +581,8 @@ module _ (s : Said) (w : IsWell s) (at_end : s.reached ≡ 8) where
         blocks = λ q b i at leads. (let l = p.leads q b i at leads in omega (arith, l, (p.whole at_end).1));
         in_order = d.order;
         types = d.keep;
+        written_regions = w.written.regions;
+        written_types = w.written.types;
       }
 
 -- the body that a text that fits says is sound

@@ -1,18 +1,16 @@
 -- One more struct: the kinds of its arguments, and that its fields keep to what is declared.
-use Rattle.std.proofs.Common.{take, ◌≡◌, ℕ, suc, Some, None, ◌+◌, ◌<◌, ◌≤◌, Bool, true, false, List, [], ◌∷◌, ◌++◌, length, map, refl, sym, ap, ◌∙◌, subst, ⊎_elim, arith, length-append}
-use Rattle.std.specs.Prelude.{slice_index_or, ◌||◌}
+use Rattle.std.proofs.Common.{◌≡◌, ℕ, Some, None, ◌+◌, ◌<◌, Bool, true, false, List, [], ◌∷◌, ◌++◌, length, map, refl, sym, ◌∙◌, subst, ⊎_elim, arith, length-append}
+use Rattle.std.specs.Prelude.{◌||◌}
 use Rattle.std.specs.List.{list_any}
 use Rattle.std.proofs.lemmas.Bool.{cases_lt, not-false, leb-false}
 use Rattle.std.proofs.lemmas.List.{get_or_append_left, get_or_at, length-map, take-append-le}
 use Rattle.std.proofs.Math.Seq.{take-length}
 use Rattle.nll_problem.specs.Limits.{most_structs}
 use Rattle.nll_reading.specs.declared.error.TextKind.TheVariants.{Unknown, Duplicate}
-use Rattle.nll_types.specs.Types.{TypeTrees}
-use Rattle.nll_types.specs.Structs.{Struct, no_struct, struct_at, HasGoodFields, AreWellFormed, AreInOrder}
-use Rattle.nll_types.specs.declared.parameter.Parameter.{Parameter}
+use Rattle.nll_types.specs.Structs.{Struct, no_struct, HasGoodFields, AreWellFormed, AreInOrder}
 use Rattle.nll_type_grammar.specs.WrittenTypes.{Name, WrittenTypes}
 use Rattle.nll_mir_grammar.specs.MirForms.{WrittenParameter, region_parameter, type_parameter, struct_line}
-use Rattle.nll_naming.specs.Naming.{is_among, are_known, have_arguments, all_meant}
+use Rattle.nll_naming.specs.Naming.{is_among, are_known, have_arguments}
 use Rattle.nll_mir_text.specs.MirSaid.{Said, field_scope, declared, is_region, regions_in, types_in}
 use Rattle.nll_mir_text.specs.MirFaults.{has_repeats, redeclares, is_in_order, first_fault}
 use Rattle.nll_mir_text.specs.MirReading.{AreKinds, region_count, other_count}

@@ -1,9 +1,7 @@
 -- The lines of a MIR text, read one after another.
-use Rattle.std.proofs.Common.{◌≡◌, ℕ, suc, zero, ◌+◌, ◌-◌, ◌<◌, ◌≤◌, List, [], ◌∷◌, ◌++◌, length, refl, subst, sym, ap, arith, ◌∙◌, length-append}
+use Rattle.std.proofs.Common.{◌≡◌, ℕ, ◌+◌, ◌-◌, ◌<◌, ◌≤◌, List, [], ◌∷◌, ◌++◌, length, subst, sym, ap, arith, ◌∙◌, length-append}
 use Rattle.nll_text.specs.Tokens.{Token, word, region, arrow, sign, IsMadeOf, IsToken, spelling, IsNotMadeWithin}
 use Rattle.nll_text.specs.Scan.{IsTokenLine}
-use Rattle.nll_text.proofs.Utf8Lemmas.{IsUtf8-word}
-use Rattle.std.specs.Str.{IsUtf8}
 use Rattle.nll_mir_grammar.specs.MirForms.{Form, IsSpelled, HasForm}
 use Rattle.nll_reading.specs.Text.{HasFault, IsFaulty, Says}
 use Rattle.nll_reading.specs.declared.error.TextKind.{TextKind}

@@ -1,8 +1,6 @@
 -- What a reader makes of a struct line.
 -- Source: project's choice. Only private contracts cite this file.
 use Rattle.std.specs.Prelude.{◌≡◌, Bool, false, ◌||◌, List, ◌∷◌, map, codes}
-use Rattle.std.specs.List.{list_any}
-use Rattle.nll_types.specs.Types.{TypeTrees}
 use Rattle.nll_type_grammar.specs.WrittenTypes.{Name, WrittenTypes}
 use Rattle.nll_mir_grammar.specs.MirForms.{WrittenParameter}
 use Rattle.nll_mir_grammar.specs.declared.line.ParameterText.{ParameterText}

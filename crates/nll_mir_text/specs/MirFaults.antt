@@ -1,6 +1,6 @@
 -- What is wrong with a further line of a MIR text.
 -- Source: project's choice; docs/FORMATS.md says the same in words.
-use Rattle.std.specs.Prelude.{ℕ, ◌+◌, Bool, true, false, not, ◌&&◌, ◌||◌, ◌==◌, nat_lt, nat_le}
+use Rattle.std.specs.Prelude.{ℕ, ◌+◌, Bool, false, not, ◌&&◌, ◌||◌, ◌==◌, nat_lt, nat_le}
 use Rattle.std.specs.Prelude.{List, [], ◌∷◌, length, find, Option}
 use Rattle.std.specs.List.{list_all, list_any}
 use Rattle.nll_problem.specs.Limits.{most_points, most_edges, most_universals, most_regions}
@@ -24,7 +24,7 @@ use Rattle.nll_mir_grammar.specs.MirForms.{Form, universal, outlives, further, s
 use Rattle.nll_mir_grammar.specs.MirForms.{variable, blocks, block, at_point, end}
 use Rattle.nll_naming.specs.Naming.{is_among, is_known, are_known, has_arguments}
 use Rattle.nll_naming.specs.Naming.{have_arguments, meant, all_meant}
-use Rattle.nll_mir_text.specs.MirSaid.{Said, body_scope, field_scope, regions_in, types_in, group}
+use Rattle.nll_mir_text.specs.MirSaid.{Said, body_scope, field_scope, group}
 use Rattle.nll_mir_text.specs.MirSaid.{statement_meant}
 
 -- ---- order

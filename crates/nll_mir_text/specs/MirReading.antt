@@ -7,7 +7,7 @@ use Rattle.std.specs.Str.{IsUtf8}
 use Rattle.nll_problem.specs.Limits.{most_points, most_edges, most_universals, most_regions}
 use Rattle.nll_problem.specs.Limits.{most_variables, most_structs}
 use Rattle.nll_types.specs.Types.{TypeTree}
-use Rattle.nll_types.specs.Shapes.{Shape, shape_of, is_small}
+use Rattle.nll_types.specs.Shapes.{shape_of, is_small}
 use Rattle.nll_types.specs.Table.{shape_in, AreBelow}
 use Rattle.nll_types.specs.Declarations.{structs_of}
 use Rattle.nll_types.specs.Structs.{Struct, struct_at}
@@ -23,7 +23,7 @@ use Rattle.nll_reading.specs.Text.{Says, IsText, IsFault, IsHeaded, IsRefusal}
 use Rattle.nll_reading.specs.declared.error.TextError.{TextError}
 use Rattle.nll_reading.specs.declared.error.TextKind.{TextKind}
 use Rattle.nll_reading.specs.declared.error.TextKind.TheVariants.{Memory}
-use Rattle.nll_mir_grammar.specs.MirForms.{Form, universal, outlives, further, struct_line}
+use Rattle.nll_mir_grammar.specs.MirForms.{Form, universal, further, struct_line}
 use Rattle.nll_mir_grammar.specs.MirForms.{WrittenParameter, region_parameter, type_parameter}
 use Rattle.nll_mir_grammar.specs.Lines.{parameter_of}
 use Rattle.nll_mir_grammar.specs.Tuples.{parts}

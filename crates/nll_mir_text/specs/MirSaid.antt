@@ -1,6 +1,6 @@
 -- What the lines of a MIR text say together.
 -- Source: project's choice; docs/FORMATS.md says the same in words.
-use Rattle.std.specs.Prelude.{◌≡◌, ℕ, ◌+◌, Bool, true, false, not, ◌&&◌, ◌==◌, List, [], ◌∷◌, ◌++◌}
+use Rattle.std.specs.Prelude.{ℕ, ◌+◌, Bool, true, false, not, List, [], ◌∷◌, ◌++◌}
 use Rattle.std.specs.Prelude.{length, map, codes}
 use Rattle.std.specs.List.{filter_map}
 use Rattle.std.specs.Prelude.{Option, Some, None}

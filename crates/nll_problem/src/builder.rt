@@ -1,6 +1,6 @@
 //! The builder of a problem.
 
-ghost use Rattle.std.specs.Prelude.{◌≡◌, ◌⊎◌, ◌+◌, ◌<◌, IsTrue, IsFalse};
+ghost use Rattle.std.specs.Prelude.{◌≡◌, ◌⊎◌, ◌+◌, ◌<◌, IsTrue, IsFalse, length};
 ghost use Rattle.std.specs.Prelude.{OnOk, OnErr, IfOk, IsOkAnd};
 ghost use Rattle.nll_problem.specs.Answers.{Answers, AddsFact};
 ghost use Rattle.nll_problem.specs.Building as building;
@@ -9,7 +9,7 @@ ghost use Rattle.nll_problem.specs.Building.{base_error, constraint_error, has_c
 ghost use Rattle.nll_problem.specs.Building.{outlives_error, region_error};
 ghost use Rattle.nll_problem.specs.GraphBuilding.{bare_graph, edge_error, graph_error};
 ghost use Rattle.nll_problem.specs.GraphBuilding.{return_error};
-ghost use Rattle.nll_problem.specs.Problem.{SameProblem};
+ghost use Rattle.nll_problem.specs.Problem.{IsSound, SameProblem};
 
 use crate::bases::Bases;
 use crate::constraint::Constraint;
@@ -201,6 +201,14 @@ impl ProblemBuilder {
         }
         self.add_constraint(constraint)?;
         Ok(())
+    }
+
+    /// How many constraints there are so far.
+    pub fn constraints(&self) -> usize
+        ensures value { result ≡ length self.now.constraints }
+        ensures sound { IsSound self.now }
+    {
+        self.constraints.len()
     }
 
     /// The problem of the facts that were accepted. Takes no memory, and is never refused.

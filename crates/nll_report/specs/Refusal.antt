@@ -11,13 +11,15 @@ use Rattle.nll_answer.specs.declared.error.AnswerError.{AnswerError}
 use Rattle.nll_answer.specs.declared.error.AnswerError.TheVariants as answer
 use Rattle.nll_report.specs.declared.messages.Refusal.{Refusal}
 use Rattle.nll_report.specs.declared.messages.Refusal.TheVariants.{Usage, CannotRead, Text}
-use Rattle.nll_report.specs.declared.messages.Refusal.TheVariants.{Memory, CannotWrite}
+use Rattle.nll_report.specs.declared.messages.Refusal.TheVariants.{Limit, Memory, CannotWrite}
+use Rattle.nll_body_problem.specs.declared.error.RuleError.TheVariants as rule
 
 -- 2 for what was handed to the program, 3 for what it lacked
 abbrev pub status_of : Refusal → ℕ
 status_of Usage = 2
 status_of (CannotRead path) = 2
 status_of (Text line kind) = 2
+status_of (Limit counted) = 2
 status_of Memory = 3
 status_of CannotWrite = 3
 
@@ -33,6 +35,8 @@ refusal_of_text error = refusal_at error.line error.kind
 -- the refusal of a text that has no answer
 abbrev pub refusal_of : AnswerError → Refusal
 refusal_of (answer.Text error) = refusal_of_text error
+refusal_of (answer.Rule (rule.Limit counted)) = Limit counted
+refusal_of (answer.Rule rule.Memory) = Memory
 refusal_of answer.Memory = Memory
 
 -- a limit is printed with the word of what it counts
@@ -66,6 +70,7 @@ refusal_text Usage = codes "usage: nllc values|check|replay FILE [--owners N] "
     ++ codes "[--deal round|blocks] [--cut FILE] [--mail queue|ring] [--schedule FILE]"
 refusal_text (CannotRead path) = codes "nllc: cannot read " ++ string_bytes path
 refusal_text (Text line kind) = codes "nllc: line " ++ decimal line ++ codes ": " ++ kind_text kind
+refusal_text (Limit counted) = codes "nllc: " ++ limit_text counted
 refusal_text Memory = codes "nllc: memory"
 refusal_text CannotWrite = codes "nllc: cannot write"
 

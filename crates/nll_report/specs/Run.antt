@@ -3,16 +3,18 @@
 use Rattle.std.specs.Prelude.{◌≡◌, ◌⊎◌, ℕ, List, Option, string_bytes}
 use Rattle.std.specs.Io.KnownBytes.{Appends}
 use Rattle.nll_reading.specs.declared.error.TextKind.{TextKind}
-use Rattle.nll_facts.specs.FactsText.{facts}
-use Rattle.nll_reading.specs.Text.{IsFault}
 use Rattle.nll_answer.specs.declared.answers.Command.{Command}
 use Rattle.nll_answer.specs.declared.answers.Command.TheVariants as command
 use Rattle.nll_report.specs.declared.messages.Refusal.{Refusal}
 use Rattle.nll_report.specs.declared.messages.Refusal.TheVariants.{Usage, CannotRead, Text}
-use Rattle.nll_report.specs.declared.messages.Refusal.TheVariants.{Memory, CannotWrite}
+use Rattle.nll_report.specs.declared.messages.Refusal.TheVariants.{Limit, Memory, CannotWrite}
+use Rattle.nll_problem.specs.declared.error.Kind.{Kind}
+use Rattle.nll_body_problem.specs.declared.error.RuleError.TheVariants as rule
+use Rattle.nll_answer.specs.declared.error.AnswerError.TheVariants as answer
 use Rattle.nll_command_line.specs.declared.task.Task.{Task}
 use Rattle.nll_command_line.specs.declared.task.Task.TheVariants.{Values, Check}
 use Rattle.nll_answer.specs.Answer.{IsAnswer}
+use Rattle.nll_answer.specs.Texts.{IsTextFault, IsAnswerError}
 use Rattle.nll_command_line.specs.CommandLine.{IsLine, IsNoPlainLine}
 use Rattle.nll_command_line.specs.Grammar.{AsksForHelp}
 use Rattle.nll_report.specs.Sink.{IsCut}
@@ -85,13 +87,20 @@ pub record IsBegun (holds : Holds) (words : Words) (room : Option ℕ) (old new 
 pub record IsFileFault (holds : Holds) (file : List ℕ) (line : ℕ) (kind : TextKind) : Type 0 where
   pub text : List ℕ
   pub held : holds file text
-  pub fault : IsFault facts text line kind
+  pub fault : IsTextFault text line kind
+
+-- A text of the file means a body that goes past this limit.
+pub record IsFileLimit (holds : Holds) (file : List ℕ) (counted : Kind) : Type 0 where
+  pub text : List ℕ
+  pub held : holds file text
+  pub over : IsAnswerError text (answer.Rule (rule.Limit counted))
 
 -- the refusal tells the truth of a text of the file
 abbrev pub IsFileRefused : Holds → Lacks → List ℕ → Refusal → Type 0
 IsFileRefused holds lacks file Usage = ⊥
 IsFileRefused holds lacks file (CannotRead path) = (string_bytes path ≡ file) × lacks file
 IsFileRefused holds lacks file (Text line kind) = IsFileFault holds file line kind
+IsFileRefused holds lacks file (Limit counted) = IsFileLimit holds file counted
 IsFileRefused holds lacks file Memory = Unit {0}
 IsFileRefused holds lacks file CannotWrite = ⊥
 
@@ -108,5 +117,6 @@ abbrev pub IsRefused : Holds → Lacks → Words → Refusal → Type 0
 IsRefused holds lacks words Usage = IsNoPlainLine words
 IsRefused holds lacks words (CannotRead path) = IsLineRefused holds lacks words (CannotRead path)
 IsRefused holds lacks words (Text line kind) = IsLineRefused holds lacks words (Text line kind)
+IsRefused holds lacks words (Limit counted) = IsLineRefused holds lacks words (Limit counted)
 IsRefused holds lacks words Memory = Unit {0}
 IsRefused holds lacks words CannotWrite = ⊥

@@ -3,13 +3,15 @@ ghost use Rattle.std.specs.Prelude.{◌≡◌, OnErr, OnOk, Some};
 ghost use Rattle.std.specs.Io.KnownBytes.{Appends};
 ghost use Rattle.nll_report.specs.Refusal.{kind_text, limit_text, refusal_line, refusal_of};
 ghost use Rattle.nll_report.specs.Refusal.{refusal_of_text, refusal_text, status_of};
-ghost use Rattle.nll_report.specs.declared.messages.Refusal.TheVariants.{CannotRead, Memory, Text};
+ghost use Rattle.nll_report.specs.declared.messages.Refusal.TheVariants.{CannotRead, Limit};
+ghost use Rattle.nll_report.specs.declared.messages.Refusal.TheVariants.{Memory, Text};
 ghost use Rattle.nll_report.specs.Sink.{IsCut};
 
 use crate::error::Unwritten;
 use crate::sink::{Sink, put_pieces};
 use itoa::Buffer;
 use nll_answer::AnswerError;
+use nll_body_problem::RuleError;
 use nll_core::Kind;
 use nll_mir::{TextError, TextKind};
 use std::alloc::AllocError;
@@ -30,6 +32,8 @@ pub enum Refusal {
     CannotRead(String),
     /// The text is faulty at this line.
     Text(u64, TextKind),
+    /// The body that the text means has more of these than the limit.
+    Limit(Kind),
     /// An allocation was refused.
     Memory,
     /// Standard output took less than the whole report.
@@ -43,6 +47,7 @@ impl Refusal {
     {
         match self {
             Refusal::Usage | Refusal::CannotRead(_) | Refusal::Text(_, _) => 2,
+            Refusal::Limit(_) => 2,
             Refusal::Memory | Refusal::CannotWrite => 3,
         }
     }
@@ -61,6 +66,7 @@ impl Refusal {
             Refusal::Usage => put_pieces(to, &[USAGE, "\n"]),
             Refusal::CannotRead(path) => print_unread(to, path),
             Refusal::Text(line, kind) => print_fault(to, *line, *kind),
+            Refusal::Limit(kind) => print_limit(to, *kind),
             Refusal::Memory => put_pieces(to, &["nllc: memory", "\n"]),
             Refusal::CannotWrite => put_pieces(to, &["nllc: cannot write", "\n"]),
         }
@@ -89,6 +95,16 @@ fn print_fault<S: Sink>(to: &mut S, line: u64, kind: TextKind) -> Result<(), Unw
     put_pieces(to, &["nllc: line ", line, ": ", kind_text(kind), "\n"])
 }
 
+// Puts the line of a body that goes past a limit.
+fn print_limit<S: Sink>(to: &mut S, kind: Kind) -> Result<(), Unwritten>
+    ensures all { OnOk result
+        (Appends (S.contents to.old) (S.contents to.new) (refusal_line (Limit kind))) }
+    ensures cut { OnErr result (IsCut (S.room to.old) (S.contents to.old) (S.contents to.new)
+        (refusal_line (Limit kind))) }
+{
+    put_pieces(to, &["nllc: ", limit_text(kind), "\n"])
+}
+
 impl From<AllocError> for Refusal {
     ghost from_gives = { λ _ refusal. refusal ≡ Memory };
 
@@ -114,6 +130,8 @@ impl From<AnswerError> for Refusal {
     fn from(error: AnswerError) -> Refusal {
         match error {
             AnswerError::Text(error) => Refusal::from(error),
+            AnswerError::Rule(RuleError::Limit(kind)) => Refusal::Limit(kind),
+            AnswerError::Rule(RuleError::Memory) => Refusal::Memory,
             AnswerError::Memory => Refusal::Memory,
         }
     }
@@ -127,6 +145,7 @@ impl fmt::Display for Refusal {
             Refusal::Usage => f.write_str(USAGE),
             Refusal::CannotRead(path) => write!(f, "nllc: cannot read {path}"),
             Refusal::Text(line, kind) => write!(f, "nllc: line {line}: {}", kind_text(*kind)),
+            Refusal::Limit(kind) => write!(f, "nllc: {}", limit_text(*kind)),
             Refusal::Memory => f.write_str("nllc: memory"),
             Refusal::CannotWrite => f.write_str("nllc: cannot write"),
         }

@@ -5,8 +5,8 @@ use Rattle.nll_live.proofs.base_elements.push_variables.Goals as goal
 pub loop-variable-preserved : goal.loop-variable-preserved
 loop-variable-preserved c = asked_step c.args.body.now c.loop-variable.variable c.loop-variable.stretches.items c.push_uses.new.stretches.items c.push_drops.new.stretches.items c.loop-variable.invariant c.in_ok-push_uses.ensures c.in_ok-push_drops.ensures
 
-pub returns : goal.returns
-returns c = λ r p.
+pub returns-clause-each : goal.returns-clause-each
+returns-clause-each c = λ r p.
     let last = asked_last c.args.body.now c.loop-variable.variable (omega (arith, c.variables-variable-end.ensures.value)) r p in
     let covers = c.loop-variable.invariant r p in
     (λ h. last.0 (covers.0 h), λ h. covers.1 (last.1 h))

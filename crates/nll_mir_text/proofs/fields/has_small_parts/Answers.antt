@@ -1,4 +1,4 @@
-use Rattle.std.proofs.Common.{◌≡◌, ◌∙◌, ap, sym, List, ℕ}
+use Rattle.std.proofs.Common.{◌∙◌, ap, sym, List, ℕ}
 use Rattle.std.specs.List.{list_all}
 use Rattle.nll_types.specs.Shapes.{is_small_shape}
 use Rattle.nll_types.specs.Table.{shape_in, shape_over, shapes_in}

@@ -1,4 +1,4 @@
-use Rattle.std.proofs.Common.{refl, [], arith}
+use Rattle.std.proofs.Common.{refl, []}
 use Rattle.nll_mir_text.proofs.StatingLemmas.{none_told}
 use Rattle.nll_mir_text.proofs.judging_types.judge_types.Goals as goal
 

@@ -1,4 +1,4 @@
-use Rattle.std.proofs.Common.{◌≡◌, ℕ, [], ◌∷◌, ◌++◌, map, take, ap, sym, ◌∙◌, List}
+use Rattle.std.proofs.Common.{ℕ, [], ◌∷◌, ◌++◌, map, take, ap, sym, ◌∙◌, List}
 use Rattle.std.proofs.lemmas.List.{map_more}
 use Rattle.nll_mir_text.specs.Stating.{bound_numbers}
 use Rattle.nll_mir_text.proofs.meaning.bounds_meant.Goals as goal

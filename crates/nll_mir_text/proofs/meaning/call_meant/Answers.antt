@@ -1,4 +1,4 @@
-use Rattle.std.proofs.Common.{◌≡◌, map, ap, ◌∙◌}
+use Rattle.std.proofs.Common.{map, ap, ◌∙◌}
 use Rattle.nll_mir_text.specs.MirReading.{scope_in}
 use Rattle.nll_mir_text.specs.Stating.{bound_numbers, argument_in}
 use Rattle.nll_mir_text.proofs.CallLemmas.{call_same}

@@ -1,11 +1,10 @@
-use Rattle.std.proofs.Common.{◌≡◌, ◌+◌, ◌<◌, ◌≤◌, ℕ, Bool, true, false, List, [], ◌∷◌, ◌++◌, length, map, not, refl, sym, ap, ◌∙◌, subst, inr, arith}
+use Rattle.std.proofs.Common.{◌≡◌, ◌<◌, ℕ, [], ◌∷◌, ◌++◌, length, map, not, sym, ap, ◌∙◌, inr, arith}
 use Rattle.std.proofs.lemmas.List.{length-map, length-append, map_push}
 use Rattle.nll_problem.specs.Limits.{most_points}
 use Rattle.nll_types.specs.Types.{TypeTree}
 use Rattle.nll_statements.specs.Statements.{Statement}
 use Rattle.nll_statements.specs.Edges.{edge_count}
-use Rattle.nll_statements.proofs.MapLemmas.{same_terminator}
-use Rattle.nll_mir_text.specs.MirSaid.{Said, statement_meant}
+use Rattle.nll_mir_text.specs.MirSaid.{statement_meant}
 use Rattle.nll_mir_text.specs.MirReading.{said_by, statement_kept}
 use Rattle.nll_mir_text.specs.Stating.{as_written}
 use Rattle.nll_mir_text.proofs.PointLemmas.{out_of_range, unfit, too_large, too_many_points, too_many_edges, no_fault, targets_written, edges_written, point_said, ends_same, edges_more}

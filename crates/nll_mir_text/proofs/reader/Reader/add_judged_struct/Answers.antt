@@ -1,12 +1,10 @@
-use Rattle.std.proofs.Common.{◌∙◌, sym, ap, refl, inr, map, List}
+use Rattle.std.proofs.Common.{◌∙◌, sym, refl, inr, map}
 use Rattle.std.proofs.lemmas.Bool.{not-true, not-false}
 use Rattle.nll_type_grammar.specs.TypeTexts.{written}
 use Rattle.nll_mir_grammar.specs.Lines.{parameter_of}
 use Rattle.nll_mir_grammar.specs.Tuples.{parts}
-use Rattle.nll_mir_grammar.specs.declared.line.ParameterText.{ParameterText}
 use Rattle.nll_mir_text.proofs.OwnLemmas.{own_known}
 use Rattle.nll_mir_text.proofs.StructLemmas.{struct_unknown, struct_duplicate}
-use Rattle.nll_mir_text.specs.MirFaults as faults
 use Rattle.nll_mir_text.specs.MirReading.{said_by}
 use Rattle.nll_mir_text.proofs.reader.Reader.add_judged_struct.Goals as goal
 

@@ -3,7 +3,6 @@ use Rattle.nll_mir_grammar.specs.Lines.{parameter_of}
 use Rattle.nll_mir_grammar.specs.declared.line.ParameterText.{ParameterText}
 use Rattle.nll_mir_text.specs.MirSaid.{is_region}
 use Rattle.nll_mir_text.proofs.DeclaringLemmas.{few_own, few_declared, good_declared, taken}
-use Rattle.nll_mir_text.proofs.StructLemmas.{struct_fine}
 use Rattle.nll_mir_text.proofs.reader.Reader.declare_struct.Goals as goal
 
 pub declaration-requires : goal.declaration-requires

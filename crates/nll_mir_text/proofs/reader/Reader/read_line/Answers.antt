@@ -3,7 +3,6 @@ use Rattle.std.proofs.lemmas.Result.{err_from_is_err_and}
 use Rattle.nll_text.specs.Tokens.{views}
 use Rattle.nll_reading.specs.Text.{skipped, of_form, not_utf8, no_form, at_form}
 use Rattle.nll_reading.specs.Reading.{skips, reads}
-use Rattle.nll_mir_text.specs.MirText.{mir}
 use Rattle.nll_mir_text.proofs.FormLemmas.{texts_in}
 use Rattle.nll_mir_text.proofs.TextLemmas.{no_form_from, form_from, no_form_within}
 use Rattle.nll_mir_text.proofs.reader.Reader.read_line.Goals as goal

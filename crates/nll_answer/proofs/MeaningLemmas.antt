@@ -1,0 +1,41 @@
+-- Texts of either format, and why they have no answer.
+use Rattle.std.proofs.Common.{◌≡◌, ◌⊎◌, ℕ, List, ◌∷◌, length, inl, inr, sym, ap, ◌∙◌, subst}
+use Rattle.nll_problem.specs.Problem.{Problem}
+use Rattle.nll_text.specs.Lines.{lines_of}
+use Rattle.nll_reading.specs.Labels.{Labels}
+use Rattle.nll_reading.specs.Text.{Format, IsHeader}
+use Rattle.nll_facts.specs.FactsText.{facts}
+use Rattle.nll_body.specs.Bodies.{BodyText, labels_of}
+use Rattle.nll_mir_text.specs.MirText.{mir, Means as IsBodyOf}
+use Rattle.nll_body_problem.specs.BodyProblem.{IsProblemOf}
+use Rattle.nll_body_problem.specs.declared.error.RuleError.TheVariants as rule
+use Rattle.nll_answer.specs.declared.error.AnswerError.{AnswerError}
+use Rattle.nll_answer.specs.declared.error.AnswerError.TheVariants.{Text, Rule, Memory}
+use Rattle.nll_answer.specs.Texts.{IsOf, IsErrorOf, IsBodyError, IsAnswerError}
+
+same_head : (x y : List ℕ) (xs ys : List (List ℕ)) → x ∷ xs ≡ y ∷ ys → x ≡ y
+same_head x y xs ys e = cc
+
+-- a text has one first line
+pub header_of : (format : Format) (text header : List ℕ) (body : List (List ℕ)) → lines_of text ≡ header ∷ body → IsOf format text → IsHeader format header
+header_of format text header body cut of = subst (IsHeader format) (same_head of.0 header of.1 body (sym of.2 ∙ cut)) of.3
+
+-- errors as those of a facts text, of a MIR text and of its body
+pub as_facts : (text : List ℕ) (e : AnswerError) → (IsOf mir text → ⊥) → IsErrorOf facts text e → IsAnswerError text e
+as_facts text (Text error) other h = inr (other, h)
+as_facts text (Rule error) other h = absurd h
+as_facts text Memory other h = tt
+
+pub as_mir : (text : List ℕ) (e : AnswerError) → IsOf mir text → IsErrorOf mir text e → IsAnswerError text e
+as_mir text (Text error) of h = inl (of, h)
+as_mir text (Rule error) of h = absurd h
+as_mir text Memory of h = tt
+
+pub as_body : (text : List ℕ) (body : BodyText) (e : AnswerError) → IsBodyOf text body → IsBodyError body e → IsAnswerError text e
+as_body text body (Text error) means h = absurd h
+as_body text body (Rule error) means h = (body, means, h)
+as_body text body Memory means h = tt
+
+-- the labels of a body name each region of its problem
+pub named : (body : BodyText) (q : Problem) (labels : Labels) → IsProblemOf body q → labels ≡ labels_of body → length labels.names ≡ q.regions
+named body q labels problem same = ap (λ (l : Labels). length l.names) same ∙ sym problem.regions

@@ -1,0 +1,4 @@
+pub mod AddingLemmas
+pub mod RegionLemmas
+pub mod PointLemmas
+pub mod WholeLemmas

@@ -1,0 +1,69 @@
+-- What stands at points asks constraints, one point after another.
+use Rattle.std.proofs.Common.{◌≡◌, ◌⊎◌, ◌↔◌, ℕ, ◌+◌, ◌≤◌, List, [], Contains, length, Some, inl, inr, sym, ◌∙◌, subst, ⊎_elim, arith}
+use Rattle.std.proofs.lemmas.Bool.{cases_lt}
+use Rattle.std.proofs.lemmas.Option.{slice_get_within}
+use Rattle.nll_problem.specs.Problem.{Problem}
+use Rattle.nll_problem.specs.declared.constraint.Constraint.{Constraint}
+use Rattle.nll_problem.specs.declared.error.BuildError.{BuildError}
+use Rattle.nll_types.specs.Types.{TypeTree}
+use Rattle.nll_types.specs.Structs.{Struct}
+use Rattle.nll_statements.specs.Statements.{Statement}
+use Rattle.nll_body.specs.Bodies.{BodyText, StandsAt, GoesOn}
+use Rattle.nll_rules.specs.Asking.{Asks}
+use Rattle.nll_rules.specs.Pairs.{AddsPairs}
+use Rattle.nll_body_problem.specs.BodyProblem.{IsAskedAt, IsConstraint}
+use Rattle.nll_body_problem.specs.Adding.{AddsConstraints, IsRefused, IsOfPairs, IsAskedBefore}
+use Rattle.nll_body_problem.proofs.AddingLemmas.{only_new, adds_none, adds_same, adds_both, refused_after}
+
+some_same : (i j : Statement ℕ TypeTree) → Some i ≡ Some j → i ≡ j
+some_same i j e = cc
+
+-- the pairs that came to an empty list are what the statement asks, in the words of the body
+pub only_asked : (body : BodyText) (i : Statement ℕ TypeTree) (structs : List Struct) (variables : List TypeTree) (old new seen : List (ℕ × ℕ)) → structs ≡ body.structs → variables ≡ body.variables
+    → old ≡ [] → seen ≡ new → AddsPairs (Asks structs variables i) old new → (x : ℕ × ℕ) → Contains seen x ↔ Asks body.structs body.variables i x
+only_asked body i structs variables old new seen same_structs same_variables none same h x =
+    let each = only_new old new (Asks structs variables i) none h.each x in (
+      λ there. subst (λ (vs : List TypeTree). Asks body.structs vs i x) same_variables
+          (subst (λ (ss : List Struct). Asks ss variables i x) same_structs (each.0 (subst (λ (xs : List (ℕ × ℕ)). Contains xs x) same there))),
+      λ asks. subst (λ (xs : List (ℕ × ℕ)). Contains xs x) (sym same) (each.1
+          (subst (λ (ss : List Struct). Asks ss variables i x) (sym same_structs) (subst (λ (vs : List TypeTree). Asks body.structs vs i x) (sym same_variables) asks))),
+    )
+
+-- the pairs that a statement asks at the points that may come after it are what it asks
+pub asked_here : (body : BodyText) (p : ℕ) (i : Statement ℕ TypeTree) (next : List ℕ) (asked : List (ℕ × ℕ)) → StandsAt body p i
+    → ((q : ℕ) → Contains next q ↔ GoesOn body p q) → ((x : ℕ × ℕ) → Contains asked x ↔ Asks body.structs body.variables i x)
+    → (c : Constraint) → IsOfPairs next asked c ↔ IsAskedAt body p c
+asked_here body p i next asked at goes asks c = (
+  λ h. (i, at, (goes c.at).0 h.1, (asks (c.sup, c.sub)).0 h.0),
+  λ h. (
+    (asks (c.sup, c.sub)).1 (subst (λ (j : Statement ℕ TypeTree). Asks body.structs body.variables j (c.sup, c.sub)) (some_same h.0 i (sym h.1 ∙ at)) h.3),
+    (goes c.at).1 h.2,
+  ),
+)
+
+module _ (body : BodyText) where
+  pub before_none : (q : Problem) → AddsConstraints (IsAskedBefore body 0) q q
+  before_none q = adds_none (IsAskedBefore body 0) q (λ c h. absurd (omega (arith, h.1)))
+
+  -- what the first n points and the next one ask
+  one_more : (n : ℕ) (c : Constraint) → IsAskedBefore body (n + 1) c ↔ (IsAskedBefore body n c ⊎ IsAskedAt body n c)
+  one_more n c = (
+    λ h. ⊎_elim
+        (λ low. inl (h.0, low, h.2))
+        (λ high. (let same : h.0 ≡ n = omega (arith, high, h.1) in inr (subst (λ (p : ℕ). IsAskedAt body p c) same h.2)))
+        (cases_lt h.0 n),
+    ⊎_elim (λ h. (h.0, omega (arith, h.1), h.2)) (λ h. (n, omega arith, h)),
+  )
+
+  pub before_more : (n : ℕ) (old mid new : Problem) → AddsConstraints (IsAskedBefore body n) old mid → AddsConstraints (IsAskedAt body n) mid new → AddsConstraints (IsAskedBefore body (n + 1)) old new
+  before_more n old mid new = adds_both (IsAskedBefore body n) (IsAskedAt body n) (IsAskedBefore body (n + 1)) old mid new (one_more n)
+
+  pub before_all : (n : ℕ) (old new : Problem) → length body.points ≤ n → AddsConstraints (IsAskedBefore body n) old new → AddsConstraints (IsConstraint body) old new
+  before_all n old new past = adds_same (IsAskedBefore body n) (IsConstraint body) old new (λ c. (
+    λ h. (h.0, h.2),
+    λ h. (h.0, omega (arith, slice_get_within body.points h.0 h.1.0 h.1.1, past), h.1),
+  ))
+
+  pub before_refused : (n : ℕ) (old mid : Problem) (e : BuildError) → AddsConstraints (IsAskedBefore body n) old mid → IsRefused (IsAskedAt body n) mid e → IsRefused (IsConstraint body) old e
+  before_refused n old mid e before =
+      refused_after (IsAskedBefore body n) (IsAskedAt body n) (IsConstraint body) old mid e before (λ c h. (h.0, h.2)) (λ c h. (n, h))

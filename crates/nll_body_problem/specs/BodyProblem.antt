@@ -1,0 +1,45 @@
+-- The problem of a body.
+-- Source: RFC 2094, "Liveness" and "Drop" (base elements), "Subtyping" and "Reborrow constraints"
+-- (constraints), "Layer 4: Named lifetimes" (universal regions). That what a point asks stands at
+-- every point that may come after it is project's choice after the RFC's examples; docs/FORMATS.md
+-- says the same in words. The code goes over points, successors and pairs; this speaks of what is.
+use Rattle.std.specs.Prelude.{◌≡◌, ◌↔◌, ◌<◌, ℕ, List, length, Contains}
+use Rattle.nll_problem.specs.Limits.{most_constraints}
+use Rattle.nll_problem.specs.Problem.{Problem, IsOnce, SameSet}
+use Rattle.nll_problem.specs.declared.constraint.Constraint.{Constraint}
+use Rattle.nll_problem.specs.declared.error.Kind.TheVariants.{Constraints}
+use Rattle.nll_types.specs.Types.{TypeTree}
+use Rattle.nll_statements.specs.Statements.{Statement}
+use Rattle.nll_body.specs.Bodies.{BodyText, StandsAt, GoesOn, IsGraphOf}
+use Rattle.nll_live.specs.Live.{IsBaseOf}
+use Rattle.nll_rules.specs.Asking.{Asks}
+use Rattle.nll_body_problem.specs.declared.error.RuleError.{RuleError}
+use Rattle.nll_body_problem.specs.declared.error.RuleError.TheVariants.{Limit, Memory}
+
+-- what stands at p asks the constraint: its pair of regions, at a point that may come after p
+abbrev pub IsAskedAt : BodyText → ℕ → Constraint → Type 0
+IsAskedAt body p c = (i : Statement ℕ TypeTree) × StandsAt body p i × GoesOn body p c.at
+    × Asks body.structs body.variables i (c.sup, c.sub)
+
+-- the constraint is one of the body: what stands at some point asks it
+abbrev pub IsConstraint : BodyText → Constraint → Type 0
+IsConstraint body c = (p : ℕ) × IsAskedAt body p c
+
+-- The problem is the body's: it has the body's graph and regions, a base fact just where a variable
+-- that is live asks for one, just the constraints that are asked, and the body's outlives facts.
+pub record IsProblemOf (body : BodyText) (q : Problem) : Type 0 where
+  pub graph : IsGraphOf body q.graph
+  pub regions : q.regions ≡ length body.names
+  pub bases : (r p : ℕ) → Contains q.bases (r, p) ↔ IsBaseOf body r p
+  pub constraints : (c : Constraint) → Contains q.constraints c ↔ IsConstraint body c
+  pub outlives : SameSet q.outlives body.outlives
+
+-- The body has more constraints than the limit: some of them, none listed twice, are more.
+abbrev pub HasTooMany : BodyText → Type 0
+HasTooMany body = (some : List Constraint) × IsOnce some × (most_constraints < length some)
+    × ((c : Constraint) → Contains some c → IsConstraint body c)
+
+-- the error tells that the body has too many constraints, or that a growth of memory was refused
+abbrev pub IsRuleError : BodyText → RuleError → Type 0
+IsRuleError body (Limit kind) = (kind ≡ Constraints) × HasTooMany body
+IsRuleError body Memory = Unit {0}

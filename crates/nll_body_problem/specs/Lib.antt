@@ -1,0 +1,2 @@
+pub mod BodyProblem
+pub mod Adding

@@ -1,0 +1,132 @@
+//! The constraints of a body: what stands at a point asks them at each point that may come after.
+
+ghost use Rattle.std.specs.Prelude.{◌≡◌, ◌<◌, ℕ, Contains, IfErr, OnOk, length};
+ghost use Rattle.nll_body.specs.Sound.{IsSound};
+ghost use Rattle.nll_body_problem.specs.Adding.{AddsConstraints, AreRegions, IsRefused};
+ghost use Rattle.nll_body_problem.specs.Adding.{IsOfPair, IsOfPairs};
+ghost use Rattle.nll_body_problem.specs.BodyProblem.{IsAskedAt, IsConstraint};
+
+use nll_body::Body;
+use nll_problem::{BuildError, Constraint, ProblemBuilder, RegionId};
+use nll_rules::asks;
+use std::alloc::Global;
+
+/// Adds the constraints of a body to a problem of its points and regions.
+pub(crate) fn add_constraints(
+    alloc: Global,
+    body: &Body,
+    builder: &mut ProblemBuilder,
+) -> Result<(), BuildError>
+    requires points { builder.old.graph.points ≡ length body.now.points }
+    requires regions { builder.old.regions ≡ length body.now.names }
+    ensures ok { OnOk result (AddsConstraints (IsConstraint body.now) builder.old builder.new) }
+    ensures err { IfErr result (IsRefused (IsConstraint body.now) builder.old) }
+{
+    let mut asked = Vec::new(alloc);
+    let told = add_points(alloc, body, &mut asked, builder);
+    drop(asked);
+    told
+}
+
+// Adds what stands at each point asks. The list is for its own use.
+fn add_points(
+    alloc: Global,
+    body: &Body,
+    asked: &mut Vec<(RegionId, RegionId)>,
+    builder: &mut ProblemBuilder,
+) -> Result<(), BuildError>
+    requires points { builder.old.graph.points ≡ length body.now.points }
+    requires regions { builder.old.regions ≡ length body.now.names }
+    ensures ok { OnOk result (AddsConstraints (IsConstraint body.now) builder.old builder.new) }
+    ensures err { IfErr result (IsRefused (IsConstraint body.now) builder.old) }
+{
+    for point in 0..body.points() {
+        add_point(alloc, body, point, asked, builder)?;
+    }
+    Ok(())
+}
+
+// Adds what stands at a point asks. The list is for its own use.
+fn add_point(
+    alloc: Global,
+    body: &Body,
+    point: u32,
+    asked: &mut Vec<(RegionId, RegionId)>,
+    builder: &mut ProblemBuilder,
+) -> Result<(), BuildError>
+    requires sound { IsSound body.now }
+    requires point { point < length body.now.points }
+    requires points { builder.old.graph.points ≡ length body.now.points }
+    requires regions { builder.old.regions ≡ length body.now.names }
+    ensures ok { OnOk result (AddsConstraints (IsAskedAt body.now point) builder.old builder.new) }
+    ensures err { IfErr result (IsRefused (IsAskedAt body.now point) builder.old) }
+{
+    asked.clear();
+    asks(
+        alloc,
+        body.structs(),
+        body.variable_types(),
+        body.line_at(point),
+        asked,
+    )?;
+    add_pairs(builder, body.graph().next_of(point), asked.as_slice())?;
+    Ok(())
+}
+
+// Adds these pairs of regions, the first of which is to outlive the second, at these points.
+fn add_pairs(
+    builder: &mut ProblemBuilder,
+    points: &[u32],
+    pairs: &[(RegionId, RegionId)],
+) -> Result<(), BuildError>
+    requires points { (p : ℕ) → Contains points.now p → p < builder.old.graph.points }
+    requires regions { (x : ℕ × ℕ) → Contains pairs.now x → AreRegions x builder.old }
+    ensures ok { OnOk result
+        (AddsConstraints (IsOfPairs points.now pairs.now) builder.old builder.new) }
+    ensures err { IfErr result (IsRefused (IsOfPairs points.now pairs.now) builder.old) }
+{
+    for pair in pairs {
+        add_pair(builder, points, *pair)?;
+    }
+    Ok(())
+}
+
+// Adds a pair of regions at these points.
+fn add_pair(
+    builder: &mut ProblemBuilder,
+    points: &[u32],
+    pair: (RegionId, RegionId),
+) -> Result<(), BuildError>
+    requires points { (p : ℕ) → Contains points.now p → p < builder.old.graph.points }
+    requires regions { AreRegions pair builder.old }
+    ensures ok { OnOk result
+        (AddsConstraints (IsOfPair points.now pair) builder.old builder.new) }
+    ensures err { IfErr result (IsRefused (IsOfPair points.now pair) builder.old) }
+{
+    let (sup, sub) = pair;
+    for point in points {
+        add_constraint(
+            builder,
+            Constraint {
+                sup,
+                sub,
+                at: *point,
+            },
+        )?;
+    }
+    Ok(())
+}
+
+// Adds a constraint of regions and a point of the problem.
+fn add_constraint(builder: &mut ProblemBuilder, constraint: Constraint) -> Result<(), BuildError>
+    requires point { constraint.at < builder.old.graph.points }
+    requires sup { constraint.sup < builder.old.regions }
+    requires sub { constraint.sub < builder.old.regions }
+    ensures ok { OnOk result (AddsConstraints (λ c. constraint ≡ c) builder.old builder.new) }
+    ensures err { IfErr result (IsRefused (λ c. constraint ≡ c) builder.old) }
+{
+    // No effect at run time. The proof reads from this call that no constraint is there twice.
+    let _ = builder.constraints();
+    builder.constraint(constraint)?;
+    Ok(())
+}

@@ -1,0 +1,13 @@
+//! Problems of bodies: the graph, the base elements that liveness gives, and the constraints that
+//! the statements ask. It knows no text.
+//!
+//! Reading order: `error`, `body_problem`, `facts`, `constraints`. The definitions are in specs/.
+#![tactic(auto)]
+
+mod body_problem;
+mod constraints;
+mod error;
+mod facts;
+
+pub use body_problem::problem_of;
+pub use error::RuleError;
