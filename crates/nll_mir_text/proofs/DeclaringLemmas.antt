@@ -31,7 +31,7 @@ use Rattle.nll_mir_text.proofs.StructLemmas.{IsFine, struct_fine, kinds_pushed, 
 abbrev said_with : Said → List Name → List (List Bool) → List Struct → Said
 said_with s names kinds structs = record s { reached = 4; struct_names = names; kinds = kinds; structs = structs }
 
-module _ (r : Reader) (own : OwnNames) (text : StructText) (due : IsDue r (struct_form text)) (h : AreOwn (map parameter_of text.parameters.items) own) (few : length text.parameters.items ≤ most_bytes) (fine : first_fault (said_by r) (struct_form text) ≡ None) where
+module _ (r : Reader) (own : OwnNames) (text : StructText) (due : IsDue r (struct_form text)) (h : AreOwn (map parameter_of text.parameters.items) own) (fine : first_fault (said_by r) (struct_form text) ≡ None) where
   abbrev parameters : List WrittenParameter
   parameters = map parameter_of text.parameters.items
 
@@ -42,7 +42,7 @@ module _ (r : Reader) (own : OwnNames) (text : StructText) (due : IsDue r (struc
   is_fine = struct_fine (said_by r) text.name.now parameters text.has_drop fields fine
 
   few_in : length (regions_in parameters) ≤ most_bytes
-  few_in = omega (arith, few, few_regions parameters, length-map text.parameters.items parameter_of)
+  few_in = omega (arith, due.few, few_regions parameters)
 
   pub few_own : length own.regions < 2 ^ 32
   few_own = omega (arith, few_in, ap length (h.regions.same is_fine.regions), length-map (regions_in parameters) (λ p. p.0))

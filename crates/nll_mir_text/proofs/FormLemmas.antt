@@ -1,11 +1,14 @@
--- The names that a line declares are UTF-8.
-use Rattle.std.proofs.Common.{ℕ, List, [], ◌∷◌, ◌++◌, map, subst}
+-- The names that a line declares are UTF-8, and it has few parameters.
+use Rattle.std.proofs.Common.{◌≡◌, ℕ, ◌≤◌, List, [], ◌∷◌, ◌++◌, length, map, refl, ap, subst, arith, length-append}
 use Rattle.std.specs.List.{AllByRecursion, flat_map}
+use Rattle.nll_problem.specs.Limits.{most_bytes}
 use Rattle.nll_text.specs.Tokens.{Token, sign, AreTokens}
 use Rattle.nll_text.proofs.Utf8Lemmas.{IsUtf8-word}
 use Rattle.nll_text.proofs.TokenLemmas.{made_of_tokens}
-use Rattle.nll_mir_grammar.specs.MirForms.{Form, universal, outlives, further, struct_line, variable, blocks, block, at_point, end, HasForm, spelled_form, spelled_parameter, spelled_parameters, WrittenParameter, region_parameter, type_parameter}
-use Rattle.nll_mir_text.specs.MirReading.{IsNamed, HasTexts}
+use Rattle.nll_mir_grammar.specs.MirForms.{Form, universal, outlives, further, struct_line, variable, blocks, block, at_point, end, HasForm, spelled_form, spelled_parameter, spelled_parameters, drop_mark, WrittenParameter, region_parameter, type_parameter}
+use Rattle.nll_type_grammar.specs.WrittenTypes.{tuple, spelled}
+use Rattle.nll_mir_text.specs.MirReading.{IsNamed, HasTexts, HasFewParameters}
+use Rattle.nll_mir_text.proofs.TextLemmas.{few_made}
 
 first_tokens : (ts us : List Token) → AreTokens (ts ++ us) → AreTokens ts
 first_tokens [] us h = tt
@@ -19,7 +22,7 @@ named : (p : WrittenParameter) → AreTokens (spelled_parameter p) → IsNamed p
 named (region_parameter a p) h = IsUtf8-word a h.0
 named (type_parameter n p) h = IsUtf8-word n h.0
 
-comma : List Token → List Token
+abbrev comma : List Token → List Token
 comma other = sign 44 ∷ other
 
 all_named : (ps : List WrittenParameter) → AreTokens (flat_map (λ other. sign 44 ∷ other) (map spelled_parameter ps)) → AllByRecursion IsNamed ps
@@ -48,3 +51,37 @@ texts_spelled callee end h = tt
 -- the names that a line declares are UTF-8
 pub texts_in : (line : List ℕ) (f : Form) → HasForm line f → HasTexts f
 texts_in line f h = texts_spelled h.2.callee f (subst AreTokens h.2.same (made_of_tokens line h.0 h.1))
+
+-- ---- how many parameters there are
+
+listed_long : (ps : List WrittenParameter) → length ps ≤ length (flat_map comma (map spelled_parameter ps))
+listed_long [] = omega arith
+listed_long (p ∷ ps) =
+    let more = flat_map comma (map spelled_parameter ps) in
+    let e : flat_map comma (map spelled_parameter (p ∷ ps)) ≡ sign 44 ∷ (spelled_parameter p ++ more) = refl in
+    omega (arith, listed_long ps, ap length e, length-append (spelled_parameter p) more)
+
+-- parameters have as many tokens at least
+parameters_long : (ps : List WrittenParameter) → length ps ≤ length (spelled_parameters ps)
+parameters_long [] = omega arith
+parameters_long (p ∷ ps) =
+    let more = flat_map comma (map spelled_parameter ps) in
+    let e : spelled_parameters (p ∷ ps) ≡ sign 60 ∷ ((spelled_parameter p ++ more) ++ sign 62 ∷ []) = refl in
+    omega (arith, listed_long ps, ap length e, length-append (spelled_parameter p ++ more) (sign 62 ∷ []), length-append (spelled_parameter p) more)
+
+few_spelled : (callee : List ℕ) (f : Form) → length (spelled_form callee f) ≤ most_bytes → HasFewParameters f
+few_spelled callee (universal a) h = tt
+few_spelled callee (outlives a b) h = tt
+few_spelled callee (further x) h = tt
+few_spelled callee (struct_line n ps has_drop fields) h =
+    omega (arith, h, parameters_long ps, length-append (spelled_parameters ps) (drop_mark has_drop ++ spelled (tuple fields)))
+few_spelled callee (variable x t) h = tt
+few_spelled callee (blocks n) h = tt
+few_spelled callee (block n) h = tt
+few_spelled callee (at_point i) h = tt
+few_spelled callee end h = tt
+
+-- a line that isn't longer than a text may be has few parameters
+pub few_parameters_in : (line : List ℕ) (f : Form) → length line ≤ most_bytes → HasForm line f → HasFewParameters f
+few_parameters_in line f short h =
+    few_spelled h.2.callee f (omega (arith, ap length h.2.same, few_made line h.0 h.1, short))

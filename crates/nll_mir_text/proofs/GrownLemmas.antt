@@ -44,4 +44,5 @@ module _ (r : Reader) (t : Tables) (same : t.structs ≡ r.variables.table.struc
     ready = ready_grown h.ready;
     order = ap (λ (s : Said). is_in_order s f) said_grown ∙ h.order;
     texts = h.texts;
+    few = h.few;
   }

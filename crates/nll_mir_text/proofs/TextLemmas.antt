@@ -1,5 +1,7 @@
 -- The lines of a MIR text, read one after another.
-use Rattle.std.proofs.Common.{◌≡◌, ℕ, ◌+◌, ◌-◌, ◌<◌, ◌≤◌, List, [], ◌∷◌, ◌++◌, length, subst, sym, ap, arith, ◌∙◌, length-append}
+use Rattle.std.proofs.Common.{◌≡◌, ℕ, ◌+◌, ◌-◌, ◌<◌, ◌≤◌, ◌==◌, Bool, true, false, cond, List, [], ◌∷◌, ◌++◌, length, subst, sym, ap, arith, ◌∙◌, length-append}
+use Rattle.std.specs.List.{AllByRecursion, slice_split, onto_first}
+use Rattle.nll_text.specs.Lines.{lines_of}
 use Rattle.nll_text.specs.Tokens.{Token, word, region, arrow, sign, IsMadeOf, IsToken, spelling, IsNotMadeWithin}
 use Rattle.nll_text.specs.Scan.{IsTokenLine}
 use Rattle.nll_mir_grammar.specs.MirForms.{Form, IsSpelled, HasForm}
@@ -64,3 +66,35 @@ no_form_from line ts us e scanned none f h =
 -- a line whose tokens spell a form has it
 pub form_from : (line : List ℕ) (ts us : List Token) → us ≡ ts → IsTokenLine line ts → (f : Form) → IsSpelled us f → HasForm line f
 form_from line ts us e scanned f s = (us, subst (IsMadeOf line) (sym e) scanned.made, s)
+
+-- ---- how long lines are
+
+abbrev Short : ℕ → List (List ℕ) → Type 0
+Short n lines = AllByRecursion (λ (line : List ℕ). length line ≤ n) lines
+
+shorter : (m n : ℕ) (lines : List (List ℕ)) → m ≤ n → Short m lines → Short n lines
+shorter m n [] low h = tt
+shorter m n (line ∷ lines) low h = (omega (arith, low, h.0), shorter m n lines low h.1)
+
+onto_short : (n x : ℕ) (lines : List (List ℕ)) → Short n lines → Short (1 + n) (onto_first x lines)
+onto_short n x [] h = (omega arith, tt)
+onto_short n x (line ∷ lines) h = (omega (arith, h.0), shorter n (1 + n) lines (omega arith) h.1)
+
+cut_short : (b : Bool) (n x : ℕ) (lines : List (List ℕ)) → Short n lines → Short (1 + n) (cond b ([] ∷ lines) (onto_first x lines))
+cut_short true n x lines h = (omega arith, shorter n (1 + n) lines (omega arith) h)
+cut_short false n x lines h = onto_short n x lines h
+
+last_short : (t : Bool) (b : ℕ) → Short 1 (slice_split (λ (x : ℕ). x == 10) (cond t [] (b ∷ [])))
+last_short true b = (omega arith, tt)
+last_short false b = cut_short (b == 10) 0 b ([] ∷ []) (omega arith, tt)
+
+no_longer : (text : List ℕ) → Short (length text) (lines_of text)
+no_longer [] = (omega arith, tt)
+no_longer (b ∷ []) = last_short (b == 10) b
+no_longer (b ∷ c ∷ bs) =
+    shorter (1 + length (c ∷ bs)) (length (b ∷ c ∷ bs)) (lines_of (b ∷ c ∷ bs)) (omega arith)
+    (cut_short (b == 10) (length (c ∷ bs)) b (lines_of (c ∷ bs)) (no_longer (c ∷ bs)))
+
+-- no line is longer than its text
+pub lines_short : (text : List ℕ) (n : ℕ) → length text ≤ n → AllByRecursion (λ (line : List ℕ). length line ≤ n) (lines_of text)
+lines_short text n low = shorter (length text) n (lines_of text) low (no_longer text)

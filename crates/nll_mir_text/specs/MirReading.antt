@@ -5,7 +5,7 @@ use Rattle.std.specs.Prelude.{length, slice_index_or, Some, None}
 use Rattle.std.specs.List.{AllByRecursion}
 use Rattle.std.specs.Str.{IsUtf8}
 use Rattle.nll_problem.specs.Limits.{most_points, most_edges, most_universals, most_regions}
-use Rattle.nll_problem.specs.Limits.{most_variables, most_structs}
+use Rattle.nll_problem.specs.Limits.{most_variables, most_structs, most_bytes}
 use Rattle.nll_types.specs.Types.{TypeTree}
 use Rattle.nll_types.specs.Shapes.{shape_of, is_small}
 use Rattle.nll_types.specs.Table.{shape_in, AreBelow}
@@ -146,12 +146,18 @@ HasTexts (further x) = IsUtf8 x
 HasTexts (struct_line n ps has_drop fields) = IsUtf8 n × AllByRecursion IsNamed ps
 HasTexts _ = Unit {0}
 
+-- a line of the form has no more parameters than a text may have bytes
+abbrev pub HasFewParameters : Form → Type 0
+HasFewParameters (struct_line n ps has_drop fields) = length ps ≤ most_bytes
+HasFewParameters _ = Unit {0}
+
 -- The reader is prepared for a line of the form: it stands in order, the names that it declares are
--- texts, and the tables agree.
+-- texts, it has few enough parameters, and the tables agree.
 pub record IsDue (r : Reader) (f : Form) : Type 0 where
   pub ready : IsReady r
   pub order : is_in_order (said_by r) f ≡ true
   pub texts : HasTexts f
+  pub few : HasFewParameters f
 
 -- A line of the form is taken after lines that say s: it had no fault, what it says came, and the
 -- tables agree.
@@ -174,6 +180,10 @@ abbrev pub ReadsLine : Said → List ℕ → Said → Type 0
 ReadsLine = reading.ReadsLine mir Adds
 
 -- ---- all lines
+
+-- no line is longer than a text may be
+abbrev pub AreShort : List (List ℕ) → Type 0
+AreShort body = AllByRecursion (λ line. length line ≤ most_bytes) body
 
 -- the lines have no fault, and the reader holds what they say
 abbrev pub HasRead : List (List ℕ) → Reader → Type 0

@@ -12,7 +12,7 @@ ghost use Rattle.nll_mir_grammar.specs.Tuples.{parts};
 ghost use Rattle.nll_mir_text.specs.MirSaid as specs;
 ghost use Rattle.nll_mir_text.specs.MirSaid.{said};
 ghost use Rattle.nll_mir_text.specs.MirFaults.{first_fault, is_in_order, is_universal};
-ghost use Rattle.nll_mir_text.specs.MirReading.{said_by, IsReady, HasTexts};
+ghost use Rattle.nll_mir_text.specs.MirReading.{said_by, IsReady, HasTexts, HasFewParameters};
 ghost use Rattle.nll_mir_text.specs.MirReading.{IsDue, IsTaken, IsRefused, ReadsLine};
 ghost use Rattle.nll_mir_text.specs.MirReading.{struct_form, scope_in, IsOfType};
 ghost use Rattle.nll_mir_text.specs.Declaring.{AreJudged, AreOwn, own_scope};
@@ -35,7 +35,7 @@ use indexmap::IndexSet;
 use nll_body::BodyParts;
 use nll_mir_grammar::{Line, StructText, line_of};
 use nll_problem::{Kind, MAX_EDGES, MAX_POINTS, MAX_REGIONS, MAX_UNIVERSALS};
-use nll_reading::{MAX_TEXT, Names, TextKind};
+use nll_reading::{Names, TextKind};
 use nll_sets::Memory;
 use nll_statements::Statement;
 use nll_text::{ScanError, Scanned, Token, scan_line};
@@ -303,9 +303,6 @@ impl Reader {
         ensures taken { OnOk result (IsTaken (said_by self.old) (struct_form text.now) self.new) }
         ensures refused { IfErr result (IsRefused (said_by self.old) (struct_form text.now)) }
     {
-        if text.parameters.len() > MAX_TEXT {
-            return Err(TextKind::Memory);
-        }
         let own = gather_names(self.alloc, text.parameters.as_slice())?;
         let taken = self.add_named_struct(&own, text);
         drop(own);
@@ -315,7 +312,6 @@ impl Reader {
     // Declares a struct with these names of its own.
     fn add_named_struct(&mut self, own: &OwnNames, text: &StructText<'_>) -> Result<(), TextKind>
         requires due { IsDue self.old (struct_form text.now) }
-        requires few { length text.now.parameters.items ≤ most_bytes }
         requires own { AreOwn (map parameter_of text.now.parameters.items) own.now }
         ensures taken { OnOk result (IsTaken (said_by self.old) (struct_form text.now) self.new) }
         ensures refused { IfErr result (IsRefused (said_by self.old) (struct_form text.now)) }
@@ -334,7 +330,6 @@ impl Reader {
         judged: JudgedFields,
     ) -> Result<(), TextKind>
         requires due { IsDue self.old (struct_form text.now) }
-        requires few { length text.now.parameters.items ≤ most_bytes }
         requires own { AreOwn (map parameter_of text.now.parameters.items) own.now }
         requires judged { AreJudged (own_scope own.now self.old.structs)
             (parts (written text.now.fields)) judged }
@@ -368,7 +363,6 @@ impl Reader {
     // Declares a struct with which nothing is wrong.
     fn declare_struct(&mut self, own: &OwnNames, text: &StructText<'_>) -> Result<(), Memory>
         requires due { IsDue self.old (struct_form text.now) }
-        requires few { length text.now.parameters.items ≤ most_bytes }
         requires own { AreOwn (map parameter_of text.now.parameters.items) own.now }
         requires fine { first_fault (said_by self.old) (struct_form text.now) ≡ None }
         ensures { OnOk result (IsTaken (said_by self.old) (struct_form text.now) self.new) }
@@ -443,6 +437,7 @@ impl Reader {
     fn accept(&mut self, line: &Line<'_>) -> Result<(), TextKind>
         requires ready { IsReady self.old }
         requires texts { HasTexts (form_of line.now) }
+        requires few { HasFewParameters (form_of line.now) }
         ensures taken { OnOk result (IsTaken (said_by self.old) (form_of line.now) self.new) }
         ensures refused { IfErr result (IsRefused (said_by self.old) (form_of line.now)) }
     {
@@ -466,6 +461,7 @@ impl Reader {
     fn take(&mut self, line: Line<'_>) -> Result<(), TextKind>
         requires ready { IsReady self.old }
         requires texts { HasTexts (form_of line) }
+        requires few { HasFewParameters (form_of line) }
         ensures taken { OnOk result (IsTaken (said_by self.old) (form_of line.entry) self.new) }
         ensures refused { IfErr result (IsRefused (said_by self.old) (form_of line.entry)) }
     {
@@ -481,6 +477,7 @@ impl Reader {
         tokens: &mut Vec<Token<'a>>,
     ) -> Result<(), TextKind>
         requires ready { IsReady self.old }
+        requires short { length line.now ≤ most_bytes }
         ensures ok { OnOk result (ReadsLine (said_by self.old) line.now (said_by self.new)) }
         ensures ready { OnOk result (IsReady self.new) }
         ensures fault { IfErr result

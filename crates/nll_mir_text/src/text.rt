@@ -8,6 +8,7 @@ ghost use Rattle.nll_reading.specs.Text.{IsFault, IsHeaded, IsHeader, IsHeaderFa
 ghost use Rattle.nll_mir_text.specs.MirSaid.{said};
 ghost use Rattle.nll_mir_text.specs.MirText.{mir};
 ghost use Rattle.nll_mir_text.specs.MirReading.{said_by, IsReady, HasRead, RefusesBody, Holds};
+ghost use Rattle.nll_mir_text.specs.MirReading.{AreShort};
 
 use crate::reader::Reader;
 use nll_problem::Kind;
@@ -33,6 +34,7 @@ fn read_lines(reader: &mut Reader, alloc: Global, body: Option<&[u8]>) -> Result
     requires start { said_by reader.old ≡ said [] }
     requires ready { IsReady reader.old }
     requires long { length (lines_left body) < 2 ^ 32 }
+    requires short { AreShort (lines_left body) }
     ensures read { OnOk result (HasRead (lines_left body.entry) reader.new) }
     ensures ready { OnOk result (IsReady reader.new) }
     ensures ended { OnOk result ((said_by reader.new).reached ≡ 8) }
@@ -61,6 +63,7 @@ fn read_lines(reader: &mut Reader, alloc: Global, body: Option<&[u8]>) -> Result
 // Reads the lines behind the header.
 fn read_body(alloc: Global, body: Option<&[u8]>) -> Result<Reader, TextError>
     requires long { length (lines_left body) < 2 ^ 32 }
+    requires short { AreShort (lines_left body) }
     ensures ok { IfOk result (λ r. (text : List ℕ) → IsHeaded mir text (lines_left body.entry)
         → Holds text r) }
     ensures ready { IfOk result IsReady }

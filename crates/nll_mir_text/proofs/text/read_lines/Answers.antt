@@ -8,13 +8,17 @@ use Rattle.nll_reading.specs.Text.{IsFault, no_end}
 use Rattle.nll_reading.specs.declared.error.TextKind.TheVariants.{End}
 use Rattle.nll_reading.proofs.ReadingLemmas.{body_refused}
 use Rattle.nll_mir_text.specs.MirText.{mir}
+use Rattle.nll_mir_text.specs.MirReading.{AreShort}
 use Rattle.nll_mir_text.proofs.text.read_lines.Goals as goal
 
 pub loop-rest-init : goal.loop-rest-init
-loop-rest-init c = record { ready = c.requires.ready; read = ([], [], read_none _ _ c.requires.start) }
+loop-rest-init c = record { ready = c.requires.ready; short = c.requires.short; read = ([], [], read_none _ _ c.requires.start) }
 
 pub overflow_add-number : goal.overflow_add-number
 overflow_add-number c = let r = c.loop-rest.invariant.read.2 in omega (arith, read_bound _ _ _ _ _ _ r, c.requires.long)
+
+pub read_line-requires-clause-short : goal.read_line-requires-clause-short
+read_line-requires-clause-short c = let next = ap lines_left c.in-Some.is ∙ c.next_line.ensures in (subst AreShort next c.loop-rest.invariant.short).0
 
 pub returns-in-Err-clause-fault : goal.returns-in-Err-clause-fault
 returns-in-Err-clause-fault c = λ text headed.
@@ -35,7 +39,7 @@ loop-rest-preserved c =
     let r = c.loop-rest.invariant.read.2 in
     let next = ap lines_left c.in-Some.is ∙ c.next_line.ensures in
     let more = read_more _ _ _ _ _ _ _ _ _ next r c.in_default-read_line.ensures.ok in
-    record { ready = c.in_default-read_line.ensures.ready; read = (c.loop-rest.invariant.read.0 ++ c.next_line.result.0.now ∷ [], more.0, more.1) }
+    record { ready = c.in_default-read_line.ensures.ready; short = (subst AreShort next c.loop-rest.invariant.short).1; read = (c.loop-rest.invariant.read.0 ++ c.next_line.result.0.now ∷ [], more.0, more.1) }
 
 pub returns-then-not-has_ended-clause-fault : goal.returns-then-not-has_ended-clause-fault
 returns-then-not-has_ended-clause-fault c = λ text headed.

@@ -1,10 +1,13 @@
-use Rattle.std.proofs.Common.{length, ap, inr, arith}
+use Rattle.std.proofs.Common.{length, ap, subst, inr, arith}
 use Rattle.std.proofs.lemmas.Result.{err_from_is_err_and, IfOk-weaker, IfErr-weaker}
 use Rattle.nll_text.specs.Lines.{lines_left}
 use Rattle.nll_text.proofs.LineLemmas.{length-lines_of-le}
 use Rattle.nll_reading.specs.Text.{IsCut, IsHeaded, too_long}
 use Rattle.nll_reading.proofs.ReadingLemmas.{header_refused}
+use Rattle.nll_problem.specs.Limits.{most_bytes}
 use Rattle.nll_mir_text.specs.MirText.{mir}
+use Rattle.nll_mir_text.specs.MirReading.{AreShort}
+use Rattle.nll_mir_text.proofs.TextLemmas.{lines_short}
 use Rattle.nll_mir_text.proofs.text.read_text.Goals as goal
 use Rattle.nll_mir_text.proofs.text.read_text.Goals.{After-next_line, After-read_body}
 
@@ -20,8 +23,11 @@ returns-in_err-check_header-clause-fault c =
     let p = err_from_is_err_and c.from_residual.result c.from_residual.ensures.1 in
     rw (p.1, p.2) (header_refused mir _ _ _ _ (cut (goal.at.returns-in_err-check_header-clause-fault c).After-next_line) c.in_err-check_header.ensures.fault)
 
-pub read_body-requires : goal.read_body-requires
-read_body-requires c = omega (arith, ap length c.next_line.ensures, length-lines_of-le c.args.text.now)
+pub read_body-requires-clause-short : goal.read_body-requires-clause-short
+read_body-requires-clause-short c = (subst AreShort c.next_line.ensures (lines_short c.args.text.now most_bytes (omega arith))).1
+
+pub read_body-requires-clause-long : goal.read_body-requires-clause-long
+read_body-requires-clause-long c = omega (arith, ap length c.next_line.ensures, length-lines_of-le c.args.text.now)
 
 -- the text has a header, and these lines behind it
 headed : (c : After-read_body) → IsHeaded mir c.args.text.now (lines_left c.next_line.result.1)

@@ -34,6 +34,7 @@ add_judged-requires-clause-due c =
       };
       order = c.requires.order;
       texts = c.requires.texts;
+      few = c.requires.few;
     }
 
 pub add_judged-requires-clause-judged : goal.add_judged-requires-clause-judged

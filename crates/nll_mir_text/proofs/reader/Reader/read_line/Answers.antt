@@ -3,7 +3,7 @@ use Rattle.std.proofs.lemmas.Result.{err_from_is_err_and}
 use Rattle.nll_text.specs.Tokens.{views}
 use Rattle.nll_reading.specs.Text.{skipped, of_form, not_utf8, no_form, at_form}
 use Rattle.nll_reading.specs.Reading.{skips, reads}
-use Rattle.nll_mir_text.proofs.FormLemmas.{texts_in}
+use Rattle.nll_mir_text.proofs.FormLemmas.{texts_in, few_parameters_in}
 use Rattle.nll_mir_text.proofs.TextLemmas.{no_form_from, form_from, no_form_within}
 use Rattle.nll_mir_text.proofs.reader.Reader.read_line.Goals as goal
 
@@ -25,6 +25,11 @@ pub take-requires-clause-texts : goal.take-requires-clause-texts
 take-requires-clause-texts c =
     let h = rw c.in-Ok-Tokens.field-0-is at c.in-Ok-Tokens.ensures.ok in
     texts_in _ _ (form_from _ _ _ (ap views c.as_slice.ensures.value) h _ (rw c.in-Some.is at c.in_ok-found.ensures))
+
+pub take-requires-clause-few : goal.take-requires-clause-few
+take-requires-clause-few c =
+    let h = rw c.in-Ok-Tokens.field-0-is at c.in-Ok-Tokens.ensures.ok in
+    few_parameters_in _ _ c.requires.short (form_from _ _ _ (ap views c.as_slice.ensures.value) h _ (rw c.in-Some.is at c.in_ok-found.ensures))
 
 pub returns-in_err-take-clause-fault : goal.returns-in_err-take-clause-fault
 returns-in_err-take-clause-fault c =
