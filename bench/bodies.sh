@@ -4,12 +4,12 @@
 #   bodies.sh --nllc PATH [--runs N] [--seconds S] [--parts PARTS]
 #
 # The bodies: `frames`, some 100,000 points, 4,000 variables and 108,000 constraints; `ranges`, a
-# million points in one block and 4,000 variables with short live ranges; `wide`, one variable
-# with 60,000 regions in its type that is live at 100 points. Timed are reading (of the body with
-# a line out of range in place of its end), `check` and `values`; of the baseline also what comes
-# before solving. PARTS are some of `read bases problem check values`, where `bases` reads and finds
-# the base elements: nllc has no such command, but the program of mir_program.sh does. Prints a Markdown table; status 1 where ends differ or a run takes longer than
-# the limit (60 seconds).
+# million points in one block and 4,000 variables with short live ranges; `wide`, one variable with
+# 60,000 regions in its type that is live at 100 points. Timed are reading (of the body with a line
+# out of range in place of its end), `check` and `values`; of the baseline also what comes before
+# solving. PARTS are some of `read bases problem check values`, where `bases` reads and finds the
+# base elements: nllc has no such command, but the program of mir_program.sh does. Prints a Markdown
+# table; status 1 where ends differ or a run takes longer than the limit (60 seconds).
 set -eu
 here=$(cd "$(dirname "$0")" && pwd)
 cargo build --release --offline --quiet --manifest-path "$here/baseline/Cargo.toml"

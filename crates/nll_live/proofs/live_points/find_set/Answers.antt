@@ -12,7 +12,7 @@ search_back-requires-clause-ends c = λ k low. c.requires.points (slice_index c.
 -- the points that are sorted
 sorted_has : (c : After-as_slice) (p : ℕ) → Contains c.as_slice.result.now p ↔ IsLive c.args.body.now (Contains c.args.list.now) c.args.variable p
 sorted_has c p =
-    let moved = contains_moved c.search_back.new.list.items c.sort_unstable.new.self.items c.sort_unstable.ensures.permutation p in
+    let moved = contains_moved c.search_back.new.list.items c.sort.new.self.items c.sort.ensures.permutation p in
     let each = c.in_ok-search_back.ensures.each p in (
       λ h. each.0 (moved.0 (subst (λ (xs : List ℕ). Contains xs p) c.as_slice.ensures.value h)),
       λ h. subst (λ (xs : List ℕ). Contains xs p) (sym c.as_slice.ensures.value) (moved.1 (each.1 h)),

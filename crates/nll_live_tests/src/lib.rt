@@ -1,0 +1,16 @@
+//! Tests of liveness, by its public calls alone. Expected values are found by hand from the
+//! definitions. The plain program, `live_by_rounds`, has a contract of the words of `liveness`.
+//!
+//! Reading order: `live_rounds`, `living`, then each module of tests.
+#![tactic(auto)]
+
+mod live_rounds;
+
+pub use live_rounds::live_by_rounds;
+
+#[cfg(test)]
+mod liveness;
+#[cfg(test)]
+mod living;
+#[cfg(test)]
+mod random_bodies;

@@ -1,0 +1,115 @@
+//! Random small bodies: both programs find the same variables live, and the same base elements.
+ghost use Rattle.std.specs.Prelude.{◌<◌};
+
+use super::living::live_by_both;
+use std::alloc::{AllocError, Global};
+use std::process::Abort;
+
+// What is declared in front of each body: six variables whose types have regions, drop regions
+// and regions that a drop doesn't need.
+const DECLARED: &str = "nll-mir 1\nregion 'a\nregion 'b\nregion 'c\nregion 'd\n\
+    struct W<'x +> drop (&'x int)\nstruct M<'x + ?> drop (&'x int)\nstruct V<T +>(T, W<'static>)\n\
+    let _0: int\nlet _1: &'a int\nlet _2: W<'b>\nlet _3: M<'c>\nlet _4: (W<'a>, &'d int)\n\
+    let _5: V<W<'c>>\n";
+
+// A number that looks random.
+fn mixed(seed: u32, place: u32) -> u32 {
+    let sum = seed.wrapping_mul(2_654_435_761) ^ place.wrapping_mul(2_246_822_519);
+    let once = (sum ^ (sum >> 15)).wrapping_mul(3_266_489_917);
+    (once ^ (once >> 13)).wrapping_mul(668_265_263) >> 4
+}
+
+// The number at a place of a block.
+fn number_at(seed: u32, block: u32, place: u32) -> u32 {
+    mixed(seed, block.wrapping_mul(16).wrapping_add(place))
+}
+
+// Writes a statement that goes by a number, of a variable where it may be any.
+fn write_statement(out: &mut String, number: u32, variable: u32) -> Result<(), AllocError> {
+    match number % 12 {
+        0 | 1 => write!(out, "live _{variable}\n"),
+        2 => write!(out, "dead _{variable}\n"),
+        3 | 4 => write!(out, "read _{variable}\n"),
+        5 => write!(out, "_{variable} = copy _{variable}\n"),
+        6 => out.push_str("_0 = const\n"),
+        7 => out.push_str("_1 = &'a _0\n"),
+        8 => out.push_str("_4.1 = copy _1\n"),
+        9 => out.push_str("_2 = make W<'b>(copy _1)\n"),
+        10 => out.push_str("_1 = copy _4.1\n"),
+        _ => out.push_str("nop\n"),
+    }
+}
+
+// Writes a terminator that goes by a number, to these blocks.
+fn write_terminator(
+    out: &mut String,
+    number: u32,
+    variable: u32,
+    (first, second): (u32, u32),
+) -> Result<(), AllocError> {
+    match number % 10 {
+        0 | 1 => write!(out, "goto bb{first}\n"),
+        2 | 3 => write!(out, "switch copy _0 bb{first} bb{second}\n"),
+        4 => write!(out, "drop _{variable} -> bb{first}\n"),
+        5 | 6 => write!(out, "drop _{variable} -> bb{first} unwind bb{second}\n"),
+        7 => write!(
+            out,
+            "_1 = call f(move _2: W<'c>): &'b int -> bb{first} unwind bb{second}\n"
+        ),
+        8 => out.push_str("return\n"),
+        _ => out.push_str("stop\n"),
+    }
+}
+
+// Writes the statements of a block, at most four.
+fn write_statements(out: &mut String, seed: u32, block: u32) -> Result<(), AllocError> {
+    for place in 0..number_at(seed, block, 15) % 5 {
+        let number = number_at(seed, block, place);
+        write_statement(out, number, number / 16 % 6)?;
+    }
+    Ok(())
+}
+
+// Writes one of so many blocks.
+fn write_block(out: &mut String, seed: u32, blocks: u32, block: u32) -> Result<(), AllocError>
+    requires { block < blocks }
+{
+    write!(out, "block bb{block}\n")?;
+    write_statements(out, seed, block)?;
+    let number = number_at(seed, block, 14);
+    let targets = (number / 128 % blocks, number / 1024 % blocks);
+    write_terminator(out, number, number / 16 % 6, targets)
+}
+
+// Writes a text of so many blocks.
+fn write_body(out: &mut String, seed: u32, blocks: u32) -> Result<(), AllocError> {
+    out.push_str(DECLARED)?;
+    write!(out, "blocks {blocks}\n")?;
+    for block in 0..blocks {
+        write_block(out, seed, blocks, block)?;
+    }
+    out.push_str("end\n")
+}
+
+// Both programs tell the same of a random body.
+fn assert_alike(rt: &impl Abort, alloc: Global, seed: u32, blocks: u32) {
+    let mut text = String::new(alloc);
+    let written = write_body(&mut text, seed, blocks);
+    assert!(rt; written.is_ok(), "{seed}: memory");
+    let told = live_by_both(alloc, text.as_bytes());
+    drop(text);
+    match told {
+        Ok((told, plain)) => assert!(rt; told == plain, "{seed}: {told} but plainly {plain}"),
+        Err(error) => assert!(rt; false, "{seed}: {error}"),
+    }
+}
+
+// Bodies of one block, which leads to itself or to none, of three blocks and of six.
+#[test]
+fn random_bodies(rt: HostRuntime) {
+    for blocks in [1, 3, 6] {
+        for seed in 0..1_000 {
+            assert_alike(&rt, rt.alloc(), seed, blocks);
+        }
+    }
+}
