@@ -5,7 +5,7 @@
 //! knows what was sent, the receiver's what was received; `settle` puts the two passes together.
 
 ghost use Rattle.std.specs.Prelude.{◌≡◌, ◌<◌, ◌++◌, List, [], ◌∷◌, length, true, false};
-ghost use Rattle.std.specs.Prelude.{IfOk, OnOk, IfErr, IfSome, IfNone};
+ghost use Rattle.std.specs.Prelude.{IfOk, OnOk, OnErr, IfErr, IfSome, IfNone};
 ghost use Rattle.std.specs.Arc.{arc_value};
 ghost use Rattle.crossbeam_queue.specs.SegTies.{IsSegPassOf};
 ghost use Rattle.nll_mail.specs.Order.{known};
@@ -173,6 +173,37 @@ pub struct QueuePost {
     ghost counted: { count ≡ length pass.me.view.client.received },
 }
 
+// The one step of a post: puts a growth at the back of the queue.
+fn push<R: Wait>(sender: &mut QueueSender<R>, growth: Growth) -> Result<(), Growth>
+    requires { length sender.old.pass.me.view.client.sent < most_posts }
+    ensures ok { OnOk result (sender.new.pass.me.view.client.sent
+        ≡ sender.old.pass.me.view.client.sent ++ growth ∷ []) }
+    ensures back { IfErr result (λ back. back ≡ growth) }
+    ensures err { OnErr result (sender.new.pass.me.view.client.sent
+        ≡ sender.old.pass.me.view.client.sent) }
+    ensures queue { (arc_value sender.new.kept).queue ≡ (arc_value sender.old.kept).queue }
+{
+    let queue = &sender.kept.queue;
+    queue.push_as::<Sent, R>(&sender.rt, &mut sender.pass, growth)
+}
+
+// The one step of a take: takes the growth at the front of the queue, and counts it.
+fn pop<R: Wait>(receiver: &mut QueueReceiver<R>) -> Option<Growth>
+    ensures some { IfSome result (λ growth. receiver.new.pass.me.view.client.received
+        ≡ receiver.old.pass.me.view.client.received ++ growth ∷ []) }
+    ensures none { IfNone result (receiver.new.pass.me.view.client.received
+        ≡ receiver.old.pass.me.view.client.received) }
+    ensures few { IfSome result
+        (λ _. length receiver.old.pass.me.view.client.received < most_posts) }
+    ensures ends { (receiver.new.from ≡ receiver.old.from) × (receiver.new.to ≡ receiver.old.to) }
+    ensures queue { (arc_value receiver.new.kept).queue ≡ (arc_value receiver.old.kept).queue }
+{
+    let queue = &receiver.kept.queue;
+    let growth = queue.pop_as::<Received, R>(&receiver.rt, &mut receiver.pass)?;
+    receiver.count += 1;
+    Some(growth)
+}
+
 #[tactic(auto, using(crate::proofs::OrderLemmas::steps))]
 impl<R: Wait + Copy + Send + Sync> Mail for QueueMail<R> {
     ghost use Rattle.std.specs.Prelude.{◌≡◌, length, drop};
@@ -236,18 +267,14 @@ impl<R: Wait + Copy + Send + Sync> Mail for QueueMail<R> {
     }
 
     fn post(sender: &mut QueueSender<R>, growth: Growth) -> Result<(), PostError> {
-        let queue = &sender.kept.queue;
-        match queue.push_as::<Sent, R>(&sender.rt, &mut sender.pass, growth) {
+        match push(sender, growth) {
             Ok(()) => Ok(()),
             Err(back) => Err(PostError::Memory(back)),
         }
     }
 
     fn take(receiver: &mut QueueReceiver<R>) -> Option<Growth> {
-        let queue = &receiver.kept.queue;
-        let growth = queue.pop_as::<Received, R>(&receiver.rt, &mut receiver.pass)?;
-        receiver.count += 1;
-        Some(growth)
+        pop(receiver)
     }
 
     fn close(sender: QueueSender<R>) -> QueueClosed {
