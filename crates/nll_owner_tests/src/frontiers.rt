@@ -48,25 +48,51 @@ fn write_found(out: &mut String, mut found: Vec<Element>) -> Result<(), AllocErr
     out.push('|')
 }
 
+// Lets a frontier go on where the element of a number comes into the set, if there is one, and
+// writes what it newly reaches.
+fn tell_one(
+    alloc: Global,
+    graph: &Graph,
+    previous: &Predecessors<'_>,
+    seen: &mut BitSet,
+    frontier: &mut Frontier,
+    number: u32,
+    out: &mut String,
+) -> Result<(), Stop>
+    requires previous { previous.now ≡ graph.now }
+    requires width { length seen.old ≡ element_count graph.now }
+    requires fits { length frontier.old.reached ≤ element_count graph.now }
+    requires whole { frontier.old.refused ≡ false }
+    requires reached { IsFrontierIn graph.now (IsIn seen.old) frontier.old }
+    ensures width { OnOk result (length seen.new ≡ element_count graph.now) }
+    ensures fits { OnOk result (length frontier.new.reached ≤ element_count graph.now) }
+    ensures whole { OnOk result (frontier.new.refused ≡ false) }
+    ensures reached { OnOk result (IsFrontierIn graph.now (IsIn seen.new) frontier.new) }
+{
+    if number >= graph.points() + graph.universals() {
+        return Ok(());
+    }
+    let found = grow(alloc, graph, previous, seen, frontier, Element(number))?;
+    write_found(out, found)?;
+    Ok(())
+}
+
 // What a frontier from the point 0 newly reaches as elements come into the set.
 fn told_of(alloc: Global, graph: &Graph, numbers: &[u32]) -> Result<String, Stop> {
     let mut out = String::new(alloc);
-    let count = graph.points() + graph.universals();
     let previous = Predecessors::of(alloc, graph)?;
-    let mut seen = BitSet::empty(alloc, count)?;
+    let mut seen = BitSet::empty(alloc, graph.points() + graph.universals())?;
     let mut frontier = Frontier::new(alloc, Element(0));
     for number in numbers {
-        if *number < count {
-            let found = grow(
-                alloc,
-                graph,
-                &previous,
-                &mut seen,
-                &mut frontier,
-                Element(*number),
-            )?;
-            write_found(&mut out, found)?;
-        }
+        tell_one(
+            alloc,
+            graph,
+            &previous,
+            &mut seen,
+            &mut frontier,
+            *number,
+            &mut out,
+        )?;
     }
     Ok(out)
 }

@@ -57,7 +57,7 @@ fn list_of(alloc: Global, regions: u32, owners: u16, seed: u32) -> Result<Vec<u1
 {
     let mut list = Vec::new(alloc);
     for region in 0..regions {
-        list.push((mixed(seed, 1000 + region) % owners as u32) as u16)?;
+        list.push((mixed(seed, region.saturating_add(1000)) % owners as u32) as u16)?;
     }
     Ok(list)
 }
