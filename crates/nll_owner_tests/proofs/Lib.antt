@@ -1,0 +1,4 @@
+pub mod PairLemmas
+pub mod PostingLemmas
+pub mod NetworkLemmas
+pub mod SettlingLemmas
