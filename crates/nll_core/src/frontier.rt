@@ -1,6 +1,7 @@
 //! Reachable sets that are kept while elements are added to the set in which walks may go.
 
 ghost use Rattle.std.specs.Prelude.{◌≡◌, ◌⊎◌, ◌↔◌, ℕ, ◌≤◌, ◌<◌, true, false, [], ◌∷◌, Contains};
+ghost use Rattle.std.specs.Prelude.{◌++◌};
 ghost use Rattle.std.specs.Prelude.{length, IsTrue, OnOk, OnErr};
 ghost use Rattle.nll_sets.specs.ElementSet.{flag};
 ghost use Rattle.nll_problem.specs.Graph.{element_count, IsStep};
@@ -58,6 +59,20 @@ impl Frontier {
             search: Search::of_none(alloc),
             refusal: None,
         }
+    }
+
+    /// Adds a point from which walks begin, behind all others.
+    ///
+    /// # Errors
+    /// - `Memory`: the frontier is as before.
+    pub fn add_point(&mut self, at: Element) -> Result<(), Memory>
+        requires { (x : ℕ) → Contains self.old.starts x → x < at }
+        ensures ok { OnOk result
+            (self.new ≡ record self.old { starts = self.old.starts ++ at ∷ [] }) }
+        ensures err { OnErr result (self.new ≡ self.old) }
+    {
+        self.others.push(at.0)?;
+        Ok(())
     }
 
     /// Reaches what can be reached once an element is in the set: walks go on through it where one

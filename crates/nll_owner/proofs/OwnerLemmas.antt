@@ -28,7 +28,7 @@ use Rattle.nll_cut.proofs.ReadLemmas.{reads_tells}
 use Rattle.nll_mail.specs.declared.growth.Growth.{Growth}
 use Rattle.nll_owner.specs.Logs.{IsWellFormed, part, IsPrefix, IsKnown, IsKnownBefore, list_of, IsWellSupported, IsSaturated, IsCutOf}
 use Rattle.nll_owner.specs.Owner.{Owner, IsNoted, received_from, list_in, Has, IsCalled, part_for, given_to, pair_count, IsSound, IsDone, Passes, with_growth, first_owner}
-use Rattle.nll_owner.specs.Keeping.{IsKept, Grows, Tells, IsMet, IsClosed}
+use Rattle.nll_owner.specs.Keeping.{IsKept, HasBeside, Grows, Tells, IsMet, IsClosed}
 use Rattle.nll_owner.proofs.LogLemmas.{list_own, list_other}
 
 -- ---- longer lists
@@ -462,6 +462,9 @@ module _ (o : Owner) (values : List (List Bool)) (places : List ℕ) (readers : 
       (λ (is : (owner_of o.cut b ≡ from) × (g ≡ h.0)). inr (sym h.2 ∙ sym (ap (λ (x : Growth). x.region) is.1), sym h.3 ∙ sym (ap (λ (x : Growth). x.element) is.1)))
       (received_cases (owner_of o.cut b) h.0 (subst (λ xs. Contains xs h.0) (list_other o.cut o.me o.log (received_from told_of) b differs) h.1)))
       (cases_eq (owner_of o.cut b) o.me)
+
+  pub told_beside : HasBeside g o told_of
+  told_beside = record { here = told_has; kept = λ r e h. known_in _ _ (told_longer r) r e h; cause = told_had }
 
   told_gains : Gains (λ r e. (r ≡ g.region) × (e ≡ g.element)) values (with_element values g.region g.element)
   told_gains = gains_one values g.region g.element told_region told_element (λ r e. (r ≡ g.region) × (e ≡ g.element)) (refl, refl)

@@ -34,6 +34,12 @@ pub record Grows (old new : Owner) : Type 0 where
   pub others : new ≡ record old { log = new.log; clock = new.clock }
   pub sound : IsSound new
 
+-- The owner has what it had and the growth, and nothing else.
+pub record HasBeside (g : Growth) (old new : Owner) : Type 0 where
+  pub here : Has new g.region g.element
+  pub kept : (r e : ℕ) → Has old r e → Has new r e
+  pub cause : (r e : ℕ) → Has new r e → Has old r e ⊎ ((r ≡ g.region) × (e ≡ g.element))
+
 -- `changed` says whether something came.
 pub record Tells (changed : Bool) (old new : Owner) : Type 0 where
   pub same : changed ≡ false → new ≡ old

@@ -13,7 +13,7 @@ ghost use Rattle.nll_owner.specs.Logs.{part};
 ghost use Rattle.nll_owner.specs.Owner.{IsSound, IsCalled, Has, HasBases, Passes};
 ghost use Rattle.nll_owner.specs.Owner.{part_for, given_to, received_from, with_growth};
 ghost use Rattle.nll_owner.specs.Owner.{first_owner};
-ghost use Rattle.nll_owner.specs.Keeping.{Grows, Tells};
+ghost use Rattle.nll_owner.specs.Keeping.{Grows, Tells, HasBeside};
 ghost use Rattle.nll_owner.specs.declared.error.OwnerError.TheVariants.{RankFull, Broken};
 
 use crate::error::OwnerError;
@@ -159,6 +159,7 @@ impl<'q> Knowledge<'q> {
           received = with_growth self.old.received from growth;
           clock = max self.old.clock growth.rank;
         }) }
+        ensures has { OnOk result (HasBeside growth self.old self.new) }
         ensures err { OnErr result (self.new ≡ self.old) }
         ensures full { result ≡ Err RankFull → ⊥ }
         ensures whole { result ≡ Err Broken → ⊥ }

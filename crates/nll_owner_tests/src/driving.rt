@@ -1,140 +1,14 @@
-//! One thread that drives owners: it deals out turns until nothing is left to hand over.
+//! What owners have and answer, written.
 ghost use Rattle.std.specs.Prelude.{◌≡◌, length};
 
+use super::driver::{Turn, drive};
 use super::problems::{Written, problem_of};
-use nll_core::{BuildError, Element, Memory, Problem, RegionId};
-use nll_cut::{Cut, CutError};
-use nll_mail::Growth;
-use nll_owner::{Owner, OwnerError};
-use std::alloc::{AllocError, AllocFailed, Global};
-
-/// A turn of the thread.
-#[derive(Clone, Copy)]
-pub enum Turn {
-    /// The owner is loaded, if it isn't.
-    Load(u16),
-    /// The next growth of the first owner for the second is handed to it, if both are loaded.
-    Hand(u16, u16),
-}
-
-/// Why driving ended early.
-#[derive(Clone, Copy, Debug, PartialEq, Eq)]
-pub enum Stop {
-    Problem(BuildError),
-    Cut(CutError),
-    Owner(OwnerError),
-    Memory,
-    /// A turn names no owner, or a growth can't be the sender's.
-    Wrong,
-    /// So many rounds weren't enough.
-    Rounds,
-}
-
-impl From<BuildError> for Stop {
-    fn from(error: BuildError) -> Stop {
-        Stop::Problem(error)
-    }
-}
-
-impl From<CutError> for Stop {
-    fn from(error: CutError) -> Stop {
-        Stop::Cut(error)
-    }
-}
-
-impl From<OwnerError> for Stop {
-    fn from(error: OwnerError) -> Stop {
-        Stop::Owner(error)
-    }
-}
-
-impl From<Memory> for Stop {
-    fn from(_: Memory) -> Stop {
-        Stop::Memory
-    }
-}
-
-impl From<AllocError> for Stop {
-    fn from(_: AllocError) -> Stop {
-        Stop::Memory
-    }
-}
-
-impl<T: Drop> From<AllocFailed<T>> for Stop {
-    fn from(_: AllocFailed<T>) -> Stop {
-        Stop::Memory
-    }
-}
-
-// Loads an owner, if it isn't. Answers whether it was loaded by this turn.
-fn load(owner: &mut Owner) -> Result<bool, Stop> {
-    if owner.is_loaded() {
-        return Ok(false);
-    }
-    owner.load()?;
-    Ok(true)
-}
-
-// The next growth of an owner for another is handed over. Answers whether there was one.
-fn hand(owners: &mut [Owner], from: u16, to: u16) -> Result<bool, Stop> {
-    if from as usize >= owners.len() || to as usize >= owners.len() {
-        return Err(Stop::Wrong);
-    }
-    if !owners[to as usize].is_loaded() {
-        return Ok(false);
-    }
-    let Some(growth) = owners[from as usize].outgoing(to) else {
-        return Ok(false);
-    };
-    let owner = &mut owners[to as usize];
-    if !owner.passes(from, &growth) {
-        return Err(Stop::Wrong);
-    }
-    owner.receive(from, growth)?;
-    Ok(true)
-}
-
-// Takes a turn. Answers whether something came of it.
-fn take(owners: &mut [Owner], turn: Turn) -> Result<bool, Stop> {
-    match turn {
-        Turn::Load(number) => match owners.get_mut(number as usize) {
-            Some(owner) => load(owner),
-            None => Err(Stop::Wrong),
-        },
-        Turn::Hand(from, to) => hand(owners, from, to),
-    }
-}
-
-// Takes each turn once. Answers whether something came of one.
-fn take_all(owners: &mut [Owner], turns: &[Turn]) -> Result<bool, Stop> {
-    let mut moved = false;
-    for turn in turns {
-        let came = take(owners, *turn)?;
-        moved |= came;
-    }
-    Ok(moved)
-}
-
-/// Takes the turns again and again, until a whole round of them does nothing.
-pub fn drive(owners: &mut [Owner], turns: &[Turn]) -> Result<(), Stop> {
-    for _ in 0..1000 {
-        if !take_all(owners, turns)? {
-            return Ok(());
-        }
-    }
-    Err(Stop::Rounds)
-}
-
-// The owners of a cut.
-fn owners_of<'q>(alloc: Global, problem: &'q Problem, cut: &'q Cut) -> Result<Vec<Owner<'q>>, Stop>
-    requires { length cut.now.list ≡ problem.now.regions }
-{
-    let mut owners = Vec::new(alloc);
-    for me in 0..cut.owners() {
-        owners.push(Owner::new(alloc, problem, cut, me)?)?;
-    }
-    Ok(owners)
-}
+use super::stop::Stop;
+use nll_core::{Element, Problem, RegionId};
+use nll_cut::Cut;
+use nll_mail::{Growth, Mail};
+use nll_owner::Owner;
+use std::alloc::{AllocError, Global};
 
 // Writes what an owner has in a region.
 fn write_region(out: &mut String, owner: &Owner, region: RegionId) -> Result<(), AllocError> {
@@ -178,10 +52,11 @@ fn write_counts(out: &mut String, owners: &[Owner]) -> Result<(), AllocError> {
     Ok(())
 }
 
-/// What the owners of a cut have once they are driven: the value of each region, and how many
-/// growths each owner has grown, given and received.
-pub fn driven_over(
+/// What the owners of a cut have once they are driven over mailboxes: the value of each region, and
+/// how many growths each owner has grown, given and received.
+pub fn driven_over<M: Mail>(
     alloc: Global,
+    mail: &M,
     problem: &Problem,
     cut: &Cut,
     turns: &[Turn],
@@ -189,12 +64,10 @@ pub fn driven_over(
     requires { length cut.now.list ≡ problem.now.regions }
 {
     let mut out = String::new(alloc);
-    let mut owners = owners_of(alloc, problem, cut)?;
-    let ended = drive(&mut owners, turns);
-    let values = write_values(&mut out, &owners, cut, problem.regions());
-    let counts = write_counts(&mut out, &owners);
-    drop(owners);
-    ended?;
+    let settled = drive(alloc, mail, problem, cut, turns)?;
+    let values = write_values(&mut out, &settled.owners, cut, problem.regions());
+    let counts = write_counts(&mut out, &settled.owners);
+    drop(settled);
     values?;
     counts?;
     Ok(out)
@@ -202,27 +75,29 @@ pub fn driven_over(
 
 /// What the owners of a problem have once they are driven, where the regions are dealt to them in
 /// turns: the value of each region, and how many growths each owner has grown, given and received.
-pub fn driven(
+pub fn driven<M: Mail>(
     alloc: Global,
+    mail: &M,
     written: Written,
     owners: u16,
     turns: &[Turn],
 ) -> Result<String, Stop> {
     let problem = problem_of(alloc, written)?;
-    let told = driven_round(alloc, &problem, owners, turns);
+    let told = driven_round(alloc, mail, &problem, owners, turns);
     drop(problem);
     told
 }
 
 // The same of a problem.
-fn driven_round(
+fn driven_round<M: Mail>(
     alloc: Global,
+    mail: &M,
     problem: &Problem,
     owners: u16,
     turns: &[Turn],
 ) -> Result<String, Stop> {
     let cut = Cut::round(alloc, problem.regions(), owners)?;
-    let told = driven_over(alloc, problem, &cut, turns);
+    let told = driven_over(alloc, mail, problem, &cut, turns);
     drop(cut);
     told
 }

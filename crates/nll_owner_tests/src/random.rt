@@ -2,10 +2,12 @@
 //! `solve` gives.
 ghost use Rattle.std.specs.Prelude.{◌≡◌, ◌<◌, ◌≤◌, length};
 
-use super::driving::Turn::{Hand, Load};
-use super::driving::{Stop, Turn, driven_over};
+use super::driver::Turn::{self, Load, Post, Take};
+use super::driving::driven_over;
+use super::stop::Stop;
 use nll_core::{BuildError, Constraint, Problem, ProblemBuilder, RegionId, Values, solve};
 use nll_cut::Cut;
+use nll_mail::{Mail, QueueMail};
 use std::alloc::{AllocError, Global};
 
 // A number that looks random.
@@ -60,7 +62,18 @@ fn list_of(alloc: Global, regions: u32, owners: u16, seed: u32) -> Result<Vec<u1
     Ok(list)
 }
 
-// Random turns, and then each possible one.
+// A random turn of one or of two owners.
+fn turn_of(number: u32, from: u16, to: u16) -> Turn {
+    if from == to || number % 8 == 0 {
+        Load(to)
+    } else if number % 2 == 0 {
+        Take(from, to)
+    } else {
+        Post(from, to)
+    }
+}
+
+// Random turns.
 fn turns_of(alloc: Global, owners: u16, seed: u32) -> Result<Vec<Turn>, AllocError>
     requires { 0 < owners }
 {
@@ -69,17 +82,7 @@ fn turns_of(alloc: Global, owners: u16, seed: u32) -> Result<Vec<Turn>, AllocErr
         let number = mixed(seed, 2000 + place);
         let from = (number / 8 % owners as u32) as u16;
         let to = (number / 512 % owners as u32) as u16;
-        turns.push(if number % 8 == 0 {
-            Load(to)
-        } else {
-            Hand(from, to)
-        })?;
-    }
-    for to in 0..owners {
-        turns.push(Load(to))?;
-        for from in 0..owners {
-            turns.push(Hand(from, to))?;
-        }
+        turns.push(turn_of(number, from, to))?;
     }
     Ok(turns)
 }
@@ -116,16 +119,22 @@ fn solved(alloc: Global, problem: &Problem) -> Result<String, Stop> {
 }
 
 // Whether driven owners come to what `solve` gives.
-fn agree_over(alloc: Global, problem: &Problem, cut: &Cut, turns: &[Turn]) -> Result<bool, Stop>
+fn agree_over<M: Mail>(
+    alloc: Global,
+    mail: &M,
+    problem: &Problem,
+    cut: &Cut,
+    turns: &[Turn],
+) -> Result<bool, Stop>
     requires { length cut.now.list ≡ problem.now.regions }
 {
-    let told = driven_over(alloc, problem, cut, turns)?;
+    let told = driven_over(alloc, mail, problem, cut, turns)?;
     let want = solved(alloc, problem)?;
     Ok(told.as_str().starts_with(want.as_str()))
 }
 
 // The same for a random cut and random turns.
-fn agree_on(alloc: Global, problem: &Problem, seed: u32) -> Result<bool, Stop> {
+fn agree_on<M: Mail>(alloc: Global, mail: &M, problem: &Problem, seed: u32) -> Result<bool, Stop> {
     let owners = (1 + seed % 4) as u16;
     let list = list_of(alloc, problem.regions(), owners, seed)?;
     let turns = turns_of(alloc, owners, seed)?;
@@ -133,15 +142,15 @@ fn agree_on(alloc: Global, problem: &Problem, seed: u32) -> Result<bool, Stop> {
         return Err(Stop::Wrong);
     }
     let cut = Cut::from_list(alloc, problem.regions(), owners, &list)?;
-    let told = agree_over(alloc, problem, &cut, &turns);
+    let told = agree_over(alloc, mail, problem, &cut, &turns);
     drop(cut);
     told
 }
 
 // The same for a random problem.
-fn agree(alloc: Global, seed: u32) -> Result<bool, Stop> {
+fn agree<M: Mail>(alloc: Global, mail: &M, seed: u32) -> Result<bool, Stop> {
     let problem = problem_of(alloc, seed)?;
-    let told = agree_on(alloc, &problem, seed);
+    let told = agree_on(alloc, mail, &problem, seed);
     drop(problem);
     told
 }
@@ -149,7 +158,7 @@ fn agree(alloc: Global, seed: u32) -> Result<bool, Stop> {
 #[test]
 fn driven_owners_agree_with_one_solver(rt: HostRuntime) {
     for seed in 0..300 {
-        let told = agree(rt.alloc(), seed);
+        let told = agree(rt.alloc(), &QueueMail::new(rt), seed);
         assert!(rt; told == Ok(true), "{seed}: {told:?}");
     }
 }

@@ -1,49 +1,86 @@
 //! Owners that are driven by all orders of turns that are named here come to the same values.
-use super::driving::Turn::{Hand, Load};
-use super::driving::{Stop, Turn, driven};
+use super::driver::Turn::{self, Load, Post, Take};
+use super::driving::driven;
 use super::problems::{BY_TURNS, FILLED_HOLE, REACHED, Written};
+use super::stop::Stop;
+use nll_mail::QueueMail;
 use std::process::Abort;
 
-// Each owner of two is loaded, and then each hands over to the other.
-const TWO: &[Turn] = &[Load(0), Load(1), Hand(0, 1), Hand(1, 0)];
+// Each owner of two is loaded, and then each tells the other.
+const TWO: &[Turn] = &[
+    Load(0),
+    Load(1),
+    Post(0, 1),
+    Take(0, 1),
+    Post(1, 0),
+    Take(1, 0),
+];
 
-// The second is loaded late, and takes one growth where the first takes two.
-const TWO_LATE: &[Turn] = &[Hand(1, 0), Load(0), Hand(1, 0), Hand(0, 1), Load(1)];
+// The second is loaded late: growths wait for it in the mailbox.
+const TWO_LATE: &[Turn] = &[
+    Load(0),
+    Post(0, 1),
+    Take(0, 1),
+    Take(1, 0),
+    Load(1),
+    Post(1, 0),
+    Take(0, 1),
+    Take(1, 0),
+    Take(1, 0),
+];
 
 // All growths go the one way before one goes the other.
 const TWO_FAST: &[Turn] = &[
     Load(1),
     Load(0),
-    Hand(1, 0),
-    Hand(1, 0),
-    Hand(1, 0),
-    Hand(1, 0),
-    Hand(0, 1),
+    Post(1, 0),
+    Take(1, 0),
+    Take(1, 0),
+    Take(1, 0),
+    Take(1, 0),
+    Post(0, 1),
+    Take(0, 1),
 ];
 
 const THREE: &[Turn] = &[
     Load(0),
     Load(1),
     Load(2),
-    Hand(0, 1),
-    Hand(0, 2),
-    Hand(1, 0),
-    Hand(1, 2),
-    Hand(2, 0),
-    Hand(2, 1),
+    Post(0, 1),
+    Post(0, 2),
+    Post(1, 0),
+    Post(1, 2),
+    Post(2, 0),
+    Post(2, 1),
+    Take(0, 1),
+    Take(0, 2),
+    Take(1, 0),
+    Take(1, 2),
+    Take(2, 0),
+    Take(2, 1),
 ];
 
 const THREE_BACK: &[Turn] = &[
     Load(2),
-    Hand(2, 1),
-    Hand(2, 0),
+    Post(2, 1),
+    Take(2, 1),
+    Post(2, 0),
     Load(1),
-    Hand(1, 2),
-    Hand(1, 0),
+    Take(2, 1),
+    Post(1, 2),
+    Take(1, 2),
     Load(0),
-    Hand(0, 2),
-    Hand(0, 1),
+    Take(2, 0),
+    Post(1, 0),
+    Take(1, 0),
+    Post(0, 2),
+    Take(0, 2),
+    Post(0, 1),
+    Take(0, 1),
 ];
+
+// No turns but the whole rounds that the driver ends with.
+const NONE: &[Turn] = &[];
 
 // Problems, how many owners there are, what they have in the end (the value of each region, and
 // what each owner has grown, given and received), and orders of turns that come to it.
@@ -55,19 +92,19 @@ const ROWS: &[Row] = &[
         REACHED,
         2,
         "0: 0 1 2 3|1: 1 2|2: 1 2|6 0 2|2 2 0|",
-        &[TWO, TWO_LATE, TWO_FAST],
+        &[TWO, TWO_LATE, TWO_FAST, NONE],
     ),
     (
         REACHED,
         3,
         "0: 0 1 2 3|1: 1 2|2: 1 2|4 0 0|2 2 0|2 0 2|",
-        &[THREE, THREE_BACK],
+        &[THREE, THREE_BACK, NONE],
     ),
     (
         BY_TURNS,
         2,
         "0: 0 1 2|1: 0 1|2: 0 1|5 2 2|2 2 2|",
-        &[TWO, TWO_LATE, TWO_FAST],
+        &[TWO, TWO_LATE, TWO_FAST, NONE],
     ),
     (
         FILLED_HOLE,
@@ -79,13 +116,13 @@ const ROWS: &[Row] = &[
         FILLED_HOLE,
         2,
         "0: 0 1 2 3|1: 0 1 2|2: 0 1 2|3: 1|7 0 3|4 3 0|",
-        &[TWO, TWO_LATE, TWO_FAST],
+        &[TWO, TWO_LATE, TWO_FAST, NONE],
     ),
     (
         FILLED_HOLE,
         3,
         "0: 0 1 2 3|1: 0 1 2|2: 0 1 2|3: 1|5 1 0|3 3 1|3 0 3|",
-        &[THREE, THREE_BACK],
+        &[THREE, THREE_BACK, NONE],
     ),
 ];
 
@@ -101,7 +138,8 @@ fn compare(rt: &impl Abort, told: Result<String, Stop>, want: &str) {
 fn driven_owners_come_to_the_least_values(rt: HostRuntime) {
     for (written, owners, want, orders) in ROWS {
         for turns in *orders {
-            compare(&rt, driven(rt.alloc(), *written, *owners, turns), want);
+            let told = driven(rt.alloc(), &QueueMail::new(rt), *written, *owners, turns);
+            compare(&rt, told, want);
         }
     }
 }

@@ -4,7 +4,7 @@ use Rattle.nll_core.specs.Values.{with_element}
 use Rattle.nll_mail.specs.declared.growth.Growth.{Growth}
 use Rattle.nll_owner.specs.Owner.{Owner, with_growth, IsSound}
 use Rattle.nll_owner.specs.declared.knowledge.Knowledge.TheInside.{Inside}
-use Rattle.nll_owner.proofs.OwnerLemmas.{told_region, told_element, from_in, told_sound, told_kept, lists_kept, lists_pushed, on_err_always}
+use Rattle.nll_owner.proofs.OwnerLemmas.{told_region, told_element, from_in, told_sound, told_kept, told_beside, lists_kept, lists_pushed, on_err_always}
 use Rattle.nll_owner.proofs.knowledge.Knowledge.enter_received.Goals as goal
 use Rattle.nll_owner.proofs.knowledge.Knowledge.enter_received.Goals.{After-reserve, After-push_reserved}
 
@@ -74,3 +74,9 @@ pub returns-clause-sound : goal.returns-clause-sound
 returns-clause-sound c =
     let a = goal.at.returns-clause-sound c in
     rw (pushed a.After-push_reserved, c.max-clock.ensures) (told_sound _ _ _ _ c.self.invariant c.args.from c.args.growth (rw (← c.self.view_is) at c.requires))
+
+-- Not checked yet: as the clause above it.
+pub returns-clause-has : goal.returns-clause-has
+returns-clause-has c =
+    let a = goal.at.returns-clause-has c in
+    rw (← c.self.view_is, pushed a.After-push_reserved, c.max-clock.ensures) (told_beside _ _ _ _ c.self.invariant c.args.from c.args.growth (rw (← c.self.view_is) at c.requires))

@@ -1,0 +1,3 @@
+pub mod PairLemmas
+pub mod PostingLemmas
+pub mod NetworkLemmas
