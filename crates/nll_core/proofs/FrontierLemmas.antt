@@ -1,15 +1,15 @@
 -- A frontier goes on from an element, and is again what walks reach.
-use Rattle.std.proofs.Common.{◌≡◌, ◌≢◌, ◌⊎◌, ◌↔◌, ℕ, zero, suc, ◌+◌, ◌<◌, ◌≤◌, Bool, true, false, List, [], ◌∷◌, ◌++◌, Contains, AllPairs, length, get_or, set, replicate, Result, Ok, Err, refl, sym, ap, ◌∙◌, subst, inl, inr, ⊎_elim, arith}
+use Rattle.std.proofs.Common.{◌≡◌, ◌≢◌, ◌⊎◌, ◌↔◌, ℕ, zero, suc, ◌<◌, ◌≤◌, Bool, true, false, List, [], ◌∷◌, ◌++◌, Contains, AllPairs, length, get_or, set, replicate, Result, Ok, Err, refl, sym, ap, ◌∙◌, subst, inl, inr, ⊎_elim, arith}
 use Rattle.std.specs.Prelude.{⊤}
 use Rattle.std.specs.List.Sorted.{IsBinarySearchResult}
 use Rattle.std.specs.Ordering.{nat_cmp}
 use Rattle.std.specs.Result.{is_ok}
 use Rattle.std.proofs.lemmas.Bool.{cases_eq, cases_lt, false≢true}
+use Rattle.std.proofs.lemmas.List.Quantifiers.{all_pairs_push}
 use Rattle.std.proofs.lemmas.List.Sorted.{searched}
 use Rattle.std.proofs.lemmas.List.{get_or_default, get_or-set_other}
 use Rattle.nll_sets.specs.ElementSet.{flag}
 use Rattle.nll_problem.specs.Graph.{Graph, IsStep}
-use Rattle.nll_problem.specs.Walks.{Reaches}
 use Rattle.nll_problem.proofs.WalkLemmas.{reaches_first, reaches_starts, reaches_more, reaches_carries, reaches_weaker}
 use Rattle.nll_core.specs.Search.{Search, LeadsTo, IsIn, IsStepInside, Adds, Visits, IsPending, Spreads}
 use Rattle.nll_core.specs.Frontiers.{Frontier, ReachesFrom, IsFrontierIn, IsOtherOf, ListsNew, IsReachable, IsClosedBut, Resumes, IsAscending}
@@ -44,6 +44,11 @@ behind_first first x xs other = (λ h. (suc h.0, omega (arith, h.1), h.2), back)
     back : Contains (first ∷ xs) x → Contains xs x
     back (zero, l, h) = absurd (other (sym h))
     back (suc k, l, h) = (k, omega arith, h)
+
+-- numbers ascend with one more that is above all of them and the first one
+pub ascending_push : (first at : ℕ) (xs : List ℕ) → IsAscending xs → ((x : ℕ) → Contains (first ∷ xs) x → x < at) → IsAscending (xs ++ at ∷ [])
+ascending_push first at xs up below = all_pairs_push (λ x y. x < y) xs at up
+    (λ k d l. below (get_or xs k d) (suc k, omega arith, get_or_default xs k (get_or xs k d) d l))
 
 -- ---- one visit, and what it spreads to
 
