@@ -1,10 +1,11 @@
 -- What an owner has followed up after a step.
 use Rattle.std.proofs.Common.{◌≡◌, ◌≢◌, ◌↔◌, ◌⊎◌, ⊎_elim, ℕ, zero, suc, ◌+◌, ◌<◌, ◌≤◌, Bool, true, false, List, [], ◌∷◌, ◌++◌, length, map, set, replicate, get_or, drop, Contains, refl, sym, ap, ◌∙◌, subst, inl, inr, arith}
 use Rattle.std.proofs.lemmas.Bool.{cases_eq, cases_lt, false≢true, true≢false}
-use Rattle.std.specs.Prelude.{Result, Ok, Err, OnOk, is_err}
-use Rattle.std.proofs.lemmas.List.{get_or-set_same, get_or-set_other, get_or_past, length-set}
+use Rattle.std.specs.Prelude.{Option, Some, None, IfSome, IfNone, Result, Ok, Err, OnOk, is_err}
+use Rattle.std.proofs.Math.Seq.{map-set_same}
+use Rattle.std.proofs.lemmas.List.{get_or-set_same, get_or-set_other, get_or_past, get_or-map, map-set, length-map, length-set}
 use Rattle.std.proofs.lemmas.List.Elements.{Contains-append_left}
-use Rattle.nll_problem.specs.Graph.{element_count}
+use Rattle.nll_problem.specs.Graph.{Graph, element_count}
 use Rattle.nll_problem.specs.Problem.{Problem}
 use Rattle.nll_problem.specs.Walks.{Reaches}
 use Rattle.nll_problem.specs.declared.constraint.Constraint.{Constraint}
@@ -26,7 +27,7 @@ use Rattle.nll_owner.specs.Keeping.{Grows, HasBeside, IsClosed}
 use Rattle.nll_owner.specs.Following.{IsLinkOf, AreLinksOf, AreFresh, link_shape, constraint_of, Following, following_of, row_of, IsFollowed, IsFollowing, HasFollowed, Nothing, Pair}
 use Rattle.nll_owner.specs.declared.link.Link.{Link}
 use Rattle.nll_owner.proofs.LogLemmas.{contains_head, contains_tail, contains_cases, list_own, list_other}
-use Rattle.nll_owner.proofs.OwnerLemmas.{has_grows, grows_le}
+use Rattle.nll_owner.proofs.OwnerLemmas.{has_grows, has_nothing, grows_le}
 
 -- ---- lists
 
@@ -103,6 +104,31 @@ same_links c me r ks old new same w = record {
         subst (λ ps. Contains ps k.at) (sym (ap (λ (p : ℕ × List ℕ). p.1) m.2)) t.3,
       );
 }
+
+-- ---- one link of a row is another one of the same shape
+
+pub shapes_kept : (old row : List Link) (n : ℕ) (l m : Link) → map link_shape row ≡ map link_shape old → l ≡ get_or row n l → link_shape m ≡ link_shape l → map link_shape (set row n m) ≡ map link_shape old
+shapes_kept old row n l m same is shape = map-set_same link_shape row n m l (shape ∙ ap link_shape is) ∙ same
+
+pub same_count : (old row : List Link) → map link_shape row ≡ map link_shape old → length row ≡ length old
+same_count old row same = omega (arith, ap length same, length-map row link_shape, length-map old link_shape)
+
+-- a link at a place is of the constraints that the links were of
+pub link_at : (c : Cut) (me r : ℕ) (ks : List Constraint) (old row : List Link) (n : ℕ) (l : Link) → map link_shape row ≡ map link_shape old → n < length row → l ≡ get_or row n l
+    → ((x : Link) → Contains old x → IsLinkOf c me r ks x) → IsLinkOf c me r ks l
+link_at c me r ks old row n l same within is each = let y = like_in row old same l (n, within, sym is) in same_link c me r ks y.0 l y.2 (each y.0 y.1)
+
+module _ (P : Link → Type 0) (row : List Link) (n : ℕ) (m : Link) (within : n < length row) where
+  pub before_next : ((k : ℕ) (x : Link) → k < n → get_or row k x ≡ x → P x) → P m → (k : ℕ) (x : Link) → k < n + 1 → get_or (set row n m) k x ≡ x → P x
+  before_next before here k x low is = ⊎_elim
+      (λ early. before k x early (sym (get_or-set_other row n k m x (λ same. (let l = early in omega arith))) ∙ is))
+      (λ late.
+      let last : k ≡ n = omega arith in
+      subst P (sym (get_or-set_same row n m x within) ∙ (ap (λ j. get_or (set row n m) j x) (sym last) ∙ is)) here)
+      (cases_lt k n)
+
+  pub behind_next : ((k : ℕ) (x : Link) → n ≤ k → k < length row → get_or row k x ≡ x → P x) → (k : ℕ) (x : Link) → n + 1 ≤ k → k < length (set row n m) → get_or (set row n m) k x ≡ x → P x
+  behind_next before k x low high is = before k x (omega arith) (omega (arith, high, length-set row n m)) (sym (get_or-set_other row n k m x (λ same. (let l = low in omega arith))) ∙ is)
 
 -- ---- the owner grows
 
@@ -312,6 +338,31 @@ module _ (r e : ℕ) (o : Owner) (f : Following) (w : IsFollowing (Pair r e) o f
           (cases_eq s r);
     }
 
+-- the same where vectors hold the links, and the region's own one is another then
+module _ {V : Type 0} (items : V → List Link) (g : Graph) (rows : List V) (seen : List (List Bool)) (place r e : ℕ) (o : Owner) (row : V)
+    (w : IsFollowing (Pair r e) o (following_of g (map items rows) seen place)) (in_regions : r < o.problem.regions) (in_elements : e < element_count o.problem.graph)
+    (fresh : holds seen r e ≡ false) (there : Has o r e) (is : row ≡ get_or rows r row) (then : List Bool) (then_is : then ≡ set_of (with_element seen r e) r) where
+  abbrev followed_up : Following
+  followed_up = following_of g (map items rows) seen place
+
+  row_is : items row ≡ get_or (map items rows) r []
+  row_is = ap items is ∙ sym (get_or-map items rows r row [] (omega (arith, w.count, in_regions, length-map rows items)))
+
+  pub row_links : (l : Link) → Contains (items row) l → IsLinkOf o.cut o.me r o.problem.constraints l
+  row_links l h = (w.links r in_regions).each l (subst (λ xs. Contains xs l) row_is h)
+
+  pub row_followed : (l : Link) → Contains (items row) l → IsFollowed o (IsOtherOf then e) l
+  row_followed l h = subst (λ xs. IsFollowed o (IsOtherOf xs e) l) (sym then_is)
+      (followed_but r e o followed_up w in_regions in_elements fresh there l (subst (λ xs. Contains xs l) row_is h))
+
+  pub row_more : (n : Owner) → Grows o n → (next : V) (after : List (List Bool)) → after ≡ with_element seen r e → map link_shape (items next) ≡ map link_shape (items row)
+      → ((l : Link) → Contains (items next) l → IsFollowed n (IsIn then) l) → IsFollowing Nothing n (following_of g (map items (set rows r next)) after place)
+  row_more n grows next after after_is same followed =
+      subst (λ links. IsFollowing Nothing n (following_of g links after place)) (sym (map-set items rows r next))
+      (subst (λ handed. IsFollowing Nothing n (following_of g (set (map items rows) r (items next)) handed place)) (sym after_is)
+      (following_more r e o followed_up w in_regions in_elements fresh there n grows (items next) (same ∙ ap (map link_shape) row_is)
+      (λ l h. subst (λ xs. IsFollowed n (IsIn xs) l) then_is (followed l h))))
+
 -- ---- along the log
 
 -- the growth at the place is due next
@@ -362,17 +413,42 @@ module _ (o : Owner) (f : Following) (sound : IsSound o) (w : IsFollowing Nothin
 
 -- ---- an owner that has done nothing yet
 
-module _ (q : Problem) (c : Cut) (i : ℕ) (rows : List (List Link)) (nothing : (r e : ℕ) → Has (first_owner q c i) r e → ⊥) (count : length rows ≡ q.regions)
-    (links : (r : ℕ) → r < q.regions → AreLinksOf c i r q.constraints (get_or rows r [])) (fresh : (r : ℕ) → AreFresh (get_or rows r [])) where
-  pub first_following : IsFollowing Nothing (first_owner q c i) (following_of q.graph rows (empty_values q) 0)
+at_place : {X : Type 0} (xs : List X) (k : ℕ) → k < length xs → (x : X) × (get_or xs k x ≡ x)
+at_place [] k l = absurd (omega arith)
+at_place (x ∷ xs) zero l = (x, refl)
+at_place (x ∷ xs) (suc k) l = at_place xs k (omega arith)
+
+-- what holds of each vector of links holds of each row
+row_at : {V : Type 0} (items : V → List Link) (rows : List V) (P : ℕ → List Link → Type 0) (n : ℕ) → length rows ≡ n → ((r : ℕ) (row : V) → r < n → get_or rows r row ≡ row → P r (items row))
+    → (r : ℕ) → r < n → P r (get_or (map items rows) r [])
+row_at items rows P n count each r low =
+    let within : r < length rows = omega (arith, low, count) in
+    let row = at_place rows r within in
+    subst (P r) (sym (get_or-map items rows r row.0 [] within ∙ ap items row.1)) (each r row.0 low row.1)
+
+module _ {V : Type 0} (items : V → List Link) (q : Problem) (c : Cut) (i : ℕ) (vectors : List V) (count : length vectors ≡ q.regions)
+    (each : (r : ℕ) (row : V) → r < q.regions → get_or vectors r row ≡ row → AreLinksOf c i r q.constraints (items row) × AreFresh (items row)) where
+  abbrev rows : List (List Link)
+  rows = map items vectors
+
+  links : (r : ℕ) → r < q.regions → AreLinksOf c i r q.constraints (get_or rows r []) × AreFresh (get_or rows r [])
+  links = row_at items vectors (λ r row. AreLinksOf c i r q.constraints row × AreFresh row) q.regions count each
+
+  fresh : (r : ℕ) → AreFresh (get_or rows r [])
+  fresh r = ⊎_elim
+      (λ low. (links r low).1)
+      (λ past. subst AreFresh (sym (get_or_past rows r [] (omega (arith, past, count, length-map vectors items)))) (λ l h. absurd (omega (arith, h.1))))
+      (cases_lt r q.regions)
+
+  pub first_following : IsFollowing Nothing (first_owner q c i) (following_of q.graph (map items vectors) (empty_values q) 0)
   first_following = record {
     same_graph = refl;
-    count = count;
+    count = length-map vectors items ∙ count;
     shaped = shaped_empty q;
     within = omega arith;
     known = λ r e h. absurd (nothing_held q.regions (element_count q.graph) r e h);
-    left = λ r e h. absurd (nothing r e h);
-    links = links;
+    left = λ r e h. absurd (has_nothing q c i r e h);
+    links = λ r low. (links r low).0;
     followed = λ r l h.
         let new = fresh r l h in
         record {
@@ -404,8 +480,8 @@ log_has o sound g h = (g, subst (λ xs. Contains xs g) (sym (list_own o.cut o.me
 
 -- ---- where what was given out, or the marks, alone changed
 
-pub following_given : (due : ℕ → ℕ → Type 0) (old new : Owner) (f : Following) → new ≡ record old { given = new.given } → IsFollowing due old f → IsFollowing due new f
-following_given due old new f same w = subst (λ o. IsFollowing due o f) (sym same) (record {
+following_given : (old new : Owner) (counts : List ℕ) (f : Following) → new ≡ record old { given = counts } → IsFollowing Nothing old f → IsFollowing Nothing new f
+following_given old new counts f same w = subst (λ o. IsFollowing Nothing o f) (sym same) (record {
   same_graph = w.same_graph;
   count = w.count;
   shaped = w.shaped;
@@ -415,6 +491,12 @@ following_given due old new f same w = subst (λ o. IsFollowing due o f) (sym sa
   links = w.links;
   followed = λ r l h. let x = w.followed r l h in record { whole = x.whole; fits = x.fits; reached = x.reached; filled = x.filled };
 })
+
+-- whether or not a growth was given out
+pub following_either : (r : Option Growth) (P : Growth → Type 0) (Q : Type 0) (old new : Owner) (counts : List ℕ) (f : Following) → ((g : Growth) → P g → new ≡ record old { given = counts }) → (Q → new ≡ old) → IfSome r P → IfNone r Q
+    → IsFollowing Nothing old f → IsFollowing Nothing new f
+following_either (Some g) P Q old new counts f some none p q w = following_given old new counts f (some g p) w
+following_either None P Q old new counts f some none p q w = subst (λ o. IsFollowing Nothing o f) (sym (none q)) w
 
 pub following_marked : (due : ℕ → ℕ → Type 0) (old new : Owner) (f : Following) → new ≡ record old { loaded = new.loaded; broken = new.broken } → IsFollowing due old f → IsFollowing due new f
 following_marked due old new f same w = subst (λ o. IsFollowing due o f) (sym same) (record {

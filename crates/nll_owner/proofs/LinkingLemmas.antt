@@ -1,9 +1,10 @@
 -- Links for one constraint more.
-use Rattle.std.proofs.Common.{◌≡◌, ◌≢◌, ◌↔◌, ◌⊎◌, ⊎_elim, ℕ, ◌+◌, ◌<◌, List, [], ◌∷◌, ◌++◌, length, set, take, get_or, Contains, AllPairs, refl, sym, ap, ◌∙◌, subst, inl, inr, arith}
-use Rattle.std.proofs.lemmas.Bool.{cases_eq}
-use Rattle.std.proofs.lemmas.List.{get_or-set_same, get_or-set_other, get_or_default, get_or-take, length-set, length-take}
+use Rattle.std.proofs.Common.{◌≡◌, ◌≢◌, ◌↔◌, ◌⊎◌, ⊎_elim, ℕ, ◌+◌, ◌<◌, Bool, true, eqb, List, [], ◌∷◌, ◌++◌, length, set, take, get_or, Contains, AllPairs, refl, sym, ap, ◌∙◌, subst, inl, inr, arith}
+use Rattle.std.proofs.lemmas.Bool.{cases_eq, cases_lt, eqb-true}
+use Rattle.std.proofs.lemmas.List.{get_or-set_same, get_or-set_other, get_or_default, get_or-take, get_or_append_left, get_or_push, length-set, length-take}
 use Rattle.std.proofs.lemmas.List.Elements.{Contains-append_left, Contains-push, Contains-push_cases}
 use Rattle.nll_problem.specs.ConstraintIndex.{IsLower}
+use Rattle.nll_problem.specs.Problem.{SameSet}
 use Rattle.nll_problem.specs.declared.constraint.Constraint.{Constraint}
 use Rattle.nll_core.specs.Frontiers.{Frontier, first_frontier}
 use Rattle.nll_cut.specs.Partition.{Cut, owner_of}
@@ -27,6 +28,20 @@ module _ {X : Type 0} (xs : List X) (p : ℕ) (old new : X) (within : p < length
       (λ (at_p : h.0 ≡ p). inl (sym h.2 ∙ (ap (λ j. get_or xs j x) at_p ∙ (get_or_default xs p x old within ∙ is))))
       (λ other. inr (h.0, (let l = h.1 in omega (arith, l, length-set xs p new)), get_or-set_other xs p h.0 new x other ∙ h.2))
       (cases_eq h.0 p)
+
+-- one of two readings at a place fills a region, so the other does
+pub fills_at : (row : List Link) (place : ℕ) (a b : Link) (s : ℕ) → place < length row → a ≡ get_or row place a → b ≡ get_or row place b → true ≡ eqb a.sup s → b.sup ≡ s
+fills_at row place a b s within at_a at_b fills = ap (λ (l : Link). l.sup) (at_b ∙ (get_or_default row place b a within ∙ sym at_a)) ∙ eqb-true a.sup s (sym fills)
+
+-- what holds at each place of a list and of one more element holds at each place then
+pub each_pushed : {V : Type 0} (P : ℕ → V → Type 0) (xs : List V) (x : V) (n : ℕ) → length xs ≡ n → ((k : ℕ) (v : V) → k < n → get_or xs k v ≡ v → P k v) → P n x
+    → (k : ℕ) (v : V) → k < n + 1 → get_or (xs ++ x ∷ []) k v ≡ v → P k v
+each_pushed P xs x n count before here k v low is = ⊎_elim
+    (λ early. before k v early (sym (get_or_append_left xs (x ∷ []) v k (omega (arith, early, count))) ∙ is))
+    (λ late.
+    let last : k ≡ n = omega arith in
+    subst (λ j. P j v) (sym last) (subst (P n) (sym (get_or_push xs x v k (omega (arith, count, last))) ∙ is) here))
+    (cases_lt k n)
 
 -- ---- one constraint more
 
@@ -149,6 +164,13 @@ pub links_of_same : (c : Cut) (me r : ℕ) (some all : List Constraint) (row : L
 links_of_same c me r some all row same w = record {
   each = λ l h. let x = w.each l h in record { own = x.own; other = x.other; points = λ p at. ((same (constraint_of r l.sup p)).0 (x.points p at)).0 };
   all = λ k h sub other own. w.all k ((same k).1 (h, sub)) sub other own;
+}
+
+-- the same constraints in another list
+pub links_of_set : (c : Cut) (me r : ℕ) (ks js : List Constraint) (row : List Link) → SameSet ks js → AreLinksOf c me r ks row → AreLinksOf c me r js row
+links_of_set c me r ks js row same w = record {
+  each = λ l h. let x = w.each l h in record { own = x.own; other = x.other; points = λ p at. (same (constraint_of r l.sup p)).0 (x.points p at) };
+  all = λ k h sub other own. w.all k ((same k).1 h) sub other own;
 }
 
 -- ---- in the order of an index

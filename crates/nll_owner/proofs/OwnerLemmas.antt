@@ -669,7 +669,7 @@ given_sum o s =
 
 -- ---- an owner that has done nothing yet
 
-module _ (q : Problem) (c : Cut) (i : ℕ) (problem : IsSoundProblem q) (cut : IsSoundCut c) (regions : length c.list ≡ q.regions) (me : i < c.owners) where
+module _ (q : Problem) (c : Cut) (i : ℕ) where
   no_growth : (g : Growth) → Contains [] g → ⊥
   no_growth g h = omega (arith, h.1)
 
@@ -688,50 +688,52 @@ module _ (q : Problem) (c : Cut) (i : ℕ) (problem : IsSoundProblem q) (cut : I
       (λ past. get_or_past (replicate c.owners 0) j 0 (omega (arith, past, length-replicate {A = ℕ} c.owners 0)))
       (cases_lt j c.owners)
 
-  has_nothing : (r e : ℕ) → Has (first_owner q c i) r e → ⊥
+  -- it has nothing
+  pub has_nothing : (r e : ℕ) → Has (first_owner q c i) r e → ⊥
   has_nothing r e h = ⊎_elim
       (λ own. no_growth h.0 (subst (λ (xs : List Growth). Contains xs h.0) (list_own c i [] (received_from (first_owner q c i)) r own) h.1))
       (λ other. none_heard (owner_of c r) h.0 (subst (λ (xs : List Growth). Contains xs h.0) (list_other c i [] (received_from (first_owner q c i)) r other) h.1))
       (cases_eq (owner_of c r) i)
 
-  pub first_sound : IsSound (first_owner q c i)
-  first_sound = record {
-    problem = problem;
-    cut = record { cut = cut; regions = regions };
-    me = me;
-    well_formed = record { own = λ g h. absurd (no_growth g h); once = λ j k d l h. absurd (omega (arith, h)); rising = λ j k d l h. absurd (omega (arith, h)) };
-    supported = λ g h. absurd (no_growth g h);
-    based = λ h. absurd (false≢true h);
-    elements = λ g h. absurd (no_growth g h);
-    few = omega arith;
-    senders = length-replicate c.owners [];
-    heard = λ j g h. absurd (none_heard j g h);
-    own_ranks = λ g h. absurd (no_growth g h);
-    heard_ranks = λ j g h. absurd (none_heard j g h);
-    top = inl refl;
-    steps = λ g h. absurd (no_growth g h);
-    receivers = length-replicate c.owners 0;
-    given = λ j. omega (arith, zero_at j);
-  }
+  module _ (problem : IsSoundProblem q) (cut : IsSoundCut c) (regions : length c.list ≡ q.regions) (me : i < c.owners) where
+    pub first_sound : IsSound (first_owner q c i)
+    first_sound = record {
+      problem = problem;
+      cut = record { cut = cut; regions = regions };
+      me = me;
+      well_formed = record { own = λ g h. absurd (no_growth g h); once = λ j k d l h. absurd (omega (arith, h)); rising = λ j k d l h. absurd (omega (arith, h)) };
+      supported = λ g h. absurd (no_growth g h);
+      based = λ h. absurd (false≢true h);
+      elements = λ g h. absurd (no_growth g h);
+      few = omega arith;
+      senders = length-replicate c.owners [];
+      heard = λ j g h. absurd (none_heard j g h);
+      own_ranks = λ g h. absurd (no_growth g h);
+      heard_ranks = λ j g h. absurd (none_heard j g h);
+      top = inl refl;
+      steps = λ g h. absurd (no_growth g h);
+      receivers = length-replicate c.owners 0;
+      given = λ j. omega (arith, zero_at j);
+    }
 
-  pub first_kept : (readers : List (List Bool)) → ((j r : ℕ) → is_read readers j r ≡ reads q c j r) → IsKept (first_owner q c i) (empty_values q) (replicate c.owners 0) readers
-  first_kept readers read = record {
-    sound = first_sound;
-    shaped = shaped_empty q;
-    held = λ r e. (λ h. absurd (nothing_held q.regions (element_count q.graph) r e h), λ h. absurd (has_nothing r e h));
-    room = omega (arith, most);
-    places = length-replicate c.owners 0;
-    within = λ j. omega (arith, zero_at j);
-    given = λ j. zero_at j ∙ sym (ap (λ (k : ℕ). length (part q c j (take {A = Growth} k []))) (zero_at j));
-    read = read;
-  }
-    where
-      most : missing_pairs (empty_values q) ≤ pair_count q
-      most =
-          let rows = sum_by-replicate missing q.regions (replicate (element_count q.graph) false) in
-          let row : missing (replicate (element_count q.graph) false) ≤ element_count q.graph = omega (arith, count_by-le-length not (replicate (element_count q.graph) false), length-replicate {A = Bool} (element_count q.graph) false) in
-          let all = mul-le q.regions (missing (replicate (element_count q.graph) false)) q.regions (element_count q.graph) (omega arith) row in
-          omega (arith, rows, all)
+    pub first_kept : (readers : List (List Bool)) → ((j r : ℕ) → is_read readers j r ≡ reads q c j r) → IsKept (first_owner q c i) (empty_values q) (replicate c.owners 0) readers
+    first_kept readers read = record {
+      sound = first_sound;
+      shaped = shaped_empty q;
+      held = λ r e. (λ h. absurd (nothing_held q.regions (element_count q.graph) r e h), λ h. absurd (has_nothing r e h));
+      room = omega (arith, most);
+      places = length-replicate c.owners 0;
+      within = λ j. omega (arith, zero_at j);
+      given = λ j. zero_at j ∙ sym (ap (λ (k : ℕ). length (part q c j (take {A = Growth} k []))) (zero_at j));
+      read = read;
+    }
+      where
+        most : missing_pairs (empty_values q) ≤ pair_count q
+        most =
+            let rows = sum_by-replicate missing q.regions (replicate (element_count q.graph) false) in
+            let row : missing (replicate (element_count q.graph) false) ≤ element_count q.graph = omega (arith, count_by-le-length not (replicate (element_count q.graph) false), length-replicate {A = Bool} (element_count q.graph) false) in
+            let all = mul-le q.regions (missing (replicate (element_count q.graph) false)) q.regions (element_count q.graph) (omega arith) row in
+            omega (arith, rows, all)
 
 -- one more list is counted
 pub count_more : {V : Type 0} (f : V → List Growth) (lists : List V) (i : ℕ) (v : V) (count : ℕ) → i < length lists → v ≡ get_or lists i v → count ≡ min (sum_by length (take i (map f lists))) 18446744073709551615

@@ -46,7 +46,7 @@ pub struct Owner<'q> {
 }
 
 impl<'q> Model for Owner<'q> {
-    ghost use Rattle.std.specs.Prelude.{◌≡◌, ◌×◌, false};
+    ghost use Rattle.std.specs.Prelude.{◌≡◌, false};
     ghost use Rattle.nll_owner.specs.Owner as spec;
     ghost use Rattle.nll_owner.specs.Following.{IsFollowing, Nothing};
 
@@ -147,9 +147,15 @@ impl<'q> Owner<'q> {
         if self.knowledge.broken {
             return Err(OwnerError::Broken);
         }
-        let following = &mut self.following;
-        let result = receive_all(self.alloc, &mut self.knowledge, following, from, growth);
+        let alloc = self.alloc;
         let loaded = self.knowledge.loaded;
+        let result = receive_all(
+            alloc,
+            &mut self.knowledge,
+            &mut self.following,
+            from,
+            growth,
+        );
         self.knowledge.mark(loaded, result.is_err());
         result
     }
@@ -292,8 +298,13 @@ fn receive_all(
     ensures whole { result ≡ Err Broken → ⊥ }
     ensures sound { IsSound knowledge.new }
 {
+    let Growth {
+        region,
+        element,
+        ..
+    } = growth;
     knowledge.enter_received(from, growth)?;
-    following.follow(alloc, knowledge, growth.region, growth.element)?;
+    following.follow(alloc, knowledge, region, element)?;
     following.settle(alloc, knowledge)?;
     Ok(())
 }

@@ -4,7 +4,6 @@ use Rattle.nll_owner.proofs.OwnerLemmas.{filled_after}
 use Rattle.nll_owner.proofs.FollowingLemmas.{following_grows}
 use Rattle.nll_owner.proofs.owner.load_all.Goals as goal
 
--- Not checked yet, but for the last.
 pub settle-requires-clause-following : goal.settle-requires-clause-following
 settle-requires-clause-following c = following_grows _ _ c.enter_bases.ensures.grows Nothing _ c.requires.following
 

@@ -1,4 +1,3 @@
--- Not checked yet: what each goal rests on is meant, the names of the calls are guessed.
 use Rattle.std.proofs.Common.{◌≡◌, refl, ap, ◌∙◌}
 use Rattle.nll_owner.specs.Owner.{Owner}
 use Rattle.nll_owner.proofs.OwnerLemmas.{filled_from, read_region, grows_append}

@@ -75,7 +75,6 @@ returns-clause-sound c =
     let a = goal.at.returns-clause-sound c in
     rw (pushed a.After-push_reserved, c.max-clock.ensures) (told_sound _ _ _ _ c.self.invariant c.args.from c.args.growth (rw (← c.self.view_is) at c.requires))
 
--- Not checked yet: as the clause above it.
 pub returns-clause-has : goal.returns-clause-has
 returns-clause-has c =
     let a = goal.at.returns-clause-has c in

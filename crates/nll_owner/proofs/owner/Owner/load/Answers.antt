@@ -12,7 +12,7 @@ mark-requires c is = (ok_gives c.load_all-result.result c.load_all-result.ensure
 pub returns-clause-done : goal.returns-clause-done
 returns-clause-done c = on_ok_weaker c.load_all-result.result (λ done. subst IsDone (sym c.mark.ensures.marks) done) c.load_all-result.ensures.done
 
--- Not checked yet: the owner closes with what was followed up, where the call was not refused.
+-- the owner closes with what was followed up, where the call was not refused
 pub invariant_of-self : goal.invariant_of-self
 invariant_of-self c = (
   c.mark.ensures.sound,

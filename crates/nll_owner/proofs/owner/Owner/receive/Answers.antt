@@ -6,9 +6,8 @@ use Rattle.nll_owner.proofs.FollowingLemmas.{following_marked, unless_err}
 use Rattle.nll_owner.proofs.owner.Owner.receive.Goals as goal
 
 pub mark-requires : goal.mark-requires
-mark-requires c is = c.receive_all-result.ensures.sound.based (sym (ap (λ (o : Inside). o.knowledge.loaded) c.self-inside-2.view_is) ∙ is)
+mark-requires c is = c.receive_all-result.ensures.sound.based (ap (λ (o : Owner). o.loaded) c.receive_all-result.ensures.others ∙ (sym (ap (λ (o : Inside). o.knowledge.loaded) c.self-inside.view_is) ∙ is))
 
--- Not checked yet: the owner closes with what was followed up, where the call was not refused.
 pub invariant_of-self : goal.invariant_of-self
 invariant_of-self c = (
   c.mark.ensures.sound,
