@@ -1,5 +1,5 @@
 -- What an owner has followed up after a step.
-use Rattle.std.proofs.Common.{◌≡◌, ◌≢◌, ◌↔◌, ◌⊎◌, ⊎_elim, ℕ, zero, suc, ◌+◌, ◌<◌, ◌≤◌, Bool, true, false, List, [], ◌∷◌, ◌++◌, length, map, set, replicate, get_or, drop, Contains, refl, sym, ap, ◌∙◌, subst, inl, inr, arith}
+use Rattle.std.proofs.Common.{◌≡◌, ◌≢◌, ◌↔◌, ◌⊎◌, ⊎_elim, ℕ, zero, suc, ◌+◌, ◌<◌, ◌≤◌, Bool, true, false, List, [], ◌∷◌, ◌++◌, length, map, set, get_or, drop, Contains, refl, sym, ap, ◌∙◌, subst, inl, inr, arith}
 use Rattle.std.proofs.lemmas.Bool.{cases_eq, cases_lt, false≢true, true≢false}
 use Rattle.std.specs.Prelude.{Option, Some, None, IfSome, IfNone, Result, Ok, Err, OnOk, is_err}
 use Rattle.std.proofs.Math.Seq.{map-set_same}
@@ -7,7 +7,6 @@ use Rattle.std.proofs.lemmas.List.{get_or-set_same, get_or-set_other, get_or_pas
 use Rattle.std.proofs.lemmas.List.Elements.{Contains-append_left}
 use Rattle.nll_problem.specs.Graph.{Graph, element_count}
 use Rattle.nll_problem.specs.Problem.{Problem}
-use Rattle.nll_problem.specs.Walks.{Reaches}
 use Rattle.nll_problem.specs.declared.constraint.Constraint.{Constraint}
 use Rattle.nll_problem.proofs.WalkLemmas.{reaches_weaker, reaches_inside, reaches_starts}
 use Rattle.nll_core.specs.Frontiers.{Frontier, IsFrontierIn, IsOtherOf, ListsNew, first_frontier}
@@ -24,7 +23,7 @@ use Rattle.nll_mail.specs.declared.growth.Growth.{Growth}
 use Rattle.nll_owner.specs.Logs.{IsKnown, list_of}
 use Rattle.nll_owner.specs.Owner.{Owner, Has, IsCalled, IsSound, received_from, first_owner}
 use Rattle.nll_owner.specs.Keeping.{Grows, HasBeside, IsClosed}
-use Rattle.nll_owner.specs.Following.{IsLinkOf, AreLinksOf, AreFresh, link_shape, constraint_of, Following, following_of, row_of, IsFollowed, IsFollowing, HasFollowed, Nothing, Pair}
+use Rattle.nll_owner.specs.Following.{IsLinkOf, AreLinksOf, AreFresh, link_shape, constraint_of, Following, following_of, row_of, IsFollowed, IsFollowing, Nothing, Pair}
 use Rattle.nll_owner.specs.declared.link.Link.{Link}
 use Rattle.nll_owner.proofs.LogLemmas.{contains_head, contains_tail, contains_cases, list_own, list_other}
 use Rattle.nll_owner.proofs.OwnerLemmas.{has_grows, has_nothing, grows_le}
@@ -272,15 +271,6 @@ module _ (r e : ℕ) (o : Owner) (f : Following) (w : IsFollowing (Pair r e) o f
 
   set_there : (s : ℕ) → s ≢ r → set_of seen_then s ≡ set_of f.seen s
   set_there s other = get_or-set_other f.seen r s (set (set_of f.seen r) e true) [] other
-
-  pub width_then : length (set_of seen_then r) ≡ element_count o.problem.graph
-  width_then = gains.widths r ∙ w.shaped.elements r in_regions
-
-  pub element_then : IsIn (set_of seen_then r) e
-  element_then = held_then
-
-  pub has_then : (x : ℕ) → IsIn (set_of seen_then r) x → Has o r x
-  has_then x h = ⊎_elim (λ (early : IsHeld f.seen r x). w.known r x early) (λ (is : Pair r e r x). subst (Has o r) (sym is.1) there) (gains.cause r x h)
 
   -- the links of the region are as of the set without the element
   pub followed_but : (l : Link) → Contains (row_of f r) l → IsFollowed o (IsOtherOf (set_of seen_then r) e) l

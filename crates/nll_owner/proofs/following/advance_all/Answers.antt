@@ -1,4 +1,4 @@
-use Rattle.std.proofs.Common.{◌≡◌, ◌<◌, length, refl, sym, subst, arith}
+use Rattle.std.proofs.Common.{◌<◌, length, refl, sym, subst, arith}
 use Rattle.nll_core.specs.Frontiers.{IsOtherOf}
 use Rattle.nll_core.specs.Search.{IsIn}
 use Rattle.nll_owner.specs.Owner.{Owner}

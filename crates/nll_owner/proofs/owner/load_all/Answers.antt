@@ -1,4 +1,3 @@
-use Rattle.std.proofs.lemmas.Result.{on_ok_weaker}
 use Rattle.nll_owner.specs.Following.{Nothing}
 use Rattle.nll_owner.proofs.OwnerLemmas.{filled_after}
 use Rattle.nll_owner.proofs.FollowingLemmas.{following_grows}

@@ -1,12 +1,17 @@
-use Rattle.std.proofs.Common.{◌≡◌, false, set, map, sym, ap, ◌∙◌}
+use Rattle.std.proofs.Common.{◌≡◌, sym, ap, ◌∙◌}
 use Rattle.std.proofs.lemmas.Result.{on_ok_weaker}
-use Rattle.nll_core.specs.Values.{set_of, with_element}
+use Rattle.nll_core.specs.Values.{holds, set_of, with_element}
+use Rattle.nll_owner.specs.Following.{Following}
 use Rattle.nll_owner.proofs.OwnerLemmas.{grows_none}
-use Rattle.nll_owner.proofs.FollowingLemmas.{row_links, row_followed, row_more}
+use Rattle.nll_owner.proofs.FollowingLemmas.{following_seen, row_links, row_followed, row_more}
 use Rattle.nll_owner.proofs.following.Following.follow.Goals as goal
 
 pub returns-then-has-clause-grows : goal.returns-then-has-clause-grows
 returns-then-has-clause-grows c = grows_none _ c.requires.sound
+
+pub returns-then-has-clause-following : goal.returns-then-has-clause-following
+returns-then-has-clause-following c = following_seen c.args.region c.args.element c.args.knowledge.now c.args.self.now
+    (ap (λ (f : Following). holds f.seen c.args.region c.args.element) (sym c.self.view_is) ∙ (sym c.has.ensures ∙ c.if-has.true)) c.requires.following
 
 pub advance_all-requires-clause-links : goal.advance_all-requires-clause-links
 advance_all-requires-clause-links c =

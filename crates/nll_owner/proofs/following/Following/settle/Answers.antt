@@ -1,4 +1,4 @@
-use Rattle.std.proofs.Common.{◌≡◌, length, map, sym, ap, arith}
+use Rattle.std.proofs.Common.{length, map, sym, ap, arith}
 use Rattle.nll_owner.specs.Following.{Following, following_of}
 use Rattle.nll_owner.proofs.OwnerLemmas.{grows_none}
 use Rattle.nll_owner.proofs.FollowingLemmas.{following_next, followed_closed, log_region, log_has}

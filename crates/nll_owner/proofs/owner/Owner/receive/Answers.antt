@@ -1,4 +1,4 @@
-use Rattle.std.proofs.Common.{◌≡◌, refl, sym, ap, ◌∙◌}
+use Rattle.std.proofs.Common.{refl, sym, ap, ◌∙◌}
 use Rattle.nll_owner.specs.declared.owner.Owner.TheInside.{Inside}
 use Rattle.nll_owner.specs.Owner.{Owner}
 use Rattle.nll_owner.specs.Following.{Nothing}
