@@ -13,7 +13,7 @@ ghost use Rattle.nll_owner.specs.Logs.{part};
 ghost use Rattle.nll_owner.specs.Owner.{IsSound, IsCalled, Has, HasBases, Passes};
 ghost use Rattle.nll_owner.specs.Owner.{part_for, given_to, received_from, with_growth};
 ghost use Rattle.nll_owner.specs.Owner.{first_owner};
-ghost use Rattle.nll_owner.specs.Keeping.{Grows, Tells};
+ghost use Rattle.nll_owner.specs.Keeping.{Grows, HasBeside};
 ghost use Rattle.nll_owner.specs.declared.error.OwnerError.TheVariants.{RankFull, Broken};
 
 use crate::error::OwnerError;
@@ -101,21 +101,19 @@ impl<'q> Knowledge<'q> {
         })
     }
 
-    /// Grows an own region by an element that is called for, where it is new. Answers whether it
-    /// was.
-    pub fn grow(&mut self, region: RegionId, element: Element) -> Result<bool, OwnerError>
+    /// Grows an own region by an element that is called for, where it is new.
+    pub fn grow(&mut self, region: RegionId, element: Element) -> Result<(), OwnerError>
         requires own { owner_of self.old.cut region ≡ self.old.me }
         requires region { region < self.old.problem.regions }
         requires element { element < element_count self.old.problem.graph }
         requires called { IsCalled self.old region element }
         ensures grows { Grows self.old self.new }
         ensures has { OnOk result (Has self.new region element) }
-        ensures tells { IfOk result (λ changed. Tells changed self.old self.new) }
         ensures full { result ≡ Err RankFull → 2 ^ 62 ≤ self.new.clock }
         ensures whole { result ≡ Err Broken → ⊥ }
     {
         if self.values.has(region, element) {
-            return Ok(false);
+            return Ok(());
         }
         if self.clock >= MAX_RANK {
             return Err(OwnerError::RankFull);
@@ -128,11 +126,11 @@ impl<'q> Knowledge<'q> {
             element,
             rank: self.clock,
         });
-        Ok(true)
+        Ok(())
     }
 
-    /// Grows an own region by elements that are called for. Answers whether one of them was new.
-    pub fn grow_all(&mut self, region: RegionId, found: &[Element]) -> Result<bool, OwnerError>
+    /// Grows an own region by elements that are called for.
+    pub fn grow_all(&mut self, region: RegionId, found: &[Element]) -> Result<(), OwnerError>
         requires sound { IsSound self.old }
         requires own { owner_of self.old.cut region ≡ self.old.me }
         requires region { region < self.old.problem.regions }
@@ -140,16 +138,13 @@ impl<'q> Knowledge<'q> {
         requires called { (x : ℕ) → Contains found.now x → IsCalled self.old region x }
         ensures grows { Grows self.old self.new }
         ensures covers { OnOk result ((x : ℕ) → Contains found.now x → Has self.new region x) }
-        ensures tells { IfOk result (λ changed. Tells changed self.old self.new) }
         ensures full { result ≡ Err RankFull → 2 ^ 62 ≤ self.new.clock }
         ensures whole { result ≡ Err Broken → ⊥ }
     {
-        let mut changed = false;
         for element in found {
-            let new = self.grow(region, *element)?;
-            changed |= new;
+            self.grow(region, *element)?;
         }
-        Ok(changed)
+        Ok(())
     }
 
     /// Puts a growth into the copy of its region and at the end of what was received.
@@ -159,6 +154,7 @@ impl<'q> Knowledge<'q> {
           received = with_growth self.old.received from growth;
           clock = max self.old.clock growth.rank;
         }) }
+        ensures has { OnOk result (HasBeside growth self.old self.new) }
         ensures err { OnErr result (self.new ≡ self.old) }
         ensures full { result ≡ Err RankFull → ⊥ }
         ensures whole { result ≡ Err Broken → ⊥ }

@@ -9,9 +9,11 @@ ghost use Rattle.nll_owner.specs.Logs.{IsPrefix};
 ghost use Rattle.nll_owner.specs.Owner.{IsSound, IsDone, IsReady, Has, Passes, part_for, given_to};
 ghost use Rattle.nll_owner.specs.Owner.{received_from, with_growth, first_owner};
 ghost use Rattle.nll_owner.specs.Keeping.{Grows};
+ghost use Rattle.nll_owner.specs.Following.{IsFollowing, Nothing};
 ghost use Rattle.nll_owner.specs.declared.error.OwnerError.TheVariants.{RankFull, Broken};
 
 use crate::error::OwnerError;
+use crate::following::Following;
 use crate::knowledge::Knowledge;
 use nll_cut::Cut;
 use nll_mail::Growth;
@@ -39,16 +41,21 @@ pub struct Counts {
 pub struct Owner<'q> {
     alloc: Global,
     knowledge: Knowledge<'q>,
+    // Nothing is known of it once a call was refused.
+    following: Following<'q>,
 }
 
 impl<'q> Model for Owner<'q> {
+    ghost use Rattle.std.specs.Prelude.{◌≡◌, false};
     ghost use Rattle.nll_owner.specs.Owner as spec;
+    ghost use Rattle.nll_owner.specs.Following.{IsFollowing, Nothing};
 
     ghost Value = { spec.Owner };
 
     ghost view = { λ o. o.knowledge };
 
-    ghost invariant = { λ o. spec.IsSound o.knowledge };
+    ghost invariant = { λ o. spec.IsSound o.knowledge
+        × (o.knowledge.broken ≡ false → IsFollowing Nothing o.knowledge o.following) };
 }
 
 impl<'q> Owner<'q> {
@@ -66,8 +73,16 @@ impl<'q> Owner<'q> {
         requires me { me < cut.now.owners }
         ensures owner { IfOk result (λ o. o ≡ first_owner problem.now cut.now me) }
     {
-        let knowledge = Knowledge::new(alloc, problem, cut, me)?;
-        Ok(Owner { alloc, knowledge })
+        let following = Following::new(alloc, problem, cut, me)?;
+        let knowledge = Knowledge::new(alloc, problem, cut, me);
+        match knowledge {
+            Ok(knowledge) => Ok(Owner {
+                alloc,
+                knowledge,
+                following,
+            }),
+            Err(error) => Err(error),
+        }
     }
 
     /// Enters the base elements, and grows until nothing is left to do.
@@ -96,7 +111,7 @@ impl<'q> Owner<'q> {
         if self.knowledge.broken {
             return Err(OwnerError::Broken);
         }
-        let result = load_all(self.alloc, &mut self.knowledge);
+        let result = load_all(self.alloc, &mut self.knowledge, &mut self.following);
         self.knowledge.mark(result.is_ok(), result.is_err());
         result
     }
@@ -132,8 +147,15 @@ impl<'q> Owner<'q> {
         if self.knowledge.broken {
             return Err(OwnerError::Broken);
         }
-        let result = receive_all(self.alloc, &mut self.knowledge, from, growth);
+        let alloc = self.alloc;
         let loaded = self.knowledge.loaded;
+        let result = receive_all(
+            alloc,
+            &mut self.knowledge,
+            &mut self.following,
+            from,
+            growth,
+        );
         self.knowledge.mark(loaded, result.is_err());
         result
     }
@@ -230,15 +252,21 @@ impl<'q> Owner<'q> {
 }
 
 // Enters the base elements, and settles.
-fn load_all(alloc: Global, knowledge: &mut Knowledge) -> Result<(), OwnerError>
+fn load_all(
+    alloc: Global,
+    knowledge: &mut Knowledge,
+    following: &mut Following,
+) -> Result<(), OwnerError>
     requires sound { IsSound knowledge.old }
+    requires following { IsFollowing Nothing knowledge.old following.old }
     ensures grows { Grows knowledge.old knowledge.new }
+    ensures following { OnOk result (IsFollowing Nothing knowledge.new following.new) }
     ensures done { OnOk result (IsDone knowledge.new) }
     ensures full { result ≡ Err RankFull → 2 ^ 62 ≤ knowledge.new.clock }
     ensures whole { result ≡ Err Broken → ⊥ }
 {
     knowledge.enter_bases()?;
-    knowledge.settle(alloc)?;
+    following.settle(alloc, knowledge)?;
     Ok(())
 }
 
@@ -246,10 +274,13 @@ fn load_all(alloc: Global, knowledge: &mut Knowledge) -> Result<(), OwnerError>
 fn receive_all(
     alloc: Global,
     knowledge: &mut Knowledge,
+    following: &mut Following,
     from: u16,
     growth: Growth,
 ) -> Result<(), OwnerError>
+    requires sound { IsSound knowledge.old }
     requires loaded { knowledge.old.loaded ≡ true }
+    requires following { IsFollowing Nothing knowledge.old following.old }
     requires passes { Passes knowledge.old.problem knowledge.old.cut knowledge.old.me from growth }
     ensures begins { IsPrefix knowledge.old.log knowledge.new.log }
     ensures others { knowledge.new ≡ record knowledge.old {
@@ -261,12 +292,19 @@ fn receive_all(
         (knowledge.new.received ≡ with_growth knowledge.old.received from growth) }
     ensures perhaps { (knowledge.new.received ≡ knowledge.old.received)
         ⊎ (knowledge.new.received ≡ with_growth knowledge.old.received from growth) }
+    ensures following { OnOk result (IsFollowing Nothing knowledge.new following.new) }
     ensures done { OnOk result (IsDone knowledge.new) }
     ensures full { result ≡ Err RankFull → 2 ^ 62 ≤ knowledge.new.clock }
     ensures whole { result ≡ Err Broken → ⊥ }
     ensures sound { IsSound knowledge.new }
 {
+    let Growth {
+        region,
+        element,
+        ..
+    } = growth;
     knowledge.enter_received(from, growth)?;
-    knowledge.settle(alloc)?;
+    following.follow(alloc, knowledge, region, element)?;
+    following.settle(alloc, knowledge)?;
     Ok(())
 }

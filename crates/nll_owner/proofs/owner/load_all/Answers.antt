@@ -1,5 +1,13 @@
+use Rattle.nll_owner.specs.Following.{Nothing}
 use Rattle.nll_owner.proofs.OwnerLemmas.{filled_after}
+use Rattle.nll_owner.proofs.FollowingLemmas.{following_grows}
 use Rattle.nll_owner.proofs.owner.load_all.Goals as goal
+
+pub settle-requires-clause-following : goal.settle-requires-clause-following
+settle-requires-clause-following c = following_grows _ _ c.enter_bases.ensures.grows Nothing _ c.requires.following
+
+pub returns-clause-following : goal.returns-clause-following
+returns-clause-following c = c.in_ok-settle.ensures.followed.0
 
 pub returns-clause-done : goal.returns-clause-done
 returns-clause-done c = filled_after _ _ _ c.in_ok-enter_bases.ensures.covers c.enter_bases.ensures.grows c.settle.ensures.grows c.in_ok-settle.ensures.closed

@@ -1,4 +1,4 @@
-use Rattle.std.proofs.Common.{◌≡◌, ℕ, Contains, ⊎_elim, sym, subst}
+use Rattle.std.proofs.Common.{ℕ, Contains, ⊎_elim, sym, subst}
 use Rattle.nll_owner.specs.Owner.{Owner}
 use Rattle.nll_owner.proofs.OwnerLemmas.{has_grows, own_still}
 use Rattle.nll_owner.proofs.knowledge.Knowledge.enter_bases.Goals as goal

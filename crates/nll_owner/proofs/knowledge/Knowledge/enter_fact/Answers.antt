@@ -1,4 +1,4 @@
-use Rattle.std.proofs.Common.{◌≡◌, inl, sym, ◌∙◌, subst, arith}
+use Rattle.std.proofs.Common.{inl}
 use Rattle.nll_owner.proofs.OwnerLemmas.{region_listed, fact_region, fact_element}
 use Rattle.nll_owner.proofs.knowledge.Knowledge.enter_fact.Goals as goal
 

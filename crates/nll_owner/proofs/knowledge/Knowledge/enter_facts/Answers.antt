@@ -1,6 +1,5 @@
 use Rattle.std.proofs.lemmas.Bool.{cases_eq}
 use Rattle.std.proofs.Common.{◌≡◌, ℕ, List, ◌<◌, ⊎_elim, Contains, get_or, length, ap, sym, ◌∙◌, subst, arith}
-use borrow.Author.Count.{below_more}
 use Rattle.std.proofs.lemmas.List.{get_or_default}
 use Rattle.nll_cut.specs.Partition.{owner_of}
 use Rattle.nll_owner.specs.Owner.{Owner, Has}

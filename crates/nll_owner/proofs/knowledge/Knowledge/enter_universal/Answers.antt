@@ -1,6 +1,6 @@
-use Rattle.std.proofs.Common.{◌≡◌, ℕ, ◌<◌, ◌+◌, inl, inr, refl, sym, ap, ◌∙◌, subst, ⊎_elim, arith}
+use Rattle.std.proofs.Common.{◌≡◌, ℕ, ◌+◌, ap, subst, ⊎_elim, arith}
 use Rattle.nll_owner.specs.Owner.{Owner, Has}
-use Rattle.nll_owner.proofs.OwnerLemmas.{has_grows, grows_append, own_still, region_still, element_still, called_grows, region_listed, universal_region}
+use Rattle.nll_owner.proofs.OwnerLemmas.{has_grows, region_listed, universal_region}
 use Rattle.nll_owner.proofs.knowledge.Knowledge.enter_universal.Goals as goal
 
 pub owner_of-requires : goal.owner_of-requires

@@ -1,4 +1,4 @@
-use Rattle.std.proofs.Common.{◌≡◌, ℕ, ◌<◌, sym, subst, ap, arith}
+use Rattle.std.proofs.Common.{◌≡◌, ℕ, sym, subst}
 use borrow.Author.Count.{below_more}
 use Rattle.nll_cut.specs.Partition.{owner_of}
 use Rattle.nll_owner.specs.Owner.{Owner, Has}

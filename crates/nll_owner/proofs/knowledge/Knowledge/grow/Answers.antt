@@ -1,7 +1,6 @@
-use Rattle.std.proofs.Common.{◌≡◌, false, ◌++◌, [], ◌∷◌, ◌+◌, ap, ◌∙◌, sym, subst}
+use Rattle.std.proofs.Common.{◌≡◌, false, ◌++◌, [], ◌∷◌, ◌+◌, ap, ◌∙◌, sym}
 use Rattle.nll_core.specs.Values.{holds}
 use Rattle.nll_mail.specs.declared.growth.Growth.{Growth}
-use Rattle.nll_owner.specs.Keeping.{IsKept, Grows}
 use Rattle.nll_owner.proofs.OwnerLemmas.{grown_kept, grown_grows, grown_has}
 use Rattle.nll_owner.proofs.knowledge.Knowledge.grow.Goals as goal
 use Rattle.nll_owner.proofs.knowledge.Knowledge.grow.Goals.{After-push_reserved}
