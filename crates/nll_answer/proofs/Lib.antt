@@ -1,2 +1,3 @@
 pub mod ReportLemmas
 pub mod MeaningLemmas
+pub mod LawLemmas

@@ -1,19 +1,18 @@
 -- Texts of either format, and why they have no answer.
-use Rattle.std.proofs.Common.{◌≡◌, ◌⊎◌, ℕ, List, ◌∷◌, length, inl, inr, sym, ap, ◌∙◌, subst}
+use Rattle.std.proofs.Common.{◌≡◌, ℕ, List, ◌∷◌, length, inl, inr, sym, ap, ◌∙◌, subst}
 use Rattle.nll_problem.specs.Problem.{Problem}
 use Rattle.nll_text.specs.Lines.{lines_of}
 use Rattle.nll_reading.specs.Labels.{Labels}
 use Rattle.nll_reading.specs.Text.{Format, IsHeader}
 use Rattle.nll_facts.specs.FactsText.{facts}
-use Rattle.nll_body.specs.Bodies.{BodyText, labels_of}
+use Rattle.nll_body.specs.Bodies.{BodyText}
 use Rattle.nll_mir_text.specs.MirText.{mir, Means as IsBodyOf}
-use Rattle.nll_body_problem.specs.BodyProblem.{IsProblemOf}
-use Rattle.nll_body_problem.specs.declared.error.RuleError.TheVariants as rule
 use Rattle.nll_answer.specs.declared.error.AnswerError.{AnswerError}
 use Rattle.nll_answer.specs.declared.error.AnswerError.TheVariants.{Text, Rule, Memory}
-use Rattle.nll_answer.specs.Texts.{IsOf, IsErrorOf, IsBodyError, IsAnswerError}
+use Rattle.nll_answer.specs.Texts.{IsOf, HasProblem, IsErrorOf, IsBodyError, IsAnswerError}
 
-same_head : (x y : List ℕ) (xs ys : List (List ℕ)) → x ∷ xs ≡ y ∷ ys → x ≡ y
+-- lists that are the same begin alike
+pub same_head : (x y : List ℕ) (xs ys : List (List ℕ)) → x ∷ xs ≡ y ∷ ys → x ≡ y
 same_head x y xs ys e = cc
 
 -- a text has one first line
@@ -37,5 +36,5 @@ as_body text body (Rule error) means h = (body, means, h)
 as_body text body Memory means h = tt
 
 -- the labels of a body name each region of its problem
-pub named : (body : BodyText) (q : Problem) (labels : Labels) → IsProblemOf body q → labels ≡ labels_of body → length labels.names ≡ q.regions
-named body q labels problem same = ap (λ (l : Labels). length l.names) same ∙ sym problem.regions
+pub named : (body : BodyText) (q : Problem) (labels : Labels) → HasProblem body q labels → length labels.names ≡ q.regions
+named body q labels h = ap (λ (l : Labels). length l.names) h.labels ∙ sym h.problem.regions

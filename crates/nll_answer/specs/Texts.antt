@@ -28,13 +28,18 @@ IsTextFault text line kind =
     (IsOf mir text × IsFault mir text line kind)
     ⊎ ((IsOf mir text → ⊥) × IsFault facts text line kind)
 
+-- The body has this problem, within the limit of constraints, and these are its labels.
+pub record HasProblem (body : BodyText) (q : Problem) (names : Labels) : Type 0 where
+  pub problem : IsProblemOf body q
+  pub few : HasTooMany body → ⊥
+  pub labels : names ≡ labels_of body
+
 -- the text means this problem, with these labels: as a facts text, or as a MIR text by the body
 -- that it means
 abbrev pub IsMeaning : List ℕ → Problem → Labels → Type 0
 IsMeaning text problem labels =
     IsFactsOf text problem labels
-    ⊎ ((body : BodyText) × IsBodyOf text body × IsProblemOf body problem
-    × (labels ≡ labels_of body))
+    ⊎ ((body : BodyText) × IsBodyOf text body × HasProblem body problem labels)
 
 -- ---- why a text has no answer
 

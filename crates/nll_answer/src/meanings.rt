@@ -2,10 +2,9 @@
 
 ghost use Rattle.std.specs.Prelude.{◌≡◌, ◌↔◌, length, IfErr, IfOk, IsTrue};
 ghost use Rattle.nll_facts.specs.FactsText.{facts, Means as IsFactsOf};
-ghost use Rattle.nll_body.specs.Bodies.{labels_of};
 ghost use Rattle.nll_mir_text.specs.MirText.{mir, Means as IsBodyOf};
-ghost use Rattle.nll_body_problem.specs.BodyProblem.{IsProblemOf};
-ghost use Rattle.nll_answer.specs.Texts.{IsAnswerError, IsBodyError, IsErrorOf, IsMeaning, IsOf};
+ghost use Rattle.nll_answer.specs.Texts.{HasProblem, IsAnswerError, IsBodyError, IsErrorOf};
+ghost use Rattle.nll_answer.specs.Texts.{IsMeaning, IsOf};
 
 use crate::error::AnswerError;
 use nll_body_problem::{RuleError, problem_of};
@@ -91,8 +90,7 @@ fn body_of(alloc: Global, text: &[u8]) -> Result<Body, AnswerError>
 
 // The problem of a body, with its labels.
 fn facts_of_body(alloc: Global, body: Body) -> Result<Facts, AnswerError>
-    ensures ok { IfOk result (λ facts.
-        IsProblemOf body facts.problem × (facts.labels ≡ labels_of body)) }
+    ensures ok { IfOk result (λ facts. HasProblem body facts.problem facts.labels) }
     ensures err { IfErr result (IsBodyError body) }
 {
     match problem_of(alloc, &body) {

@@ -1,10 +1,17 @@
 -- What the program tells where it gives no report.
 use Rattle.std.proofs.Common.{◌≡◌, ◌⊎◌, ℕ, List, [], Option, length, take, ⊎_elim, ap, sym, subst, arith}
 use Rattle.std.specs.Io.KnownBytes.{Appends}
+use Rattle.nll_reading.specs.declared.error.TextKind.{TextKind}
+use Rattle.nll_reading.specs.declared.error.TextKind.TheVariants as kind
+use Rattle.nll_body_problem.specs.declared.error.RuleError.TheVariants as rule
+use Rattle.nll_answer.specs.Texts.{IsTextFault, IsAnswerError}
+use Rattle.nll_answer.specs.declared.error.AnswerError.{AnswerError}
+use Rattle.nll_answer.specs.declared.error.AnswerError.TheVariants as answer
+use Rattle.nll_report.specs.Refusal.{refusal_at, refusal_of}
 use Rattle.nll_report.specs.declared.messages.Refusal.{Refusal}
 use Rattle.nll_report.specs.declared.messages.Refusal.TheVariants.{Usage, Memory}
 use Rattle.nll_command_line.specs.CommandLine.{IsNoPlainLine}
-use Rattle.nll_report.specs.Run.{Holds, Lacks, Words, IsBegun, IsRefused, IsRun}
+use Rattle.nll_report.specs.Run.{Holds, Lacks, Words, IsBegun, IsFileFault, IsFileRefused, IsRefused, IsRun}
 use Rattle.nll_report.specs.Sink.{IsCut, MayRefuse}
 
 -- no words at all are no plain line
@@ -36,3 +43,37 @@ begun_by holds words status room old new bytes slice written run is begun refuse
   where
     cut_slice : IsCut room old new slice
     cut_slice = record { count = written; begun = begun; refused = refused }
+
+-- ---- a text that has no answer
+
+module _ (holds : Holds) (lacks : Lacks) (file text : List ℕ) (held : holds file text) where
+  a_fault : (line : ℕ) (k : TextKind) → IsTextFault text line k → IsFileFault holds file line k
+  a_fault line k found = record { text = text; held = held; fault = found }
+
+  -- the refusal of a text for its fault
+  fault_told : (line : ℕ) (k : TextKind) → IsTextFault text line k → IsFileRefused holds lacks file (refusal_at line k)
+  fault_told line kind.NotUtf8 found = a_fault line kind.NotUtf8 found
+  fault_told line kind.Header found = a_fault line kind.Header found
+  fault_told line kind.Syntax found = a_fault line kind.Syntax found
+  fault_told line kind.Unknown found = a_fault line kind.Unknown found
+  fault_told line kind.Duplicate found = a_fault line kind.Duplicate found
+  fault_told line kind.Range found = a_fault line kind.Range found
+  fault_told line kind.Shape found = a_fault line kind.Shape found
+  fault_told line kind.TypeSize found = a_fault line kind.TypeSize found
+  fault_told line (kind.Limit counted) found = a_fault line (kind.Limit counted) found
+  fault_told line kind.End found = a_fault line kind.End found
+  fault_told line kind.Memory found = tt
+
+  -- the refusal of a text for its error
+  error_told : (e : AnswerError) → IsAnswerError text e → IsFileRefused holds lacks file (refusal_of e)
+  error_told (answer.Text error) h = fault_told error.line error.kind h
+  error_told (answer.Rule (rule.Limit counted)) h = record { text = text; held = held; over = h }
+  error_told (answer.Rule rule.Memory) h = tt
+  error_told answer.Memory h = tt
+
+-- the same, of a text by its path and its bytes
+pub answer_told : (holds : Holds) (lacks : Lacks) (path file slice text : List ℕ) (e : AnswerError) (refusal : Refusal)
+    → path ≡ file → slice ≡ text → refusal ≡ refusal_of e → holds path text → IsAnswerError slice e → IsFileRefused holds lacks file refusal
+answer_told holds lacks path file slice text e refusal at bytes is held h =
+    subst (IsFileRefused holds lacks file) (sym is)
+    (error_told holds lacks file text (subst (λ (p : List ℕ). holds p text) at held) e (subst (λ (t : List ℕ). IsAnswerError t e) bytes h))

@@ -14,7 +14,11 @@ mod writing;
 pub use disk::Disk;
 pub use error::{Unread, Unwritten};
 pub use messages::{Refusal, USAGE};
-pub use nll_answer::{AnswerError, Command, answer, faults_text, values_text};
+pub use nll_answer::{
+    AnswerError, Command, answer, faults_text, meaning, no_text_has_both, one_text_fault,
+    one_text_meaning, values_text,
+};
+pub use nll_body_problem::RuleError;
 pub use nll_command_line::{Line, LineError, Task, line};
 pub use program::{Texts, drive, run_in_process};
 pub use sink::Sink;

@@ -1,5 +1,4 @@
-use Rattle.std.proofs.Common.{◌≡◌, ℕ, ◌+◌, ◌-◌, ◌≤◌, ◌∷◌, ◌++◌, ap, ◌∙◌, arith}
-use Rattle.std.specs.List.{flat_map, range_with_len}
+use Rattle.std.proofs.Common.{◌∷◌, arith}
 use Rattle.nll_answer.specs.Report.{element_text}
 use Rattle.nll_answer.proofs.ReportLemmas.{run_more}
 use Rattle.nll_answer.proofs.values_report.push_run.Goals as goal

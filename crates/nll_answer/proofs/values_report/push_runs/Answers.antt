@@ -1,4 +1,4 @@
-use Rattle.std.proofs.Common.{◌∷◌, refl}
+use Rattle.std.proofs.Common.{◌∷◌}
 use Rattle.nll_answer.specs.Report.{element_text}
 use Rattle.nll_answer.proofs.ReportLemmas.{runs_more}
 use Rattle.nll_answer.proofs.values_report.push_runs.Goals as goal
