@@ -1,0 +1,10 @@
+//! Worked MIR texts, for the crates of tests that stand on them.
+//!
+//! Reading order: `lines`, `texts`.
+#![tactic(auto)]
+
+mod lines;
+mod texts;
+
+pub use lines::text_of;
+pub use texts::{CALLED, DROPPED, MOVED, REBORROW, RETURNED, TWO_BORROWS};
