@@ -35,6 +35,7 @@ pub fn answer_to(alloc: Global, command: Command, text: &[u8]) -> Result<String,
     match answer(alloc, command, text) {
         Ok((report, status)) => shown(alloc, report.as_slice(), status),
         Err(AnswerError::Text(error)) => format!(in alloc; "line {}: {:?}", error.line, error.kind),
+        Err(AnswerError::Rule(error)) => format!(in alloc; "{error:?}"),
         Err(AnswerError::Memory) => Err(AllocError),
     }
 }

@@ -16,6 +16,8 @@ pub use page::Page;
 #[cfg(test)]
 mod answers;
 #[cfg(test)]
+mod bodies;
+#[cfg(test)]
 mod comparing;
 #[cfg(test)]
 mod fakes;

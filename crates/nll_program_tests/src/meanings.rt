@@ -3,6 +3,7 @@ use super::comparing::compare;
 use super::reading::read;
 use nll_facts::few_tokens;
 use nll_mir::{PointName, not_both, one_meaning, read_facts, some_meaning_or_fault};
+use nll_report::{no_text_has_both, one_text_fault, one_text_meaning};
 use std::alloc::Global;
 
 // Texts, and what they say.
@@ -92,6 +93,9 @@ fn states_laws(_rt: HostRuntime) {
     not_both();
     some_meaning_or_fault();
     few_tokens();
+    one_text_fault();
+    one_text_meaning();
+    no_text_has_both();
 }
 
 // How a point of a text is written.

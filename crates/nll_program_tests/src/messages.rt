@@ -2,7 +2,7 @@
 use super::comparing::compare;
 use nll_core::Kind;
 use nll_mir::{TextError, TextKind};
-use nll_report::{AnswerError, LineError, Refusal, Unread};
+use nll_report::{AnswerError, LineError, Refusal, RuleError, Unread};
 use std::alloc::{AllocError, Global};
 use std::str;
 
@@ -63,6 +63,18 @@ fn prints_a_want_of_memory(rt: HostRuntime) {
     compare(&rt, "answering", answering, "3, nllc: memory");
     let reading = fault_told(rt.alloc(), 0, TextKind::Memory);
     compare(&rt, "reading", reading, "3, nllc: memory");
+    let ruling = told(rt.alloc(), AnswerError::Rule(RuleError::Memory));
+    compare(&rt, "ruling", ruling, "3, nllc: memory");
+}
+
+// A limit of a body has no line.
+#[test]
+fn prints_a_limit(rt: HostRuntime) {
+    let told = told(
+        rt.alloc(),
+        AnswerError::Rule(RuleError::Limit(Kind::Constraints)),
+    );
+    compare(&rt, "a body", told, "2, nllc: limit constraints");
 }
 
 // The line of a refusal, as it is printed.

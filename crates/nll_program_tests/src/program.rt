@@ -108,20 +108,24 @@ fn prints_help(rt: HostRuntime) -> Result<(), AllocError> {
     Ok(())
 }
 
-// What the program does with words over one text at the path `sheet`, and streams of 1,024 bytes.
-fn run_on_pages<R: AllocGlobal>(rt: &R, words: &str) -> Result<String, AllocError> {
+/// What the program does with words over a text at the path `sheet`, and streams of 1,024 bytes.
+pub fn run_on<R: AllocGlobal>(rt: &R, words: &str, text: &[u8]) -> Result<String, AllocError> {
     let words = words_of(rt.alloc(), words)?;
     let sheet = Sheet {
         alloc: rt.alloc(),
         path: "sheet",
-        text: b"nll-facts 1\npoints 2\nuniversal 'a\nreturn 1\nconstraint 'a 'static 1\nend\n",
+        text,
     };
     let (mut out, mut err) = (Page::new(), Page::new());
     let status = on_pages(rt, words.as_slice(), &sheet, &mut out, &mut err);
     shown(rt, status, out.written(), err.written())
 }
 
-// Words, and what the program does with them there.
+// A text whose problem has a fault.
+const SHEET: &[u8] =
+    b"nll-facts 1\npoints 2\nuniversal 'a\nreturn 1\nconstraint 'a 'static 1\nend\n";
+
+// Words, and what the program does with them over it.
 const ON_PAGES: &[(&str, &str)] = &[
     (
         "values|sheet",
@@ -135,7 +139,7 @@ const ON_PAGES: &[(&str, &str)] = &[
 #[test]
 fn runs_over_known_texts(rt: HostRuntime) {
     for (words, want) in ON_PAGES {
-        compare(&rt, words, run_on_pages(&rt, words), want);
+        compare(&rt, words, run_on(&rt, words, SHEET), want);
     }
 }
 
