@@ -285,6 +285,31 @@ fn reference_type(
     }
 }
 
+// Puts behind the others what a value of the type of a reference to the second place that goes to
+// the first asks.
+fn ask_reference(
+    alloc: Global,
+    structs: &Structs,
+    variables: &[Ty],
+    place: &Place,
+    region: RegionId,
+    mutable: bool,
+    borrowed: &Place,
+    asked: &mut Vec<(RegionId, RegionId)>,
+) -> Result<(), Memory>
+    ensures { OnOk result (AddsPairs
+        (BothAsk (structs_of structs.now)
+        (option_map (reference region mutable)
+        (type_of (structs_of structs.now) (map tree variables.now) (path_of borrowed.now)))
+        (type_of (structs_of structs.now) (map tree variables.now) (path_of place.now)))
+        asked.old.items asked.new.items) }
+{
+    let one = reference_type(alloc, structs, variables, region, mutable, borrowed)?;
+    let other = place_type(alloc, structs, variables, place)?;
+    let told = ask_both(structs, &one, &other, asked);
+    told
+}
+
 // Puts what a reference to the second place that goes to the first asks behind the others.
 fn ask_borrow(
     alloc: Global,
@@ -301,9 +326,9 @@ fn ask_borrow(
         (borrow (path_of place.now) region mutable (path_of borrowed.now)))
         asked.old.items asked.new.items) }
 {
-    let one = reference_type(alloc, structs, variables, region, mutable, borrowed)?;
-    let other = place_type(alloc, structs, variables, place)?;
-    ask_both(structs, &one, &other, asked)?;
+    ask_reference(
+        alloc, structs, variables, place, region, mutable, borrowed, asked,
+    )?;
     let regions = rests_on(alloc, structs, variables, borrowed)?;
     ask_outlives(regions.as_slice(), region, asked)?;
     Ok(())
