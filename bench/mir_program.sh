@@ -4,10 +4,9 @@
 #
 # It is no crate of the gate. It is built in out/bench, over copies of the crates that it stands on
 # with what was built of them, so that none of these is proved again where it was proved before.
-# Stands in for nllc:
+# Stands in for nllc where finding the base elements is timed:
 #
-#   reading.sh --mir --nllc PATH
-#   bodies.sh --nllc PATH --parts "read bases"
+#   bodies.sh --nllc "$(mir_program.sh)" --parts bases
 set -eu
 here=$(cd "$(dirname "$0")" && pwd)
 root=$(dirname "$here")

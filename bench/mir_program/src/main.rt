@@ -2,7 +2,7 @@
 //!
 //! `mir_program COMMAND FILE` prints how much the text of the file declares. With `bases` it finds
 //! first where variables are live, and counts the base elements that regions get of it. A text with
-//! a fault gets the line and the status that `nllc` gives it.
+//! a fault gets a line that names it, on standard error, and the status 2; want of memory gets 3.
 #![tactic(auto)]
 
 use nll_body::Body;
