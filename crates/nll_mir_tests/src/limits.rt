@@ -80,15 +80,25 @@ fn many_blocks(rt: HostRuntime) {
     compare(&rt, "50,000 blocks", told, want);
 }
 
-// Writes a text of 2,048 blocks each of which goes on to all of them, and of a block more with this
-// line.
+// Writes a block that goes on to 2,048 blocks.
+fn write_switch(out: &mut String, block: u32) -> Result<(), AllocError> {
+    write!(out, "block bb{block}\nswitch const")?;
+    write_numbered(out, (" bb", ""), 2_048)?;
+    out.push('\n')
+}
+
+// Writes 2,048 blocks each of which goes on to all of them.
+fn write_switches(out: &mut String) -> Result<(), AllocError> {
+    for block in 0..2_048 {
+        write_switch(out, block)?;
+    }
+    Ok(())
+}
+
+// Writes a text of those blocks, and of a block more with this line.
 fn write_edges(out: &mut String, last: &str) -> Result<(), AllocError> {
     out.push_str("nll-mir 1\nlet _0: int\nblocks 2049\n")?;
-    for block in 0..2_048u32 {
-        write!(out, "block bb{block}\nswitch const")?;
-        write_numbered(out, (" bb", ""), 2_048)?;
-        out.push('\n')?;
-    }
+    write_switches(out)?;
     write!(out, "block bb2048\n{last}\nend\n")
 }
 

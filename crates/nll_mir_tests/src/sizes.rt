@@ -3,20 +3,55 @@ use super::comparing::compare;
 use super::repeating::{Repeated, read_repeated, read_written};
 use std::alloc::{AllocError, Global};
 
-// A tuple of an `int` and more.
-const TUPLE: Repeated = (
+// Tuples of an `int` and more, where a type may be written, how many more, and what is told. A
+// tuple of 4,095 parts has 4,096 nodes, which is the most.
+const TUPLES: &[(Repeated, u32, &str)] = &[
+    (VARIABLE, 4_094, "1 regions, 2 variables|bb0/0|"),
+    (VARIABLE, 4_095, "line 3: TypeSize"),
+    (FIELD, 4_094, "1 regions, 1 variables|bb0/0|"),
+    (FIELD, 4_095, "line 2: TypeSize"),
+    // With the struct there is a node more.
+    (ARGUMENT, 4_093, "1 regions, 2 variables|bb0/0|"),
+    (ARGUMENT, 4_094, "line 4: TypeSize"),
+    // That the types differ is told first.
+    (RESULT, 4_095, "line 5: Shape"),
+];
+
+const VARIABLE: Repeated = (
     "nll-mir 1\nlet _0: int\nlet _1: (int",
     ", int",
     ")\nblocks 1\nblock bb0\nstop\nend\n",
 );
 
-// A tuple of 4,095 parts has 4,096 nodes, which is the most.
+const FIELD: Repeated = (
+    "nll-mir 1\nstruct S((int",
+    ", int",
+    "))\nlet _0: int\nblocks 1\nblock bb0\nstop\nend\n",
+);
+
+const ARGUMENT: Repeated = (
+    "nll-mir 1\nstruct P<T +>(T)\nlet _0: int\nlet _1: P<(int",
+    ", int",
+    ")>\nblocks 1\nblock bb0\nstop\nend\n",
+);
+
+const RESULT: Repeated = (
+    "nll-mir 1\nlet _0: int\nblocks 1\nblock bb0\n_0 = call f(): (int",
+    ", int",
+    ") -> bb0\nend\n",
+);
+
+// Large types are taken, and larger ones refused.
 #[test]
 fn large_tuples(rt: HostRuntime) {
-    let told = read_repeated(rt.alloc(), TUPLE, 4_094);
-    compare(&rt, "4,096 nodes", told, "1 regions, 2 variables|bb0/0|");
-    let told = read_repeated(rt.alloc(), TUPLE, 4_095);
-    compare(&rt, "4,097 nodes", told, "line 3: TypeSize");
+    for (parts, count, want) in TUPLES {
+        compare(
+            &rt,
+            parts.0,
+            read_repeated(rt.alloc(), *parts, *count),
+            want,
+        );
+    }
 }
 
 // References to one another and to an `int`.

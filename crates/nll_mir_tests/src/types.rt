@@ -142,27 +142,27 @@ const FIRST: Projection = Projection::Field(0);
 const SECOND: Projection = Projection::Field(1);
 
 // Places, and the regions of their types.
-const PLACES: &[(u32, &[Projection], &str)] = &[
-    (0, &[], ""),
-    (1, &[], " 1 2"),
-    (1, &[DEREF], " 2"),
-    (1, &[DEREF, DEREF], ""),
-    (2, &[], " 3"),
-    (2, &[FIRST], ""),
-    (2, &[SECOND], " 3"),
-    (2, &[SECOND, FIRST], " 3"),
-    (2, &[SECOND, FIRST, DEREF], ""),
+const PLACES: &[(&str, u32, &[Projection], &str)] = &[
+    ("_0", 0, &[], ""),
+    ("_1", 1, &[], " 1 2"),
+    ("_1.*", 1, &[DEREF], " 2"),
+    ("_1.*.*", 1, &[DEREF, DEREF], ""),
+    ("_2", 2, &[], " 3"),
+    ("_2.0", 2, &[FIRST], ""),
+    ("_2.1", 2, &[SECOND], " 3"),
+    ("_2.1.0", 2, &[SECOND, FIRST], " 3"),
+    ("_2.1.0.*", 2, &[SECOND, FIRST, DEREF], ""),
     // There is no such place.
-    (1, &[FIRST], " none"),
-    (2, &[SECOND, SECOND], " none"),
-    (3, &[], " none"),
+    ("_1.0", 1, &[FIRST], " none"),
+    ("_2.1.1", 2, &[SECOND, SECOND], " none"),
+    ("_3", 3, &[], " none"),
 ];
 
 // The type of a place in a variable is that of what is taken of it.
 #[test]
 fn places_have_types(rt: HostRuntime) {
-    for (variable, projections, want) in PLACES {
+    for (place, variable, projections, want) in PLACES {
         let told = told_of_place(rt.alloc(), *variable, projections);
-        compare(&rt, want, told, want);
+        compare(&rt, place, told, want);
     }
 }
