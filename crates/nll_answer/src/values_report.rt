@@ -31,12 +31,39 @@ pub fn values_text(
     ensures { IfOk result (λ bytes.
         IsValuesReport problem.now labels.now (IsHeld values.now) bytes.items) }
 {
-    let mut out = Vec::new(alloc);
     let points = problem.points();
+    let mut out = Vec::with_capacity(alloc, room_for(labels, values, problem.regions()))?;
     for number in 0..problem.regions() {
         push_line(&mut out, labels, values, points, RegionId(number))?;
     }
     Ok(out)
+}
+
+// Bytes that reports mostly have room in, so that it is taken once; only memory hangs on it.
+fn room_for(labels: &Labels, values: &Values, regions: u32) -> usize
+    requires values { regions ≤ length values.now }
+    requires named { regions ≤ length labels.now.names }
+{
+    let mut room = 0usize;
+    for number in 0..regions {
+        let region = RegionId(number);
+        // A point has a space and seven digits at most.
+        let elements = count(values.runs(region)).saturating_mul(8);
+        let name = labels.region(region).len().saturating_add(3);
+        room = room.saturating_add(name).saturating_add(elements);
+    }
+    room
+}
+
+// How many numbers runs have.
+fn count(runs: &[Run]) -> usize
+    requires { (k : ℕ) → k < length runs.now → first_of runs.now k ≤ last_of runs.now k }
+{
+    let mut count = 0usize;
+    for run in runs {
+        count = count.saturating_add((run.last - run.first) as usize + 1);
+    }
+    count
 }
 
 // Puts the line of a region at the end.

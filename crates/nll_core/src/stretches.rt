@@ -9,28 +9,25 @@ ghost use Rattle.nll_problem.specs.Walks.{Reaches};
 ghost use Rattle.nll_sets.specs.Runs.{IsInRuns, IsWithin};
 ghost use Rattle.nll_core.specs.Lines.{IsJump};
 ghost use Rattle.nll_core.specs.Search.{IsIn};
-ghost use Rattle.nll_core.specs.Walking.{IsGap, Grows, IsJumpedTo, IsFollowed, AreOfPoints};
+ghost use Rattle.nll_core.specs.Walking.{IsFreeTo, Grows, IsJumpedTo, IsFollowed, AreOfPoints};
 ghost use Rattle.nll_core.specs.Walking.{IsLineClosed, IsSpread};
 
 use crate::lines::Lines;
 use nll_sets::{Memory, Run, RunSet};
 
-// The run from a point to another, as far as it is new to the set; None where the point isn't.
-fn gap(reached: &RunSet, point: u32, last: u32) -> Option<Run>
-    requires { point ≤ last }
-    ensures some { IfSome result (IsGap reached.now point last) }
+// The number before which, from a point on, no number is in the set; None where the point is.
+fn free_to(reached: &RunSet, point: u32) -> Option<u32>
+    requires { point < 4294967295 }
+    ensures some { IfSome result (IsFreeTo reached.now point) }
     ensures none { IfNone result (IsIn reached.now point) }
 {
     let Some(next) = reached.run_from(point) else {
-        return Some(Run { first: point, last });
+        return Some(u32::MAX);
     };
     if next.first <= point {
         return None;
     }
-    Some(Run {
-        first: point,
-        last: last.min(next.first - 1),
-    })
+    Some(next.first)
 }
 
 /// Puts the stretch from a point, where it is in `sub`, into the set and into the list: as far as
@@ -52,6 +49,10 @@ pub fn enter(
     ensures covers { OnOk result (IsIn sub.now point → IsIn reached.new point) }
 {
     let points = lines.points();
+    // Most targets of jumps are reached already.
+    let Some(limit) = free_to(reached, point) else {
+        return Ok(point + 1);
+    };
     let Some(inside) = sub.run_from(point) else {
         return Ok(points);
     };
@@ -59,8 +60,9 @@ pub fn enter(
         return Ok(inside.first);
     }
     let last = lines.line_end(point).min(inside.last);
-    let Some(run) = gap(reached, point, last) else {
-        return Ok(last + 1);
+    let run = Run {
+        first: point,
+        last: last.min(limit - 1),
     };
     reached.insert_run(run)?;
     todo.push(run)?;
