@@ -13,7 +13,7 @@ ghost use Rattle.nll_core.specs.Walking.{IsFreeTo, Grows, IsJumpedTo, IsFollowed
 ghost use Rattle.nll_core.specs.Walking.{IsLineClosed, IsSpread};
 
 use crate::lines::Lines;
-use nll_sets::{Memory, Run, RunSet};
+use nll_sets::{Element, ElementSet, Memory, Run, RunSet};
 
 // The number before which, from a point on, no number is in the set; None where the point is.
 fn free_to(reached: &RunSet, point: u32) -> Option<u32>
@@ -91,10 +91,10 @@ fn follow(
     let points = lines.points();
     let mut ends = false;
     for target in lines.jumps(run) {
-        if *target < points {
-            enter(lines, sub, reached, todo, *target)?;
-        } else {
+        if *target >= points {
             ends = true;
+        } else if !reached.has(Element(*target)) {
+            enter(lines, sub, reached, todo, *target)?;
         }
     }
     Ok(ends)

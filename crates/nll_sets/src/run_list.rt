@@ -38,25 +38,20 @@ fn search(runs: &[Run], least: u32) -> usize
     ensures before { (k : ℕ) → k < result → last_of runs.now k < least }
     ensures after { (k : ℕ) → result ≤ k → k < length runs.now → least ≤ last_of runs.now k }
 {
-    let mut bits = runs.len().ilog2();
     let mut base = 0;
-    if runs[power_if(true, bits) - 1].last < least {
-        base = runs.len() - power_if(true, bits);
+    let mut size = runs.len();
+    while size > 1 {
+        let half = size / 2;
+        if runs[base + half].last < least {
+            base += half;
+        }
+        size -= half;
     }
-    while bits > 0 {
-        bits -= 1;
-        let before = runs[base + power_if(true, bits) - 1].last < least;
-        base += power_if(before, bits);
+    if runs[base].last < least {
+        base + 1
+    } else {
+        base
     }
-    base + power_if(runs[base].last < least, 0)
-}
-
-// That power of 2, or else 0. It has no branch.
-fn power_if(is: bool, bits: u32) -> usize
-    requires { bits < 64 }
-    ensures { result ≡ (if is then 2 ^ bits else 0) }
-{
-    (is as usize) << bits
 }
 
 // The place of the first run, from one on, that begins past `most`.
