@@ -32,32 +32,33 @@ fn free_to(reached: &RunSet, point: u32) -> Option<u32>
 
 /// Puts the stretch from a point, where it is in `sub`, into the set and into the list: as far as
 /// its line and the run of `sub` go on and it is new. Answers a number up to which each number from
-/// the point on is settled.
+/// the point on is settled, and a place of a run of `sub` near which later points may lie.
 pub fn enter(
     lines: &Lines,
     sub: &RunSet,
+    near: usize,
     reached: &mut RunSet,
     todo: &mut Vec<Run>,
     point: u32,
-) -> Result<u32, Memory>
+) -> Result<(u32, usize), Memory>
     requires point { point < lines.now.points }
     requires widths { lines.now.points ≤ length reached.old }
     ensures grows { OnOk result (Grows lines.now sub.now (Reaches lines.now (IsIn sub.now) point)
         reached.old reached.new todo.old.items todo.new.items) }
     ensures settled { IfOk result (λ next. IsLineClosed lines.now sub.now reached.old
-        → (x : ℕ) → point ≤ x → x < next → IsIn sub.now x → IsIn reached.new x) }
+        → (x : ℕ) → point ≤ x → x < next.0 → IsIn sub.now x → IsIn reached.new x) }
     ensures covers { OnOk result (IsIn sub.now point → IsIn reached.new point) }
 {
     let points = lines.points();
-    // Most targets of jumps are reached already.
     let Some(limit) = free_to(reached, point) else {
-        return Ok(point + 1);
+        return Ok((point + 1, near));
     };
-    let Some(inside) = sub.run_from(point) else {
-        return Ok(points);
+    let found = sub.run_near(near, point);
+    let Some(inside) = found.1 else {
+        return Ok((points, found.0));
     };
     if inside.first > point {
-        return Ok(inside.first);
+        return Ok((inside.first, found.0));
     }
     let last = lines.line_end(point).min(inside.last);
     let run = Run {
@@ -66,7 +67,7 @@ pub fn enter(
     };
     reached.insert_run(run)?;
     todo.push(run)?;
-    Ok(last + 1)
+    Ok((last + 1, found.0))
 }
 
 // Enters the targets of the jumps from the points of a run. Answers whether one of these is a
@@ -91,10 +92,11 @@ fn follow(
     let points = lines.points();
     let mut ends = false;
     for target in lines.jumps(run) {
+        // Most targets are reached already.
         if *target >= points {
             ends = true;
         } else if !reached.has(Element(*target)) {
-            enter(lines, sub, reached, todo, *target)?;
+            enter(lines, sub, 0, reached, todo, *target)?;
         }
     }
     Ok(ends)

@@ -163,3 +163,32 @@ touches_some runs run at t (x, (k, l, a, b), c, d) = ⊎_elim
 -- a run whose numbers are there already
 pub joins_none : (old : List Run) (run : Run) → AreRuns old → ((x : ℕ) → run.first ≤ x → x ≤ run.last → IsInRuns old x) → Joins old old run
 joins_none old run r there = record { runs = r; each = λ x. (inl, ⊎_elim (λ h. h) (λ own. there x own.0 own.1)) }
+
+-- ---- a search by halves
+
+-- of a window of twice so many runs one half is left
+pub halved : (runs : List Run) → AreRuns runs → (least base half step next : ℕ) → 0 < half → base + half * 2 ≤ length runs
+    → ((k : ℕ) → k < base → last_of runs k < least) → ((k : ℕ) → base + half * 2 ≤ k → k < length runs → least ≤ last_of runs k)
+    → step ≡ cond (ltb (last_of runs (base + half - 1)) least) half 0 → next ≡ base + step
+    → (next + half ≤ length runs) × ((k : ℕ) → k < next → last_of runs k < least) × ((k : ℕ) → next + half ≤ k → k < length runs → least ≤ last_of runs k)
+halved runs r least base half step next some window before after is at = ⊎_elim
+    (λ less.
+    let whole : step ≡ half = is ∙ ap (λ b. cond b half 0) (lt-ltb (last_of runs (base + half - 1)) least less) in (
+      omega (arith, at, whole, window),
+      λ k h. omega (arith, less, upto k (base + half - 1) (omega (arith, h, at, whole)) (omega (arith, some, window))),
+      λ k h l. after k (omega (arith, h, at, whole)) l,
+    ))
+    (λ more.
+    let none : step ≡ 0 = is ∙ ap (λ b. cond b half 0) (le-ltb (last_of runs (base + half - 1)) least more) in (
+      omega (arith, at, none, window),
+      λ k h. before k (omega (arith, h, at, none)),
+      λ k h l. omega (arith, more, upto (base + half - 1) k (omega (arith, h, at, none)) l),
+    ))
+    (cases_lt (last_of runs (base + half - 1)) least)
+  where
+    -- the runs end one after another
+    upto : (j k : ℕ) → j ≤ k → k < length runs → last_of runs j ≤ last_of runs k
+    upto j k order within = ⊎_elim
+        (λ same. omega (arith, ap (last_of runs) same))
+        (λ other. omega (arith, r.apart j k (omega (arith, order, other)) within, r.proper k within))
+        (cases_eq j k)

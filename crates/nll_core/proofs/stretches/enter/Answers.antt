@@ -11,7 +11,7 @@ grows : (c : In_ok-push) → Grows c.args.lines.now c.args.sub.now (Reaches c.ar
 grows c =
     let graph = c.args.lines.now in
     let run : Run = record { first = c.args.point; last = c.min.result } in
-    let s = stretch_of graph c.args.sub.now c.args.reached.now c.args.point c.line_end.result c.in-Some.limit c.min-last.result c.in-Some-run_from.inside run c.line_end.ensures c.in-Some-run_from.ensures.some (omega (arith, c.if-inside-point.false)) c.in-Some.ensures.some
+    let s = stretch_of graph c.args.sub.now c.args.reached.now c.args.point c.line_end.result c.in-Some.limit c.min-last.result c.in-Some-1₀.inside run c.line_end.ensures (rw c.in-Some-1₀.is at c.run_near-found.ensures.some) (omega (arith, c.if-inside-point.false)) c.in-Some.ensures.some
     c.min-last.ensures refl c.min.ensures (omega (arith, c.points-points.ensures.sound.point_limit, c.points-points.ensures.value))
     in
     subst (λ (items : List Run). Grows graph c.args.sub.now (Reaches graph (IsIn c.args.sub.now) c.args.point) c.args.reached.now c.insert_run.new.self c.args.todo.now.items items) (sym c.in_ok-push.ensures.items)
@@ -22,7 +22,7 @@ returns-clause-grows c = grows (goal.at.returns-clause-grows c).In_ok-push
 
 pub returns-clause-settled : goal.returns-clause-settled
 returns-clause-settled c = λ closed x a b in_sub.
-    let some = c.in-Some-run_from.ensures.some in
+    let some = rw c.in-Some-1₀.is at c.run_near-found.ensures.some in
     let d = (goal.at.returns-clause-settled c).In_ok-push in
     settled_entry c.args.lines.now c.args.sub.now c.insert_run.new.self c.args.point c.min-last.result ((grows d).closed closed)
     (c.in_ok-insert_run.ensures.ok.filled c.args.point (omega arith) (omega (arith, c.min.ensures, c.min-last.ensures, c.in-Some.ensures.some.above, c.line_end.ensures.above, some.reach)))
