@@ -36,6 +36,26 @@ impl Runs {
         self.0.get(self.ends_from(e)).copied()
     }
 
+    /// Whether the run at a place is the first one that ends at `least` or later.
+    #[inline]
+    fn is_first(&self, at: usize, least: u32) -> bool {
+        let runs = &self.0;
+        at < runs.len() && runs[at].last >= least && (at == 0 || runs[at - 1].last < least)
+    }
+
+    /// The same as `run_from`, with its place, which may be the one that is given or the next.
+    #[inline]
+    fn run_near(&self, near: usize, e: u32) -> (usize, Option<Run>) {
+        let at = if self.is_first(near, e) {
+            near
+        } else if self.is_first(near + 1, e) {
+            near + 1
+        } else {
+            self.ends_from(e)
+        };
+        (at, self.0.get(at).copied())
+    }
+
     pub fn has(&self, e: u32) -> bool {
         self.run_from(e).is_some_and(|run| run.first <= e)
     }
@@ -123,12 +143,9 @@ struct Walk {
 }
 
 impl Walk {
-    /// Enters the stretch from a point on, where it is new.
+    /// Enters the stretch from a point of a run on, where it is new.
     #[inline]
-    fn enter(&mut self, lines: &Lines, sub: &Runs, point: u32) {
-        let Some(inside) = sub.run_from(point).filter(|run| run.first <= point) else {
-            return;
-        };
+    fn enter(&mut self, lines: &Lines, inside: Run, point: u32) {
         let most = lines.ends[point as usize].min(inside.last);
         let last = match self.reached.run_from(point) {
             Some(next) if next.first <= point => return,
@@ -145,14 +162,17 @@ impl Walk {
         let points = lines.ends.len() as u32;
         self.reached.0.clear();
         let mut place = 0;
+        let mut near = 0;
         while place < pair.len() {
             let point = pair[place].at;
-            let Some(run) = sub.run_from(point) else {
+            let (at, found) = sub.run_near(near, point);
+            let Some(run) = found else {
                 break;
             };
+            near = at;
             let mut next = run.first;
             if run.first <= point {
-                self.enter(lines, sub, point);
+                self.enter(lines, run, point);
                 next = lines.ends[point as usize].min(run.last) + 1;
             }
             place += 1;
@@ -163,10 +183,12 @@ impl Walk {
         let mut returned = false;
         while let Some(run) = self.todo.pop() {
             for &target in lines.jumps(run) {
-                if target < points {
-                    self.enter(lines, sub, target);
-                } else {
+                if target >= points {
                     returned = true;
+                } else if !self.reached.has(target) {
+                    if let Some(inside) = sub.run_from(target).filter(|run| run.first <= target) {
+                        self.enter(lines, inside, target);
+                    }
                 }
             }
         }

@@ -1,5 +1,5 @@
 -- A walk by stretches of lines: what it adds, step after step, and what it has reached at its end.
-use Rattle.std.proofs.Common.{◌≡◌, ◌⊎◌, ◌↔◌, ℕ, ◌+◌, ◌-◌, ◌<◌, ◌≤◌, Bool, true, false, not, cond, ◌||◌, List, [], ◌∷◌, ◌++◌, Contains, length, get_or, refl, sym, ap, ◌∙◌, subst, inl, inr, ⊎_elim, arith, zero, suc, length-append}
+use Rattle.std.proofs.Common.{◌≡◌, ◌⊎◌, ◌↔◌, ℕ, ◌+◌, ◌-◌, ◌<◌, ◌≤◌, Bool, true, false, not, cond, min, ◌||◌, List, [], ◌∷◌, ◌++◌, Contains, length, get_or, refl, sym, ap, ◌∙◌, subst, inl, inr, ⊎_elim, arith, zero, suc, length-append}
 use Rattle.std.proofs.lemmas.Bool.{cases_lt, cases_eq, false≢true, true≢false}
 use Rattle.std.proofs.lemmas.List.{get_or_append_left, get_or_at, get_or_default}
 use Rattle.std.proofs.lemmas.List.Sums.{sum_by-cons}
@@ -9,7 +9,7 @@ use Rattle.nll_problem.specs.Walks.{Reaches}
 use Rattle.nll_core.specs.Search.{missing, IsIn}
 use Rattle.nll_sets.specs.Runs.{no_run, IsInRuns, IsWithin, IsRunFrom, Fills}
 use Rattle.nll_core.specs.Lines.{IsJump, IsLineEnd}
-use Rattle.nll_core.specs.Walking.{IsLineClosed, IsStretch, IsGap, Grows, IsJumpedTo, IsFollowed, AreOfPoints, IsLedTo, IsSpread, FillsFrom, constraint_at, no_constraint, PointsAscend, IsLedFrom, AreLedFrom}
+use Rattle.nll_core.specs.Walking.{IsLineClosed, IsStretch, IsFreeTo, Grows, IsJumpedTo, IsFollowed, AreOfPoints, IsLedTo, IsSpread, FillsFrom, constraint_at, no_constraint, PointsAscend, IsLedFrom, AreLedFrom}
 use Rattle.nll_sets.specs.declared.run.Run.{Run}
 use Rattle.nll_problem.specs.declared.constraint.Constraint.{Constraint}
 use Rattle.nll_problem.proofs.WalkLemmas.{reaches_first, reaches_more, reaches_starts, reaches_carries, reaches_inside}
@@ -125,21 +125,25 @@ module _ (g : Graph) (sub : List Bool) where
       subst (Reaches g (IsIn sub) p) same (reaches_more g (IsIn sub) p (p + k) (p + k + 1) before (inl (line (p + k) (omega arith) (omega arith))) (inside (p + k + 1) (omega arith) (omega arith)))
 
   -- up to where a line, a run of `sub` and what is new go on, there is a stretch
-  pub stretch_of : (reached : List Bool) (point e last : ℕ) (inside run : Run) → IsLineEnd g point e → IsRunFrom sub point inside → inside.first ≤ point → last ≤ e → last ≤ inside.last → (last ≡ e) ⊎ (last ≡ inside.last) → IsGap reached point last run → IsStretch g sub reached point run
-  stretch_of reached point e last inside run line from before low high either gap = record {
-    first = gap.first;
-    proper = gap.proper;
-    points = omega (arith, gap.most, low, line.point);
-    inside = λ x a b. from.all x (omega (arith, a, before)) (omega (arith, b, gap.most, high));
-    line = λ x a b. line.line x a (omega (arith, b, gap.most, low));
-    new = gap.new point (omega arith) gap.proper;
+  pub stretch_of : (reached : List Bool) (point e limit last : ℕ) (inside run : Run) → IsLineEnd g point e → IsRunFrom sub point inside → inside.first ≤ point → IsFreeTo reached point limit
+      → last ≡ min e inside.last → run.first ≡ point → run.last ≡ min last (limit - 1) → g.points < 4294967295 → IsStretch g sub reached point run
+  stretch_of reached point e limit last inside run line from before free last_is first_is end_is few = record {
+    first = first_is;
+    proper = omega (arith, end_is, last_is, free.above, line.above, from.reach);
+    points = omega (arith, end_is, last_is, line.point);
+    inside = λ x a b. from.all x (omega (arith, a, before)) (omega (arith, b, end_is, last_is));
+    line = λ x a b. line.line x a (omega (arith, b, end_is, last_is));
+    new = free.new point (omega arith) free.above;
     closing = λ next in_sub. ⊎_elim
-        (λ here. ⊎_elim
-        (λ ends. absurd (line.last (subst (λ y. IsNext g y (y + 1)) (here ∙ ends) next)))
-        (λ ends. absurd (false≢true (sym from.end ∙ subst (λ y. IsIn sub (y + 1)) (here ∙ ends) in_sub)))
-        either)
-        (λ more. more)
-        gap.closing;
+        (λ early. ⊎_elim
+        (λ more. let here : limit ≡ run.last + 1 = omega (arith, early, end_is, free.above) in subst (IsIn reached) here more)
+        (λ most. absurd (omega (arith, most, early, last_is, line.point, few)))
+        free.closing)
+        (λ late. ⊎_elim
+        (λ low. let ends : run.last ≡ e = omega (arith, low, late, end_is, last_is) in absurd (line.last (subst (λ y. IsNext g y (y + 1)) ends next)))
+        (λ high. let ends : run.last ≡ inside.last = omega (arith, high, late, end_is, last_is) in absurd (false≢true (sym from.end ∙ subst (λ y. IsIn sub (y + 1)) ends in_sub)))
+        (cases_lt e inside.last))
+        (cases_lt (limit - 1) last);
   }
 
   pub grows_stretch : (old new : List Bool) (before : List Run) (point : ℕ) (run : Run) → IsStretch g sub old point run → Fills old new run → Grows g sub (Reaches g (IsIn sub) point) old new before (before ++ run ∷ [])

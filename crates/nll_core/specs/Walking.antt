@@ -31,13 +31,11 @@ pub record IsStretch (g : Graph) (sub reached : List Bool) (point : ℕ) (run : 
   pub closing :
       IsNext g run.last (run.last + 1) → IsIn sub (run.last + 1) → IsIn reached (run.last + 1)
 
--- The run goes from the point up to `last`, or up to where the set goes on; the set has none of it.
-pub record IsGap (reached : List Bool) (point last : ℕ) (run : Run) : Type 0 where
-  pub first : run.first ≡ point
-  pub proper : point ≤ run.last
-  pub most : run.last ≤ last
-  pub new : (x : ℕ) → point ≤ x → x ≤ run.last → flag reached x ≡ false
-  pub closing : (run.last ≡ last) ⊎ IsIn reached (run.last + 1)
+-- From the point on the set has no number below the limit, and goes on there if that is a point.
+pub record IsFreeTo (reached : List Bool) (point limit : ℕ) : Type 0 where
+  pub above : point < limit
+  pub new : (x : ℕ) → point ≤ x → x < limit → flag reached x ≡ false
+  pub closing : IsIn reached limit ⊎ (limit ≡ 4294967295)
 
 -- the runs of the list are of points
 abbrev pub AreOfPoints : Graph → List Run → Type 0

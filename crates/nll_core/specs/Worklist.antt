@@ -49,6 +49,15 @@ pub record Turns (q : Problem) (old new : List (List Bool)) (after : List Bool) 
   pub width : length after ≡ q.regions
   pub tracked : IsTracked q new after
 
+-- Values on the way to the least ones: they grew towards the solutions, and each constraint is met
+-- or its `sub` marked.
+pub record IsOnTheWay (q : Problem) (old new : List (List Bool)) (marks : List Bool) : Type 0 where
+  pub shaped : IsShaped q new
+  pub kept : (r e : ℕ) → IsHeld old r e → IsHeld new r e
+  pub below : StaysBelow q old new
+  pub width : length marks ≡ q.regions
+  pub tracked : IsTracked q new marks
+
 -- the constraints of the list are constraints of the problem, all of one pair of regions
 abbrev pub AreOfPair : Problem → ℕ → ℕ → List Constraint → Type 0
 AreOfPair q sub sup pair =

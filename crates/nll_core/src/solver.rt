@@ -99,37 +99,9 @@ fn visit_all(
     let order = order_of(alloc, problem, index)?;
     let mut marks = vec![in alloc; true; problem.regions() as usize]?;
     let mut walk = Walk::new(alloc, problem.points() + problem.universals())?;
-    while sweep(problem, lines, index, &order, values, &mut marks, &mut walk)? {}
+    while sweep_backwards(problem, lines, index, &order, values, &mut marks, &mut walk)? {}
+    while sweep_all(problem, lines, index, values, &mut marks, &mut walk)? {}
     Ok(())
-}
-
-// Visits each marked region, in an order and then by number. Answers whether something was new.
-fn sweep(
-    problem: &Problem,
-    lines: &Lines,
-    index: &ConstraintIndex,
-    order: &[u32],
-    values: &mut Values,
-    marks: &mut Vec<bool>,
-    walk: &mut Walk,
-) -> Result<bool, Memory>
-    requires shaped { IsShaped problem.now values.old }
-    requires lines { lines.now ≡ problem.now.graph }
-    requires index { SameSet index.now problem.now.constraints }
-    requires order { AreRegions problem.now order.now }
-    requires walk { length walk.old.reached ≡ element_count lines.now }
-    requires width { length marks.old.items ≡ problem.now.regions }
-    requires tracked { IsTracked problem.now values.old marks.old.items }
-    ensures turns { IfOk result
-        (Turns problem.now values.old values.new marks.new.items) }
-    ensures walk { OnOk result (length walk.new.reached ≡ element_count lines.now) }
-    ensures clean { IfOk result (λ changed. changed ≡ false
-        → (r : ℕ) → r < problem.now.regions → flag marks.new.items r ≡ false) }
-{
-    let mut changed = sweep_backwards(problem, lines, index, order, values, marks, walk)?;
-    let new = sweep_all(problem, lines, index, values, marks, walk)?;
-    changed |= new;
-    Ok(changed)
 }
 
 // Visits each marked region of a list, the last one first. Answers whether something was new.

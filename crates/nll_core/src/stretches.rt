@@ -9,62 +9,65 @@ ghost use Rattle.nll_problem.specs.Walks.{Reaches};
 ghost use Rattle.nll_sets.specs.Runs.{IsInRuns, IsWithin};
 ghost use Rattle.nll_core.specs.Lines.{IsJump};
 ghost use Rattle.nll_core.specs.Search.{IsIn};
-ghost use Rattle.nll_core.specs.Walking.{IsGap, Grows, IsJumpedTo, IsFollowed, AreOfPoints};
+ghost use Rattle.nll_core.specs.Walking.{IsFreeTo, Grows, IsJumpedTo, IsFollowed, AreOfPoints};
 ghost use Rattle.nll_core.specs.Walking.{IsLineClosed, IsSpread};
 
 use crate::lines::Lines;
-use nll_sets::{Memory, Run, RunSet};
+use nll_sets::{Element, ElementSet, Memory, Run, RunSet};
 
-// The run from a point to another, as far as it is new to the set; None where the point isn't.
-fn gap(reached: &RunSet, point: u32, last: u32) -> Option<Run>
-    requires { point ≤ last }
-    ensures some { IfSome result (IsGap reached.now point last) }
+// The number before which, from a point on, no number is in the set; None where the point is.
+fn free_to(reached: &RunSet, point: u32) -> Option<u32>
+    requires { point < 4294967295 }
+    ensures some { IfSome result (IsFreeTo reached.now point) }
     ensures none { IfNone result (IsIn reached.now point) }
 {
     let Some(next) = reached.run_from(point) else {
-        return Some(Run { first: point, last });
+        return Some(u32::MAX);
     };
     if next.first <= point {
         return None;
     }
-    Some(Run {
-        first: point,
-        last: last.min(next.first - 1),
-    })
+    Some(next.first)
 }
 
 /// Puts the stretch from a point, where it is in `sub`, into the set and into the list: as far as
 /// its line and the run of `sub` go on and it is new. Answers a number up to which each number from
-/// the point on is settled.
+/// the point on is settled, and a place of a run of `sub` near which later points may lie.
 pub fn enter(
     lines: &Lines,
     sub: &RunSet,
+    near: usize,
     reached: &mut RunSet,
     todo: &mut Vec<Run>,
     point: u32,
-) -> Result<u32, Memory>
+) -> Result<(u32, usize), Memory>
     requires point { point < lines.now.points }
     requires widths { lines.now.points ≤ length reached.old }
     ensures grows { OnOk result (Grows lines.now sub.now (Reaches lines.now (IsIn sub.now) point)
         reached.old reached.new todo.old.items todo.new.items) }
     ensures settled { IfOk result (λ next. IsLineClosed lines.now sub.now reached.old
-        → (x : ℕ) → point ≤ x → x < next → IsIn sub.now x → IsIn reached.new x) }
+        → (x : ℕ) → point ≤ x → x < next.0 → IsIn sub.now x → IsIn reached.new x) }
     ensures covers { OnOk result (IsIn sub.now point → IsIn reached.new point) }
 {
     let points = lines.points();
-    let Some(inside) = sub.run_from(point) else {
-        return Ok(points);
+    let Some(limit) = free_to(reached, point) else {
+        return Ok((point + 1, near));
+    };
+    let found = sub.run_near(near, point);
+    let Some(inside) = found.1 else {
+        return Ok((points, found.0));
     };
     if inside.first > point {
-        return Ok(inside.first);
+        return Ok((inside.first, found.0));
     }
     let last = lines.line_end(point).min(inside.last);
-    let Some(run) = gap(reached, point, last) else {
-        return Ok(last + 1);
+    let run = Run {
+        first: point,
+        last: last.min(limit - 1),
     };
     reached.insert_run(run)?;
     todo.push(run)?;
-    Ok(last + 1)
+    Ok((last + 1, found.0))
 }
 
 // Enters the targets of the jumps from the points of a run. Answers whether one of these is a
@@ -89,10 +92,11 @@ fn follow(
     let points = lines.points();
     let mut ends = false;
     for target in lines.jumps(run) {
-        if *target < points {
-            enter(lines, sub, reached, todo, *target)?;
-        } else {
+        // Most targets are reached already.
+        if *target >= points {
             ends = true;
+        } else if !reached.has(Element(*target)) {
+            enter(lines, sub, 0, reached, todo, *target)?;
         }
     }
     Ok(ends)

@@ -94,9 +94,11 @@ fn enter_all(
         → Contains pair.now c → IsIn sub.now c.at → IsIn reached.new c.at) }
 {
     let mut place = 0;
+    let mut near = 0;
     while place < pair.len() {
-        let next = enter(lines, sub, reached, todo, pair[place].at)?;
-        place = place_from(pair, place + 1, next);
+        let next = enter(lines, sub, near, reached, todo, pair[place].at)?;
+        place = place_from(pair, place + 1, next.0);
+        near = next.1;
     }
     Ok(())
 }

@@ -29,7 +29,34 @@ pub fn ends_from(runs: &[Run], least: u32) -> usize
     search(runs, least)
 }
 
-// The same, where there is a run, by halves. As many turns for each answer, and no branch in them
+/// The same. A call says where it may stand: only time hangs on it.
+pub fn ends_near(runs: &[Run], near: usize, least: u32) -> usize
+    requires { AreRuns runs.now }
+    ensures bound { result ≤ length runs.now }
+    ensures before { (k : ℕ) → k < result → last_of runs.now k < least }
+    ensures after { (k : ℕ) → result ≤ k → k < length runs.now → least ≤ last_of runs.now k }
+{
+    if is_first(runs, near, least) {
+        return near;
+    }
+    let next = near.saturating_add(1);
+    if is_first(runs, next, least) {
+        return next;
+    }
+    ends_from(runs, least)
+}
+
+// Whether the run at a place is the first one that ends at `least` or later.
+fn is_first(runs: &[Run], at: usize, least: u32) -> bool
+    requires { AreRuns runs.now }
+    ensures { result ≡ true → (at < length runs.now)
+        × ((k : ℕ) → k < at → last_of runs.now k < least)
+        × ((k : ℕ) → at ≤ k → k < length runs.now → least ≤ last_of runs.now k) }
+{
+    at < runs.len() && runs[at].last >= least && (at == 0 || runs[at - 1].last < least)
+}
+
+// The same as `ends_from`, where there is a run, by halves. As many turns for each answer, and no branch in them
 // that has to be foretold.
 fn search(runs: &[Run], least: u32) -> usize
     requires runs { AreRuns runs.now }

@@ -12,7 +12,7 @@ use crate::element_set::ElementSet;
 use crate::elements::Elements;
 use crate::error::Memory;
 use crate::run::Run;
-use crate::run_list::{ends_from, join};
+use crate::run_list::{ends_from, ends_near, join};
 use smallvec::SmallVec;
 use std::alloc::Global;
 use std::marker::Model;
@@ -141,6 +141,21 @@ impl RunSet {
             Some(runs[at])
         } else {
             None
+        }
+    }
+
+    /// The first run that ends at an element or later, and its place. A call says where it may
+    /// stand, as at the place that an earlier call told or behind it: only time hangs on it.
+    pub fn run_near(&self, near: usize, element: u32) -> (usize, Option<Run>)
+        ensures some { IfSome result.1 (IsRunFrom self.now element) }
+        ensures none { IfNone result.1 ((x : ℕ) → element ≤ x → flag self.now x ≡ false) }
+    {
+        let runs = self.runs.as_slice();
+        let at = ends_near(runs, near, element);
+        if at < runs.len() {
+            (at, Some(runs[at]))
+        } else {
+            (at, None)
         }
     }
 

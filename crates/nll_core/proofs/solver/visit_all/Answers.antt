@@ -13,16 +13,18 @@ pub loop-walk-init : goal.loop-walk-init
 loop-walk-init c =
     let d = (goal.at.loop-walk-init c).In_ok-marks in
     record {
-      shaped = c.requires.shaped;
-      kept = λ r e h. h;
-      below = λ assignment sat under. under;
-      width = ap length (all_marked d) ∙ length-replicate c.args.problem.now.regions true;
-      tracked = subst (IsTracked c.args.problem.now c.args.values.now) (sym (all_marked d)) (tracked_first c.args.problem.now c.regions.ensures.sound c.args.values.now);
+      way = record {
+        shaped = c.requires.shaped;
+        kept = λ r e h. h;
+        below = λ assignment sat under. under;
+        width = ap length (all_marked d) ∙ length-replicate c.args.problem.now.regions true;
+        tracked = subst (IsTracked c.args.problem.now c.args.values.now) (sym (all_marked d)) (tracked_first c.args.problem.now c.regions.ensures.sound c.args.values.now);
+      };
       walk = rw c.requires.lines (omega (arith, c.in_ok-walk.ensures, c.points.ensures.value, c.universals.ensures.value));
     }
 
-pub returns-clause-closed : goal.returns-clause-closed
-returns-clause-closed c = closed_clean c.args.problem.now c.regions.ensures.sound c.sweep.new.values c.sweep.new.marks.items c.in_ok-sweep.ensures.turns.tracked (c.in_ok-sweep.ensures.clean c.if-branch.false)
+pub sweep_backwards-requires-clause-order : goal.sweep_backwards-requires-clause-order
+sweep_backwards-requires-clause-order c = subst (AreRegions c.args.problem.now) (sym c.deref.ensures.value) c.in_ok-order.ensures
 
-pub sweep-requires-clause-order : goal.sweep-requires-clause-order
-sweep-requires-clause-order c = subst (AreRegions c.args.problem.now) (sym c.deref.ensures.value) c.in_ok-order.ensures
+pub returns-clause-closed : goal.returns-clause-closed
+returns-clause-closed c = closed_clean c.args.problem.now c.regions.ensures.sound c.sweep_all.new.values c.sweep_all.new.marks.items c.in_ok-sweep_all.ensures.turns.tracked (c.in_ok-sweep_all.ensures.clean c.if-branch-2.false)

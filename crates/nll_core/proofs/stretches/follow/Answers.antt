@@ -1,20 +1,24 @@
-use Rattle.std.proofs.Common.{◌≡◌, ◌≤◌, ◌<◌, get_or, arith, true, refl}
+use Rattle.std.proofs.Common.{◌≡◌, ◌≤◌, ◌<◌, get_or, arith, true, refl, sym, ◌∙◌}
+use Rattle.nll_problem.specs.Walks.{Reaches}
 use Rattle.nll_core.proofs.SearchLemmas.{contains_from, covers_contained}
 use Rattle.nll_core.specs.Search.{IsIn}
-use Rattle.nll_core.proofs.WalkingLemmas.{following_more, following_end, jump_to_ends}
+use Rattle.nll_core.proofs.WalkingLemmas.{grows_none, following_more, following_end, jump_to_ends}
 use Rattle.nll_core.proofs.stretches.follow.Goals as goal
-use Rattle.nll_core.proofs.stretches.follow.Goals.{then-target-points+in_ok-enter, else-target-points}
+use Rattle.nll_core.proofs.stretches.follow.Goals.{then-target-points, else-target-points+then-not-has+in_ok-enter, else-target-points+else-not-has}
 
 pub enter-requires-clause-widths : goal.enter-requires-clause-widths
 enter-requires-clause-widths c = omega (arith, c.loop-target.invariant.grows.width, c.requires.widths)
 
 pub loop-target-preserved : goal.loop-target-preserved
 loop-target-preserved c = elim c.if-target-points.branch [
-  | then-target-points+in_ok-enter w ↦ rw w.reached-is (rw w.todo-is (rw w.ends-is (
-      following_more _ _ c.args.run c.jumps-target-items.result.now _ _ _ _ _ _ _ c.loop-target.target-index _ refl c.loop-target-test.true (omega (arith, w.if-target-points.true, c.points-points.ensures.value)) (λ x h. (c.jumps-target-items.ensures x).0 h)
+  | then-target-points w ↦ rw w.reached-is (rw w.todo-is (rw w.ends-is (
+      following_end _ _ c.args.run c.jumps-target-items.result.now _ _ _ _ _ c.loop-target.target-index _ refl c.loop-target-test.true (omega (arith, w.if-target-points.true, c.points-points.ensures.value)) c.loop-target.invariant)))
+  | else-target-points+then-not-has+in_ok-enter w ↦ rw w.reached-is (rw w.todo-is (rw w.ends-is (
+      following_more _ _ c.args.run c.jumps-target-items.result.now _ _ _ _ _ _ _ c.loop-target.target-index _ refl c.loop-target-test.true (omega (arith, w.if-target-points.false, c.points-points.ensures.value)) (λ x h. (c.jumps-target-items.ensures x).0 h)
       (contains_from _ _ c.loop-target.target-index c.loop-target-test.true refl) c.loop-target.invariant w.in_ok-enter.ensures.grows w.in_ok-enter.ensures.covers)))
-  | else-target-points w ↦ rw w.reached-is (rw w.todo-is (rw w.ends-is (
-      following_end _ _ c.args.run c.jumps-target-items.result.now _ _ _ _ _ c.loop-target.target-index _ refl c.loop-target-test.true (omega (arith, w.if-target-points.false, c.points-points.ensures.value)) c.loop-target.invariant)))
+  | else-target-points+else-not-has w ↦ rw w.reached-is (rw w.todo-is (rw w.ends-is (
+      following_more _ _ c.args.run c.jumps-target-items.result.now _ _ _ _ _ _ _ c.loop-target.target-index _ refl c.loop-target-test.true (omega (arith, w.if-target-points.false, c.points-points.ensures.value)) (λ x h. (c.jumps-target-items.ensures x).0 h)
+      (contains_from _ _ c.loop-target.target-index c.loop-target-test.true refl) c.loop-target.invariant (grows_none _ _ (Reaches c.args.lines.now (IsIn c.args.sub.now) (get_or c.jumps-target-items.result.now c.loop-target.target-index 0)) c.loop-target.reached c.loop-target.todo.items) (λ _. sym w.has.ensures ∙ w.if-not-has.false))))
 ]
 
 pub returns-clause-covers : goal.returns-clause-covers

@@ -16,7 +16,7 @@ pub loop-place-preserved : goal.loop-place-preserved
 loop-place-preserved c =
     let place = c.loop-place.place in
     let is = ap (λ (k : Constraint). k.at) (get_or_default c.args.pair.now place c.index-pair-place.result no_constraint c.loop-place-test.true) in
-    entering_more c.args.lines.now c.args.sub.now c.args.pair.now _ _ _ _ _ _ place (get_or c.args.pair.now place c.index-pair-place.result).at c.in_ok-next.next c.place_from-place.result c.requires.ascending is c.loop-place-test.true
+    entering_more c.args.lines.now c.args.sub.now c.args.pair.now _ _ _ _ _ _ place (get_or c.args.pair.now place c.index-pair-place.result).at c.in_ok-next.next.0 c.place_from-place.result c.requires.ascending is c.loop-place-test.true
     c.loop-place.invariant c.in_ok-next.ensures.grows (c.in_ok-next.ensures.settled c.loop-place.invariant.closed) c.in_ok-next.ensures.covers
     c.place_from-place.ensures.bound c.place_from-place.ensures.before
 
