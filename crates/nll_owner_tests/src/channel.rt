@@ -92,6 +92,7 @@ impl<M: Mail> Channel<M> {
     ///
     /// # Errors
     /// - `Left`: growths were left in it.
+    #[tactic(auto, using(crate::proofs::PostingLemmas::prefix_whole))]
     pub fn settle(self) -> Result<M::Post, Stop>
         requires { M.pairs self.sender self.receiver }
         ensures ends { IfOk result (λ post. M.post_ends post ≡ M.ends self.receiver) }

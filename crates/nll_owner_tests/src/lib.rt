@@ -19,6 +19,8 @@ mod driving;
 #[cfg(test)]
 mod frontiers;
 #[cfg(test)]
+mod memory;
+#[cfg(test)]
 mod problems;
 #[cfg(test)]
 mod random;
