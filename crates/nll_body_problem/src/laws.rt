@@ -1,4 +1,5 @@
-//! What holds of the problems of bodies. Its functions do nothing: each states a law that is proved.
+//! What holds of the problems of bodies. Its functions do nothing: each states a law that is
+//! proved.
 
 ghost use Rattle.nll_problem.specs.Problem.{Problem, SameProblem};
 ghost use Rattle.nll_body.specs.Bodies.{BodyText};

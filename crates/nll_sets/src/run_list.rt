@@ -56,8 +56,8 @@ fn is_first(runs: &[Run], at: usize, least: u32) -> bool
     at < runs.len() && runs[at].last >= least && (at == 0 || runs[at - 1].last < least)
 }
 
-// The same as `ends_from`, where there is a run, by halves. As many turns for each answer, and no branch in them
-// that has to be foretold.
+// The same as `ends_from`, where there is a run, by halves. As many turns for each answer, and no
+// branch in them that has to be foretold.
 fn search(runs: &[Run], least: u32) -> usize
     requires runs { AreRuns runs.now }
     requires some { 0 < length runs.now }
