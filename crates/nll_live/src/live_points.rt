@@ -166,8 +166,8 @@ fn find_set(
     let points = body.points();
     found.clear();
     search_back(marks, variable + 1, found, body, previous, variable, list)?;
-    // The points are a few ascending runs, which this sort merges. What is put into a set at its end
-    // costs least.
+    // The points are a few ascending runs, which this sort merges. What is put into a set at its
+    // end costs least.
     found.sort()?;
     let set = set_of(alloc, points, found.as_slice())?;
     Ok(set)
