@@ -9,7 +9,10 @@ use Rattle.nll_body.specs.Bodies.{BodyText}
 use Rattle.nll_mir_text.specs.MirText.{mir, Means as IsBodyOf}
 use Rattle.nll_answer.specs.declared.error.AnswerError.{AnswerError}
 use Rattle.nll_answer.specs.declared.error.AnswerError.TheVariants.{Text, Rule, Memory}
-use Rattle.nll_answer.specs.Texts.{IsOf, HasProblem, IsErrorOf, IsBodyError, IsAnswerError}
+use Rattle.nll_body_problem.specs.BodyProblem.{IsRuleError}
+use Rattle.nll_body_problem.specs.declared.error.RuleError.{RuleError}
+use Rattle.nll_body_problem.specs.declared.error.RuleError.TheVariants as rule
+use Rattle.nll_answer.specs.Texts.{IsOf, HasProblem, error_of_body, IsErrorOf, IsBodyError, IsAnswerError}
 
 -- lists that are the same begin alike
 pub same_head : (x y : List ℕ) (xs ys : List (List ℕ)) → x ∷ xs ≡ y ∷ ys → x ≡ y
@@ -34,6 +37,14 @@ pub as_body : (text : List ℕ) (body : BodyText) (e : AnswerError) → IsBodyOf
 as_body text body (Text error) means h = absurd h
 as_body text body (Rule error) means h = (body, means, h)
 as_body text body Memory means h = tt
+
+-- the error of a body, as an answer tells it
+pub body_error : (body : BodyText) (error : RuleError) (told : AnswerError) → told ≡ error_of_body error → IsRuleError body error → IsBodyError body told
+body_error body error told is h = subst (IsBodyError body) (sym is) (as_told error h)
+  where
+    as_told : (e : RuleError) → IsRuleError body e → IsBodyError body (error_of_body e)
+    as_told (rule.Limit kind) k = k
+    as_told rule.Memory k = tt
 
 -- the labels of a body name each region of its problem
 pub named : (body : BodyText) (q : Problem) (labels : Labels) → HasProblem body q labels → length labels.names ≡ q.regions

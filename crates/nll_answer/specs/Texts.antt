@@ -13,6 +13,7 @@ use Rattle.nll_facts.specs.FactsText.{facts, Means as IsFactsOf}
 use Rattle.nll_body.specs.Bodies.{BodyText, labels_of}
 use Rattle.nll_mir_text.specs.MirText.{mir, Means as IsBodyOf}
 use Rattle.nll_body_problem.specs.BodyProblem.{IsProblemOf, HasTooMany}
+use Rattle.nll_body_problem.specs.declared.error.RuleError.{RuleError}
 use Rattle.nll_body_problem.specs.declared.error.RuleError.TheVariants as rule
 use Rattle.nll_answer.specs.declared.error.AnswerError.{AnswerError}
 use Rattle.nll_answer.specs.declared.error.AnswerError.TheVariants.{Text, Rule, Memory}
@@ -42,6 +43,11 @@ IsMeaning text problem labels =
     ⊎ ((body : BodyText) × IsBodyOf text body × HasProblem body problem labels)
 
 -- ---- why a text has no answer
+
+-- the error of an answer for that of a body: its limit, or want of memory
+abbrev pub error_of_body : RuleError → AnswerError
+error_of_body (rule.Limit kind) = Rule (rule.Limit kind)
+error_of_body rule.Memory = Memory
 
 -- the error tells that the body has too many constraints, or that a growth of memory was refused
 abbrev pub IsBodyError : BodyText → AnswerError → Type 0

@@ -29,3 +29,17 @@ impl From<Memory> for AnswerError {
         AnswerError::Memory
     }
 }
+
+impl From<RuleError> for AnswerError {
+    ghost use Rattle.std.specs.Prelude.{◌≡◌};
+    ghost use Rattle.nll_answer.specs.Texts.{error_of_body};
+
+    ghost from_gives = { λ error told. told ≡ error_of_body error };
+
+    fn from(error: RuleError) -> AnswerError {
+        match error {
+            RuleError::Limit(_) => AnswerError::Rule(error),
+            RuleError::Memory => AnswerError::Memory,
+        }
+    }
+}

@@ -7,7 +7,7 @@ ghost use Rattle.nll_answer.specs.Texts.{HasProblem, IsAnswerError, IsBodyError,
 ghost use Rattle.nll_answer.specs.Texts.{IsMeaning, IsOf};
 
 use crate::error::AnswerError;
-use nll_body_problem::{RuleError, problem_of};
+use nll_body_problem::problem_of;
 use nll_mir::{Body, Facts, TextKind, read_facts, read_mir};
 use nll_text::{is_header, next_line};
 use std::alloc::Global;
@@ -98,13 +98,9 @@ fn facts_of_body(alloc: Global, body: Body) -> Result<Facts, AnswerError>
             problem,
             labels: body.into_labels(),
         }),
-        Err(RuleError::Limit(kind)) => {
+        Err(error) => {
             drop(body);
-            Err(AnswerError::Rule(RuleError::Limit(kind)))
-        }
-        Err(RuleError::Memory) => {
-            drop(body);
-            Err(AnswerError::Memory)
+            Err(AnswerError::from(error))
         }
     }
 }
