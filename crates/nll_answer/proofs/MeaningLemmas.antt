@@ -1,9 +1,13 @@
 -- Texts of either format, and why they have no answer.
-use Rattle.std.proofs.Common.{◌≡◌, ℕ, List, ◌∷◌, length, inl, inr, sym, ap, ◌∙◌, subst}
+use Rattle.std.proofs.Common.{◌≡◌, ℕ, Bool, true, false, List, ◌∷◌, length, inl, inr, ⊎_elim, refl, sym, ap, ◌∙◌, subst}
+use Rattle.std.proofs.lemmas.Bool.{false≢true}
 use Rattle.nll_problem.specs.Problem.{Problem}
 use Rattle.nll_text.specs.Lines.{lines_of}
 use Rattle.nll_reading.specs.Labels.{Labels}
-use Rattle.nll_reading.specs.Text.{Format, IsHeader}
+use Rattle.nll_reading.specs.Text.{Format, IsHeader, IsFault, IsRefusal}
+use Rattle.nll_reading.specs.declared.error.TextError.{TextError}
+use Rattle.nll_reading.specs.declared.error.TextKind.{TextKind}
+use Rattle.nll_reading.specs.declared.error.TextKind.TheVariants as kind
 use Rattle.nll_facts.specs.FactsText.{facts}
 use Rattle.nll_body.specs.Bodies.{BodyText}
 use Rattle.nll_mir_text.specs.MirText.{mir, Means as IsBodyOf}
@@ -12,7 +16,7 @@ use Rattle.nll_answer.specs.declared.error.AnswerError.TheVariants.{Text, Rule, 
 use Rattle.nll_body_problem.specs.BodyProblem.{IsRuleError}
 use Rattle.nll_body_problem.specs.declared.error.RuleError.{RuleError}
 use Rattle.nll_body_problem.specs.declared.error.RuleError.TheVariants as rule
-use Rattle.nll_answer.specs.Texts.{IsOf, HasProblem, error_of_body, IsErrorOf, IsBodyError, IsAnswerError}
+use Rattle.nll_answer.specs.Texts.{IsOf, HasProblem, told_as, error_of_text, error_of_body, IsErrorOf, IsBodyError, IsAnswerError}
 
 -- lists that are the same begin alike
 pub same_head : (x y : List ℕ) (xs ys : List (List ℕ)) → x ∷ xs ≡ y ∷ ys → x ≡ y
@@ -37,6 +41,33 @@ pub as_body : (text : List ℕ) (body : BodyText) (e : AnswerError) → IsBodyOf
 as_body text body (Text error) means h = absurd h
 as_body text body (Rule error) means h = (body, means, h)
 as_body text body Memory means h = tt
+
+-- whether the kind is want of memory
+abbrev is_memory : TextKind → Bool
+is_memory kind.Memory = true
+is_memory other = false
+
+-- the error of a text in a format, as an answer tells it
+module _ (format : Format) (text : List ℕ) (error : TextError) (refusal : IsRefusal (IsFault format text) error) where
+  -- the fault, where memory wasn't wanted
+  fault : (error.kind ≡ kind.Memory → ⊥) → IsFault format text error.line error.kind
+  fault other = ⊎_elim (λ wanting. absurd (other (ap (λ (e : TextError). e.kind) wanting))) (λ found. found) refusal
+
+  told_in : (k : TextKind) → error.kind ≡ k → IsErrorOf format text (told_as error k)
+  told_in kind.NotUtf8 is = fault (λ memory. false≢true (ap is_memory (sym is ∙ memory)))
+  told_in kind.Header is = fault (λ memory. false≢true (ap is_memory (sym is ∙ memory)))
+  told_in kind.Syntax is = fault (λ memory. false≢true (ap is_memory (sym is ∙ memory)))
+  told_in kind.Unknown is = fault (λ memory. false≢true (ap is_memory (sym is ∙ memory)))
+  told_in kind.Duplicate is = fault (λ memory. false≢true (ap is_memory (sym is ∙ memory)))
+  told_in kind.Range is = fault (λ memory. false≢true (ap is_memory (sym is ∙ memory)))
+  told_in kind.Shape is = fault (λ memory. false≢true (ap is_memory (sym is ∙ memory)))
+  told_in kind.TypeSize is = fault (λ memory. false≢true (ap is_memory (sym is ∙ memory)))
+  told_in (kind.Limit counted) is = fault (λ memory. false≢true (ap is_memory (sym is ∙ memory)))
+  told_in kind.End is = fault (λ memory. false≢true (ap is_memory (sym is ∙ memory)))
+  told_in kind.Memory is = tt
+
+  pub text_error : (told : AnswerError) → told ≡ error_of_text error → IsErrorOf format text told
+  text_error told is = subst (IsErrorOf format text) (sym is) (told_in error.kind refl)
 
 -- the error of a body, as an answer tells it
 pub body_error : (body : BodyText) (error : RuleError) (told : AnswerError) → told ≡ error_of_body error → IsRuleError body error → IsBodyError body told

@@ -8,7 +8,9 @@ use Rattle.nll_problem.specs.declared.error.Kind.TheVariants.{Constraints}
 use Rattle.nll_text.specs.Lines.{lines_of}
 use Rattle.nll_reading.specs.Labels.{Labels}
 use Rattle.nll_reading.specs.Text.{Format, IsHeader, IsFault}
+use Rattle.nll_reading.specs.declared.error.TextError.{TextError}
 use Rattle.nll_reading.specs.declared.error.TextKind.{TextKind}
+use Rattle.nll_reading.specs.declared.error.TextKind.TheVariants as kind
 use Rattle.nll_facts.specs.FactsText.{facts, Means as IsFactsOf}
 use Rattle.nll_body.specs.Bodies.{BodyText, labels_of}
 use Rattle.nll_mir_text.specs.MirText.{mir, Means as IsBodyOf}
@@ -43,6 +45,15 @@ IsMeaning text problem labels =
     ⊎ ((body : BodyText) × IsBodyOf text body × HasProblem body problem labels)
 
 -- ---- why a text has no answer
+
+-- the error of an answer for that of a text of this kind: want of memory has no line
+abbrev pub told_as : TextError → TextKind → AnswerError
+told_as error kind.Memory = Memory
+told_as error other = Text error
+
+-- the error of an answer for that of a text
+abbrev pub error_of_text : TextError → AnswerError
+error_of_text error = told_as error error.kind
 
 -- the error of an answer for that of a body: its limit, or want of memory
 abbrev pub error_of_body : RuleError → AnswerError

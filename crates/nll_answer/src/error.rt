@@ -2,7 +2,7 @@
 
 use nll_body_problem::RuleError;
 use nll_core::Memory;
-use nll_mir::TextError;
+use nll_mir::{TextError, TextKind};
 use thiserror::Error;
 
 /// Why a text has no answer.
@@ -27,6 +27,20 @@ impl From<Memory> for AnswerError {
 
     fn from(_: Memory) -> AnswerError {
         AnswerError::Memory
+    }
+}
+
+impl From<TextError> for AnswerError {
+    ghost use Rattle.std.specs.Prelude.{◌≡◌};
+    ghost use Rattle.nll_answer.specs.Texts.{error_of_text};
+
+    ghost from_gives = { λ error told. told ≡ error_of_text error };
+
+    fn from(error: TextError) -> AnswerError {
+        match error.kind {
+            TextKind::Memory => AnswerError::Memory,
+            _ => AnswerError::Text(error),
+        }
     }
 }
 

@@ -8,7 +8,7 @@ ghost use Rattle.nll_answer.specs.Texts.{IsMeaning, IsOf};
 
 use crate::error::AnswerError;
 use nll_body_problem::problem_of;
-use nll_mir::{Body, Facts, TextKind, read_facts, read_mir};
+use nll_mir::{Body, Facts, read_facts, read_mir};
 use nll_text::{is_header, next_line};
 use std::alloc::Global;
 
@@ -67,10 +67,7 @@ fn facts_of(alloc: Global, text: &[u8]) -> Result<Facts, AnswerError>
 {
     match read_facts(alloc, text) {
         Ok(facts) => Ok(facts),
-        Err(error) => match error.kind {
-            TextKind::Memory => Err(AnswerError::Memory),
-            _ => Err(AnswerError::Text(error)),
-        },
+        Err(error) => Err(AnswerError::from(error)),
     }
 }
 
@@ -81,10 +78,7 @@ fn body_of(alloc: Global, text: &[u8]) -> Result<Body, AnswerError>
 {
     match read_mir(alloc, text) {
         Ok(body) => Ok(body),
-        Err(error) => match error.kind {
-            TextKind::Memory => Err(AnswerError::Memory),
-            _ => Err(AnswerError::Text(error)),
-        },
+        Err(error) => Err(AnswerError::from(error)),
     }
 }
 
