@@ -1,6 +1,7 @@
-use Rattle.std.proofs.Common.{◌≡◌, ℕ, List, length, map, refl, sym, arith, Bor}
+use Rattle.std.proofs.Common.{◌≡◌, ℕ, List, length, map, refl, sym, ◌∙◌, arith, Bor}
 use Rattle.nll_reading.specs.Names.{number_of}
 use Rattle.nll_types.specs.Views.{tree}
+use Rattle.nll_types.proofs.ShapingLemmas.{extends_then}
 use Rattle.nll_type_grammar.specs.TypeTexts.{written}
 use Rattle.nll_type_grammar.specs.declared.type_text.TypeNode.{TypeNode}
 use Rattle.nll_naming.specs.Naming.{meant}
@@ -27,3 +28,18 @@ returns-clause-judged c =
     t.known
     t.fit
     (rw c.in_ok-types.ensures.structs at judged)
+
+pub returns-clause-others : goal.returns-clause-others
+returns-clause-others c = refl
+
+pub returns-clause-structs : goal.returns-clause-structs
+returns-clause-structs c = c.in_ok-judged.ensures.structs ∙ c.in_ok-types.ensures.structs
+
+pub returns-clause-extends : goal.returns-clause-extends
+returns-clause-extends c = extends_then _ _ _ c.in_ok-types.ensures.extends c.in_ok-judged.ensures.extends
+
+pub returns-in_err-judged-clause-structs : goal.returns-in_err-judged-clause-structs
+returns-in_err-judged-clause-structs c = c.in_err-judged.ensures.structs ∙ c.in_ok-types.ensures.structs
+
+pub returns-in_err-judged-clause-extends : goal.returns-in_err-judged-clause-extends
+returns-in_err-judged-clause-extends c = extends_then _ _ _ c.in_ok-types.ensures.extends c.in_err-judged.ensures.extends
