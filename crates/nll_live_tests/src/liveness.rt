@@ -7,7 +7,7 @@ use std::process::Abort;
 // Texts; then for each variable the points where it is use-live, and behind `;` those where it is
 // drop-live; and the pairs of a region and a point that is one of its base elements. Points are
 // numbered in the order of their lines.
-const WORKED: &[(&str, &str)] = &[
+const ROWS: &[(&str, &str)] = &[
     (
         TWO_BORROWS,
         "_0: 0 1 2 3 4 5 6;|_1: 0;|_2: 0 1 2 3;|_3: 1 2 4 5;|(1, 1)(1, 2)(1, 4)(1, 5)",
@@ -18,10 +18,8 @@ const WORKED: &[(&str, &str)] = &[
     // The return place has a region too.
     (RETURNED, "_0: 1;|_1: 0;|(1, 1)(2, 0)"),
     (CALLED, "_0: 0 1 2;|_1: 0;|_2: 1;|(1, 0)(2, 1)"),
-];
+    // ---- a struct is dropped
 
-// Texts in which a struct is dropped.
-const DROPS: &[(&str, &str)] = &[
     // The drop doesn't need the region of a marked parameter.
     (
         "nll-mir 1|region 'w|struct W<'x + ?> drop (&'x int)|let _0: int|let _1: W<'w>|blocks 2|\
@@ -70,10 +68,8 @@ const DROPS: &[(&str, &str)] = &[
         read _2|stop|end|",
         "_0: 0 1;|_1:; 0|_2: 0 2;|(1, 0)(2, 0)(2, 2)",
     ),
-];
+    // ---- variables are used and defined
 
-// Texts in which variables are used and defined.
-const USES: &[(&str, &str)] = &[
     // Round a loop, up to the definition in front of it.
     (
         "nll-mir 1|region 'a|let _0: int|let _1: &'a int|blocks 3|block bb0|_1 = &'a _0|goto bb1|\
@@ -150,9 +146,7 @@ fn assert_told(rt: &impl Abort, alloc: Global, lines: &str, want: &str) {
 // Where variables are live, and the base elements.
 #[test]
 fn liveness_is_told(rt: HostRuntime) {
-    for rows in [WORKED, DROPS, USES] {
-        for (lines, want) in rows {
-            assert_told(&rt, rt.alloc(), lines, want);
-        }
+    for (lines, want) in ROWS {
+        assert_told(&rt, rt.alloc(), lines, want);
     }
 }

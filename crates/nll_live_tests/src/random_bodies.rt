@@ -24,48 +24,59 @@ fn number_at(seed: u32, block: u32, place: u32) -> u32 {
     mixed(seed, block.wrapping_mul(16).wrapping_add(place))
 }
 
-// Writes a statement that goes by a number, of a variable where it may be any.
-fn write_statement(out: &mut String, number: u32, variable: u32) -> Result<(), AllocError> {
-    match number % 12 {
-        0 | 1 => write!(out, "live _{variable}\n"),
-        2 => write!(out, "dead _{variable}\n"),
-        3 | 4 => write!(out, "read _{variable}\n"),
-        5 => write!(out, "_{variable} = copy _{variable}\n"),
-        6 => out.push_str("_0 = const\n"),
-        7 => out.push_str("_1 = &'a _0\n"),
-        8 => out.push_str("_4.1 = copy _1\n"),
-        9 => out.push_str("_2 = make W<'b>(copy _1)\n"),
-        10 => out.push_str("_1 = copy _4.1\n"),
-        _ => out.push_str("nop\n"),
-    }
-}
+// Statements, and terminators behind them: `#` stands for a variable, `^` and `$` for blocks.
+const STATEMENTS: [&str; 12] = [
+    "live _#",
+    "live _#",
+    "dead _#",
+    "read _#",
+    "read _#",
+    "_# = copy _#",
+    "_0 = const",
+    "_1 = &'a _0",
+    "_4.1 = copy _1",
+    "_2 = make W<'b>(copy _1)",
+    "_1 = copy _4.1",
+    "nop",
+];
 
-// Writes a terminator that goes by a number, to these blocks.
-fn write_terminator(
+const TERMINATORS: [&str; 10] = [
+    "goto bb^",
+    "goto bb^",
+    "switch copy _0 bb^ bb$",
+    "switch copy _0 bb^ bb$",
+    "drop _# -> bb^",
+    "drop _# -> bb^ unwind bb$",
+    "drop _# -> bb^ unwind bb$",
+    "_1 = call f(move _2: W<'c>): &'b int -> bb^ unwind bb$",
+    "return",
+    "stop",
+];
+
+// Writes a line of a form, with a variable and two blocks in their places.
+fn write_form(
     out: &mut String,
-    number: u32,
+    form: &str,
     variable: u32,
     (first, second): (u32, u32),
 ) -> Result<(), AllocError> {
-    match number % 10 {
-        0 | 1 => write!(out, "goto bb{first}\n"),
-        2 | 3 => write!(out, "switch copy _0 bb{first} bb{second}\n"),
-        4 => write!(out, "drop _{variable} -> bb{first}\n"),
-        5 | 6 => write!(out, "drop _{variable} -> bb{first} unwind bb{second}\n"),
-        7 => write!(
-            out,
-            "_1 = call f(move _2: W<'c>): &'b int -> bb{first} unwind bb{second}\n"
-        ),
-        8 => out.push_str("return\n"),
-        _ => out.push_str("stop\n"),
+    for sign in form.chars() {
+        match sign {
+            '#' => write!(out, "{variable}")?,
+            '^' => write!(out, "{first}")?,
+            '$' => write!(out, "{second}")?,
+            _ => out.push(sign)?,
+        }
     }
+    out.push('\n')
 }
 
 // Writes the statements of a block, at most four.
 fn write_statements(out: &mut String, seed: u32, block: u32) -> Result<(), AllocError> {
     for place in 0..number_at(seed, block, 15) % 5 {
         let number = number_at(seed, block, place);
-        write_statement(out, number, number / 16 % 6)?;
+        let form = STATEMENTS[(number % 12) as usize];
+        write_form(out, form, number / 16 % 6, (0, 0))?;
     }
     Ok(())
 }
@@ -77,8 +88,9 @@ fn write_block(out: &mut String, seed: u32, blocks: u32, block: u32) -> Result<(
     write!(out, "block bb{block}\n")?;
     write_statements(out, seed, block)?;
     let number = number_at(seed, block, 14);
+    let form = TERMINATORS[(number % 10) as usize];
     let targets = (number / 128 % blocks, number / 1024 % blocks);
-    write_terminator(out, number, number / 16 % 6, targets)
+    write_form(out, form, number / 16 % 6, targets)
 }
 
 // Writes a text of so many blocks.
@@ -91,11 +103,10 @@ fn write_body(out: &mut String, seed: u32, blocks: u32) -> Result<(), AllocError
     out.push_str("end\n")
 }
 
-// Both programs tell the same of a random body.
+// Both programs tell the same of a random body. Where memory is refused its text lacks the end.
 fn assert_alike(rt: &impl Abort, alloc: Global, seed: u32, blocks: u32) {
     let mut text = String::new(alloc);
-    let written = write_body(&mut text, seed, blocks);
-    assert!(rt; written.is_ok(), "{seed}: memory");
+    let _written = write_body(&mut text, seed, blocks);
     let told = live_by_both(alloc, text.as_bytes());
     drop(text);
     match told {
