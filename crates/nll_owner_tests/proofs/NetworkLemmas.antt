@@ -1,5 +1,5 @@
 -- Owners and the mailboxes between them: what they say once they are settled.
-use Rattle.std.proofs.Common.{◌≡◌, ◌≢◌, ◌↔◌, ◌⊎◌, inl, inr, ℕ, zero, suc, ◌+◌, ◌<◌, ◌≤◌, Bool, true, List, [], ◌∷◌, length, map, set, replicate, take, get_or, slice_get, Some, Contains, AllPairs, refl, sym, ap, ◌∙◌, subst, ⊎_elim, arith}
+use Rattle.std.proofs.Common.{◌≡◌, ◌≢◌, ◌⊎◌, inl, inr, ℕ, zero, suc, ◌+◌, ◌<◌, ◌≤◌, Bool, true, List, [], ◌∷◌, length, map, set, replicate, take, get_or, slice_get, Some, Contains, AllPairs, refl, sym, ap, ◌∙◌, subst, ⊎_elim, arith}
 use Rattle.std.proofs.lemmas.Bool.{cases_eq, cases_lt, false≢true}
 use Rattle.std.proofs.lemmas.List.{get_or-map, get_or-set_same, get_or-set_other, get_or-replicate, get_or_default, get_or_past, length-map, length-replicate, length-set}
 use Rattle.std.proofs.Math.Seq.{map-set_same}
@@ -8,10 +8,9 @@ use Rattle.std.proofs.lemmas.List.{take-append-le}
 use Rattle.std.proofs.lemmas.List.Elements.{filter-append}
 use Rattle.std.specs.List.{filter}
 use Rattle.nll_problem.specs.Problem.{Problem, IsSound as IsSoundProblem}
-use Rattle.nll_problem.specs.Solution.{Least}
-use Rattle.nll_cut.specs.Partition.{Cut, owner_of, reads}
+use Rattle.nll_cut.specs.Partition.{Cut, reads}
 use Rattle.nll_mail.specs.declared.growth.Growth.{Growth}
-use Rattle.nll_owner.specs.Logs.{IsPrefix, IsWellFormed, IsWellSupported, IsSaturated, IsCutOf, IsKnown, AreSound, AreSettled, list_of, log_of, part}
+use Rattle.nll_owner.specs.Logs.{IsPrefix, IsWellFormed, IsWellSupported, IsSaturated, IsCutOf, AreSound, AreSettled, list_of, log_of, part}
 use Rattle.nll_owner.specs.Owner.{Owner, IsSound, IsDone, first_owner, given_to, part_for, received_from}
 use Rattle.nll_owner.proofs.LogLemmas.{contains_head, contains_tail, contains_cases, filter_from}
 use Rattle.nll_owner.proofs.LawLemmas.{least_exact}

@@ -6,7 +6,7 @@ use Rattle.nll_cut.specs.Partition.{reads}
 use Rattle.nll_cut.proofs.ReadLemmas.{reads_tells}
 use Rattle.nll_mail.specs.declared.growth.Growth.{Growth}
 use Rattle.nll_owner.specs.Logs.{IsPrefix}
-use Rattle.nll_owner.specs.Owner.{Owner, IsSound, Passes, part_for, given_to, pair_count, received_from, with_growth}
+use Rattle.nll_owner.specs.Owner.{Owner, IsSound, Passes, part_for, given_to, received_from, with_growth}
 use Rattle.nll_owner.proofs.OwnerLemmas.{pair_small, filter_le}
 use Rattle.nll_owner_tests.specs.Network.{GivesAll, Hears}
 

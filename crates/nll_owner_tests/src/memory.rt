@@ -143,11 +143,7 @@ fn of_written(alloc: Global, written: Written) -> Ending {
 
 #[test]
 fn refused_owners_are_broken(rt: HostRuntime) {
-    for (written, first, second) in [
-        (REACHED, 6, 2),
-        (BY_TURNS, 5, 2),
-        (FILLED_HOLE, 7, 4),
-    ] {
+    for (written, first, second) in [(REACHED, 6, 2), (BY_TURNS, 5, 2), (FILLED_HOLE, 7, 4)] {
         let told = of_written(rt.alloc(), written);
         let is_right = told == Ending::Refused || told == Ending::Grown(first, second);
         assert!(rt; is_right, "{told:?}");

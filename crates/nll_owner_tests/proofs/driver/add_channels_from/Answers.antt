@@ -1,4 +1,4 @@
-use Rattle.std.proofs.Common.{◌≡◌, ◌++◌, [], ◌∷◌, Contains, arith}
+use Rattle.std.proofs.Common.{◌≡◌, ◌++◌, [], ◌∷◌, arith}
 use Rattle.nll_owner_tests.proofs.PairLemmas.{pair_is, before_added, before_skip, before_row, each_added}
 use Rattle.nll_owner_tests.proofs.driver.add_channels_from.Goals as goal
 use Rattle.nll_owner_tests.proofs.driver.add_channels_from.Goals.{then-to-from+in_ok-between+in_ok-push, else-to-from}

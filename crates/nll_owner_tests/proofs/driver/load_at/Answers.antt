@@ -1,4 +1,3 @@
-use Rattle.std.proofs.Common.{get_or}
 use Rattle.std.proofs.lemmas.Option.{slice_get-get_or}
 use Rattle.nll_owner_tests.proofs.NetworkLemmas.{owner_is, loaded_step}
 use Rattle.nll_owner_tests.proofs.driver.load_at.Goals as goal

@@ -1,5 +1,5 @@
-use Rattle.std.proofs.Common.{◌≡◌, ◌<◌, ◌++◌, [], ◌∷◌, refl, sym, ap, ◌∙◌, subst}
-use Rattle.nll_owner.specs.Owner.{Owner, IsSound, part_for, given_to}
+use Rattle.std.proofs.Common.{◌<◌, refl, sym, ap, ◌∙◌, subst}
+use Rattle.nll_owner.specs.Owner.{Owner}
 use Rattle.nll_owner_tests.proofs.PostingLemmas.{posting_none, posting_more, posted_all, posted_few, gives_all, fewer}
 use Rattle.nll_owner_tests.proofs.network.post_all.Goals as goal
 

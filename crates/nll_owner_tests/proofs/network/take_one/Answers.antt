@@ -1,4 +1,4 @@
-use Rattle.std.proofs.Common.{◌≡◌, ap, rules}
+use Rattle.std.proofs.Common.{ap, rules}
 use Rattle.nll_owner.specs.Owner.{Owner, Passes}
 use Rattle.nll_owner_tests.proofs.PostingLemmas.{hears_one}
 use Rattle.nll_owner_tests.proofs.network.take_one.Goals as goal
