@@ -29,7 +29,7 @@ Statuses:
   2  the words, the file or its text are refused, and standard error says why
   3  memory was refused, or standard output did not take the whole report
 
-docs/FORMATS.md says how a facts text is written, and how the reports are.
+docs/FORMATS.md says how facts texts and MIR texts are written, and how the reports are.
 With /dev/stdin for FILE the text is read from standard input.";
 
 /// Reads the program's words, without its name.
@@ -125,7 +125,7 @@ fn file_word<'a>(alloc: Global) -> Arg<'a>
     ensures local { result.global ≡ false }
 {
     Arg::new(alloc, FILE)
-        .help("The facts text, or /dev/stdin for standard input")
+        .help("The facts text or MIR text, or /dev/stdin for standard input")
         .action(ArgAction::Set)
         .required(true)
 }

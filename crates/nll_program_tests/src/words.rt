@@ -111,7 +111,7 @@ Statuses:
   2  the words, the file or its text are refused, and standard error says why
   3  memory was refused, or standard output did not take the whole report
 
-docs/FORMATS.md says how a facts text is written, and how the reports are.
+docs/FORMATS.md says how facts texts and MIR texts are written, and how the reports are.
 With /dev/stdin for FILE the text is read from standard input.
 ";
 
@@ -120,7 +120,7 @@ const VALUES_HELP: &str = "Prints the values of the regions of FILE
 Usage: nllc values <FILE>
 
 Arguments:
-  <FILE>  The facts text, or /dev/stdin for standard input
+  <FILE>  The facts text or MIR text, or /dev/stdin for standard input
 
 Options:
   -h, --help  Print help
@@ -131,7 +131,7 @@ const CHECK_HELP: &str = "Checks the universal regions of FILE
 Usage: nllc check <FILE>
 
 Arguments:
-  <FILE>  The facts text, or /dev/stdin for standard input
+  <FILE>  The facts text or MIR text, or /dev/stdin for standard input
 
 Options:
   -h, --help  Print help
