@@ -4,6 +4,7 @@ ghost use Rattle.nll_report.specs.Run.{holds_anything, lacks_anything};
 
 use crate::error::Unread;
 use crate::program::Texts;
+use nll_reading::MAX_TEXT;
 use std::alloc::Global;
 use std::fs::OpenFile;
 use std::io::Read;
@@ -12,6 +13,8 @@ use std::{fs, io};
 
 /// One byte past the longest text: that many show that a text is too long.
 const READ_LIMIT: u64 = 67_108_865;
+
+const _: () = prove!(READ_LIMIT == MAX_TEXT as u64 + 1);
 
 /// The files of the runtime.
 ///
