@@ -1,6 +1,7 @@
 -- What is judged of the statements of a body.
 -- Source: project's choice. Only private contracts cite this file.
 use Rattle.std.specs.Prelude.{◌≡◌, ℕ, Bool, true, false, ◌&&◌, List, [], ◌++◌, map, length}
+use Rattle.std.specs.Prelude.{nat_lt}
 use Rattle.std.specs.List.{list_all}
 use Rattle.std.specs.Borrow.{Bor}
 use Rattle.nll_reading.specs.Names.{number_of}
@@ -16,6 +17,7 @@ use Rattle.nll_type_grammar.specs.WrittenTypes.{Name, WrittenType}
 use Rattle.nll_type_grammar.specs.TypeTexts.{written}
 use Rattle.nll_type_grammar.specs.declared.type_text.TypeNode.{TypeNode}
 use Rattle.nll_statements.specs.Statements.{Statement, map_statement}
+use Rattle.nll_statements.specs.Effects.{place_in}
 use Rattle.nll_statements.specs.Kept.{statement_of}
 use Rattle.nll_statements.specs.declared.statement.Statement.{Statement as Kept}
 use Rattle.nll_naming.specs.Naming.{Scope, is_among, is_known, has_arguments, meant}
@@ -52,6 +54,15 @@ argument_in s a = (operand_of a.0, meant s (written a.1))
 -- both names of a bound are among these
 abbrev pub is_bound : List Name → Bor (List ℕ) × Bor (List ℕ) → Bool
 is_bound names w = is_among names w.0.now && is_among names w.1.now
+
+-- the variable of the operand's place is among the first so many
+abbrev pub operand_within : ℕ → KeptOperand → Bool
+operand_within count op =
+    list_all (λ x. nat_lt x count) (map (λ p. p.variable) (place_in (operand_of op)))
+
+-- and that of an argument's operand
+abbrev pub argument_within : ℕ → KeptOperand × List TypeNode → Bool
+argument_within count a = operand_within count a.0
 
 -- what lines say of names, structs and variables, as these tables have it
 abbrev pub declared_by : Regions → StructNames → Variables → Said

@@ -392,7 +392,7 @@ impl Reader {
         if !judged.known {
             return Err(TextKind::Unknown);
         }
-        if !targets_are_blocks(self.alloc, self.points.blocks, statement)? {
+        if !targets_are_blocks(self.points.blocks, statement) {
             return Err(TextKind::Range);
         }
         if !judged.fits {

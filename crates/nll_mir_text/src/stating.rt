@@ -47,7 +47,7 @@ pub fn judge_point(
         (declared_by regions.now structs.now variables.old) (as_written statement.now)) }
 {
     let types = judge_types(alloc, regions, structs, &mut variables.table, statement)?;
-    let declared = variables_declared(alloc, variables.types.len(), statement)?;
+    let declared = variables_declared(variables.types.len(), statement);
     let regions = regions_known(&regions.names, statement);
     let shapes = variables.shapes.as_slice();
     let table = &mut variables.table;

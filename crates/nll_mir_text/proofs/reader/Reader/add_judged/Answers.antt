@@ -10,12 +10,12 @@ use Rattle.nll_mir_text.specs.Stating.{as_written}
 use Rattle.nll_mir_text.proofs.PointLemmas.{out_of_range, unfit, too_large, too_many_points, too_many_edges, no_fault, targets_written, edges_written, point_said, ends_same, edges_more}
 use Rattle.nll_mir_text.proofs.reader.Reader.add_judged.Goals as goal
 
-pub returns-then-not-branch-clause-refused : goal.returns-then-not-branch-clause-refused
-returns-then-not-branch-clause-refused c =
+pub returns-then-not-targets_are_blocks-clause-refused : goal.returns-then-not-targets_are_blocks-clause-refused
+returns-then-not-targets_are_blocks-clause-refused c =
     let s = said_by c.args.self.now in
     let i = as_written c.args.statement.now in
     let known = sym c.requires.judged.known ∙ c.if-not-judged.false in
-    let blocks = sym (targets_written s c.args.statement.now _ c.in_ok-targets_are_blocks.ensures) ∙ c.if-not-branch.true in
+    let blocks = sym (targets_written s c.args.statement.now _ c.targets_are_blocks.ensures) ∙ c.if-not-targets_are_blocks.true in
     inr (out_of_range s i c.requires.due.order known blocks)
 
 pub returns-then-not-judged-2-clause-refused : goal.returns-then-not-judged-2-clause-refused
@@ -23,7 +23,7 @@ returns-then-not-judged-2-clause-refused c =
     let s = said_by c.args.self.now in
     let i = as_written c.args.statement.now in
     let known = sym c.requires.judged.known ∙ c.if-not-judged.false in
-    let blocks = sym (targets_written s c.args.statement.now _ c.in_ok-targets_are_blocks.ensures) ∙ c.if-not-branch.false in
+    let blocks = sym (targets_written s c.args.statement.now _ c.targets_are_blocks.ensures) ∙ c.if-not-targets_are_blocks.false in
     inr (unfit s i c.requires.due.order known blocks (sym c.requires.judged.fits ∙ c.if-not-judged-2.true))
 
 pub returns-then-not-judged-3-clause-refused : goal.returns-then-not-judged-3-clause-refused
@@ -31,7 +31,7 @@ returns-then-not-judged-3-clause-refused c =
     let s = said_by c.args.self.now in
     let i = as_written c.args.statement.now in
     let known = sym c.requires.judged.known ∙ c.if-not-judged.false in
-    let blocks = sym (targets_written s c.args.statement.now _ c.in_ok-targets_are_blocks.ensures) ∙ c.if-not-branch.false in
+    let blocks = sym (targets_written s c.args.statement.now _ c.targets_are_blocks.ensures) ∙ c.if-not-targets_are_blocks.false in
     inr (too_large s i c.requires.due.order known blocks (sym c.requires.judged.fits ∙ c.if-not-judged-2.false) (sym (c.requires.judged.fits_small c.if-not-judged-2.false) ∙ c.if-not-judged-3.true))
 
 pub returns-then-len-clause-refused : goal.returns-then-len-clause-refused
@@ -39,7 +39,7 @@ returns-then-len-clause-refused c =
     let s = said_by c.args.self.now in
     let i = as_written c.args.statement.now in
     let known = sym c.requires.judged.known ∙ c.if-not-judged.false in
-    let blocks = sym (targets_written s c.args.statement.now _ c.in_ok-targets_are_blocks.ensures) ∙ c.if-not-branch.false in
+    let blocks = sym (targets_written s c.args.statement.now _ c.targets_are_blocks.ensures) ∙ c.if-not-targets_are_blocks.false in
     let kept = c.args.self.now.points.statements in
     inr (too_many_points s i c.requires.due.order known blocks (sym c.requires.judged.fits ∙ c.if-not-judged-2.false) (sym (c.requires.judged.fits_small c.if-not-judged-2.false) ∙ c.if-not-judged-3.false)
     (omega (arith, c.len.ensures, kept.ok.0, length-map kept.items statement_kept, c.if-len.true)))
@@ -49,7 +49,7 @@ returns-then-edges-gt-MAX_EDGES-clause-refused c =
     let s = said_by c.args.self.now in
     let i = as_written c.args.statement.now in
     let known = sym c.requires.judged.known ∙ c.if-not-judged.false in
-    let blocks = sym (targets_written s c.args.statement.now _ c.in_ok-targets_are_blocks.ensures) ∙ c.if-not-branch.false in
+    let blocks = sym (targets_written s c.args.statement.now _ c.targets_are_blocks.ensures) ∙ c.if-not-targets_are_blocks.false in
     let kept = c.args.self.now.points.statements in
     inr (too_many_edges s i c.requires.due.order known blocks (sym c.requires.judged.fits ∙ c.if-not-judged-2.false) (sym (c.requires.judged.fits_small c.if-not-judged-2.false) ∙ c.if-not-judged-3.false)
     (omega (arith, c.len.ensures, kept.ok.0, length-map kept.items statement_kept, c.if-len.false))
@@ -61,7 +61,7 @@ returns-clause-taken c =
     let i = as_written c.args.statement.now in
     let r = c.requires.due.ready in
     let known = sym c.requires.judged.known ∙ c.if-not-judged.false in
-    let blocks = sym (targets_written s c.args.statement.now _ c.in_ok-targets_are_blocks.ensures) ∙ c.if-not-branch.false in
+    let blocks = sym (targets_written s c.args.statement.now _ c.targets_are_blocks.ensures) ∙ c.if-not-targets_are_blocks.false in
     let kept = c.args.self.now.points.statements in
     let e = c.in_ok-add_point.ensures in
     let few : length (map statement_kept kept.items) < most_points = omega (arith, c.len.ensures, kept.ok.0, length-map kept.items statement_kept, c.if-len.false) in
