@@ -15,7 +15,7 @@ use Rattle.nll_types.specs.Views.{tree}
 use Rattle.nll_types.specs.declared.node.Node.{Node}
 use Rattle.nll_types.specs.declared.ty.Ty.{Ty}
 use Rattle.nll_statements.specs.Statements.{Statement, map_statement}
-use Rattle.nll_statements.specs.Edges.{edge_count}
+use Rattle.nll_statements.specs.Edges.{edges_from, edge_count}
 use Rattle.nll_statements.specs.Kept.{statement_of}
 use Rattle.nll_statements.specs.declared.statement.Statement.{Statement as Kept}
 use Rattle.nll_reading.specs.Reading as reading
@@ -23,12 +23,12 @@ use Rattle.nll_reading.specs.Text.{Says, IsText, IsFault, IsHeaded, IsRefusal}
 use Rattle.nll_reading.specs.declared.error.TextError.{TextError}
 use Rattle.nll_reading.specs.declared.error.TextKind.{TextKind}
 use Rattle.nll_reading.specs.declared.error.TextKind.TheVariants.{Memory}
-use Rattle.nll_mir_grammar.specs.MirForms.{Form, universal, further, struct_line}
+use Rattle.nll_mir_grammar.specs.MirForms.{Form, universal, further, struct_line, at_point}
 use Rattle.nll_mir_grammar.specs.MirForms.{WrittenParameter, region_parameter, type_parameter}
 use Rattle.nll_mir_grammar.specs.Lines.{parameter_of}
 use Rattle.nll_mir_grammar.specs.Tuples.{parts}
 use Rattle.nll_mir_grammar.specs.declared.line.StructText.{StructText}
-use Rattle.nll_type_grammar.specs.WrittenTypes.{WrittenType}
+use Rattle.nll_type_grammar.specs.WrittenTypes.{Name, WrittenType}
 use Rattle.nll_type_grammar.specs.TypeTexts.{written}
 use Rattle.nll_naming.specs.Naming.{Scope, is_known, has_arguments, meant}
 use Rattle.nll_mir_text.specs.declared.tables.Regions.{Regions}
@@ -165,6 +165,17 @@ pub record IsTaken (s : Said) (f : Form) (r : Reader) : Type 0 where
   pub fine : first_fault s f ≡ None
   pub says : said_by r ≡ says s f
   pub ready : IsReady r
+
+-- A statement is admitted after lines that say s, and with it there are so many edges: its line has
+-- no fault, the reader holds what they say, and there is room for a point.
+pub record IsAdmitted (s : Said) (i : Statement Name WrittenType) (edges : ℕ) (r : Reader)
+    : Type 0 where
+  pub fine : first_fault s (at_point i) ≡ None
+  pub same : said_by r ≡ s
+  pub ready : IsReady r
+  pub few : length r.points.statements.items < most_points
+  pub counted : edges ≡ r.points.edges + edges_from i
+  pub few_edges : edges ≤ most_edges
 
 -- a line of the form is refused after lines that say s: for want of memory, or with its first kind
 -- of fault

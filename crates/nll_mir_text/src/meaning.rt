@@ -7,8 +7,7 @@ ghost use Rattle.nll_types.specs.Operands.{operand_of};
 ghost use Rattle.nll_types.specs.Places.{path_of};
 ghost use Rattle.nll_types.specs.Views.{tree};
 ghost use Rattle.nll_type_grammar.specs.TypeTexts.{written};
-ghost use Rattle.nll_statements.specs.Kept.{call_of, statement_of};
-ghost use Rattle.nll_statements.specs.Statements as statements;
+ghost use Rattle.nll_statements.specs.Kept.{call_of};
 ghost use Rattle.nll_statements.specs.Statements.{map_statement};
 ghost use Rattle.nll_naming.specs.Naming.{meant};
 ghost use Rattle.nll_mir_text.specs.MirReading.{scope_in, statement_kept};
@@ -21,7 +20,7 @@ use nll_problem::RegionId;
 use nll_sets::Memory;
 use nll_statements::{Call, Make, Statement, copy_operand, copy_operands, copy_place};
 use nll_type_grammar::TypeText;
-use nll_types::{Operand, Place, Ty};
+use nll_types::{Operand, Ty};
 use std::alloc::Global;
 
 // The region that a name means.
@@ -150,89 +149,42 @@ fn made_meant(
     })
 }
 
-// An assignment.
-fn assignment(
-    alloc: Global,
-    place: &Place,
-    operand: &Operand,
-) -> Result<Statement<RegionId, Ty>, Memory>
-    ensures { IfOk result (λ i. statement_of i
-        ≡ statements.assign (path_of place.now) (operand_of operand.now)) }
-{
-    let place = copy_place(alloc, place)?;
-    let operand = copy_operand(alloc, operand)?;
-    Ok(Statement::Assign(place, operand))
-}
-
-// A borrow.
-fn borrow(
-    alloc: Global,
-    place: &Place,
-    region: RegionId,
-    mutable: bool,
-    source: &Place,
-) -> Result<Statement<RegionId, Ty>, Memory>
-    ensures { IfOk result (λ i. statement_of i
-        ≡ statements.borrow (path_of place.now) region mutable (path_of source.now)) }
-{
-    let place = copy_place(alloc, place)?;
-    let source = copy_place(alloc, source)?;
-    Ok(Statement::Borrow(place, region, mutable, source))
-}
-
-// A switch.
-fn switch(
-    alloc: Global,
-    operand: &Operand,
-    blocks: &[u32],
-) -> Result<Statement<RegionId, Ty>, Memory>
-    ensures { IfOk result (λ i. statement_of i
-        ≡ statements.switch (operand_of operand.now) blocks.now) }
-{
-    let operand = copy_operand(alloc, operand)?;
-    let blocks = Vec::from_slice(alloc, blocks)?;
-    Ok(Statement::Switch(operand, blocks))
-}
-
 /// The statement that a written statement means. It recurses to the depth of its types.
 pub fn statement_meant(
     alloc: Global,
     regions: &Regions,
     structs: &StructNames,
-    statement: &Statement<&[u8], TypeText<'_>>,
+    statement: Statement<&[u8], TypeText<'_>>,
 ) -> Result<Statement<RegionId, Ty>, Memory>
     requires none { structs.now.none ≡ [] }
     requires few { length regions.now.names ≤ most_regions }
     ensures { IfOk result (λ i. statement_kept i
-        ≡ meant_in (scope_in regions.now structs.now) (as_written statement.now)) }
+        ≡ meant_in (scope_in regions.now structs.now) (as_written statement.entry)) }
 {
     match statement {
-        Statement::Assign(place, operand) => assignment(alloc, place, operand),
+        Statement::Assign(place, operand) => Ok(Statement::Assign(place, operand)),
         Statement::Borrow(place, region, mutable, source) => {
-            borrow(
-                alloc,
-                place,
-                region_meant(regions, *region),
-                *mutable,
-                source,
-            )
+            let region = region_meant(regions, region);
+            Ok(Statement::Borrow(place, region, mutable, source))
         }
         Statement::Make(made) => {
-            let made = made_meant(alloc, regions, structs, made)?;
-            Ok(Statement::Make(Box::new(alloc, made)?))
+            let meant = made_meant(alloc, regions, structs, &*made);
+            drop(made);
+            let meant = meant?;
+            Ok(Statement::Make(Box::new(alloc, meant)?))
         }
-        Statement::Read(place) => Ok(Statement::Read(copy_place(alloc, place)?)),
-        Statement::Live(variable) => Ok(Statement::Live(*variable)),
-        Statement::Dead(variable) => Ok(Statement::Dead(*variable)),
+        Statement::Read(place) => Ok(Statement::Read(place)),
+        Statement::Live(variable) => Ok(Statement::Live(variable)),
+        Statement::Dead(variable) => Ok(Statement::Dead(variable)),
         Statement::Nop => Ok(Statement::Nop),
-        Statement::Goto(block) => Ok(Statement::Goto(*block)),
-        Statement::Switch(operand, blocks) => switch(alloc, operand, blocks.as_slice()),
-        Statement::Drop(variable, block, unwind) => {
-            Ok(Statement::Drop(*variable, *block, *unwind))
-        }
+        Statement::Goto(block) => Ok(Statement::Goto(block)),
+        Statement::Switch(operand, blocks) => Ok(Statement::Switch(operand, blocks)),
+        Statement::Drop(variable, block, unwind) => { Ok(Statement::Drop(variable, block, unwind)) }
         Statement::Call(call) => {
-            let call = call_meant(alloc, regions, structs, call)?;
-            Ok(Statement::Call(Box::new(alloc, call)?))
+            let meant = call_meant(alloc, regions, structs, &*call);
+            drop(call);
+            let meant = meant?;
+            Ok(Statement::Call(Box::new(alloc, meant)?))
         }
         Statement::Return => Ok(Statement::Return),
         Statement::Stop => Ok(Statement::Stop),

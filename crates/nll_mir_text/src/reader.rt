@@ -13,7 +13,7 @@ ghost use Rattle.nll_mir_text.specs.MirSaid as specs;
 ghost use Rattle.nll_mir_text.specs.MirSaid.{said};
 ghost use Rattle.nll_mir_text.specs.MirFaults.{first_fault, is_in_order, is_universal};
 ghost use Rattle.nll_mir_text.specs.MirReading.{said_by, IsReady, HasTexts, HasFewParameters};
-ghost use Rattle.nll_mir_text.specs.MirReading.{IsDue, IsTaken, IsRefused, ReadsLine};
+ghost use Rattle.nll_mir_text.specs.MirReading.{IsAdmitted, IsDue, IsTaken, IsRefused, ReadsLine};
 ghost use Rattle.nll_mir_text.specs.MirReading.{struct_form, scope_in, IsOfType};
 ghost use Rattle.nll_mir_text.specs.Declaring.{AreJudged, AreOwn, own_scope};
 ghost use Rattle.nll_mir_text.specs.Stating.{as_written, IsOfPoint};
@@ -376,18 +376,19 @@ impl Reader {
         Ok(())
     }
 
-    // Adds what stands at the next point, unless it has a fault by what was judged of it.
-    fn add_judged(
-        &mut self,
+    // How many edges there are with those of a statement, unless it has a fault by what was judged
+    // of it.
+    fn admit_judged(
+        &self,
         judged: JudgedPoint,
         statement: &Statement<&[u8], TypeText<'_>>,
-    ) -> Result<(), TextKind>
-        requires due { IsDue self.old (form_of (lines.At statement.now)) }
-        requires judged { IsOfPoint (said_by self.old) (as_written statement.now) judged }
-        ensures taken { OnOk result
-            (IsTaken (said_by self.old) (form_of (lines.At statement.now)) self.new) }
+    ) -> Result<usize, TextKind>
+        requires due { IsDue self.now (form_of (lines.At statement.now)) }
+        requires judged { IsOfPoint (said_by self.now) (as_written statement.now) judged }
+        ensures admitted { IfOk result (λ edges.
+            IsAdmitted (said_by self.now) (as_written statement.now) edges self.now) }
         ensures refused { IfErr result
-            (IsRefused (said_by self.old) (form_of (lines.At statement.now))) }
+            (IsRefused (said_by self.now) (form_of (lines.At statement.now))) }
     {
         if !judged.known {
             return Err(TextKind::Unknown);
@@ -408,17 +409,14 @@ impl Reader {
         if edges > MAX_EDGES {
             return Err(TextKind::Limit(Kind::Edges));
         }
-        let meant = statement_meant(self.alloc, &self.regions, &self.structs, statement)?;
-        add_point(&mut self.points, meant, edges)?;
-        self.reached = 7;
-        Ok(())
+        Ok(edges)
     }
 
-    // Adds what stands at the next point.
-    fn add_statement(&mut self, statement: &Statement<&[u8], TypeText<'_>>) -> Result<(), TextKind>
+    // Judges what is to stand at the next point: how many edges there are with those of it.
+    fn admit(&mut self, statement: &Statement<&[u8], TypeText<'_>>) -> Result<usize, TextKind>
         requires { IsDue self.old (form_of (lines.At statement.now)) }
-        ensures taken { OnOk result
-            (IsTaken (said_by self.old) (form_of (lines.At statement.now)) self.new) }
+        ensures admitted { IfOk result (λ edges.
+            IsAdmitted (said_by self.old) (as_written statement.now) edges self.new) }
         ensures refused { IfErr result
             (IsRefused (said_by self.old) (form_of (lines.At statement.now))) }
     {
@@ -430,34 +428,69 @@ impl Reader {
             variables,
             statement,
         )?;
-        self.add_judged(judged, statement)
+        self.admit_judged(judged, statement)
     }
 
-    // Takes in a line of a form, unless something is wrong with it.
-    fn accept(&mut self, line: &Line<'_>) -> Result<(), TextKind>
-        requires ready { IsReady self.old }
-        requires texts { HasTexts (form_of line.now) }
-        requires few { HasFewParameters (form_of line.now) }
-        ensures taken { OnOk result (IsTaken (said_by self.old) (form_of line.now) self.new) }
-        ensures refused { IfErr result (IsRefused (said_by self.old) (form_of line.now)) }
+    // Puts a statement that is admitted at the next point, with so many edges in all.
+    fn put(&mut self, statement: Statement<&[u8], TypeText<'_>>, edges: usize) -> Result<(), Memory>
+        requires { IsAdmitted (said_by self.old) (as_written statement) edges self.old }
+        ensures { OnOk result
+            (IsTaken (said_by self.old) (form_of (lines.At statement.entry)) self.new) }
     {
-        if !self.may_follow(line) {
-            return Err(TextKind::Syntax);
+        let meant = statement_meant(self.alloc, &self.regions, &self.structs, statement)?;
+        add_point(&mut self.points, meant, edges)?;
+        self.reached = 7;
+        Ok(())
+    }
+
+    // Adds what stands at the next point.
+    fn add_statement(&mut self, statement: Statement<&[u8], TypeText<'_>>) -> Result<(), TextKind>
+        requires { IsDue self.old (form_of (lines.At statement)) }
+        ensures taken { OnOk result
+            (IsTaken (said_by self.old) (form_of (lines.At statement.entry)) self.new) }
+        ensures refused { IfErr result
+            (IsRefused (said_by self.old) (form_of (lines.At statement.entry))) }
+    {
+        match self.admit(&statement) {
+            Ok(edges) => {
+                self.put(statement, edges)?;
+                Ok(())
+            }
+            Err(kind) => {
+                drop(statement);
+                Err(kind)
+            }
         }
+    }
+
+    // Takes in a line of a form that stands in order, unless something else is wrong with it.
+    fn accept(&mut self, line: Line<'_>) -> Result<(), TextKind>
+        requires { IsDue self.old (form_of line) }
+        ensures taken { OnOk result (IsTaken (said_by self.old) (form_of line.entry) self.new) }
+        ensures refused { IfErr result (IsRefused (said_by self.old) (form_of line.entry)) }
+    {
         match line {
-            Line::Universal(name) => self.add_universal(*name),
-            Line::Outlives(longer, shorter) => self.add_outlives(*longer, *shorter),
-            Line::Region(name) => self.add_region(*name),
-            Line::Struct(text) => self.add_struct(&**text),
-            Line::Let(number, text) => self.add_variable(*number, text),
-            Line::Blocks(count) => self.set_blocks(*count),
-            Line::Block(number) => self.add_block(*number),
+            Line::Universal(name) => self.add_universal(name),
+            Line::Outlives(longer, shorter) => self.add_outlives(longer, shorter),
+            Line::Region(name) => self.add_region(name),
+            Line::Struct(text) => {
+                let taken = self.add_struct(&*text);
+                drop(text);
+                taken
+            }
+            Line::Let(number, text) => {
+                let taken = self.add_variable(number, &text);
+                drop(text);
+                taken
+            }
+            Line::Blocks(count) => self.set_blocks(count),
+            Line::Block(number) => self.add_block(number),
             Line::At(statement) => self.add_statement(statement),
             Line::End => self.end(),
         }
     }
 
-    // Takes in a line of a form, and lets it go.
+    // Takes in a line of a form, unless something is wrong with it.
     fn take(&mut self, line: Line<'_>) -> Result<(), TextKind>
         requires ready { IsReady self.old }
         requires texts { HasTexts (form_of line) }
@@ -465,9 +498,11 @@ impl Reader {
         ensures taken { OnOk result (IsTaken (said_by self.old) (form_of line.entry) self.new) }
         ensures refused { IfErr result (IsRefused (said_by self.old) (form_of line.entry)) }
     {
-        let taken = self.accept(&line);
-        drop(line);
-        taken
+        if !self.may_follow(&line) {
+            drop(line);
+            return Err(TextKind::Syntax);
+        }
+        self.accept(line)
     }
 
     /// Takes in a line behind the header. The list serves for its tokens.

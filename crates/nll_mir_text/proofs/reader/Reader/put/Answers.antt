@@ -1,0 +1,47 @@
+use Rattle.std.proofs.Common.{◌≡◌, ℕ, [], ◌∷◌, ◌++◌, length, map, not, ap, ◌∙◌, arith}
+use Rattle.std.proofs.lemmas.List.{length-append, map_push}
+use Rattle.nll_types.specs.Types.{TypeTree}
+use Rattle.nll_statements.specs.Statements.{Statement}
+use Rattle.nll_statements.specs.Edges.{edge_count}
+use Rattle.nll_mir_text.specs.MirSaid.{statement_meant}
+use Rattle.nll_mir_text.specs.MirReading.{said_by, statement_kept}
+use Rattle.nll_mir_text.specs.Stating.{as_written}
+use Rattle.nll_mir_text.proofs.PointLemmas.{point_said, ends_same, edges_more}
+use Rattle.nll_mir_text.proofs.reader.Reader.put.Goals as goal
+
+pub returns : goal.returns
+returns c =
+    let s = said_by c.args.self.now in
+    let i = as_written c.args.statement in
+    let h = c.requires in
+    let r = h.ready in
+    let kept = c.args.self.now.points.statements in
+    let e = c.in_ok-add_point.ensures in
+    let stand : map statement_kept c.add_point.new.points.statements.items ≡ map statement_kept kept.items ++ statement_meant s i ∷ [] =
+    ap (map statement_kept) e.statements ∙ (map_push statement_kept kept.items c.in_ok-meant.meant
+    ∙ ap (λ (m : Statement ℕ TypeTree). map statement_kept kept.items ++ m ∷ []) c.in_ok-meant.ensures) in
+    let counted : c.add_point.new.points.edges ≡ edge_count (map statement_kept c.add_point.new.points.statements.items) =
+    omega (arith, e.edges, r.edges, h.counted, edges_more s (map statement_kept kept.items) i, ap edge_count stand) in
+    record {
+      fine = h.fine;
+      says = point_said s i _ _ _ _ e.blocks (ap (λ v. v.items) e.starts) stand (e.owes ∙ ap not (ends_same s i c.in_ok-meant.meant c.in_ok-meant.ensures));
+      ready = record {
+        static = r.static;
+        universals = r.universals;
+        few_universals = r.few_universals;
+        few_regions = r.few_regions;
+        no_parameter = r.no_parameter;
+        named_structs = r.named_structs;
+        counted_kinds = r.counted_kinds;
+        kinds = r.kinds;
+        few_structs = r.few_structs;
+        few_variables = r.few_variables;
+        shapes = r.shapes;
+        few_blocks = omega (arith, e.blocks, r.few_blocks);
+        no_start = λ h. absurd (omega (arith, h));
+        starts = omega (arith, e.blocks, ap (λ v. length v.items) e.starts, r.starts);
+        few_points = omega (arith, ap length e.statements, length-append kept.items (c.in_ok-meant.meant ∷ []), h.few);
+        edges = counted;
+        few_edges = omega (arith, e.edges, h.few_edges);
+      };
+    }
