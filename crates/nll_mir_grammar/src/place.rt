@@ -1,6 +1,6 @@
 //! Places and operands.
 
-ghost use Rattle.std.specs.Prelude.{IfOk, MatchOption};
+ghost use Rattle.std.specs.Prelude.{◌≡◌, ◌++◌, ◌∷◌, [], IfOk, MatchOption, OnOk};
 ghost use Rattle.nll_text.specs.Tokens.{views};
 ghost use Rattle.nll_types.specs.Places.{path_of};
 ghost use Rattle.nll_types.specs.Operands.{operand_of};
@@ -28,6 +28,18 @@ fn projection_at<'t, 'a>(tokens: &'t [Token<'a>]) -> Option<(Projection, &'t [To
     }
 }
 
+// Puts a projection behind the others. The first asks for room for three, which the smallest block
+// of memory has.
+fn push_projection(projections: &mut Vec<Projection>, projection: Projection) -> Result<(), Memory>
+    ensures { OnOk result (projections.new.items ≡ projections.old.items ++ projection ∷ []) }
+{
+    if projections.is_empty() {
+        projections.reserve_exact(3)?;
+    }
+    projections.push(projection)?;
+    Ok(())
+}
+
 // The projections at the front, as many as there are.
 fn projections_at<'t, 'a>(
     alloc: Global,
@@ -39,7 +51,7 @@ fn projections_at<'t, 'a>(
     let mut projections = Vec::new(alloc);
     let mut at = 0;
     while let Some((projection, behind)) = projection_at(&tokens[at..]) {
-        projections.push(projection)?;
+        push_projection(&mut projections, projection)?;
         at = tokens.len() - behind.len();
     }
     Ok((projections, &tokens[at..]))
