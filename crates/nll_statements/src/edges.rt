@@ -1,8 +1,9 @@
 //! How many edges leave a point.
 
-ghost use Rattle.std.specs.Prelude.{◌≡◌, ◌<◌, ◌^◌, ◌==◌, [], length, IfOk};
+ghost use Rattle.std.specs.Prelude.{◌≡◌, ◌<◌, ◌≤◌, ◌^◌, ◌==◌, ◌∷◌, [], length, IfOk};
 ghost use Rattle.indexmap.specs.IndexSet.{insert_all};
 ghost use Rattle.nll_statements.specs.Edges.{edges_from};
+ghost use Rattle.nll_statements.specs.Effects.{other_block};
 ghost use Rattle.nll_statements.specs.Kept.{statement_of};
 
 use crate::statement::Statement;
@@ -12,7 +13,7 @@ use std::alloc::Global;
 
 impl<R, T> Statement<R, T> {
     /// How many edges leave the point where it stands: one, or one for each block to which a
-    /// terminator goes on.
+    /// terminator goes on. Memory is asked for only where a `switch` has more than two blocks.
     ///
     /// # Cost
     /// Linear in the targets (not proved).
@@ -20,13 +21,34 @@ impl<R, T> Statement<R, T> {
         ensures edges { IfOk result (λ n. n ≡ edges_from (statement_of self.now)) }
         ensures few { IfOk result (λ n. n < 2 ^ 63) }
     {
-        if !self.is_terminator() {
-            return Ok(1);
+        match self {
+            Statement::Switch(_, blocks) => distinct(alloc, blocks.as_slice()),
+            Statement::Drop(_, block, unwind) => Ok(exits(*block, *unwind)),
+            Statement::Call(call) => Ok(exits(call.target, call.unwind)),
+            Statement::Return | Statement::Stop => Ok(0),
+            _ => Ok(1),
         }
-        let mut blocks = Vec::new(alloc);
-        self.targets(&mut blocks)?;
-        let count = distinct(alloc, blocks.as_slice())?;
-        Ok(count)
+    }
+}
+
+// How many numbers these two are.
+fn of_two(number: u32, other: u32) -> usize
+    ensures distinct { result
+        ≡ length (insert_all (λ b c. b == c) [] (number ∷ other ∷ [])) }
+    ensures few { result ≤ 2 }
+{
+    if other == number { 1 } else { 2 }
+}
+
+// How many blocks a block and the other one are, where there is one.
+fn exits(block: u32, unwind: Option<u32>) -> usize
+    ensures distinct { result
+        ≡ length (insert_all (λ b c. b == c) [] (block ∷ other_block unwind)) }
+    ensures few { result ≤ 2 }
+{
+    match unwind {
+        Some(other) => of_two(block, other),
+        None => 1,
     }
 }
 
@@ -38,6 +60,9 @@ fn distinct(alloc: Global, numbers: &[u32]) -> Result<usize, Memory>
 {
     if numbers.len() < 2 {
         return Ok(numbers.len());
+    }
+    if let [number, other] = numbers {
+        return Ok(of_two(*number, *other));
     }
     let mut known = IndexSet::new(alloc);
     for number in numbers {
