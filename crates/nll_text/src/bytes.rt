@@ -6,11 +6,22 @@ ghost use Rattle.nll_text.specs.Lines as lines;
 ghost use Rattle.nll_text.specs.Tokens as tokens;
 ghost use Rattle.nll_text.specs.Lexing.{SplitsWhile, is_no_blank};
 
+// Each byte that words are made of stands at its own place, and a dot at every other place.
+static WORD_BYTES: [u8; 256] = *b"\
+    ................................\
+    ................0123456789......\
+    .ABCDEFGHIJKLMNOPQRSTUVWXYZ...._\
+    .abcdefghijklmnopqrstuvwxyz.....\
+    ................................\
+    ................................\
+    ................................\
+    ................................";
+
 // One of the bytes that words are made of.
 fn is_word_byte(byte: u8) -> bool
     ensures { result ≡ tokens.is_word_byte byte }
 {
-    byte.is_ascii_alphanumeric() || byte == b'_'
+    WORD_BYTES[byte as usize] != b'.'
 }
 
 // One of the tokens of one byte.
