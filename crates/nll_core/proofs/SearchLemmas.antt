@@ -1,6 +1,6 @@
 -- What a search adds, step after step, and what it has reached when nothing is left to expand.
 use Rattle.std.proofs.Common.{◌≡◌, ℕ, ◌+◌, ◌<◌, ◌≤◌, Bool, true, false, not, cond, List, [], ◌∷◌, ◌++◌, ◌↔◌, replicate, Contains, length, get_or, set, refl, sym, ap, ◌∙◌, subst, inl, inr, ⊎_elim, arith, length-append}
-use Rattle.std.specs.Prelude.{⊤}
+use Rattle.std.specs.Prelude.{⊤, AllPairs, ◌≢◌}
 use Rattle.std.proofs.lemmas.Bool.{cases_lt, cases_eq, false≢true, false_from_ne_true}
 use Rattle.std.proofs.lemmas.List.{get_or-set_other, get_or-set_same, set-get_or, length-set, get_or_append_left, get_or_at, get_or_past, get_or_default, get_or-replicate, length-replicate}
 use Rattle.std.proofs.lemmas.List.Sums.{sum_by-set}
@@ -289,5 +289,13 @@ module _ (step : ℕ → ℕ → Type 0) (at width : ℕ) (first : Search) (a : 
           (s.adds.only x ((set_exact x).1 h)),
     )
 
+    all : Adds (λ _. ⊤) (record { reached = replicate width false; list = [] }) new
+    all = adds_append (λ _. ⊤) _ first new (adds_weaker _ (λ _. ⊤) (λ x h. tt) _ first a.adds) (adds_weaker _ (λ _. ⊤) (λ x h. tt) first new s.adds)
+
+    -- the list has each element once
+    each_once : AllPairs (λ x y. x ≢ y) new.list
+    each_once i j d before within same = all.once i (omega arith) j (omega (arith, before)) within
+        (get_or_default new.list i 0 d (omega (arith, before, within)) ∙ (same ∙ get_or_default new.list j d 0 within))
+
     pub found : IsFound step at new
-    found = record { set = set_exact; list = list_exact }
+    found = record { set = set_exact; list = list_exact; once = each_once }

@@ -1,7 +1,7 @@
 -- What a search through a relation has reached, and what it adds.
 -- Source: project's choice. Private contracts alone cite this file.
 use Rattle.std.specs.Prelude.{◌≡◌, ◌≢◌, ◌⊎◌, ◌↔◌, ℕ, ◌+◌, ◌<◌, ◌≤◌, Bool, true, false, not, ⊤}
-use Rattle.std.specs.Prelude.{List, Contains, length, count_by, slice_index}
+use Rattle.std.specs.Prelude.{List, Contains, AllPairs, length, count_by, slice_index}
 use Rattle.nll_sets.specs.ElementSet.{flag}
 use Rattle.nll_problem.specs.Graph.{Graph, IsStep}
 use Rattle.nll_problem.specs.Walks.{IsWalk, Reaches}
@@ -51,9 +51,10 @@ IsLedTo step reached x = (y : ℕ) × IsIn reached y × LeadsTo step y x
 abbrev pub IsCovered : (ℕ → ℕ → Type 0) → List Bool → ℕ → Type 0
 IsCovered step reached x = HasAll (step x) reached
 
--- the list is of what the walks of the graph inside the set reach from `at`
-abbrev pub AreReached : Graph → List Bool → ℕ → List ℕ → Type 0
-AreReached g set at list = (x : ℕ) → Contains list x ↔ Reaches g (IsIn set) at x
+-- The list is of what the walks of the graph inside the set reach from `at`, each element once.
+pub record AreReached (g : Graph) (set : List Bool) (at : ℕ) (list : List ℕ) : Type 0 where
+  pub each : (x : ℕ) → Contains list x ↔ Reaches g (IsIn set) at x
+  pub once : AllPairs (λ x y. x ≢ y) list
 
 -- ---- what a search adds
 
@@ -100,7 +101,8 @@ pub record Spreads (step : ℕ → ℕ → Type 0) (old new : Search) : Type 0 w
   pub adds : Adds (IsLedTo step old.reached) old new
   pub closed : (x : ℕ) → IsIn new.reached x → IsCovered step new.reached x
 
--- Both the set and the list are of what walks lead to from `at`.
+-- Both the set and the list are of what walks lead to from `at`; the list has each element once.
 pub record IsFound (step : ℕ → ℕ → Type 0) (at : ℕ) (s : Search) : Type 0 where
   pub set : (x : ℕ) → IsIn s.reached x ↔ LeadsTo step at x
   pub list : (x : ℕ) → Contains s.list x ↔ LeadsTo step at x
+  pub once : AllPairs (λ x y. x ≢ y) s.list

@@ -94,8 +94,8 @@ impl<'a, S: ElementSet> Relation for Inside<'a, S> {
     }
 }
 
-/// The elements that the walks from `at` inside a set reach: none where `at` is outside it. They
-/// stand in no order that is promised, and no clause says that each stands once.
+/// The elements that the walks from `at` inside a set reach, each once: none where `at` is outside
+/// it.
 pub fn reached_from<S: ElementSet>(
     alloc: Global,
     graph: &Graph,

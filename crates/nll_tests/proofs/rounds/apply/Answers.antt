@@ -23,7 +23,7 @@ reached_from-requires-clause-at c =
 found_is : (c : After-deref) → (x : ℕ) → Contains c.deref.result.now x ↔ Asks c.args.problem.now.graph (IsHeld c.args.values.now) c.args.constraint x
 found_is c x =
     let at = c.args.constraint.at in
-    let of_list = subst (λ xs. Contains xs x ↔ Reaches c.graph-graph.result.now (λ z. flag c.set-set.result.now z ≡ true) at x) (sym c.deref.ensures.value) (c.in_ok-found.ensures x) in
+    let of_list = subst (λ xs. Contains xs x ↔ Reaches c.graph-graph.result.now (λ z. flag c.set-set.result.now z ≡ true) at x) (sym c.deref.ensures.value) (c.in_ok-found.ensures.each x) in
     let of_set = subst (λ flags. Contains c.deref.result.now x ↔ Reaches c.graph-graph.result.now (λ z. flag flags z ≡ true) at x) c.set-set.ensures of_list in
     subst (λ g. Contains c.deref.result.now x ↔ Reaches g (IsHeld c.args.values.now c.args.constraint.sub) at x) c.graph-graph.ensures.value of_set
 
