@@ -1,20 +1,21 @@
 //! The files of the system as texts.
-ghost use Rattle.std.specs.Prelude.{◌≡◌};
+ghost use Rattle.std.specs.Prelude.{◌≡◌, ◌≢◌, Err, IfErr, IfOk, Ok};
+ghost use Rattle.std.specs.IoError.{error_kind};
 ghost use Rattle.nll_report.specs.Run.{holds_anything, lacks_anything};
 
 use crate::error::Unread;
 use crate::program::Texts;
-use nll_reading::MAX_TEXT;
+use nll_mir::MAX_TEXT;
 use std::alloc::Global;
 use std::fs::OpenFile;
-use std::io::Read;
+use std::io::{ErrorKind, Read};
 use std::rt::Files;
 use std::{fs, io};
 
 /// One byte past the longest text: that many show that a text is too long.
-const READ_LIMIT: u64 = 67_108_865;
+const READ_LIMIT: u64 = MAX_TEXT as u64 + 1;
 
-const _: () = prove!(READ_LIMIT == MAX_TEXT as u64 + 1);
+const _: () = prove!(READ_LIMIT == 67_108_865);
 
 /// The files of the runtime.
 ///
@@ -45,11 +46,22 @@ impl<R: Files + AllocGlobal> Texts for Disk<'_, R> {
     ghost lacks = { λ _. lacks_anything };
 
     fn get(&self, path: &str) -> Result<Vec<u8>, Unread> {
-        match read_file(self.rt, path) {
-            Ok(text) => Ok(text),
-            Err(error) if error.kind() == io::ErrorKind::OutOfMemory => Err(Unread::Memory),
-            Err(_) => Err(Unread::Cannot),
-        }
+        given(read_file(self.rt, path))
+    }
+}
+
+// The text that was read, or why it isn't given.
+fn given(read: io::Result<Vec<u8>>) -> Result<Vec<u8>, Unread>
+    ensures text { IfOk read (λ text. result ≡ Ok text) }
+    ensures memory { IfErr read (λ error. error_kind error ≡ ErrorKind.OutOfMemory
+        → result ≡ Err Unread.Memory) }
+    ensures cannot { IfErr read (λ error. error_kind error ≢ ErrorKind.OutOfMemory
+        → result ≡ Err Unread.Cannot) }
+{
+    match read {
+        Ok(text) => Ok(text),
+        Err(error) if error.kind() == ErrorKind::OutOfMemory => Err(Unread::Memory),
+        Err(_) => Err(Unread::Cannot),
     }
 }
 
