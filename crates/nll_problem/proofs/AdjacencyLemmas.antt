@@ -5,13 +5,14 @@ use Rattle.std.proofs.lemmas.List.Elements.{Contains-get_or, Contains-push, Cont
 use Rattle.std.proofs.lemmas.List.Quantifiers.{all_pairs_push}
 use Rattle.std.proofs.lemmas.List.Sums.{sum_by-cons}
 use Rattle.std.proofs.lemmas.Bool.{cases_eq, cases_lt, false≢true}
-use Rattle.nll_problem.specs.Adjacency.{edges_from, edges_of, graph_of, AreLists, Indexes, IsIndexed, IsIndexedIfLong, IsKept}
+use Rattle.nll_problem.specs.Adjacency.{edges_from, edges_of, graph_of, AreLists, HasEdgesTo, Indexes, IsIndexed, IsKept}
 use Rattle.nll_problem.specs.Answers.{AddsFact}
 use Rattle.nll_problem.specs.GraphBuilding.{bare_graph}
 use Rattle.nll_problem.specs.Limits.{most_points, most_edges, most_universals}
-use Rattle.nll_problem.specs.Rows.{row_at, with_item, item_count}
+use Rattle.nll_problem.specs.Rows.{item_count, older, row_at, with_item}
 use Rattle.nll_problem.specs.Turning.{AreIndices}
 use Rattle.nll_problem.specs.declared.graph_builder.TheConstants.{SCANNED}
+use Rattle.nll_problem.proofs.ChainLemmas.{older_behind, older_contained}
 use Rattle.nll_problem.proofs.RowLemmas.{counted_more}
 
 -- a list without elements contains nothing
@@ -176,23 +177,15 @@ module _ (lists : List (List ℕ)) (p q : ℕ) (within : p < length lists) where
         pair_of : (a b c d : ℕ) → a ≡ b → c ≡ d → ◌≡◌ {A = ℕ × ℕ} (a, c) (b, d)
         pair_of a b c d h k = cc
 
-  -- The lists stay indexed where the index gets only edges of p, and all of them where its list is long.
-  pub indexed_grown : (old new : List (ℕ × ℕ)) → IsIndexed lists old → Indexes old new p (row_at lists p ++ q ∷ [])
-      → IsIndexedIfLong new p (row_at lists p ++ q ∷ [])
-      → IsIndexed (with_item lists p q) new
-  indexed_grown old new indexed indexes long = record {
-    only = λ a b h. ⊎_elim
-        (λ before. (grown_has a b).1 (inl (indexed.only a b before)))
-        (λ added. subst (λ xs. Contains xs b) (sym (ap (row_at (with_item lists p q)) added.0 ∙ row_same)) added.1)
-        (indexes.only (a, b) h);
-    long = λ a size b h. ⊎_elim
+  -- the lists stay indexed where the index has the edges of p that will be old
+  pub indexed_grown : (index : List (ℕ × ℕ)) → IsIndexed lists index → HasEdgesTo index p (older (SCANNED - 1) (row_at lists p)) → IsIndexed (with_item lists p q) index
+  indexed_grown index indexed old = record {
+    only = λ a b h. (grown_has a b).1 (inl (indexed.only a b h));
+    old = λ a b h. ⊎_elim
         (λ same.
-        let list : row_at (with_item lists p q) a ≡ row_at lists p ++ q ∷ [] = ap (row_at (with_item lists p q)) same ∙ row_same in
-        let counted : SCANNED < length (row_at lists p ++ q ∷ []) = subst (λ xs. SCANNED < length xs) list size in
-        subst (λ c. Contains {X = ℕ × ℕ} new (c, b)) (sym same) (long counted b (subst (λ xs. Contains xs b) list h)))
-        (λ other.
-        let list : row_at (with_item lists p q) a ≡ row_at lists a = row_other a other in
-        indexes.kept (a, b) (indexed.long a (subst (λ xs. SCANNED < length xs) list size) b (subst (λ xs. Contains xs b) list h)))
+        let list : older SCANNED (row_at (with_item lists p q) a) ≡ older (SCANNED - 1) (row_at lists p) = ap (λ c. older SCANNED (row_at (with_item lists p q) c)) same ∙ (ap (older SCANNED) row_same ∙ older_behind (row_at lists p) (SCANNED - 1) q) in
+        subst (λ c. Contains {X = ℕ × ℕ} index (c, b)) (sym same) (old b (subst (λ xs. Contains xs b) list h)))
+        (λ other. indexed.old a b (subst (λ xs. Contains (older SCANNED xs) b) (row_other a other) h))
         (cases_eq a p);
   }
 
@@ -273,13 +266,6 @@ indexes_more old index new p list q indexes adds listed = record {
   only = λ x h. ⊎_elim (indexes.only x) (λ is. inr (subst (λ (z : ℕ × ℕ). (z.0 ≡ p) × Contains list z.1) is (refl, listed))) ((adds.each x).0 h);
 }
 
--- an index that gets edges to some of a list gets them to some of a longer one
-pub indexes_longer : (old new : List (ℕ × ℕ)) (p : ℕ) (list : List ℕ) (q : ℕ) → Indexes old new p list → Indexes old new p (list ++ q ∷ [])
-indexes_longer old new p list q indexes = record {
-  kept = indexes.kept;
-  only = λ x h. ⊎_elim inl (λ added. inr (added.0, Contains-append_left list (q ∷ []) x.1 added.1)) (indexes.only x h);
-}
-
 -- no successors, no edges
 edges_none : (k n : ℕ) → edges_from k (replicate n []) ≡ []
 edges_none k zero = refl
@@ -338,12 +324,15 @@ kept_none points universals some_point some_universal point_limit universal_limi
 pub indexed_none : (points : ℕ) → IsIndexed (replicate points []) []
 indexed_none points = record {
   only = λ p q h. absurd (none_contained (p, q) h);
-  long = λ p size q h. absurd (nothing_in points p q h);
+  old = λ p q h. absurd (nothing_in points p q (older_contained (row_at (replicate points []) p) SCANNED q h));
 }
 
--- lists stay indexed where the index gets edges of a point that are there
-pub indexed_more : (next : List (List ℕ)) (index new : List (ℕ × ℕ)) (p : ℕ) → IsIndexed next index → Indexes index new p (row_at next p) → IsIndexed next new
-indexed_more next index new p indexed indexes = record {
-  only = λ a b h. ⊎_elim (indexed.only a b) (λ added. subst (λ c. Contains (row_at next c) b) (sym added.0) added.1) (indexes.only (a, b) h);
-  long = λ a size b h. indexes.kept (a, b) (indexed.long a size b h);
+-- lists stay indexed where the index gets an edge that is there
+pub indexed_more : (next : List (List ℕ)) (index new : List (ℕ × ℕ)) (p q : ℕ) → IsIndexed next index → AddsFact index new (p, q) → Contains (row_at next p) q → IsIndexed next new
+indexed_more next index new p q indexed adds listed = record {
+  only = λ a b h. ⊎_elim
+      (indexed.only a b)
+      (λ is. subst (λ (x : ℕ × ℕ). Contains (row_at next x.0) x.1) is listed)
+      ((adds.each (a, b)).0 h);
+  old = λ a b h. (adds.each (a, b)).1 (inl (indexed.old a b h));
 }

@@ -2,6 +2,7 @@ pub mod FactLemmas
 pub mod SameLemmas
 pub mod BaseLemmas
 pub mod RowLemmas
+pub mod ChainLemmas
 pub mod AdjacencyLemmas
 pub mod TurningLemmas
 pub mod ProblemLemmas

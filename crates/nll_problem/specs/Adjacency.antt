@@ -1,10 +1,10 @@
 -- How a graph and its builder keep edges: each point has a list of its successors, and one of its
 -- predecessors where these are asked for.
 -- Source: project's choice. Private contracts alone cite this file.
-use Rattle.std.specs.Prelude.{◌≡◌, ◌≢◌, ◌⊎◌, ◌↔◌, ℕ, ◌+◌, ◌<◌, Bool, true, false, List, [], ◌∷◌}
+use Rattle.std.specs.Prelude.{◌≡◌, ◌≢◌, ◌⊎◌, ◌↔◌, ℕ, ◌+◌, Bool, true, false, List, [], ◌∷◌}
 use Rattle.std.specs.Prelude.{◌++◌, map, length, Contains, AllPairs, slice_index_or}
 use Rattle.nll_problem.specs.Graph.{Graph, IsNext, IsSound}
-use Rattle.nll_problem.specs.Rows.{row_at}
+use Rattle.nll_problem.specs.Rows.{older, row_at}
 use Rattle.nll_problem.specs.declared.graph_builder.TheConstants.{SCANNED}
 
 -- the edges of the points from `point` on, whose lists of successors these are
@@ -53,14 +53,10 @@ pub record IsKept
 abbrev pub HasEdgesTo : List (ℕ × ℕ) → ℕ → List ℕ → Type 0
 HasEdgesTo index point list = (q : ℕ) → Contains list q → Contains index (point, q)
 
--- where the list of successors of the point is long, the index has the edges to all of them
-abbrev pub IsIndexedIfLong : List (ℕ × ℕ) → ℕ → List ℕ → Type 0
-IsIndexedIfLong index point list = SCANNED < length list → HasEdgesTo index point list
-
--- The index has just edges, and all of those of the points with long lists.
+-- The index has just edges, and all of those that SCANNED newer ones of the same point follow.
 pub record IsIndexed (next : List (List ℕ)) (index : List (ℕ × ℕ)) : Type 0 where
   pub only : (p q : ℕ) → Contains index (p, q) → Contains (row_at next p) q
-  pub long : (p : ℕ) → IsIndexedIfLong index p (row_at next p)
+  pub old : (p : ℕ) → HasEdgesTo index p (older SCANNED (row_at next p))
 
 -- The index kept its edges, and got some from a point to successors of the list alone.
 pub record Indexes (old new : List (ℕ × ℕ)) (from : ℕ) (list : List ℕ) : Type 0 where

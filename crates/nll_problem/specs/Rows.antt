@@ -1,9 +1,12 @@
 -- How rows of numbers are kept: flat, in one list beside the places where the rows start; and,
--- while they grow, in a list for each row.
+-- while they grow, as chains in one list of entries.
 -- Source: project's choice. Private contracts alone cite this file.
-use Rattle.std.specs.Prelude.{◌≡◌, ℕ, ◌+◌, ◌-◌, ◌<◌, ◌≤◌, List, [], ◌∷◌, ◌++◌, map, length}
-use Rattle.std.specs.Prelude.{slice_index, slice_index_or, slice_range, slice_set, sum_by}
+use Rattle.std.specs.Prelude.{◌≡◌, ◌↔◌, ℕ, zero, suc, ◌+◌, ◌-◌, ◌<◌, ◌≤◌, ◌==◌, Bool, true}
+use Rattle.std.specs.Prelude.{if◌then◌else◌, Option, None, Some, List, [], ◌∷◌, ◌++◌, map, take}
+use Rattle.std.specs.Prelude.{length, Contains, slice_index, slice_index_or, slice_range}
+use Rattle.std.specs.Prelude.{slice_set, sum_by}
 use Rattle.std.specs.List.{range_with_len}
+use Rattle.nll_problem.specs.declared.chain.Entry.{Entry}
 
 -- the row at an index: the items from where it starts to where the next row starts
 abbrev pub row_of : List ℕ → List ℕ → ℕ → List ℕ
@@ -33,13 +36,55 @@ row_at rows index = slice_index_or rows index []
 abbrev pub with_item : List (List ℕ) → ℕ → ℕ → List (List ℕ)
 with_item rows index item = slice_set rows index (row_at rows index ++ item ∷ [])
 
--- Rows that grow: what they are, how many items each has room for, and how many more items fit into
--- the room of the flat form.
-pub record Growing : Type 0 where
-  pub rows : List (List ℕ)
-  pub rooms : List ℕ
-  pub spare : ℕ
+-- ---- chains
 
--- one more item fits into a row and into the room of the flat form
-abbrev pub HasRoom : Growing → ℕ → Type 0
-HasRoom g index = (length (row_at g.rows index) < slice_index g.rooms index) × (0 < g.spare)
+-- the entry at a place
+abbrev pub entry_of : List Entry → ℕ → Entry
+entry_of entries place = slice_index_or entries place (record { item = 0; before = 0 })
+
+-- the row of a head, of the first n entries: what came before its newest entry, and the item of this
+abbrev pub chain : List Entry → ℕ → ℕ → List ℕ
+chain entries zero head = []
+chain entries (suc n) head =
+    if head == suc n
+    then chain entries n (entry_of entries n).before ++ (entry_of entries n).item ∷ []
+    else chain entries n head
+
+-- the row of a head
+abbrev pub chain_of : List Entry → ℕ → List ℕ
+chain_of entries head = chain entries (length entries) head
+
+-- the rows of some heads
+abbrev pub chains : List ℕ → List Entry → List (List ℕ)
+chains heads entries = map (chain_of entries) heads
+
+-- an entry leads back to earlier ones alone
+abbrev pub IsLinked : List Entry → Type 0
+IsLinked entries = (place : ℕ) → place < length entries → (entry_of entries place).before ≤ place
+
+-- The heads are those of entries, and each entry is in one row.
+pub record AreChains (heads : List ℕ) (entries : List Entry) : Type 0 where
+  pub linked : IsLinked entries
+  pub headed : (i : ℕ) → slice_index heads i ≤ length entries
+  pub counted : item_count (chains heads entries) ≡ length entries
+
+-- the newest entry of a head's row, which has it as its last item; none where the row is empty
+abbrev pub IsEntry : List Entry → ℕ → Option Entry → Type 0
+IsEntry entries head (Some entry) =
+    (entry.before < head)
+    × (chain_of entries head ≡ chain_of entries entry.before ++ entry.item ∷ [])
+IsEntry entries head None = chain_of entries head ≡ []
+
+-- the items of a row that at least so many newer ones follow
+abbrev pub older : ℕ → List ℕ → List ℕ
+older newer row = take (length row - newer) row
+
+-- whether an item is in a row; or none, and then it isn't among the newest `most`
+abbrev pub IsSearched : ℕ → List ℕ → ℕ → Option Bool → Type 0
+IsSearched most row item (Some found) = (found ≡ true) ↔ Contains row item
+IsSearched most row item None = Contains row item → Contains (older most row) item
+
+-- the item of a row that so many newer ones follow; none where there are no more
+abbrev pub IsFollowed : ℕ → List ℕ → Option ℕ → Type 0
+IsFollowed newer row (Some item) = older newer row ≡ older (newer + 1) row ++ item ∷ []
+IsFollowed newer row None = older newer row ≡ []

@@ -1,29 +1,32 @@
 //! The builder of a graph.
 //!
-//! Each point has a list of its successors. A list of up to `SCANNED` successors is searched from
-//! end to end; the edges of points with longer lists also stand in a hashed index. So adding an
-//! edge takes amortised constant time, and a point with few successors costs no more than these.
-//! The room for the finished graph grows with each edge.
+//! Each point has a list of its successors, of which the newest `SCANNED` are searched one by one;
+//! the edges to the older ones also stand in a hashed index. So adding an edge takes amortised
+//! constant time, and a point with few successors costs no more than these. The room for the
+//! finished graph grows with each edge.
 
-ghost use Rattle.std.specs.Prelude.{◌≡◌, ◌<◌, ◌≤◌, [], ◌∷◌, ◌++◌, length, OnOk, OnErr, IfOk};
-ghost use Rattle.nll_problem.specs.Adjacency.{HasEdgesTo, Indexes, IsIndexed, IsIndexedIfLong};
+ghost use Rattle.std.specs.Prelude.{◌≡◌, ◌-◌, ◌<◌, ◌≤◌, ◌^◌, length, OnOk, OnErr, IfOk};
+ghost use Rattle.nll_problem.specs.Adjacency.{HasEdgesTo, Indexes, IsIndexed};
 ghost use Rattle.nll_problem.specs.Answers.{Answers, AddsFact};
 ghost use Rattle.nll_problem.specs.Graph.{IsNext, IsSound};
 ghost use Rattle.nll_problem.specs.GraphBuilding as building;
 ghost use Rattle.nll_problem.specs.GraphBuilding.{bare_graph, graph_error, edge_error};
 ghost use Rattle.nll_problem.specs.GraphBuilding.{return_error};
 ghost use Rattle.nll_problem.specs.Limits.{most_points, most_edges, most_universals};
+ghost use Rattle.nll_problem.specs.Rows.{item_count, older, row_at};
+ghost use Rattle.nll_problem.specs.declared.graph_builder.TheConstants.{SCANNED};
 
 use crate::error::{BuildError, Kind};
 use crate::graph::Graph;
 use crate::limits::{MAX_EDGES, MAX_POINTS, MAX_UNIVERSALS};
-use crate::rows::{Rows, RowsBuilder};
+use crate::rows::Rows;
+use crate::rows_builder::RowsBuilder;
 use indexmap::IndexSet;
 use nll_sets::Memory;
 use std::alloc::Global;
 use std::marker::Model;
 
-/// The most successors of a point that are searched without the index.
+/// So many successors of a point, the newest, are searched without the index.
 pub const SCANNED: usize = 8;
 
 /// Makes a graph, one edge after another. Contracts see it as the graph of the edges so far.
@@ -51,11 +54,11 @@ impl Model for GraphBuilder {
 
     ghost Value = { spec.Graph };
 
-    ghost view = { λ b. graph_of b.points b.universals b.next.rows b.returns.items };
+    ghost view = { λ b. graph_of b.points b.universals b.next b.returns.items };
 
     ghost invariant = { λ b.
-        IsKept b.points b.universals b.next.rows b.returns.items b.marks.items
-        × IsIndexed b.next.rows b.index.keys };
+        IsKept b.points b.universals b.next b.returns.items b.marks.items
+        × IsIndexed b.next b.index.keys };
 }
 
 impl GraphBuilder {
@@ -201,7 +204,7 @@ impl GraphBuilder {
         ensures { IfOk result (λ g. g ≡ bare_graph points universals) }
     {
         let marks = Vec::from_elem(alloc, false, points as usize)?;
-        let next = RowsBuilder::new(alloc, points)?;
+        let next = RowsBuilder::new(alloc, points as usize)?;
         Ok(GraphBuilder {
             points,
             universals,
@@ -224,11 +227,9 @@ impl GraphBuilder {
         requires { from < self.now.points }
         ensures { result ≡ building.has_edge self.now from to }
     {
-        let list = self.next.row(from as usize);
-        if list.len() <= SCANNED {
-            list.contains(&to)
-        } else {
-            self.index.contains(&(from, to))
+        match self.next.search(from as usize, to, SCANNED) {
+            Some(found) => found,
+            None => self.index.contains(&(from, to)),
         }
     }
 
@@ -243,59 +244,29 @@ impl GraphBuilder {
         ensures sound { IsSound self.new }
         ensures err { OnErr result (self.new ≡ self.old) }
     {
-        self.next.reserve(from as usize)?;
-        index_grown(&mut self.index, from, self.next.row(from as usize), to)?;
-        self.next.push_reserved(from as usize, to);
+        index_old(&mut self.index, &self.next, from)?;
+        self.next.push(from as usize, to)?;
         Ok(())
     }
 }
 
-// The edges of the points with long lists of successors.
+// The edges that `SCANNED` newer ones of the same point follow.
 fn index_of(alloc: Global, points: u32, next: &Rows) -> Result<IndexSet<(u32, u32)>, Memory>
     requires { length next.now ≡ points }
     ensures { IfOk result (λ index. IsIndexed next.now index.keys) }
 {
     let mut index = IndexSet::new(alloc);
     for point in 0..points {
-        let list = next.row(point as usize);
-        if list.len() > SCANNED {
-            index_list(&mut index, point, list)?;
-        }
+        index_list(&mut index, point, old_of(next.row(point as usize)))?;
     }
     Ok(index)
 }
 
-// Puts the edges of a point into the index, the one that is added to its list included, where that
-// makes the list long.
-fn index_grown(
-    index: &mut IndexSet<(u32, u32)>,
-    from: u32,
-    list: &[u32],
-    to: u32,
-) -> Result<(), Memory>
-    requires { IsIndexedIfLong index.old.keys from list.now }
-    ensures ok { OnOk result (Indexes index.old.keys index.new.keys from (list.now ++ to ∷ [])) }
-    ensures err { OnErr result (Indexes index.old.keys index.new.keys from list.now) }
-    ensures long { OnOk result (IsIndexedIfLong index.new.keys from (list.now ++ to ∷ [])) }
+// The successors that `SCANNED` newer ones follow.
+fn old_of(list: &[u32]) -> &[u32]
+    ensures { result.now ≡ older SCANNED list.now }
 {
-    if list.len() >= SCANNED {
-        index_all(index, from, list)?;
-        index.insert((from, to))?;
-    }
-    Ok(())
-}
-
-// Puts the edges from a point to its successors into the index, unless these are so many that they
-// are there.
-fn index_all(index: &mut IndexSet<(u32, u32)>, from: u32, list: &[u32]) -> Result<(), Memory>
-    requires { IsIndexedIfLong index.old.keys from list.now }
-    ensures indexes { Indexes index.old.keys index.new.keys from list.now }
-    ensures all { OnOk result (HasEdgesTo index.new.keys from list.now) }
-{
-    if list.len() > SCANNED {
-        return Ok(());
-    }
-    index_list(index, from, list)
+    &list[..list.len().saturating_sub(SCANNED)]
 }
 
 // Puts the edges from a point to its successors into the index.
@@ -305,6 +276,21 @@ fn index_list(index: &mut IndexSet<(u32, u32)>, from: u32, list: &[u32]) -> Resu
 {
     for to in list {
         index.insert((from, *to))?;
+    }
+    Ok(())
+}
+
+// Puts the edge of a point into the index that `SCANNED` newer ones follow once the point gets one
+// more.
+fn index_old(index: &mut IndexSet<(u32, u32)>, next: &RowsBuilder, from: u32) -> Result<(), Memory>
+    requires from { from < length next.now }
+    requires indexed { IsIndexed next.now index.old.keys }
+    ensures indexed { IsIndexed next.now index.new.keys }
+    ensures old { OnOk result
+        (HasEdgesTo index.new.keys from (older (SCANNED - 1) (row_at next.now from))) }
+{
+    if let Some(to) = next.newest(from as usize, SCANNED - 1) {
+        index.insert((from, to))?;
     }
     Ok(())
 }

@@ -7,6 +7,7 @@
 
 mod bases;
 mod builder;
+mod chain;
 mod constraint;
 mod constraint_index;
 mod constraint_set;
@@ -19,6 +20,7 @@ mod predecessors;
 mod problem;
 mod region;
 mod rows;
+mod rows_builder;
 mod turning;
 
 pub use builder::ProblemBuilder;

@@ -10,7 +10,7 @@ use Rattle.nll_problem.proofs.graph_builder.GraphBuilder.ret.Goals.{After-push}
 free : (c : After-push) → get_or c.self.inside.marks.items c.args.point false ≡ false
 free c = get_or_default c.self.inside.marks.items c.args.point false c.index.result.now (omega (arith, c.if-point-self.false, c.self.invariant.0.marked.listed)) ∙ (sym c.index.ensures ∙ c.if-index.false)
 
-kept : (c : After-push) → IsKept c.self.inside.points c.self.inside.universals c.self.inside.next.rows (c.self.inside.returns.items ++ c.args.point ∷ []) (set c.self.inside.marks.items c.args.point true)
+kept : (c : After-push) → IsKept c.self.inside.points c.self.inside.universals c.self.inside.next (c.self.inside.returns.items ++ c.args.point ∷ []) (set c.self.inside.marks.items c.args.point true)
 kept c = kept_return _ _ _ _ _ c.self.invariant.0 c.args.point c.if-point-self.false (free c)
 
 pub invariant_of-self-2 : goal.invariant_of-self-2
