@@ -42,7 +42,8 @@ with_item rows index item = slice_set rows index (row_at rows index ++ item ∷ 
 abbrev pub entry_of : List Entry → ℕ → Entry
 entry_of entries place = slice_index_or entries place (record { item = 0; before = 0 })
 
--- the row of a head, of the first n entries: what came before its newest entry, and the item of this
+-- the row of a head, of the first n entries alone: what stood there before its newest entry, and
+-- the item of this
 abbrev pub chain : List Entry → ℕ → ℕ → List ℕ
 chain entries zero head = []
 chain entries (suc n) head =

@@ -5,7 +5,7 @@
 //! constant time, and a point with few successors costs no more than these. The room for the
 //! finished graph grows with each edge.
 
-ghost use Rattle.std.specs.Prelude.{◌≡◌, ◌-◌, ◌<◌, ◌≤◌, ◌^◌, length, OnOk, OnErr, IfOk};
+ghost use Rattle.std.specs.Prelude.{◌≡◌, ◌-◌, ◌<◌, ◌≤◌, length, OnOk, OnErr, IfOk};
 ghost use Rattle.nll_problem.specs.Adjacency.{HasEdgesTo, Indexes, IsIndexed};
 ghost use Rattle.nll_problem.specs.Answers.{Answers, AddsFact};
 ghost use Rattle.nll_problem.specs.Graph.{IsNext, IsSound};
@@ -13,7 +13,7 @@ ghost use Rattle.nll_problem.specs.GraphBuilding as building;
 ghost use Rattle.nll_problem.specs.GraphBuilding.{bare_graph, graph_error, edge_error};
 ghost use Rattle.nll_problem.specs.GraphBuilding.{return_error};
 ghost use Rattle.nll_problem.specs.Limits.{most_points, most_edges, most_universals};
-ghost use Rattle.nll_problem.specs.Rows.{item_count, older, row_at};
+ghost use Rattle.nll_problem.specs.Rows.{older, row_at};
 ghost use Rattle.nll_problem.specs.declared.graph_builder.TheConstants.{SCANNED};
 
 use crate::error::{BuildError, Kind};
