@@ -15,9 +15,9 @@ use Rattle.nll_owner.specs.Owner.{Owner, IsSound, IsDone, first_owner, given_to,
 use Rattle.nll_owner.proofs.LogLemmas.{contains_head, contains_tail, contains_cases, filter_from}
 use Rattle.nll_owner.proofs.LawLemmas.{least_exact}
 use Rattle.nll_owner.proofs.OwnerLemmas.{get_at, first_sound}
-use Rattle.nll_owner_tests.proofs.PairLemmas.{pair_is}
-use Rattle.nll_owner_tests.proofs.PostingLemmas.{take_all}
-use Rattle.nll_owner_tests.specs.Network.{GivesAll, Hears, IsPair, IsOwner, AreOwners, AreAllPairs, IsCarried, InStep, AreGiven, AreLoaded, AreDelivered, SayLeast, SaysOf, SayOfAll, logs_of}
+use Rattle.nll_driver.proofs.PairLemmas.{pair_is}
+use Rattle.nll_driver.proofs.PostingLemmas.{take_all}
+use Rattle.nll_driver.specs.Network.{GivesAll, Hears, IsPair, IsOwner, AreOwners, AreAllPairs, IsCarried, InStep, AreGiven, AreLoaded, AreDelivered, SayLeast, SaysOf, SayOfAll, logs_of}
 
 -- ---- lists of what a function gives
 

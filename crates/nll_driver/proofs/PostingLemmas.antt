@@ -8,7 +8,7 @@ use Rattle.nll_mail.specs.declared.growth.Growth.{Growth}
 use Rattle.nll_owner.specs.Logs.{IsPrefix}
 use Rattle.nll_owner.specs.Owner.{Owner, IsSound, Passes, part_for, given_to, received_from, with_growth}
 use Rattle.nll_owner.proofs.OwnerLemmas.{pair_small, filter_le}
-use Rattle.nll_owner_tests.specs.Network.{GivesAll, Hears}
+use Rattle.nll_driver.specs.Network.{GivesAll, Hears}
 
 take_suc : {X : Type 0} (xs : List X) (n : ℕ) (x : X) → slice_get xs n ≡ Some x → take (suc n) xs ≡ take n xs ++ x ∷ []
 take_suc [] n x h = absurd (let l = slice_get_within [] n x h in omega arith)

@@ -1,7 +1,7 @@
 -- Channels that are settled, the last of a list first.
 use Rattle.std.proofs.Common.{◌≡◌, ◌⊎◌, ⊎_elim, inl, inr, List, [], ◌∷◌, ◌++◌, length, Contains, sym, subst, arith}
 use Rattle.std.proofs.lemmas.List.Elements.{Contains-append_left, Contains-push, Contains-push_cases}
-use Rattle.nll_owner_tests.specs.Network.{SayOfAll}
+use Rattle.nll_driver.specs.Network.{SayOfAll}
 
 -- Of each channel that isn't in the list any more a settled mailbox says what it carried.
 pub record Settling {C P : Type 0} (says : C → P → Type 0) (all channels : List C) (posts : List P) : Type 0 where

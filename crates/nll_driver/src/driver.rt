@@ -4,9 +4,9 @@
 ghost use Rattle.std.specs.Prelude.{◌≡◌, ◌+◌, ◌<◌, ℕ, [], length, Contains, IfOk, OnOk, IfSome};
 ghost use Rattle.std.specs.Prelude.{IsTrue, Some, map, slice_get};
 ghost use Rattle.nll_owner.specs.Owner.{first_owner};
-ghost use Rattle.nll_owner_tests.specs.Network.{AreAllPairs, AreAllBefore, InStep};
-ghost use Rattle.nll_owner_tests.specs.Network.{AreGiven, AreLoaded, AreDelivered, SayLeast};
-ghost use Rattle.nll_owner_tests.specs.Network.{SaysOf, SayOfAll, logs_of};
+ghost use Rattle.nll_driver.specs.Network.{AreAllPairs, AreAllBefore, InStep};
+ghost use Rattle.nll_driver.specs.Network.{AreGiven, AreLoaded, AreDelivered, SayLeast};
+ghost use Rattle.nll_driver.specs.Network.{SaysOf, SayOfAll, logs_of};
 
 use crate::channel::Channel;
 use crate::network::{load, post_all, take_one};

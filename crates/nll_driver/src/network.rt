@@ -3,7 +3,7 @@
 ghost use Rattle.std.specs.Prelude.{◌≡◌, ◌<◌, true, false, take, OnOk};
 ghost use Rattle.nll_owner.specs.Logs.{IsPrefix};
 ghost use Rattle.nll_owner.specs.Owner.{IsSound, IsDone, part_for, given_to, received_from};
-ghost use Rattle.nll_owner_tests.specs.Network.{GivesAll, Hears};
+ghost use Rattle.nll_driver.specs.Network.{GivesAll, Hears};
 
 use crate::channel::Channel;
 use crate::stop::Stop;

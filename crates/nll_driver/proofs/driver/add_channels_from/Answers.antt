@@ -1,7 +1,7 @@
 use Rattle.std.proofs.Common.{◌≡◌, ◌++◌, [], ◌∷◌, arith}
-use Rattle.nll_owner_tests.proofs.PairLemmas.{pair_is, before_added, before_skip, before_row, each_added}
-use Rattle.nll_owner_tests.proofs.driver.add_channels_from.Goals as goal
-use Rattle.nll_owner_tests.proofs.driver.add_channels_from.Goals.{then-to-from+in_ok-between+in_ok-push, else-to-from}
+use Rattle.nll_driver.proofs.PairLemmas.{pair_is, before_added, before_skip, before_row, each_added}
+use Rattle.nll_driver.proofs.driver.add_channels_from.Goals as goal
+use Rattle.nll_driver.proofs.driver.add_channels_from.Goals.{then-to-from+in_ok-between+in_ok-push, else-to-from}
 
 pub loop-to-preserved : goal.loop-to-preserved
 loop-to-preserved g c =

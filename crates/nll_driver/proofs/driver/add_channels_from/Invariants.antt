@@ -1,6 +1,6 @@
 use Rattle.std.proofs.Common.{◌≡◌, [], map, Contains}
-use Rattle.nll_owner_tests.specs.Network.{AreAllBefore}
-use Rattle.nll_owner_tests.proofs.driver.add_channels_from.Given as goal
+use Rattle.nll_driver.specs.Network.{AreAllBefore}
+use Rattle.nll_driver.proofs.driver.add_channels_from.Given as goal
 
 abbrev pub invariant-loop-to : goal.invariant-loop-to
 invariant-loop-to g l = record {

@@ -1,6 +1,6 @@
 use Rattle.std.proofs.Common.{◌≡◌, arith}
-use Rattle.nll_owner_tests.proofs.PairLemmas.{before_all}
-use Rattle.nll_owner_tests.proofs.driver.channels_of.Goals as goal
+use Rattle.nll_driver.proofs.PairLemmas.{before_all}
+use Rattle.nll_driver.proofs.driver.channels_of.Goals as goal
 
 pub returns-clause-pairs : goal.returns-clause-pairs
 returns-clause-pairs g c =

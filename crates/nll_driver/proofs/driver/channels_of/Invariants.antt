@@ -1,6 +1,6 @@
 use Rattle.std.proofs.Common.{◌≡◌, [], map, Contains}
-use Rattle.nll_owner_tests.specs.Network.{AreAllBefore}
-use Rattle.nll_owner_tests.proofs.driver.channels_of.Given as goal
+use Rattle.nll_driver.specs.Network.{AreAllBefore}
+use Rattle.nll_driver.proofs.driver.channels_of.Given as goal
 
 abbrev pub invariant-loop-from : goal.invariant-loop-from
 invariant-loop-from g l = record {

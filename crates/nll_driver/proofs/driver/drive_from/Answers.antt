@@ -1,6 +1,6 @@
 use Rattle.std.proofs.Common.{◌≡◌, length, arith}
-use Rattle.nll_owner_tests.proofs.PostingLemmas.{written_over}
-use Rattle.nll_owner_tests.proofs.driver.drive_from.Goals as goal
+use Rattle.nll_driver.proofs.PostingLemmas.{written_over}
+use Rattle.nll_driver.proofs.driver.drive_from.Goals as goal
 
 pub finish-requires-clause-in_step : goal.finish-requires-clause-in_step
 finish-requires-clause-in_step g c κs within =

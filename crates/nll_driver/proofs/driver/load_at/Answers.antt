@@ -1,6 +1,6 @@
 use Rattle.std.proofs.lemmas.Option.{slice_get-get_or}
-use Rattle.nll_owner_tests.proofs.NetworkLemmas.{owner_is, loaded_step}
-use Rattle.nll_owner_tests.proofs.driver.load_at.Goals as goal
+use Rattle.nll_driver.proofs.NetworkLemmas.{owner_is, loaded_step}
+use Rattle.nll_driver.proofs.driver.load_at.Goals as goal
 
 pub load-requires-clause-sound : goal.load-requires-clause-sound
 load-requires-clause-sound g c = (owner_is _ _ _ _ _ _ _ _ c.requires c.args.number c.index-owners-number.result c.if-number-owners.false).sound

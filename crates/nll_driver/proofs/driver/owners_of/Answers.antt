@@ -1,6 +1,6 @@
 use Rattle.std.proofs.Common.{◌≡◌, ◌⊎◌, ⊎_elim, inl, inr, ℕ, zero, suc, List, [], ◌∷◌, ◌++◌, length, slice_get, Some, refl, sym, ap, ◌∙◌, length-append, arith}
 use Rattle.nll_owner.specs.Owner.{Owner, first_owner}
-use Rattle.nll_owner_tests.proofs.driver.owners_of.Goals as goal
+use Rattle.nll_driver.proofs.driver.owners_of.Goals as goal
 
 -- what is found in a list with one more
 get_pushed : {X : Type 0} (xs : List X) (x : X) (i : ℕ) (y : X) → slice_get (xs ++ x ∷ []) i ≡ Some y → (slice_get xs i ≡ Some y) ⊎ ((i ≡ length xs) × (y ≡ x))

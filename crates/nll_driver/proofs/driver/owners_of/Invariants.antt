@@ -1,6 +1,6 @@
 use Rattle.std.proofs.Common.{◌≡◌, ℕ, length, slice_get, Some}
 use Rattle.nll_owner.specs.Owner.{Owner, first_owner}
-use Rattle.nll_owner_tests.proofs.driver.owners_of.Given as goal
+use Rattle.nll_driver.proofs.driver.owners_of.Given as goal
 
 abbrev pub invariant-loop-me : goal.invariant-loop-me
 invariant-loop-me l = record {

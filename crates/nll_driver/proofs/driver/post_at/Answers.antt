@@ -1,8 +1,8 @@
 use Rattle.std.proofs.Common.{get_or, ap}
 use Rattle.std.proofs.lemmas.Option.{slice_get-get_or}
-use Rattle.nll_owner_tests.proofs.NetworkLemmas.{channel_in, first_within, get_or_again, given_more, given_step, loaded_more, owner_is, pair_at}
-use Rattle.nll_owner_tests.proofs.PairLemmas.{pair_is}
-use Rattle.nll_owner_tests.proofs.driver.post_at.Goals as goal
+use Rattle.nll_driver.proofs.NetworkLemmas.{channel_in, first_within, get_or_again, given_more, given_step, loaded_more, owner_is, pair_at}
+use Rattle.nll_driver.proofs.PairLemmas.{pair_is}
+use Rattle.nll_driver.proofs.driver.post_at.Goals as goal
 
 pub bounds-owners-channel : goal.bounds-owners-channel
 bounds-owners-channel g c = first_within _ _ _ _ _ _ _ _ c.requires.in_step c.args.place c.index-channels-place.result c.requires.place

@@ -1,6 +1,6 @@
 use Rattle.std.proofs.Common.{◌≡◌, length}
-use Rattle.nll_owner_tests.specs.Network.{InStep, AreGiven, AreLoaded}
-use Rattle.nll_owner_tests.proofs.driver.post_each.Given as goal
+use Rattle.nll_driver.specs.Network.{InStep, AreGiven, AreLoaded}
+use Rattle.nll_driver.proofs.driver.post_each.Given as goal
 
 abbrev pub invariant-loop-place : goal.invariant-loop-place
 invariant-loop-place g l = record {

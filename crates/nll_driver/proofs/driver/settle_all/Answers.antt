@@ -1,8 +1,8 @@
 use Rattle.std.proofs.Common.{◌≡◌, ◌++◌, [], ◌∷◌, length, ap, ◌∙◌, arith}
 use Rattle.std.proofs.lemmas.List.Elements.{Contains-append_left}
-use Rattle.nll_owner_tests.proofs.PairLemmas.{pair_is}
-use Rattle.nll_owner_tests.proofs.SettlingLemmas.{settling_none, settling_more, settled_all}
-use Rattle.nll_owner_tests.proofs.driver.settle_all.Goals as goal
+use Rattle.nll_driver.proofs.PairLemmas.{pair_is}
+use Rattle.nll_driver.proofs.SettlingLemmas.{settling_none, settling_more, settled_all}
+use Rattle.nll_driver.proofs.driver.settle_all.Goals as goal
 
 pub loop-channel-init : goal.loop-channel-init
 loop-channel-init g c = record { tied = c.requires.tied; settling = settling_none _ _ _ (ap length c.requires.none) }

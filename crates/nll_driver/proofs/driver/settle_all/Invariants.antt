@@ -1,7 +1,7 @@
 use Rattle.std.proofs.Common.{length, Contains}
-use Rattle.nll_owner_tests.specs.Network.{SaysOf}
-use Rattle.nll_owner_tests.proofs.SettlingLemmas.{Settling}
-use Rattle.nll_owner_tests.proofs.driver.settle_all.Given as goal
+use Rattle.nll_driver.specs.Network.{SaysOf}
+use Rattle.nll_driver.proofs.SettlingLemmas.{Settling}
+use Rattle.nll_driver.proofs.driver.settle_all.Given as goal
 
 abbrev pub invariant-loop-channel : goal.invariant-loop-channel
 invariant-loop-channel g l = record {

@@ -1,8 +1,8 @@
 use Rattle.std.proofs.Common.{ap}
 use Rattle.std.proofs.lemmas.Option.{slice_get-get_or}
-use Rattle.nll_owner_tests.proofs.NetworkLemmas.{channel_in, get_or_again, heard_step, last_within, owner_is}
-use Rattle.nll_owner_tests.proofs.PairLemmas.{pair_is}
-use Rattle.nll_owner_tests.proofs.driver.take_at.Goals as goal
+use Rattle.nll_driver.proofs.NetworkLemmas.{channel_in, get_or_again, heard_step, last_within, owner_is}
+use Rattle.nll_driver.proofs.PairLemmas.{pair_is}
+use Rattle.nll_driver.proofs.driver.take_at.Goals as goal
 
 pub bounds-owners-channel : goal.bounds-owners-channel
 bounds-owners-channel g c = last_within _ _ _ _ _ _ _ _ c.requires.in_step c.args.place c.index-channels-place.result c.requires.place

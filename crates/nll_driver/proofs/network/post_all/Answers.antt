@@ -1,7 +1,7 @@
 use Rattle.std.proofs.Common.{◌<◌, refl, sym, ap, ◌∙◌, subst}
 use Rattle.nll_owner.specs.Owner.{Owner}
-use Rattle.nll_owner_tests.proofs.PostingLemmas.{posting_none, posting_more, posted_all, posted_few, gives_all, fewer}
-use Rattle.nll_owner_tests.proofs.network.post_all.Goals as goal
+use Rattle.nll_driver.proofs.PostingLemmas.{posting_none, posting_more, posted_all, posted_few, gives_all, fewer}
+use Rattle.nll_driver.proofs.network.post_all.Goals as goal
 
 pub loop-growth-init : goal.loop-growth-init
 loop-growth-init g c =

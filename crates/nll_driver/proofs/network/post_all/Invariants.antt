@@ -1,8 +1,8 @@
 use Rattle.std.proofs.Common.{◌≡◌, ◌-◌, ◌<◌, length}
 use Rattle.nll_problem.specs.Limits.{most_posts}
 use Rattle.nll_owner.specs.Owner.{part_for, given_to}
-use Rattle.nll_owner_tests.proofs.PostingLemmas.{Posting}
-use Rattle.nll_owner_tests.proofs.network.post_all.Given as goal
+use Rattle.nll_driver.proofs.PostingLemmas.{Posting}
+use Rattle.nll_driver.proofs.network.post_all.Given as goal
 
 abbrev pub invariant-loop-growth : goal.invariant-loop-growth
 invariant-loop-growth g l = record {

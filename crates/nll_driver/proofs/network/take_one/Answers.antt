@@ -1,7 +1,7 @@
 use Rattle.std.proofs.Common.{ap, rules}
 use Rattle.nll_owner.specs.Owner.{Owner, Passes}
-use Rattle.nll_owner_tests.proofs.PostingLemmas.{hears_one}
-use Rattle.nll_owner_tests.proofs.network.take_one.Goals as goal
+use Rattle.nll_driver.proofs.PostingLemmas.{hears_one}
+use Rattle.nll_driver.proofs.network.take_one.Goals as goal
 
 pub returns-clause-hears : goal.returns-clause-hears
 returns-clause-hears g c =
