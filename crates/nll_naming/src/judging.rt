@@ -5,7 +5,7 @@ ghost use Rattle.std.specs.Prelude.{slice_index_or};
 ghost use Rattle.std.specs.List.{list_all};
 ghost use Rattle.nll_reading.specs.Names.{number_of as number_among};
 ghost use Rattle.nll_types.specs.Table.{Extends, AreBelow};
-ghost use Rattle.nll_type_grammar.specs.WrittenTypes.{WrittenType, tuple, named};
+ghost use Rattle.nll_type_grammar.specs.WrittenTypes.{WrittenType, int, reference, tuple, named};
 ghost use Rattle.nll_type_grammar.specs.TypeTexts as texts;
 ghost use Rattle.nll_type_grammar.specs.TypeTexts.{all_at, arguments_at, parts_of};
 ghost use Rattle.nll_type_grammar.specs.TypeTexts.{type_over, written};
@@ -235,6 +235,44 @@ fn judge_tuple(
     })
 }
 
+// Judges a reference over what is judged of its target.
+fn judge_reference(
+    scope: &Scope<'_>,
+    table: &mut TypeTable,
+    region: &[u8],
+    mutable: bool,
+    target: Judged,
+) -> Result<Judged, Memory>
+    requires { target.shape < length table.old.shapes }
+    ensures structs { table.new.structs ≡ table.old.structs }
+    ensures extends { Extends table.old.shapes table.new.shapes }
+    ensures judged { IfOk result (λ j. (t : WrittenType)
+        → IsJudged (scope_of scope.now) table.old.shapes t target
+        → IsJudged (scope_of scope.now) table.new.shapes (reference region.now mutable t) j) }
+{
+    let (_, is_region) = find(scope.regions, region);
+    let shape = table.add(Node::Reference(mutable, target.shape))?;
+    Ok(Judged {
+        known: both(is_region, target.known),
+        fits: target.fits,
+        shape,
+    })
+}
+
+// Judges an `int`.
+fn judge_int(scope: &Scope<'_>, table: &mut TypeTable) -> Result<Judged, Memory>
+    ensures structs { table.new.structs ≡ table.old.structs }
+    ensures extends { Extends table.old.shapes table.new.shapes }
+    ensures judged { IfOk result (IsJudged (scope_of scope.now) table.new.shapes int) }
+{
+    let shape = table.add(Node::Int)?;
+    Ok(Judged {
+        known: true,
+        fits: true,
+        shape,
+    })
+}
+
 // Judges a node over what is judged of its parts.
 fn judge_node(
     alloc: Global,
@@ -252,31 +290,13 @@ fn judge_node(
         → IsJudged (scope_of scope.now) table.new.shapes (type_over ts node.now) j) }
 {
     match node {
-        TypeNode::Int => {
-            let shape = table.add(Node::Int)?;
-            Ok(Judged {
-                known: true,
-                fits: true,
-                shape,
-            })
-        }
+        TypeNode::Int => judge_int(scope, table),
         TypeNode::Reference(region, mutable, part) => {
-            let (_, known) = find(scope.regions, region);
-            let part = done[*part];
-            let shape = table.add(Node::Reference(*mutable, part.shape))?;
-            Ok(Judged {
-                known: known && part.known,
-                fits: part.fits,
-                shape,
-            })
+            judge_reference(scope, table, region, *mutable, done[*part])
         }
-        TypeNode::Tuple(parts) => {
-            let tuple = judge_tuple(alloc, scope, table, parts.as_slice(), done)?;
-            Ok(tuple)
-        }
+        TypeNode::Tuple(parts) => judge_tuple(alloc, scope, table, parts.as_slice(), done),
         TypeNode::Named(name, arguments) => {
-            let named = judge_named(alloc, scope, table, name, arguments.as_slice(), done)?;
-            Ok(named)
+            judge_named(alloc, scope, table, name, arguments.as_slice(), done)
         }
     }
 }

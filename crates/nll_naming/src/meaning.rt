@@ -3,6 +3,7 @@
 ghost use Rattle.std.specs.Prelude.{◌≡◌, ◌<◌, ◌≤◌, ◌^◌, [], length, IfOk};
 ghost use Rattle.nll_reading.specs.Names.{number_of as number_among};
 ghost use Rattle.nll_types.specs.Table.{AreBelow};
+ghost use Rattle.nll_types.specs.Types.{reference, named};
 ghost use Rattle.nll_types.specs.Views.{tree, trees};
 ghost use Rattle.nll_type_grammar.specs.TypeTexts as texts;
 ghost use Rattle.nll_type_grammar.specs.TypeTexts.{AreNodes, types_from, all_at, arguments_at};
@@ -59,6 +60,31 @@ fn regions(
     Ok(made)
 }
 
+// A reference to a type.
+fn reference_to(alloc: Global, region: RegionId, mutable: bool, target: Ty) -> Result<Ty, Memory>
+    ensures { IfOk result (λ t. tree t ≡ reference region mutable (tree target)) }
+{
+    let target = Box::new(alloc, target)?;
+    Ok(Ty::Reference(region, mutable, target))
+}
+
+// A struct with these arguments, of which the types are known.
+fn struct_meant(
+    alloc: Global,
+    scope: &Scope<'_>,
+    name: &[u8],
+    arguments: &[Argument<'_>],
+    types: Vec<Ty>,
+) -> Result<Ty, Memory>
+    ensures { IfOk result (λ t. HasRoom scope.now → tree t
+        ≡ named (number_among (scope_of scope.now).structs name.now)
+        (region_numbers (scope_of scope.now).regions arguments.now) (trees types.items)) }
+{
+    let regions = regions(alloc, scope.regions, arguments)?;
+    let (number, _) = find(scope.structs, name);
+    Ok(Ty::Named(number, regions, types))
+}
+
 // The type of a node. It recurses to the depth of the type.
 #[cycle(meaning)]
 fn node_meant(
@@ -77,8 +103,7 @@ fn node_meant(
         TypeNode::Int => Ok(Ty::Int),
         TypeNode::Reference(name, mutable, part) => {
             let target = part_meant(alloc, scope, nodes, number, *part)?;
-            let target = Box::new(alloc, target)?;
-            Ok(Ty::Reference(region(scope.regions, name), *mutable, target))
+            reference_to(alloc, region(scope.regions, name), *mutable, target)
         }
         TypeNode::Tuple(parts) => {
             let parts = parts_meant(alloc, scope, nodes, number, parts.as_slice())?;
@@ -89,11 +114,11 @@ fn node_meant(
             if is_parameter {
                 return Ok(Ty::Parameter(parameter));
             }
-            let types = types_among(alloc, arguments.as_slice())?;
-            let types = parts_meant(alloc, scope, nodes, number, types.as_slice())?;
-            let regions = regions(alloc, scope.regions, arguments.as_slice())?;
-            let (number, _) = find(scope.structs, name);
-            Ok(Ty::Named(number, regions, types))
+            let numbers = types_among(alloc, arguments.as_slice())?;
+            let told = parts_meant(alloc, scope, nodes, number, numbers.as_slice());
+            drop(numbers);
+            let types = told?;
+            struct_meant(alloc, scope, name, arguments.as_slice(), types)
         }
     }
 }
@@ -113,8 +138,7 @@ fn part_meant(
     if part >= whole {
         return Ok(Ty::Int);
     }
-    let ty = node_meant(alloc, scope, nodes, part)?;
-    Ok(ty)
+    node_meant(alloc, scope, nodes, part)
 }
 
 // The types of parts of a node.
@@ -148,6 +172,5 @@ pub fn meant(alloc: Global, scope: &Scope<'_>, text: &TypeText<'_>) -> Result<Ty
     ensures { IfOk result (λ t. tree t ≡ naming.meant (scope_of scope.now) (written text.now)) }
 {
     let nodes = text.nodes();
-    let ty = node_meant(alloc, scope, nodes, nodes.len() - 1)?;
-    Ok(ty)
+    node_meant(alloc, scope, nodes, nodes.len() - 1)
 }

@@ -1,11 +1,10 @@
 //! What owners have and answer, written.
 ghost use Rattle.std.specs.Prelude.{◌≡◌, length};
 
-use super::driver::{Turn, drive};
 use super::problems::{Written, problem_of};
-use super::stop::Stop;
 use nll_core::{Element, Problem, RegionId};
 use nll_cut::Cut;
+use nll_driver::{Stop, Turn, drive};
 use nll_mail::{Growth, Mail};
 use nll_owner::Owner;
 use std::alloc::{AllocError, Global};

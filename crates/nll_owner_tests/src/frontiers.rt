@@ -5,8 +5,8 @@ ghost use Rattle.nll_core.specs.Search.{IsIn};
 ghost use Rattle.nll_core.specs.Frontiers.{IsFrontierIn};
 
 use super::problems::{FILLED_HOLE, problem_of};
-use super::stop::Stop;
 use nll_core::{BitSet, Element, ElementSet, Frontier, Graph, Memory, Problem};
+use nll_driver::Stop;
 use nll_problem::Predecessors;
 use std::alloc::{AllocError, Global};
 

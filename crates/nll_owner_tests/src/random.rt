@@ -2,11 +2,11 @@
 //! `solve` gives.
 ghost use Rattle.std.specs.Prelude.{◌≡◌, ◌<◌, ◌≤◌, length};
 
-use super::driver::Turn::{self, Load, Post, Take};
 use super::driving::driven_over;
-use super::stop::Stop;
 use nll_core::{BuildError, Constraint, Problem, ProblemBuilder, RegionId, Values, solve};
 use nll_cut::Cut;
+use nll_driver::Stop;
+use nll_driver::Turn::{self, Load, Post, Take};
 use nll_mail::{Mail, QueueMail};
 use std::alloc::{AllocError, Global};
 

@@ -1,7 +1,7 @@
 //! What an owner answers once no rank is left.
 use super::driving::answers_at_the_last_rank;
 use super::problems::BY_TURNS;
-use super::stop::Stop;
+use nll_driver::Stop;
 
 #[test]
 fn an_owner_without_ranks_is_refused(rt: HostRuntime) {

@@ -1,8 +1,8 @@
 //! Owners that are driven by all orders of turns that are named here come to the same values.
-use super::driver::Turn::{self, Load, Post, Take};
 use super::driving::driven;
 use super::problems::{BY_TURNS, FILLED_HOLE, REACHED, Written};
-use super::stop::Stop;
+use nll_driver::Stop;
+use nll_driver::Turn::{self, Load, Post, Take};
 use nll_mail::QueueMail;
 use std::process::Abort;
 

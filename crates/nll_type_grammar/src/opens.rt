@@ -237,14 +237,10 @@ fn inside<'a>(
         p.0 nodes.new.items opened.new.items p.1)) }
 {
     match opened.pop() {
-        Some(Open::Tuple(parts)) => {
-            let told = behind_part(tokens, parts, nodes, opened)?;
-            Ok(told)
-        }
-        Some(Open::Arguments(name, arguments)) => {
-            let told = behind_argument(tokens, name, arguments, nodes, opened)?;
-            Ok(told)
-        }
+        Some(Open::Tuple(parts)) => behind_part(tokens, parts, nodes, opened),
+        Some(Open::Arguments(name, arguments)) => behind_argument(
+            tokens, name, arguments, nodes, opened,
+        ),
         _ => Ok(None),
     }
 }
@@ -267,21 +263,12 @@ pub fn step<'a>(
         p.0 nodes.new.items opened.new.items p.1)) }
 {
     match state {
-        State::Want => {
-            let told = want(alloc, tokens, nodes, opened)?;
-            Ok(told)
-        }
-        State::WantArgument => {
-            let told = want_argument(tokens, opened)?;
-            Ok(told)
-        }
+        State::Want => want(alloc, tokens, nodes, opened),
+        State::WantArgument => want_argument(tokens, opened),
         State::Have => {
             let next = complete(nodes, opened)?;
             Ok(Some((next, 0)))
         }
-        State::Inside => {
-            let told = inside(tokens, nodes, opened)?;
-            Ok(told)
-        }
+        State::Inside => inside(tokens, nodes, opened),
     }
 }

@@ -41,10 +41,7 @@ fn argument(shapes: &mut Shapes, arguments: &[usize], number: usize) -> Result<u
 {
     match argument_number(shapes, arguments, number) {
         Some(shape) => Ok(shape),
-        None => {
-            let int = shapes.add(Node::Int)?;
-            Ok(int)
-        }
+        None => shapes.add(Node::Int),
     }
 }
 
@@ -67,28 +64,19 @@ pub(crate) fn shape(
         ≡ put_in_shape (all_at (shapes_in shapes.old) arguments.now) (shape_of (tree ty.now))) }
 {
     match ty {
-        Ty::Int => {
-            let number = shapes.add(Node::Int)?;
-            Ok(number)
-        }
-        Ty::Parameter(number) => {
-            let number = argument(shapes, arguments, *number)?;
-            Ok(number)
-        }
+        Ty::Int => shapes.add(Node::Int),
+        Ty::Parameter(number) => argument(shapes, arguments, *number),
         Ty::Reference(_, mutable, target) => {
             let target = shape(alloc, shapes, target, arguments)?;
-            let number = shapes.add(Node::Reference(*mutable, target))?;
-            Ok(number)
+            shapes.add(Node::Reference(*mutable, target))
         }
         Ty::Tuple(parts) => {
             let parts = shape_all(alloc, shapes, parts.as_slice(), arguments)?;
-            let number = shapes.add(Node::Tuple(parts))?;
-            Ok(number)
+            shapes.add(Node::Tuple(parts))
         }
         Ty::Named(number, regions, types) => {
             let types = shape_all(alloc, shapes, types.as_slice(), arguments)?;
-            let number = shapes.add(Node::Named(*number, regions.len(), types))?;
-            Ok(number)
+            shapes.add(Node::Named(*number, regions.len(), types))
         }
     }
 }

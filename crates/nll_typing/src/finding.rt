@@ -119,8 +119,7 @@ pub(crate) fn operand_found(
             Ok(Some(Found { shape, small: true }))
         }
         Operand::Copy(place) | Operand::Move(place) => {
-            let found = place_found(alloc, table, variables, place)?;
-            Ok(found)
+            place_found(alloc, table, variables, place)
         }
     }
 }

@@ -202,8 +202,7 @@ fn judge_switch(
         (place_in (operand_of operand.now)) && is_small int) j) }
 {
     let int = table.add(Node::Int)?;
-    let judged = judge_operand(alloc, table, variables, operand, int)?;
-    Ok(judged)
+    judge_operand(alloc, table, variables, operand, int)
 }
 
 // Judges a return: the type of the return place is to be small.
@@ -250,30 +249,20 @@ pub fn judge_statement<R, T>(
 {
     match statement {
         Statement::Assign(place, operand) => {
-            let judged = judge_assign(alloc, table, variables, place, operand)?;
-            Ok(judged)
+            judge_assign(alloc, table, variables, place, operand)
         }
         Statement::Borrow(place, _, mutable, borrowed) => {
-            let judged = judge_borrow(alloc, table, variables, place, *mutable, borrowed)?;
-            Ok(judged)
+            judge_borrow(alloc, table, variables, place, *mutable, borrowed)
         }
         Statement::Make(made) => {
             let (place, operands) = (&made.place, made.operands.as_slice());
-            let judged = judge_make(alloc, table, variables, place, operands, written[0])?;
-            Ok(judged)
+            judge_make(alloc, table, variables, place, operands, written[0])
         }
-        Statement::Read(place) => {
-            let judged = judge_read(alloc, table, variables, place)?;
-            Ok(judged)
-        }
-        Statement::Switch(operand, _) => {
-            let judged = judge_switch(alloc, table, variables, operand)?;
-            Ok(judged)
-        }
+        Statement::Read(place) => { judge_read(alloc, table, variables, place) }
+        Statement::Switch(operand, _) => { judge_switch(alloc, table, variables, operand) }
         Statement::Call(call) => {
             let (place, arguments) = (&call.place, call.arguments.as_slice());
-            let judged = judge_call(alloc, table, variables, place, arguments, written)?;
-            Ok(judged)
+            judge_call(alloc, table, variables, place, arguments, written)
         }
         Statement::Return => Ok(judge_return(table.shapes(), variables)),
         Statement::Live(_)

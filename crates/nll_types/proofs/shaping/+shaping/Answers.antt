@@ -1,37 +1,54 @@
 use Rattle.std.proofs.Common.{◌≤◌, ◌≡◌, ℕ, List, arith, length, ap, sym, ◌∙◌}
-use Rattle.nll_types.specs.Shapes.{shape_of, put_in_shape, reference_shape, tuple_shape}
+use Rattle.std.proofs.lemmas.Result.{IfOk-weaker}
+use Rattle.nll_types.specs.Shapes.{shape_of, put_in_shape, reference_shape, tuple_shape, named_shape}
 use Rattle.nll_types.specs.Table.{shapes_in, all_at}
 use Rattle.nll_types.specs.Types.{TypeTree}
 use Rattle.nll_types.specs.Views.{tree}
 use Rattle.nll_types.specs.declared.node.Node.{Node}
-use Rattle.nll_types.proofs.ViewLemmas.{tree_int, tree_parameter, tree_reference, tree_tuple}
-use Rattle.nll_types.proofs.ShapingLemmas.{shaping_more, shaping_all}
+use Rattle.nll_types.proofs.ViewLemmas.{tree_int, tree_parameter, tree_reference, tree_tuple, tree_named}
+use Rattle.nll_types.proofs.ShapingLemmas.{extends_then, shaping_more, shaping_all}
 use Rattle.nll_types.proofs.shaping.+shaping.Goals as goal
 
 -- what the shape of a tree becomes, where the tree is another
 put : (table : List Node) (arguments : List ℕ) (t u : TypeTree) → t ≡ u → put_in_shape (all_at (shapes_in table) arguments) (shape_of u) ≡ put_in_shape (all_at (shapes_in table) arguments) (shape_of t)
 put table arguments t u e = sym (ap (λ (x : TypeTree). put_in_shape (all_at (shapes_in table) arguments) (shape_of x)) e)
 
-pub shape-returns-in_ok-number-in-Int-clause-at : goal.shape-returns-in_ok-number-in-Int-clause-at
-shape-returns-in_ok-number-in-Int-clause-at t c = λ b.
-    c.in_ok-number-in-Int.ensures.at ∙ put c.args.shapes.now c.args.arguments.now _ _ (ap tree c.in-Int.is ∙ tree_int)
+pub shape-returns-in-Int-clause-at : goal.shape-returns-in-Int-clause-at
+shape-returns-in-Int-clause-at t c = IfOk-weaker c.add.result _ _ (λ i at. λ b.
+    at ∙ put c.args.shapes.now c.args.arguments.now _ _ (ap tree c.in-Int.is ∙ tree_int)) c.add.ensures.at
 
-pub shape-returns-in_ok-number-in-Parameter-clause-at : goal.shape-returns-in_ok-number-in-Parameter-clause-at
-shape-returns-in_ok-number-in-Parameter-clause-at t c = λ b.
-    c.in_ok-number-in-Parameter.ensures.at b ∙ put c.args.shapes.now c.args.arguments.now _ _ (ap tree c.in-Parameter.is ∙ tree_parameter _)
+pub shape-returns-in-Parameter-clause-at : goal.shape-returns-in-Parameter-clause-at
+shape-returns-in-Parameter-clause-at t c = IfOk-weaker c.argument.result _ _ (λ i at. λ b.
+    at b ∙ put c.args.shapes.now c.args.arguments.now _ _ (ap tree c.in-Parameter.is ∙ tree_parameter _)) c.argument.ensures.at
 
-pub shape-returns-in_ok-number-in-Reference-clause-at : goal.shape-returns-in_ok-number-in-Reference-clause-at
-shape-returns-in_ok-number-in-Reference-clause-at t c = λ b.
+pub shape-returns-in_ok-target-in-Reference-clause-at : goal.shape-returns-in_ok-target-in-Reference-clause-at
+shape-returns-in_ok-target-in-Reference-clause-at t c = IfOk-weaker c.add-in-Reference.result _ _ (λ i at. λ b.
     let target = (rw c.deref.ensures at c.in_ok-target-in-Reference.ensures.at) b in
-    c.in_ok-number-in-Reference.ensures.at
+    at
     ∙ (ap (reference_shape c.in-Reference.mutable) target
-    ∙ put c.args.shapes.now c.args.arguments.now _ _ (ap tree c.in-Reference.is ∙ tree_reference _ _ _))
+    ∙ put c.args.shapes.now c.args.arguments.now _ _ (ap tree c.in-Reference.is ∙ tree_reference _ _ _))) c.add-in-Reference.ensures.at
 
-pub shape-returns-in_ok-number-in-Tuple-clause-at : goal.shape-returns-in_ok-number-in-Tuple-clause-at
-shape-returns-in_ok-number-in-Tuple-clause-at t c = λ b.
+pub shape-returns-in_ok-parts-in-Tuple-clause-at : goal.shape-returns-in_ok-parts-in-Tuple-clause-at
+shape-returns-in_ok-parts-in-Tuple-clause-at t c = IfOk-weaker c.add-in-Tuple.result _ _ (λ i at. λ b.
     let parts = (rw c.as_slice.ensures.value at c.in_ok-parts-in-Tuple.ensures.at) b in
-    c.in_ok-number-in-Tuple.ensures.at
-    ∙ (ap tuple_shape parts ∙ put c.args.shapes.now c.args.arguments.now _ _ (ap tree c.in-Tuple.is ∙ tree_tuple _))
+    at ∙ (ap tuple_shape parts ∙ put c.args.shapes.now c.args.arguments.now _ _ (ap tree c.in-Tuple.is ∙ tree_tuple _))) c.add-in-Tuple.ensures.at
+
+pub shape-returns-in_ok-types-in-Named-clause-at : goal.shape-returns-in_ok-types-in-Named-clause-at
+shape-returns-in_ok-types-in-Named-clause-at t c =
+    let count : c.len.result ≡ length c.in-Named.regions.items = cc in
+    IfOk-weaker c.add-in-Named.result _ _ (λ i at. λ b.
+    let types = (rw c.as_slice-in-Named.ensures.value at c.in_ok-types-in-Named.ensures.at) b in
+    at ∙ (ap (λ k. named_shape c.in-Named.number k (all_at (shapes_in c.shape_all-in-Named.new.shapes) c.in_ok-types-in-Named.types.items)) count
+    ∙ ap (named_shape c.in-Named.number (length c.in-Named.regions.items)) types ∙ put c.args.shapes.now c.args.arguments.now _ _ (ap tree c.in-Named.is ∙ tree_named _ _ _))) c.add-in-Named.ensures.at
+
+pub shape-returns-in_ok-target-in-Reference-clause-extends : goal.shape-returns-in_ok-target-in-Reference-clause-extends
+shape-returns-in_ok-target-in-Reference-clause-extends t c = extends_then _ _ _ c.shape.ensures.extends c.add-in-Reference.ensures.extends
+
+pub shape-returns-in_ok-parts-in-Tuple-clause-extends : goal.shape-returns-in_ok-parts-in-Tuple-clause-extends
+shape-returns-in_ok-parts-in-Tuple-clause-extends t c = extends_then _ _ _ c.shape_all.ensures.extends c.add-in-Tuple.ensures.extends
+
+pub shape-returns-in_ok-types-in-Named-clause-extends : goal.shape-returns-in_ok-types-in-Named-clause-extends
+shape-returns-in_ok-types-in-Named-clause-extends t c = extends_then _ _ _ c.shape_all-in-Named.ensures.extends c.add-in-Named.ensures.extends
 
 pub shape_all-loop-part-preserved : goal.shape_all-loop-part-preserved
 shape_all-loop-part-preserved t c = rw c.in_ok-push.ensures.items
