@@ -5,7 +5,7 @@
 
 ghost use Rattle.std.specs.Prelude.{◌≡◌, ◌⊎◌, ◌↔◌, ℕ, ◌≤◌, ◌<◌, true, Contains, length, []};
 ghost use Rattle.std.specs.Prelude.{List, Bool};
-ghost use Rattle.std.specs.Prelude.{IfOk, OnOk, IfSome, IfNone};
+ghost use Rattle.std.specs.Prelude.{IfOk, IfErr, OnOk};
 ghost use Rattle.nll_problem.specs.Walks.{Reaches};
 ghost use Rattle.nll_sets.specs.Runs.{IsInRuns, IsRunFrom, IsWithin};
 ghost use Rattle.nll_core.specs.Lines.{IsJump};
@@ -16,27 +16,30 @@ ghost use Rattle.nll_core.specs.Walking.{AreIn, IsLineClosed, IsSpread};
 use crate::lines::Lines;
 use nll_sets::{Memory, Run, RunSet};
 
-// The number before which, from a point on, no number is in the set; None where the point is.
-fn free_to(reached: &RunSet, point: u32) -> Option<u32>
+// The run of a set that has a point; Err with the number before which, from the point on, no number
+// is in the set.
+fn look_up(reached: &RunSet, point: u32) -> Result<Run, u32>
     requires { point < 4294967295 }
-    ensures some { IfSome result (IsFreeTo reached.now point) }
-    ensures none { IfNone result (IsIn reached.now point) }
+    ensures has { OnOk result (IsIn reached.now point) }
+    ensures run { IfOk result (AreIn reached.now) }
+    ensures free { IfErr result (IsFreeTo reached.now point) }
 {
     let Some(next) = reached.run_from(point) else {
-        return Some(u32::MAX);
+        return Err(u32::MAX);
     };
     if next.first <= point {
-        return None;
+        return Ok(next);
     }
-    Some(next.first)
+    Err(next.first)
 }
 
-// Puts the stretch from a point of a run of `sub` into the set and into the list: as far as its line
-// and the run go on and it is new. Answers a number up to which each number from the point on is
-// settled.
+// Puts the stretch from a new point of a run of `sub` into the set and into the list: as far as its
+// line and the run go on, and before the limit, where the set goes on. Answers a number up to which
+// each number from the point on is settled.
 fn enter_run(
     lines: &Lines,
     inside: Run,
+    limit: u32,
     reached: &mut RunSet,
     todo: &mut Vec<Run>,
     point: u32,
@@ -44,6 +47,7 @@ fn enter_run(
     requires point { point < lines.now.points }
     requires widths { lines.now.points ≤ length reached.old }
     requires inside { IsWithin inside point }
+    requires free { IsFreeTo reached.old point limit }
     ensures grows { OnOk result ((sub : List Bool) → IsRunFrom sub point inside
         → Grows lines.now sub (Reaches lines.now (IsIn sub) point)
         reached.old reached.new todo.old.items todo.new.items) }
@@ -53,9 +57,6 @@ fn enter_run(
     ensures covers { OnOk result (IsIn reached.new point) }
 {
     let _points = lines.points();
-    let Some(limit) = free_to(reached, point) else {
-        return Ok(point + 1);
-    };
     let last = lines.line_end(point).min(inside.last);
     let run = Run {
         first: point,
@@ -85,32 +86,28 @@ pub fn enter(
         → (x : ℕ) → point ≤ x → x < next.0 → IsIn sub.now x → IsIn reached.new x) }
     ensures covers { OnOk result (IsIn sub.now point → IsIn reached.new point) }
 {
+    let points = lines.points();
     let found = sub.run_near(near, point);
     let Some(inside) = found.1 else {
-        return Ok((lines.points(), found.0));
+        return Ok((points, found.0));
     };
     if inside.first > point {
         return Ok((inside.first, found.0));
     }
-    let next = enter_run(lines, inside, reached, todo, point)?;
+    let Err(limit) = look_up(reached, point) else {
+        return Ok((point + 1, found.0));
+    };
+    let next = enter_run(lines, inside, limit, reached, todo, point)?;
     Ok((next, found.0))
 }
 
-// The run of a set that has a point.
-fn run_of(set: &RunSet, point: u32) -> Option<Run>
-    ensures run { IfSome result (IsRunFrom set.now point) }
-    ensures has { IfSome result (λ run. IsWithin run point) }
-    ensures none { IfNone result (IsIn set.now point → ⊥) }
-{
-    let run = set.run_from(point)?;
-    if run.first <= point { Some(run) } else { None }
-}
-
 // Enters a point, where it is in `sub` and not reached. Answers a run of reached points: the one
-// that has the point or, where it wasn't reached, the one that is given.
+// that has the point or, where it wasn't reached, the one that is given. It keeps the place of a
+// run of `sub` near which later points may lie.
 fn go_to(
     lines: &Lines,
     sub: &RunSet,
+    near: &mut usize,
     reached: &mut RunSet,
     todo: &mut Vec<Run>,
     known: Run,
@@ -124,11 +121,18 @@ fn go_to(
     ensures known { IfOk result (AreIn reached.new) }
     ensures covers { OnOk result (IsIn sub.now point → IsIn reached.new point) }
 {
-    if let Some(run) = run_of(reached, point) {
-        return Ok(run);
-    }
-    if let Some(inside) = run_of(sub, point) {
-        enter_run(lines, inside, reached, todo, point)?;
+    let _points = lines.points();
+    let limit = match look_up(reached, point) {
+        Ok(run) => return Ok(run),
+        Err(limit) => limit,
+    };
+    let (at, found) = sub.run_near(*near, point);
+    *near = at;
+    let Some(inside) = found else {
+        return Ok(known);
+    };
+    if inside.first <= point {
+        enter_run(lines, inside, limit, reached, todo, point)?;
     }
     Ok(known)
 }
@@ -146,6 +150,7 @@ fn has(run: Run, point: u32) -> bool
 fn follow(
     lines: &Lines,
     sub: &RunSet,
+    near: &mut usize,
     reached: &mut RunSet,
     todo: &mut Vec<Run>,
     run: Run,
@@ -169,7 +174,7 @@ fn follow(
         if *target >= points {
             ends = true;
         } else if !has(known, *target) {
-            known = go_to(lines, sub, reached, todo, known, *target)?;
+            known = go_to(lines, sub, near, reached, todo, known, *target)?;
         }
     }
     Ok(ends)
@@ -190,8 +195,9 @@ pub fn spread(
     ensures { IfOk result (IsSpread lines.now sub.now reached.old reached.new) }
 {
     let mut ended = false;
+    let mut near = 0;
     while let Some(run) = todo.pop() {
-        ended |= follow(lines, sub, reached, todo, run)?;
+        ended |= follow(lines, sub, &mut near, reached, todo, run)?;
     }
     Ok(ended)
 }

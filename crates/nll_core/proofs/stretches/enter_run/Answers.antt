@@ -12,7 +12,7 @@ grows : (c : In_ok-push) (sub : List Bool) → IsRunFrom sub c.args.point c.args
 grows c sub from =
     let graph = c.args.lines.now in
     let run : Run = record { first = c.args.point; last = c.min.result } in
-    let s = stretch_of graph sub c.args.reached.now c.args.point c.line_end.result c.in-Some.limit c.min-last.result c.args.inside run c.line_end.ensures from (omega (arith, c.requires.inside.0)) c.in-Some.ensures.some
+    let s = stretch_of graph sub c.args.reached.now c.args.point c.line_end.result c.args.limit c.min-last.result c.args.inside run c.line_end.ensures from (omega (arith, c.requires.inside.0)) c.requires.free
     c.min-last.ensures refl c.min.ensures (omega (arith, c.points-points.ensures.sound.point_limit, c.points-points.ensures.value))
     in
     subst (λ (items : List Run). Grows graph sub (Reaches graph (IsIn sub) c.args.point) c.args.reached.now c.insert_run.new.self c.args.todo.now.items items) (sym c.in_ok-push.ensures.items)
@@ -25,7 +25,7 @@ pub returns-clause-settled : goal.returns-clause-settled
 returns-clause-settled c = λ sub from closed x a b.
     let d = (goal.at.returns-clause-settled c).In_ok-push in
     settled_entry c.args.lines.now sub c.insert_run.new.self c.args.point c.min-last.result ((grows d sub from).closed closed)
-    (c.in_ok-insert_run.ensures.ok.filled c.args.point (omega arith) (omega (arith, c.min.ensures, c.min-last.ensures, c.in-Some.ensures.some.above, c.line_end.ensures.above, c.requires.inside.1)))
+    (c.in_ok-insert_run.ensures.ok.filled c.args.point (omega arith) (omega (arith, c.min.ensures, c.min-last.ensures, c.requires.free.above, c.line_end.ensures.above, c.requires.inside.1)))
     (λ y h k. c.line_end.ensures.line y h (omega (arith, k, c.min-last.ensures)))
     (λ y h k. from.all y (omega (arith, h, c.requires.inside.0)) (omega (arith, k, c.min-last.ensures)))
     x a (omega (arith, b))
