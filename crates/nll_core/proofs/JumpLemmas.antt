@@ -1,9 +1,9 @@
 -- Lists of jumps: how they grow, and which part of them is of the points of a run.
-use Rattle.std.proofs.Common.{◌≡◌, ◌≢◌, ◌⊎◌, ◌↔◌, ℕ, ◌+◌, ◌-◌, ◌<◌, ◌≤◌, List, [], ◌∷◌, ◌++◌, Contains, length, get_or, drop, slice_range, refl, sym, ap, ◌∙◌, subst, inl, inr, ⊎_elim, arith, zero, suc, length-append, length-take, length-drop, get_or-take, get_or-drop}
+use Rattle.std.proofs.Common.{◌≡◌, ◌≢◌, ◌⊎◌, ◌↔◌, ℕ, ◌+◌, ◌-◌, ◌<◌, ◌≤◌, Bool, true, false, List, [], ◌∷◌, ◌++◌, Contains, length, get_or, drop, slice_range, refl, sym, ap, ◌∙◌, subst, inl, inr, ⊎_elim, arith, zero, suc, length-append, length-take, length-drop, get_or-take, get_or-drop}
 use Rattle.std.proofs.lemmas.Bool.{cases_lt, cases_eq}
 use Rattle.std.proofs.lemmas.List.{get_or_append_left, get_or_at, get_or_default}
 use Rattle.nll_problem.specs.Graph.{Graph, IsNext, IsReturn}
-use Rattle.nll_core.specs.Lines.{IsJump, StandsIn, AreJumps, Pushes}
+use Rattle.nll_core.specs.Lines.{IsJump, StandsIn, AreGoingOn, AreJumps, Pushes}
 
 -- ---- what a list gets
 
@@ -70,7 +70,43 @@ among_all list skipped count all within t = (
   λ ((k, l, is), other). let below : k < length list = omega (arith, l, within) in ((k, below, get_or_default list k t 0 below ∙ is), other),
 )
 
+-- whether a number is among the first `count` of the list
+abbrev pub IsAmongFirst : List ℕ → ℕ → ℕ → Type 0
+IsAmongFirst list count t = (k : ℕ) × (k < count) × (get_or list k 0 ≡ t)
+
+pub is_among_all : (list : List ℕ) (count t : ℕ) → length list ≤ count → count ≤ length list → IsAmongFirst list count t ↔ Contains list t
+is_among_all list count t all within = (
+  λ (k, l, is). let below : k < length list = omega (arith, l, within) in (k, below, get_or_default list k t 0 below ∙ is),
+  λ h. (h.0, omega (arith, h.1, all), get_or_default list h.0 0 t h.1 ∙ h.2),
+)
+
+pub is_among_here : (list : List ℕ) (count t : ℕ) → get_or list count 0 ≡ t → (true ≡ true) ↔ IsAmongFirst list (count + 1) t
+is_among_here list count t is = (λ h. (count, omega arith, is), λ h. refl)
+
+pub is_among_other : (list : List ℕ) (count t : ℕ) (some : Bool) → get_or list count 0 ≢ t → (some ≡ true) ↔ IsAmongFirst list count t → (some ≡ true) ↔ IsAmongFirst list (count + 1) t
+is_among_other list count t some apart before = (
+  λ h. let w = before.0 h in (w.0, omega (arith, w.1), w.2),
+  λ (k, l, is). ⊎_elim (λ here. absurd (apart (sym (ap (λ i. get_or list i 0) here) ∙ is))) (λ other. before.1 (k, omega (arith, l, other), is)) (cases_eq k count),
+)
+
 -- ---- the jumps of points, one point after another
+
+pub going_first : (g : Graph) → AreGoingOn g 0 []
+going_first g = record { sized = refl; each = λ x h. absurd (omega (arith, h)) }
+
+pub going_more : (g : Graph) (count : ℕ) (flags : List Bool) (more : Bool) → AreGoingOn g count flags → (more ≡ true) ↔ IsNext g count (count + 1) → AreGoingOn g (count + 1) (flags ++ more ∷ [])
+going_more g count flags more all is = record {
+  sized = omega (arith, length-append flags (more ∷ []), all.sized);
+  each = λ x h. ⊎_elim
+      (λ own.
+      let at : get_or (flags ++ more ∷ []) x false ≡ more = get_or_at flags more [] false x (omega (arith, own, all.sized)) in
+      (λ e. subst (λ y. IsNext g y (y + 1)) (sym own) (is.0 (sym at ∙ e)), λ next. at ∙ is.1 (subst (λ y. IsNext g y (y + 1)) own next)))
+      (λ other.
+      let within : x < count = omega (arith, h, other) in
+      let at : get_or (flags ++ more ∷ []) x false ≡ get_or flags x false = get_or_append_left flags (more ∷ []) false x (omega (arith, within, all.sized)) in
+      (λ e. (all.each x within).0 (sym at ∙ e), λ next. at ∙ (all.each x within).1 next))
+      (cases_eq x count);
+}
 
 pub jumps_first : (g : Graph) → AreJumps g 0 (0 ∷ []) []
 jumps_first g = record {

@@ -42,6 +42,10 @@ abbrev pub AreOfPoints : Graph → List Run → Type 0
 AreOfPoints g runs =
     (k : ℕ) → k < length runs → (first_of runs k ≤ last_of runs k) × (last_of runs k < g.points)
 
+-- the set has each number of the run
+abbrev pub AreIn : List Bool → Run → Type 0
+AreIn flags run = (x : ℕ) → IsWithin run x → IsIn flags x
+
 -- The set got elements of this kind, and the list has each of them.
 pub record Grows (g : Graph) (sub : List Bool) (kind : ℕ → Type 0)
     (old new : List Bool) (before after : List Run) : Type 0 where

@@ -3,7 +3,8 @@
 ghost use Rattle.std.specs.Prelude.{◌≡◌, ℕ, ◌≤◌, ◌<◌, ◌↔◌, length, IfOk, OnOk};
 ghost use Rattle.nll_problem.specs.Problem.{IsBase};
 ghost use Rattle.nll_core.specs.Values.{set_of, IsHeld, IsShaped};
-ghost use Rattle.nll_core.specs.Growing.{Gains, HoldsPoints, HoldsEnds, HoldsFacts};
+ghost use Rattle.nll_core.specs.Growing.{AreBaseRun, Gains};
+ghost use Rattle.nll_core.specs.Growing.{HoldsPoints, HoldsEnds, HoldsFacts};
 
 use crate::values::Values;
 use nll_problem::{Problem, RegionId};
@@ -56,16 +57,40 @@ fn insert_points(values: &mut Values, region: RegionId, points: u32) -> Result<(
     Ok(())
 }
 
-// Puts in the base elements that were given.
+// Puts in the base elements that were given, a run of them at a time.
 fn insert_bases(problem: &Problem, values: &mut Values) -> Result<(), Memory>
     requires { IsShaped problem.now values.old }
-    ensures gains { Gains (IsBase problem.now) values.old values.new }
+    ensures gains { OnOk result (Gains (IsBase problem.now) values.old values.new) }
     ensures covers { OnOk result (HoldsFacts problem.now values.new) }
 {
     let facts = problem.bases();
-    for base in facts {
-        let (region, point) = *base;
-        values.insert(region, Element(point))?;
+    let mut place = 0;
+    while place < facts.len() {
+        let (region, first) = facts[place];
+        let (end, last) = run_end(facts, place);
+        values.insert_run(region, Run { first, last })?;
+        place = end;
     }
     Ok(())
+}
+
+// The place up to which, from one on, the facts give one region points that follow each other by
+// number, and the last of these points.
+fn run_end(facts: &[(RegionId, u32)], place: usize) -> (usize, u32)
+    requires { place < length facts.now }
+    ensures more { place < result.0 }
+    ensures bound { result.0 ≤ length facts.now }
+    ensures run { AreBaseRun facts.now place result.0 result.1 }
+{
+    let (region, mut last) = facts[place];
+    let mut end = place + 1;
+    while end < facts.len() {
+        let (other, point) = facts[end];
+        if other != region || point.checked_sub(1) != Some(last) {
+            return (end, last);
+        }
+        last = point;
+        end += 1;
+    }
+    (end, last)
 }

@@ -1,7 +1,8 @@
 //! The steps of a graph that don't go along a line.
 
-ghost use Rattle.std.specs.Prelude.{◌≡◌, ◌≢◌, ◌+◌, ◌<◌, Contains, IfOk, OnOk};
-ghost use Rattle.nll_core.specs.Lines.{AreJumps, IsJump, Pushes};
+ghost use Rattle.std.specs.Prelude.{◌≡◌, ◌≢◌, ◌↔◌, ◌+◌, ◌<◌, true, Contains, IfOk, OnOk};
+ghost use Rattle.nll_problem.specs.Graph.{IsNext};
+ghost use Rattle.nll_core.specs.Lines.{AreGoingOn, AreJumps, IsJump, Pushes};
 
 use nll_problem::Graph;
 use nll_sets::Memory;
@@ -18,50 +19,61 @@ pub struct Jumps {
     pub targets: Vec<u32>,
 }
 
-/// The jumps of a graph.
-pub fn jumps_of(alloc: Global, graph: &Graph) -> Result<Jumps, Memory>
-    ensures { IfOk result (λ jumps.
-        AreJumps graph.now graph.now.points jumps.starts.items jumps.targets.items) }
+/// The jumps of a graph, and of each point whether its line goes on behind it.
+pub fn jumps_of(alloc: Global, graph: &Graph) -> Result<(Jumps, Vec<bool>), Memory>
+    ensures jumps { IfOk result (λ made.
+        AreJumps graph.now graph.now.points made.0.starts.items made.0.targets.items) }
+    ensures lines { IfOk result (λ made.
+        AreGoingOn graph.now graph.now.points made.1.items) }
 {
     let points = graph.points();
     let mut starts = Vec::with_capacity(alloc, points as usize + 1)?;
     let mut targets = Vec::new(alloc);
+    let mut going = Vec::with_capacity(alloc, points as usize)?;
     starts.push(0usize)?;
     for point in 0..points {
-        push_jumps(graph, point, &mut targets)?;
+        let goes_on = push_jumps(graph, point, &mut targets)?;
+        going.push(goes_on)?;
         starts.push(targets.len())?;
     }
-    Ok(Jumps { starts, targets })
+    Ok((Jumps { starts, targets }, going))
 }
 
-// Puts the targets of the jumps of a point at the end of a list.
-fn push_jumps(graph: &Graph, point: u32, targets: &mut Vec<u32>) -> Result<(), Memory>
+// Puts the targets of the jumps of a point at the end of a list. Answers whether its line goes on.
+fn push_jumps(graph: &Graph, point: u32, targets: &mut Vec<u32>) -> Result<bool, Memory>
     requires { point < graph.now.points }
-    ensures { OnOk result
+    ensures jumps { OnOk result
         (Pushes (IsJump graph.now point) targets.old.items targets.new.items) }
+    ensures line { IfOk result (λ goes_on. (goes_on ≡ true) ↔ IsNext graph.now point (point + 1)) }
 {
-    push_others(graph.next_of(point), graph.points(), point, targets)?;
+    let goes_on = push_others(graph.next_of(point), graph.points(), point, targets)?;
     if graph.is_return(point) {
         targets.push(graph.points())?;
     }
-    Ok(())
+    Ok(goes_on)
 }
 
-// Puts the successors of a point at the end of a list, but for the next point of its line.
+// Puts the successors of a point at the end of a list, but for the next point of its line. Answers
+// whether that one is among them.
 fn push_others(
     successors: &[u32],
     points: u32,
     point: u32,
     targets: &mut Vec<u32>,
-) -> Result<(), Memory>
+) -> Result<bool, Memory>
     requires { point < points }
-    ensures { OnOk result (Pushes (λ t. Contains successors.now t × (t ≢ point + 1))
+    ensures others { OnOk result (Pushes (λ t. Contains successors.now t × (t ≢ point + 1))
         targets.old.items targets.new.items) }
+    ensures line { IfOk result (λ goes_on.
+        (goes_on ≡ true) ↔ Contains successors.now (point + 1)) }
 {
+    let mut goes_on = false;
     for successor in successors {
-        if *successor != point + 1 {
+        if *successor == point + 1 {
+            goes_on = true;
+        } else {
             targets.push(*successor)?;
         }
     }
-    Ok(())
+    Ok(goes_on)
 }

@@ -44,8 +44,8 @@ impl<'a> Lines<'a> {
     pub fn of(alloc: Global, graph: &'a Graph) -> Result<Lines<'a>, Memory>
         ensures { IfOk result (λ lines. lines ≡ graph.now) }
     {
-        let ends = line_ends(alloc, graph)?;
-        let jumps = jumps_of(alloc, graph)?;
+        let (jumps, going) = jumps_of(alloc, graph)?;
+        let ends = line_ends(alloc, graph, going.as_slice())?;
         Ok(Lines { graph, ends, jumps })
     }
 

@@ -4,35 +4,72 @@
 //! not yet followed as a list.
 
 ghost use Rattle.std.specs.Prelude.{◌≡◌, ◌⊎◌, ◌↔◌, ℕ, ◌≤◌, ◌<◌, true, Contains, length, []};
-ghost use Rattle.std.specs.Prelude.{IfOk, OnOk, IfSome, IfNone};
+ghost use Rattle.std.specs.Prelude.{List, Bool};
+ghost use Rattle.std.specs.Prelude.{IfOk, IfErr, OnOk};
 ghost use Rattle.nll_problem.specs.Walks.{Reaches};
-ghost use Rattle.nll_sets.specs.Runs.{IsInRuns, IsWithin};
+ghost use Rattle.nll_sets.specs.Runs.{IsInRuns, IsRunFrom, IsWithin};
 ghost use Rattle.nll_core.specs.Lines.{IsJump};
 ghost use Rattle.nll_core.specs.Search.{IsIn};
 ghost use Rattle.nll_core.specs.Walking.{IsFreeTo, Grows, IsJumpedTo, IsFollowed, AreOfPoints};
-ghost use Rattle.nll_core.specs.Walking.{IsLineClosed, IsSpread};
+ghost use Rattle.nll_core.specs.Walking.{AreIn, IsLineClosed, IsSpread};
 
 use crate::lines::Lines;
-use nll_sets::{Element, ElementSet, Memory, Run, RunSet};
+use nll_sets::{Memory, Run, RunSet};
 
-// The number before which, from a point on, no number is in the set; None where the point is.
-fn free_to(reached: &RunSet, point: u32) -> Option<u32>
+// The run of a set that has a point; Err with the number before which, from the point on, no number
+// is in the set.
+fn look_up(reached: &RunSet, point: u32) -> Result<Run, u32>
     requires { point < 4294967295 }
-    ensures some { IfSome result (IsFreeTo reached.now point) }
-    ensures none { IfNone result (IsIn reached.now point) }
+    ensures has { OnOk result (IsIn reached.now point) }
+    ensures run { IfOk result (AreIn reached.now) }
+    ensures free { IfErr result (IsFreeTo reached.now point) }
 {
     let Some(next) = reached.run_from(point) else {
-        return Some(u32::MAX);
+        return Err(u32::MAX);
     };
     if next.first <= point {
-        return None;
+        return Ok(next);
     }
-    Some(next.first)
+    Err(next.first)
 }
 
-/// Puts the stretch from a point, where it is in `sub`, into the set and into the list: as far as
-/// its line and the run of `sub` go on and it is new. Answers a number up to which each number from
-/// the point on is settled, and a place of a run of `sub` near which later points may lie.
+// Puts the stretch from a new point of a run of `sub` into the set and into the list: as far as its
+// line and the run go on, and before the limit, where the set goes on. Answers a number up to which
+// each number from the point on is settled.
+fn enter_run(
+    lines: &Lines,
+    inside: Run,
+    limit: u32,
+    reached: &mut RunSet,
+    todo: &mut Vec<Run>,
+    point: u32,
+) -> Result<u32, Memory>
+    requires point { point < lines.now.points }
+    requires widths { lines.now.points ≤ length reached.old }
+    requires inside { IsWithin inside point }
+    requires free { IsFreeTo reached.old point limit }
+    ensures grows { OnOk result ((sub : List Bool) → IsRunFrom sub point inside
+        → Grows lines.now sub (Reaches lines.now (IsIn sub) point)
+        reached.old reached.new todo.old.items todo.new.items) }
+    ensures settled { IfOk result (λ next. (sub : List Bool) → IsRunFrom sub point inside
+        → IsLineClosed lines.now sub reached.old
+        → (x : ℕ) → point ≤ x → x < next → IsIn reached.new x) }
+    ensures covers { OnOk result (IsIn reached.new point) }
+{
+    let _points = lines.points();
+    let last = lines.line_end(point).min(inside.last);
+    let run = Run {
+        first: point,
+        last: last.min(limit - 1),
+    };
+    reached.insert_run(run)?;
+    todo.push(run)?;
+    Ok(last + 1)
+}
+
+/// Enters a point, where it is in `sub`. Answers a number up to which each number from the point on
+/// is settled, and a place of a run of `sub` near which later points may lie.
+#[inline]
 pub fn enter(
     lines: &Lines,
     sub: &RunSet,
@@ -50,9 +87,6 @@ pub fn enter(
     ensures covers { OnOk result (IsIn sub.now point → IsIn reached.new point) }
 {
     let points = lines.points();
-    let Some(limit) = free_to(reached, point) else {
-        return Ok((point + 1, near));
-    };
     let found = sub.run_near(near, point);
     let Some(inside) = found.1 else {
         return Ok((points, found.0));
@@ -60,21 +94,63 @@ pub fn enter(
     if inside.first > point {
         return Ok((inside.first, found.0));
     }
-    let last = lines.line_end(point).min(inside.last);
-    let run = Run {
-        first: point,
-        last: last.min(limit - 1),
+    let Err(limit) = look_up(reached, point) else {
+        return Ok((point + 1, found.0));
     };
-    reached.insert_run(run)?;
-    todo.push(run)?;
-    Ok((last + 1, found.0))
+    let next = enter_run(lines, inside, limit, reached, todo, point)?;
+    Ok((next, found.0))
 }
 
-// Enters the targets of the jumps from the points of a run. Answers whether one of these is a
-// return point.
+// Enters a point, where it is in `sub` and not reached. Answers a run of reached points: the one
+// that has the point or, where it wasn't reached, the one that is given. It keeps the place of a
+// run of `sub` near which later points may lie.
+fn go_to(
+    lines: &Lines,
+    sub: &RunSet,
+    near: &mut usize,
+    reached: &mut RunSet,
+    todo: &mut Vec<Run>,
+    known: Run,
+    point: u32,
+) -> Result<Run, Memory>
+    requires point { point < lines.now.points }
+    requires widths { lines.now.points ≤ length reached.old }
+    requires known { AreIn reached.old known }
+    ensures grows { OnOk result (Grows lines.now sub.now (Reaches lines.now (IsIn sub.now) point)
+        reached.old reached.new todo.old.items todo.new.items) }
+    ensures known { IfOk result (AreIn reached.new) }
+    ensures covers { OnOk result (IsIn sub.now point → IsIn reached.new point) }
+{
+    let _points = lines.points();
+    let limit = match look_up(reached, point) {
+        Ok(run) => return Ok(run),
+        Err(limit) => limit,
+    };
+    let (at, found) = sub.run_near(*near, point);
+    *near = at;
+    let Some(inside) = found else {
+        return Ok(known);
+    };
+    if inside.first <= point {
+        enter_run(lines, inside, limit, reached, todo, point)?;
+    }
+    Ok(known)
+}
+
+// Whether a run has a point.
+#[inline]
+fn has(run: Run, point: u32) -> bool
+    ensures { (result ≡ true) ↔ IsWithin run point }
+{
+    run.first <= point && point <= run.last
+}
+
+// Enters the targets of the jumps from the points of a reached run. Answers whether one of these is
+// a return point.
 fn follow(
     lines: &Lines,
     sub: &RunSet,
+    near: &mut usize,
     reached: &mut RunSet,
     todo: &mut Vec<Run>,
     run: Run,
@@ -82,6 +158,7 @@ fn follow(
     requires proper { run.first ≤ run.last }
     requires points { run.last < lines.now.points }
     requires widths { lines.now.points ≤ length reached.old }
+    requires run { AreIn reached.old run }
     ensures grows { OnOk result (Grows lines.now sub.now (IsJumpedTo lines.now sub.now run)
         reached.old reached.new todo.old.items todo.new.items) }
     ensures covers { OnOk result
@@ -91,12 +168,13 @@ fn follow(
 {
     let points = lines.points();
     let mut ends = false;
+    // Most targets are reached already, and lie in one run with the target before.
+    let mut known = run;
     for target in lines.jumps(run) {
-        // Most targets are reached already.
         if *target >= points {
             ends = true;
-        } else if !reached.has(Element(*target)) {
-            enter(lines, sub, 0, reached, todo, *target)?;
+        } else if !has(known, *target) {
+            known = go_to(lines, sub, near, reached, todo, known, *target)?;
         }
     }
     Ok(ends)
@@ -117,8 +195,9 @@ pub fn spread(
     ensures { IfOk result (IsSpread lines.now sub.now reached.old reached.new) }
 {
     let mut ended = false;
+    let mut near = 0;
     while let Some(run) = todo.pop() {
-        ended |= follow(lines, sub, reached, todo, run)?;
+        ended |= follow(lines, sub, &mut near, reached, todo, run)?;
     }
     Ok(ended)
 }

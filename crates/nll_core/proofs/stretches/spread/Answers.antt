@@ -1,8 +1,12 @@
-use Rattle.std.proofs.Common.{List, subst, arith}
+use Rattle.std.proofs.Common.{List, subst, sym, arith}
+use Rattle.nll_sets.specs.Runs.{IsInRuns}
 use Rattle.std.proofs.lemmas.Bool.{false≢true}
 use Rattle.nll_sets.specs.declared.run.Run.{Run}
-use Rattle.nll_core.proofs.WalkingLemmas.{Spreading, spreading_more, spread_end}
+use Rattle.nll_core.proofs.WalkingLemmas.{Spreading, pushed_last, spreading_more, spread_end}
 use Rattle.nll_core.proofs.stretches.spread.Goals as goal
+
+pub follow-requires-clause-run : goal.follow-requires-clause-run
+follow-requires-clause-run c = λ x w. c.loop-run.invariant.listed x (subst (λ (items : List Run). IsInRuns items x) (sym c.in-Some.ensures.items) (pushed_last c.pop.new.self.items c.in-Some.run' x w))
 
 pub loop-run-preserved : goal.loop-run-preserved
 loop-run-preserved c =
