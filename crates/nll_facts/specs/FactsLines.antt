@@ -1,10 +1,11 @@
 -- The code's lines as the forms that they are, and what reading one answers.
 -- Source: project's choice. Only private contracts cite this file.
-use Rattle.std.specs.Prelude.{ℕ, List, [], ◌∷◌, Option, Some, None}
-use Rattle.nll_text.specs.Tokens.{Token}
+use Rattle.std.specs.Prelude.{ℕ, List, [], ◌∷◌, Option, Some, None, map}
+use Rattle.std.specs.List.{AllByRecursion}
+use Rattle.nll_text.specs.Tokens.{IsMadeOf}
 use Rattle.nll_facts.specs.FactsForms.{Name, Form, points, universal, outlives, further, next}
 use Rattle.nll_facts.specs.FactsForms.{return, base, constraint, end, Part, number, region}
-use Rattle.nll_facts.specs.FactsForms.{AreSpelled}
+use Rattle.nll_facts.specs.FactsForms.{token_of, IsSmall}
 use Rattle.nll_facts.specs.declared.line.Line.{Line}
 use Rattle.nll_facts.specs.declared.line.Line.TheVariants as lines
 
@@ -20,11 +21,16 @@ view (lines.Base x p) = base x.now p
 view (lines.Constraint a b p) = constraint a.now b.now p
 view lines.End = end
 
--- The answer is what the tokens spell, by the parts of a value; there is none only where the tokens
+-- The bytes are made of the parts, and their numbers have at most nine digits.
+pub record Spells (bytes : List ℕ) (these : List Part) : Type 0 where
+  pub made : IsMadeOf bytes (map token_of these)
+  pub small : AllByRecursion IsSmall these
+
+-- The answer is what the bytes spell, by the parts of a value; there is none only where the bytes
 -- spell no value. `meant` tells the value that an answer stands for.
-abbrev pub Reads : {A B : Type 0} → (B → List Part) → (A → B) → List Token → Option A → Type 0
-Reads {A} {B} parts meant tokens None = (b : B) → AreSpelled tokens (parts b) → ⊥
-Reads {A} {B} parts meant tokens (Some a) = AreSpelled tokens (parts (meant a))
+abbrev pub Reads : {A B : Type 0} → (B → List Part) → (A → B) → List ℕ → Option A → Type 0
+Reads {A} {B} parts meant bytes None = (b : B) → Spells bytes (parts b) → ⊥
+Reads {A} {B} parts meant bytes (Some a) = Spells bytes (parts (meant a))
 
 -- ---- what stands behind the first word, by its shape
 

@@ -36,7 +36,7 @@ fn refusal(line: u64, kind: TextKind) -> TextError
 }
 
 // Takes in the lines behind the header, to the end.
-fn read_lines(reader: &mut Reader, alloc: Global, body: Option<&[u8]>) -> Result<(), TextError>
+fn read_lines(reader: &mut Reader, body: Option<&[u8]>) -> Result<(), TextError>
     requires start { said_by reader.old ≡ said [] }
     requires ready { IsReady reader.old }
     requires long { length (lines_left body) < 2 ^ 32 }
@@ -45,13 +45,12 @@ fn read_lines(reader: &mut Reader, alloc: Global, body: Option<&[u8]>) -> Result
     ensures ended { OnOk result (reader.new.reached ≡ 6) }
     ensures fault { IfErr result (RefusesBody (lines_left body.entry)) }
 {
-    let mut tokens = Vec::new(alloc);
     let mut number = 1;
     let mut rest = body;
     while let Some(text) = rest {
         let (line, after) = next_line(text);
         number += 1;
-        if let Err(kind) = reader.read_line(line, &mut tokens) {
+        if let Err(kind) = reader.read_line(line) {
             return Err(refusal(number, kind));
         }
         rest = after;
@@ -76,7 +75,7 @@ fn read_body(alloc: Global, body: Option<&[u8]>) -> Result<Facts, TextError>
         Ok(reader) => reader,
         Err(kind) => return Err(TextError { line: 0, kind }),
     };
-    if let Err(error) = read_lines(&mut reader, alloc, body) {
+    if let Err(error) = read_lines(&mut reader, body) {
         drop(reader);
         return Err(error);
     }

@@ -1,15 +1,15 @@
 //! The lines of a facts text.
 
-ghost use Rattle.std.specs.Prelude.{◌≢◌, ◌∷◌, codes};
+ghost use Rattle.std.specs.Prelude.{codes};
+ghost use Rattle.nll_text.specs.Lexing.{BeginsNotWith};
 ghost use Rattle.nll_text.specs.Tokens as lex;
-ghost use Rattle.nll_text.specs.Tokens.{views};
 ghost use Rattle.nll_facts.specs.FactsForms.{parts};
 ghost use Rattle.nll_facts.specs.FactsLines.{view, Reads};
 
 use crate::arguments::{
     nothing, number, region, region_number, two_numbers, two_regions, two_regions_number,
 };
-use nll_text::Token;
+use nll_text::after_word;
 
 /// A line, with its names where they lie in the text.
 #[derive(Clone, Copy)]
@@ -25,61 +25,51 @@ pub enum Line<'a> {
     End,
 }
 
-/// Reads the tokens of a line as one of the forms.
-pub fn line_of<'a>(tokens: &[Token<'a>]) -> Option<Line<'a>>
-    ensures { Reads parts view (views tokens.now) result }
+/// Reads a line as one of the forms.
+pub fn line_of(line: &[u8]) -> Option<Line<'_>>
+    ensures { Reads parts view line.now result }
 {
-    match tokens {
-        [Token::Word(word), arguments @ ..] => line_from(word, arguments),
-        _ => None,
-    }
-}
-
-// Reads the first word of a line, and what stands behind it.
-fn line_from<'a>(word: &[u8], arguments: &[Token<'a>]) -> Option<Line<'a>>
-    ensures { Reads parts view (lex.word word.now ∷ views arguments.now) result }
-{
-    if word == b"base".as_slice() {
-        let (name, point) = region_number(arguments)?;
+    if let Some(rest) = after_word(line, b"base") {
+        let (name, point) = region_number(rest)?;
         return Some(Line::Base(name, point));
     }
-    if word == b"next".as_slice() {
-        let (from, to) = two_numbers(arguments)?;
+    if let Some(rest) = after_word(line, b"next") {
+        let (from, to) = two_numbers(rest)?;
         return Some(Line::Next(from, to));
     }
-    if word == b"constraint".as_slice() {
-        let (sup, sub, at) = two_regions_number(arguments)?;
+    if let Some(rest) = after_word(line, b"constraint") {
+        let (sup, sub, at) = two_regions_number(rest)?;
         return Some(Line::Constraint(sup, sub, at));
     }
-    if word == b"return".as_slice() {
-        return Some(Line::Return(number(arguments)?));
+    if let Some(rest) = after_word(line, b"return") {
+        return Some(Line::Return(number(rest)?));
     }
-    rare_line_from(word, arguments)
+    rare_line_of(line)
 }
 
-// The same, where the first word is none of those that most lines begin with.
-fn rare_line_from<'a>(word: &[u8], arguments: &[Token<'a>]) -> Option<Line<'a>>
-    requires base { word.now ≢ codes "base" }
-    requires next { word.now ≢ codes "next" }
-    requires constraint { word.now ≢ codes "constraint" }
-    requires returning { word.now ≢ codes "return" }
-    ensures { Reads parts view (lex.word word.now ∷ views arguments.now) result }
+// The same, where the line begins with none of the words that most lines begin with.
+fn rare_line_of(line: &[u8]) -> Option<Line<'_>>
+    requires base { BeginsNotWith line.now (lex.word (codes "base")) }
+    requires next { BeginsNotWith line.now (lex.word (codes "next")) }
+    requires constraint { BeginsNotWith line.now (lex.word (codes "constraint")) }
+    requires returning { BeginsNotWith line.now (lex.word (codes "return")) }
+    ensures { Reads parts view line.now result }
 {
-    if word == b"region".as_slice() {
-        return Some(Line::Region(region(arguments)?));
+    if let Some(rest) = after_word(line, b"region") {
+        return Some(Line::Region(region(rest)?));
     }
-    if word == b"outlives".as_slice() {
-        let (longer, shorter) = two_regions(arguments)?;
+    if let Some(rest) = after_word(line, b"outlives") {
+        let (longer, shorter) = two_regions(rest)?;
         return Some(Line::Outlives(longer, shorter));
     }
-    if word == b"universal".as_slice() {
-        return Some(Line::Universal(region(arguments)?));
+    if let Some(rest) = after_word(line, b"universal") {
+        return Some(Line::Universal(region(rest)?));
     }
-    if word == b"points".as_slice() {
-        return Some(Line::Points(number(arguments)?));
+    if let Some(rest) = after_word(line, b"points") {
+        return Some(Line::Points(number(rest)?));
     }
-    if word == b"end".as_slice() {
-        nothing(arguments)?;
+    if let Some(rest) = after_word(line, b"end") {
+        nothing(rest)?;
         return Some(Line::End);
     }
     None

@@ -8,13 +8,14 @@ ghost use Rattle.std.specs.Prelude.{IsTrue, IfOk, IfErr, OnOk, OnErr};
 ghost use Rattle.nll_problem.specs.Limits.{most_regions};
 ghost use Rattle.nll_problem.specs.Problem.{SameProblem};
 ghost use Rattle.nll_facts.specs.FactsForms as forms;
+ghost use Rattle.nll_facts.specs.FactsForms.{Form, HasForm};
 ghost use Rattle.nll_facts.specs.FactsLines.{view};
 ghost use Rattle.nll_facts.specs.FactsSaid as specs;
-ghost use Rattle.nll_facts.specs.FactsSaid.{first_fault, is_declared, is_in_order, said};
+ghost use Rattle.nll_facts.specs.FactsSaid.{Said, first_fault, is_declared, is_in_order, said};
 ghost use Rattle.nll_facts.specs.FactsReading.{said_by, IsKept, IsReady, HasTexts, ReadsLine};
 ghost use Rattle.nll_facts.specs.FactsReading.{IsDue, IsTaken, IsRefused};
 ghost use Rattle.nll_facts.specs.FactsText.{facts};
-ghost use Rattle.nll_reading.specs.Text.{IsFaulty};
+ghost use Rattle.nll_reading.specs.Text.{Fits, IsFaulty};
 ghost use Rattle.nll_reading.specs.Names.{number_of};
 
 use crate::line::{Line, line_of};
@@ -22,11 +23,8 @@ use nll_problem::{
     Constraint, Kind, MAX_POINTS, MAX_UNIVERSALS, Problem, ProblemBuilder, RegionId,
 };
 use nll_reading::{Names, TextKind};
-use nll_text::{ScanError, Scanned, Token, scan_line};
+use nll_text::is_skipped_line;
 use std::alloc::Global;
-
-// The most tokens of a line of a form.
-const MOST_TOKENS: usize = 4;
 
 /// What the lines read so far say.
 #[derive(Drop)]
@@ -283,27 +281,16 @@ impl Reader {
         }
     }
 
-    /// Takes in a line behind the header. The list serves for its tokens.
-    pub fn read_line<'a>(
-        &mut self,
-        line: &'a [u8],
-        tokens: &mut Vec<Token<'a>>,
-    ) -> Result<(), TextKind>
+    /// Takes in a line behind the header.
+    pub fn read_line(&mut self, line: &[u8]) -> Result<(), TextKind>
         requires ready { IsReady self.old }
         ensures ok { OnOk result (ReadsLine (said_by self.old) line.now (said_by self.new)) }
         ensures ready { OnOk result (IsReady self.new) }
         ensures fault { IfErr result
             (λ kind. (kind ≡ TextKind.Memory) ⊎ IsFaulty facts (said_by self.old) line.now kind) }
     {
-        match scan_line(line, MOST_TOKENS, tokens) {
-            Ok(Scanned::Skipped) => return Ok(()),
-            Ok(Scanned::Tokens) => {}
-            Err(ScanError::NotUtf8) => return Err(TextKind::NotUtf8),
-            Err(ScanError::NoTokens) => return Err(TextKind::Syntax),
-            Err(ScanError::Memory) => return Err(TextKind::Memory),
-        }
-        let Some(form) = line_of(tokens.as_slice()) else {
-            return Err(TextKind::Syntax);
+        let Some(form) = line_of(line) else {
+            return pass_over(line);
         };
         self.accept(&form)?;
         Ok(())
@@ -328,6 +315,19 @@ impl Reader {
             unreachable!();
         };
         (finished(builder), names)
+    }
+}
+
+// Passes over a line of none of the forms, where it says nothing.
+fn pass_over(line: &[u8]) -> Result<(), TextKind>
+    requires { (form : Form) → HasForm line.now form → ⊥ }
+    ensures ok { OnOk result ((s : Said) → Fits facts s line.now []) }
+    ensures fault { IfErr result (λ kind. (s : Said) → IsFaulty facts s line.now kind) }
+{
+    match is_skipped_line(line) {
+        Ok(true) => Ok(()),
+        Ok(false) => Err(TextKind::Syntax),
+        Err(_) => Err(TextKind::NotUtf8),
     }
 }
 

@@ -1,5 +1,6 @@
 pub mod LineLemmas
 pub mod ByteLemmas
+pub mod FrontLemmas
 pub mod TokenLemmas
 pub mod Utf8Lemmas
 pub mod NumberLemmas

@@ -27,7 +27,8 @@ skipped_gap line g = record {
       (record { joined = sym (append-nil line); each = g; stops = refl });
 }
 
-kept_tokens : (line : List ℕ) (t : Token) (ts : List Token)
+-- a line that is made of some token is not skipped
+pub kept_tokens : (line : List ℕ) (t : Token) (ts : List Token)
     → IsMadeOf line (t ∷ ts) → is_skipped line ≡ false
 kept_tokens line t ts h =
     is_skipped-split line h.0 (spelling t ++ h.1)

@@ -253,7 +253,7 @@ under_gap gap core g (t ∷ ts) h = (
   h.6,
 )
 
-past_gap : (gap core : List ℕ) → IsGap gap → first_passes is_blank core ≡ false
+pub past_gap : (gap core : List ℕ) → IsGap gap → first_passes is_blank core ≡ false
     → (ts : List Token) → IsMadeOf (gap ++ core) ts → IsMadeOf core ts
 past_gap gap core g solid [] h = gap_rest gap core h
 past_gap gap core g solid (t ∷ ts) h =

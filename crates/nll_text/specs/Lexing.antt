@@ -1,5 +1,5 @@
 -- What one step of the lexer says: a front part split off, or one token at the front of a line.
--- Source: project's choice. Only private contracts cite this file.
+-- Source: project's choice.
 use Rattle.std.specs.Prelude.{◌≡◌, ℕ, List, [], ◌∷◌, Bool, true, false, ◌++◌, ◌<◌, length, not}
 use Rattle.std.specs.List.{AllByRecursion}
 use Rattle.nll_text.specs.Lines.{is_blank}
@@ -21,6 +21,10 @@ pub record BeginsWith (line : List ℕ) (t : Token) (rest : List ℕ) : Type 0 w
   pub made : (ts : List Token) → IsMadeOf rest ts → IsMadeOf line (t ∷ ts)
   pub only : (ts : List Token) → IsMadeOf line ts
       → (us : List Token) × (ts ≡ t ∷ us) × IsMadeOf rest us
+
+-- No list of tokens that begins with t makes the line.
+abbrev pub BeginsNotWith : List ℕ → Token → Type 0
+BeginsNotWith line t = (ts : List Token) → IsMadeOf line (t ∷ ts) → ⊥
 
 -- The line is made of no token at all, and of nothing else.
 pub record HasNoToken (line : List ℕ) : Type 0 where

@@ -18,7 +18,7 @@ static WORD_BYTES: [u8; 256] = *b"\
     ................................";
 
 // One of the bytes that words are made of.
-fn is_word_byte(byte: u8) -> bool
+pub(crate) fn is_word_byte(byte: u8) -> bool
     ensures { result ≡ tokens.is_word_byte byte }
 {
     WORD_BYTES[byte as usize] != b'.'

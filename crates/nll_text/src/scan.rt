@@ -1,6 +1,7 @@
 //! A line behind the header: to be skipped, made of tokens, or faulty.
 
 ghost use Rattle.std.specs.Prelude.{◌≡◌, ◌≤◌, length, IfOk, IfErr, OnOk};
+ghost use Rattle.std.specs.Str.{IsUtf8};
 ghost use Rattle.nll_text.specs.Lines as lines;
 ghost use Rattle.nll_text.specs.Tokens.{IsNotMadeWithin, views};
 ghost use Rattle.nll_text.specs.Scan.{IsScanned, IsScanError, IsSkippedLine};
@@ -31,16 +32,27 @@ fn is_skipped(line: &[u8]) -> bool
     }
 }
 
+/// Whether a line is skipped: blanks alone, or a remark.
+///
+/// # Errors
+/// - `NotUtf8`: the line's bytes aren't UTF-8.
+pub fn is_skipped_line(line: &[u8]) -> Result<bool, ScanError>
+    ensures ok { IfOk result (λ s. IsUtf8 line.now × (s ≡ lines.is_skipped line.now)) }
+    ensures err { IfErr result (λ e. (e ≡ ScanError.NotUtf8) × ¬ IsUtf8 line.now) }
+{
+    let Ok(_) = str::from_utf8(line) else {
+        return Err(ScanError::NotUtf8);
+    };
+    Ok(is_skipped(line))
+}
+
 // Tells a remark from a faulty line, where no list of so few tokens makes the line.
 fn check_remark(line: &[u8], most: usize) -> Result<(), ScanError>
     requires { IsNotMadeWithin most line.now }
     ensures ok { OnOk result (IsSkippedLine line.now) }
     ensures err { IfErr result (λ e. IsScanError most line.now e) }
 {
-    let Ok(_) = str::from_utf8(line) else {
-        return Err(ScanError::NotUtf8);
-    };
-    if is_skipped(line) {
+    if is_skipped_line(line)? {
         return Ok(());
     }
     Err(ScanError::NoTokens)

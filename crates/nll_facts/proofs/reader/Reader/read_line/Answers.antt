@@ -1,43 +1,23 @@
-use Rattle.std.proofs.Common.{ap, refl, inl, inr, ⊎_elim}
+use Rattle.std.proofs.Common.{refl, inl, inr, ⊎_elim}
 use Rattle.std.proofs.lemmas.Result.{err_from_is_err_and}
-use Rattle.nll_text.specs.Tokens.{views}
-use Rattle.nll_reading.specs.Text.{skipped, of_form, not_utf8, no_form, at_form}
+use Rattle.nll_reading.specs.Text.{of_form, at_form}
 use Rattle.nll_reading.specs.Reading.{skips, reads}
-use Rattle.nll_facts.specs.FactsForms.{most_tokens}
-use Rattle.nll_facts.specs.FactsText.{facts}
-use Rattle.nll_reading.proofs.ReadingLemmas.{no_form_within}
-use Rattle.nll_facts.proofs.LawLemmas.{few_tokens_lem}
-use Rattle.nll_facts.proofs.FormLemmas.{no_form_from, form_from, texts_in}
+use Rattle.nll_facts.proofs.FormLemmas.{has_form, form_spelled, form_utf8, form_kept, texts_in}
 use Rattle.nll_facts.proofs.reader.Reader.read_line.Goals as goal
 
-pub returns-in-Ok-Skipped-clause-ok : goal.returns-in-Ok-Skipped-clause-ok
-returns-in-Ok-Skipped-clause-ok c = let h = rw c.in-Ok-Skipped.field-0-is at c.in-Ok-Skipped.ensures.ok in skips (skipped h.utf8 h.skipped) refl
-
-pub returns-in-Err-NotUtf8-clause-fault : goal.returns-in-Err-NotUtf8-clause-fault
-returns-in-Err-NotUtf8-clause-fault c = inr (not_utf8 (rw c.in-Err-NotUtf8.field-0-is at c.in-Err-NotUtf8.ensures.err))
-
-pub returns-in-Err-NoTokens-clause-fault : goal.returns-in-Err-NoTokens-clause-fault
-returns-in-Err-NoTokens-clause-fault c = let h = rw c.in-Err-NoTokens.field-0-is at c.in-Err-NoTokens.ensures.err in inr (no_form h.utf8 h.kept (no_form_within facts most_tokens _ few_tokens_lem h.none))
-
-pub returns-in_default-clause-fault : goal.returns-in_default-clause-fault
-returns-in_default-clause-fault c =
-    let h = rw c.in-Ok-Tokens.field-0-is at c.in-Ok-Tokens.ensures.ok in
-    inr (no_form h.utf8 h.kept (no_form_from _ _ _ (ap views c.as_slice.ensures.value) h c.in_default.ensures))
+pub pass_over-requires : goal.pass_over-requires
+pass_over-requires c = λ f h. c.in_default.ensures f (form_spelled _ f h)
 
 pub accept-requires-clause-texts : goal.accept-requires-clause-texts
-accept-requires-clause-texts c =
-    let h = rw c.in-Ok-Tokens.field-0-is at c.in-Ok-Tokens.ensures.ok in
-    texts_in _ _ (form_from _ _ _ (ap views c.as_slice.ensures.value) h _ c.in-Some.ensures)
+accept-requires-clause-texts c = texts_in _ _ (has_form _ _ c.in-Some.ensures)
 
 pub returns-in_err-accept-clause-fault : goal.returns-in_err-accept-clause-fault
 returns-in_err-accept-clause-fault c =
-    let h = rw c.in-Ok-Tokens.field-0-is at c.in-Ok-Tokens.ensures.ok in
-    let form = form_from _ _ _ (ap views c.as_slice.ensures.value) h _ c.in-Some.ensures in
+    let form = has_form _ _ c.in-Some.ensures in
     let p = err_from_is_err_and c.from_residual.result c.from_residual.ensures.1 in
-    rw (p.1, p.2) (⊎_elim inl (λ fault. inr (at_form _ _ h.utf8 h.kept form fault)) c.in_err-accept.ensures.refused)
+    rw (p.1, p.2) (⊎_elim inl (λ fault. inr (at_form _ _ (form_utf8 _ _ form) (form_kept _ _ form) form fault)) c.in_err-accept.ensures.refused)
 
 pub returns-clause-ok : goal.returns-clause-ok
 returns-clause-ok c =
-    let h = rw c.in-Ok-Tokens.field-0-is at c.in-Ok-Tokens.ensures.ok in
-    let form = form_from _ _ _ (ap views c.as_slice.ensures.value) h _ c.in-Some.ensures in
-    reads _ (of_form _ h.utf8 h.kept form c.in_ok-accept.ensures.taken.fine) c.in_ok-accept.ensures.taken.adds
+    let form = has_form _ _ c.in-Some.ensures in
+    reads _ (of_form _ (form_utf8 _ _ form) (form_kept _ _ form) form c.in_ok-accept.ensures.taken.fine) c.in_ok-accept.ensures.taken.adds
