@@ -1,6 +1,6 @@
 -- Which words make a command line.
 -- Source: this project's own.
-use Rattle.std.specs.Prelude.{◌≡◌, ◌⊎◌, ◌==◌, ℕ, Bool, false, List, [], ◌∷◌, codes}
+use Rattle.std.specs.Prelude.{◌≡◌, ◌⊎◌, ◌==◌, ℕ, Bool, false, List, [], ◌∷◌, ◌++◌, codes}
 use Rattle.std.specs.Prelude.{Option, None, Some, if◌then◌else◌}
 use Rattle.std.specs.Str.{bytes_eq}
 use Rattle.nll_command_line.specs.declared.task.Task.{Task}
@@ -45,3 +45,25 @@ IsPlainLine task file words = (AsksFor task (file ∷ []) words × (begins_as_op
 -- no task and file make a plain line of the words
 abbrev pub IsNoPlainLine : List (List ℕ) → Type 0
 IsNoPlainLine words = (task : Task) (file : List ℕ) → IsPlainLine task file words → ⊥
+
+-- a word that asks for help
+abbrev pub IsHelpWord : List ℕ → Type 0
+IsHelpWord word = (word ≡ codes "--help") ⊎ (word ≡ codes "-h")
+
+-- what stands before a word that asks for help: nothing, a task, or a task and a file that does
+-- not begin as an option
+abbrev pub MayStandBeforeHelp : List (List ℕ) → Type 0
+MayStandBeforeHelp [] = Unit {0}
+MayStandBeforeHelp (name ∷ []) = (task : Task) × (name ≡ name_of task)
+MayStandBeforeHelp (name ∷ file ∷ []) =
+    ((task : Task) × (name ≡ name_of task)) × (begins_as_option file ≡ false)
+MayStandBeforeHelp (name ∷ file ∷ other ∷ rest) = ⊥
+
+-- A word asks for help, behind nothing but a task and its file; whatever follows it.
+pub record AsksPlainlyForHelp (words : List (List ℕ)) : Type 0 where
+  pub front : List (List ℕ)
+  pub word : List ℕ
+  pub rest : List (List ℕ)
+  pub are : words ≡ front ++ word ∷ rest
+  pub before : MayStandBeforeHelp front
+  pub asks : IsHelpWord word

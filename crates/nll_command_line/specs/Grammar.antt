@@ -66,6 +66,12 @@ IsLineError words (Help text) =
 IsLineError words Usage = IsNoPlainLine words × (AsksForHelpAlone words → ⊥)
 IsLineError words Memory = Unit {0}
 
+-- the error is the help for the words, or want of memory
+abbrev pub IsHelpFor : List Text → LineError → Type 0
+IsHelpFor words (Help text) = string_bytes text ≡ help_for words
+IsHelpFor words Usage = ⊥
+IsHelpFor words Memory = Unit {0}
+
 -- the error is what is told of an error of this kind: help, or want of memory for its text; want
 -- of memory; or that the words are refused
 abbrev pub IsTold : List Text → ErrorKind → LineError → Type 0

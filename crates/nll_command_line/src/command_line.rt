@@ -2,12 +2,13 @@
 ghost use Rattle.std.specs.Prelude.{◌≡◌, ◌≢◌, ◌⊎◌, ℕ, List, None, Some, false, map, string_bytes};
 ghost use Rattle.std.specs.Prelude.{IfErr, IfOk, MatchResult, OnErr};
 ghost use Rattle.nll_command_line.specs.declared.task.Task.{Task};
-ghost use Rattle.nll_command_line.specs.CommandLine.{IsLine, IsPlainLine};
+ghost use Rattle.nll_command_line.specs.CommandLine.{AsksPlainlyForHelp, IsLine, IsPlainLine};
 ghost use Rattle.clap.specs.Words.{app_of, found_of, rows_of, rule_of};
 ghost use Rattle.clap.specs.Words.{new_app, subcommand_rows_of, with_rule, with_subcommand};
 ghost use Rattle.clap.specs.declared.builder.Command.TheViews.{out-Command};
-ghost use Rattle.nll_command_line.specs.Grammar.{IsLineError, IsTold, bare_program, file_rule};
-ghost use Rattle.nll_command_line.specs.Grammar.{line_of_found, line_of_matches, program};
+ghost use Rattle.nll_command_line.specs.Grammar.{IsHelpFor, IsLineError, IsTold};
+ghost use Rattle.nll_command_line.specs.Grammar.{bare_program, file_rule, program};
+ghost use Rattle.nll_command_line.specs.Grammar.{line_of_found, line_of_matches};
 
 use crate::error::LineError;
 use crate::help::help_for;
@@ -32,6 +33,8 @@ pub fn line(alloc: Global, words: &[String]) -> Result<Line, LineError>
         → IsPlainLine task file (map string_bytes words.now)
         → MatchResult result (λ l. (l.task ≡ task) × (string_bytes l.file ≡ file))
         (λ e. e ≡ LineError.Memory) }
+    ensures help { AsksPlainlyForHelp (map string_bytes words.now)
+        → MatchResult result (λ _. ⊥) (IsHelpFor (map string_bytes words.now)) }
     ensures err { IfErr result (IsLineError (map string_bytes words.now)) }
 {
     match grammar(alloc)?.try_get_matches_from(words) {
@@ -98,9 +101,7 @@ fn file_word<'a>(alloc: Global) -> Arg<'a>
     ensures rule { rule_of result ≡ file_rule }
     ensures local { result.global ≡ false }
 {
-    Arg::new(alloc, FILE)
-        .action(ArgAction::Set)
-        .required(true)
+    Arg::new(alloc, FILE).action(ArgAction::Set).required(true)
 }
 
 // The line that the words came to.
