@@ -1,5 +1,5 @@
 -- Lists by a key of their elements: the part that has one key. Constraints by the region that they read: their order, and the part of one region.
-use Rattle.std.proofs.Common.{◌≡◌, ◌↔◌, ℕ, ◌+◌, ◌-◌, ◌<◌, ◌≤◌, true, false, ltb, leb, List, AllPairs, Contains, length, get_or, take, drop, inl, inr, ⊎_elim, Ordering, Less, Equal, Greater, nat_cmp, sym, ap, subst, ◌∙◌, IsSorted, length-take, length-drop, get_or-take, get_or-drop, ltb-true, ltb-false, leb-true, leb-false, arith}
+use Rattle.std.proofs.Common.{◌≡◌, ◌↔◌, ℕ, ◌+◌, ◌-◌, ◌<◌, ◌≤◌, true, false, ltb, leb, List, AllPairs, Contains, length, get_or, take, drop, slice_range, inl, inr, ⊎_elim, Ordering, Less, Equal, Greater, nat_cmp, sym, ap, subst, ◌∙◌, IsSorted, length-take, length-drop, get_or-take, get_or-drop, ltb-true, ltb-false, leb-true, leb-false, arith}
 use Rattle.std.specs.Ordering.{MatchOrdering, ordering_then}
 use Rattle.std.specs.List.Sorted.{IsNonDecreasingBy, IsPartitionPoint, IsPermutation}
 use Rattle.std.specs.Cmp.{IsTotalOrder, then_total, on_total, nat_cmp_total, ranks}
@@ -11,7 +11,7 @@ use Rattle.std.proofs.lemmas.Map.Made.{AllPairs-from_IsDistinct, IsDistinct-from
 use Rattle.nll_problem.specs.Building.{same_constraint}
 use Rattle.nll_problem.proofs.FactLemmas.{constraint_is, constraint_same, exact_equivalence}
 use Rattle.nll_problem.specs.Problem.{IsOnce, SameSet}
-use Rattle.nll_problem.specs.ConstraintIndex.{IsLower, IsReadEarlier, constraint_cmp}
+use Rattle.nll_problem.specs.ConstraintIndex.{AreStarts, IsLower, IsReadEarlier, IsStart, constraint_cmp}
 use Rattle.nll_problem.specs.declared.constraint.Constraint.{Constraint}
 use Rattle.nll_problem.proofs.OrderLemmas.{pair_ranks, sorted_once_ascends}
 
@@ -119,18 +119,58 @@ module _ {X : Type 0} (key : X → ℕ) (xs : List X) (wanted first count : ℕ)
 pub subs_rise : (xs : List Constraint) → AllPairs IsReadEarlier xs → IsNonDecreasingBy (λ (c : Constraint). c.sub) xs
 subs_rise = keys_rise (λ (c : Constraint). c.sub) IsReadEarlier (λ c d. ⊎_elim (λ less. omega (arith, less)) (λ same. omega (arith, same.0)))
 
-pub rest_rise : (xs : List Constraint) (first : ℕ) → AllPairs IsReadEarlier xs → IsNonDecreasingBy (λ (c : Constraint). c.sub) (rest_of xs first)
-rest_rise xs first ascend = rest_keys_rise (λ (c : Constraint). c.sub) xs first (subs_rise xs ascend)
+module _ (xs : List Constraint) (starts : List ℕ) (are : AreStarts xs starts) (sub : ℕ) (within : sub + 1 < length starts) where
+  first : IsStart xs sub (get_or starts sub 0)
+  first = are.each sub (omega (arith, within))
 
-module _ (xs : List Constraint) (sub first count : ℕ) (within_all : first ≤ length xs) (within : count ≤ length (rest_of xs first))
-    (parted : IsPartitionPoint (λ (c : Constraint). ltb c.sub sub ≡ true) (λ (c : Constraint). ltb c.sub sub ≡ false) xs first)
-    (parted_rest : IsPartitionPoint (λ (c : Constraint). leb c.sub sub ≡ true) (λ (c : Constraint). leb c.sub sub ≡ false) (rest_of xs first) count) where
-  -- it has just the constraints that read the region
-  pub part_has : (c : Constraint) → Contains (take count (rest_of xs first)) c ↔ (Contains xs c × (c.sub ≡ sub))
-  part_has = key_part_has (λ (c : Constraint). c.sub) xs sub first count within_all within parted parted_rest
+  end : IsStart xs (sub + 1) (get_or starts (sub + 1) 0)
+  end = are.each (sub + 1) within
+
+  -- a region's constraints start where those of the regions before it end, or later
+  pub starts_rise : get_or starts sub 0 ≤ get_or starts (sub + 1) 0
+  starts_rise = ⊎_elim
+      (λ turned. let none : Constraint = record { sub = 0; sup = 0; at = 0 } in absurd (omega (arith, first.bound, turned, first.below (get_or starts (sub + 1) 0) none turned, end.others (get_or starts (sub + 1) 0) none (omega arith) (omega (arith, turned, first.bound)))))
+      (λ rise. rise)
+      (cases_lt (get_or starts (sub + 1) 0) (get_or starts sub 0))
+
+  length_region : length (slice_range xs (get_or starts sub 0) (get_or starts (sub + 1) 0)) ≡ get_or starts (sub + 1) 0 - get_or starts sub 0
+  length_region =
+      let a = length-take (get_or starts (sub + 1) 0 - get_or starts sub 0) (drop (get_or starts sub 0) xs) in
+      let b = length-drop (get_or starts sub 0) xs in
+      omega (arith, end.bound)
+
+  at_region : (k : ℕ) (d : Constraint) → k < get_or starts (sub + 1) 0 - get_or starts sub 0
+      → get_or (slice_range xs (get_or starts sub 0) (get_or starts (sub + 1) 0)) k d ≡ get_or xs (get_or starts sub 0 + k) d
+  at_region k d lt = get_or-take (get_or starts (sub + 1) 0 - get_or starts sub 0) (drop (get_or starts sub 0) xs) k d lt ∙ get_or-drop (get_or starts sub 0) xs k d
+
+  reads : (k : ℕ) (d : Constraint) → get_or starts sub 0 ≤ k → k < get_or starts (sub + 1) 0 → (get_or xs k d).sub ≡ sub
+  reads k d low high = omega (arith, first.others k d low (omega (arith, high, end.bound)), end.below k d high)
+
+  -- the part has just the constraints that read the region
+  pub region_has : (c : Constraint) → Contains (slice_range xs (get_or starts sub 0) (get_or starts (sub + 1) 0)) c ↔ (Contains xs c × (c.sub ≡ sub))
+  region_has c = (
+    λ h.
+        let lt : h.0 < get_or starts (sub + 1) 0 - get_or starts sub 0 = omega (arith, h.1, length_region) in
+        let is = sym (at_region h.0 c lt) ∙ h.2 in
+        ((get_or starts sub 0 + h.0, omega (arith, lt, end.bound), is), subst (λ (x : Constraint). x.sub ≡ sub) is (reads (get_or starts sub 0 + h.0) c (omega arith) (omega (arith, lt)))),
+    λ h. there h.0.0 h.0.1 h.0.2 h.1,
+  )
+    where
+      there : (k : ℕ) → k < length xs → get_or xs k c ≡ c → c.sub ≡ sub → Contains (slice_range xs (get_or starts sub 0) (get_or starts (sub + 1) 0)) c
+      there k below is of_sub =
+          let read : (get_or xs k c).sub ≡ c.sub = ap (λ (x : Constraint). x.sub) is in
+          let low : get_or starts sub 0 ≤ k = ⊎_elim (λ lt. absurd (omega (arith, first.below k c lt, read, of_sub))) (λ le. le) (cases_lt k (get_or starts sub 0)) in
+          let high : k < get_or starts (sub + 1) 0 = ⊎_elim (λ lt. lt) (λ le. absurd (omega (arith, end.others k c le below, read, of_sub))) (cases_lt k (get_or starts (sub + 1) 0)) in
+          let moved : get_or starts sub 0 + (k - get_or starts sub 0) ≡ k = omega (arith, low) in
+          (k - get_or starts sub 0, omega (arith, low, high, length_region), at_region (k - get_or starts sub 0) c (omega (arith, low, high)) ∙ (ap (λ n. get_or xs n c) moved ∙ is))
 
   -- and these ascend
-  pub part_ascends : AllPairs IsReadEarlier xs → AllPairs IsLower (take count (rest_of xs first))
-  part_ascends ascend i j d before inside =
-      let h = key_part_pairs (λ (c : Constraint). c.sub) xs sub first count within_all within parted parted_rest IsReadEarlier ascend i j d before inside in
-      ⊎_elim (λ less. absurd (omega (arith, h.0, h.1, less))) (λ same. same.1) h.2
+  pub region_ascends : AllPairs IsReadEarlier xs → AllPairs IsLower (slice_range xs (get_or starts sub 0) (get_or starts (sub + 1) 0))
+  region_ascends ascend i j d before inside =
+      let lt : j < get_or starts (sub + 1) 0 - get_or starts sub 0 = omega (arith, inside, length_region) in
+      let s = get_or starts sub 0 in
+      rw (at_region i d (omega (arith, before, lt)), at_region j d lt)
+      (⊎_elim
+      (λ less. absurd (omega (arith, less, reads (s + i) d (omega arith) (omega (arith, before, lt)), reads (s + j) d (omega arith) (omega (arith, lt)))))
+      (λ same. same.1)
+      (ascend (s + i) (s + j) d (omega (arith, before)) (omega (arith, lt, end.bound))))

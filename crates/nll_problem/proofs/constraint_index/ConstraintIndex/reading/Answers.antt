@@ -1,28 +1,45 @@
-use Rattle.std.proofs.Common.{◌≡◌, ◌↔◌, true, false, ltb, leb, AllPairs, Contains, take, subst, sym, ◌∙◌, rules}
-use Rattle.std.specs.List.Sorted.{IsPartitionPoint}
-use Rattle.std.proofs.lemmas.List.Sorted.{IsPartitionPoint-from_clause, IsPartitionedBy-leb, IsPartitionedBy-ltb}
-use Rattle.nll_problem.specs.ConstraintIndex.{IsReadEarlier}
-use Rattle.nll_problem.specs.declared.constraint.Constraint.{Constraint}
-use Rattle.nll_problem.proofs.IndexLemmas.{subs_rise, rest_of, rest_rise, part_has, part_ascends}
+use Rattle.std.proofs.Common.{◌≡◌, ◌+◌, ◌<◌, Contains, length, get_or, ap, subst, ◌∙◌, arith}
+use Rattle.std.proofs.lemmas.List.{get_or_default}
+use Rattle.nll_problem.proofs.AdjacencyLemmas.{none_contained}
+use Rattle.nll_problem.proofs.IndexLemmas.{starts_rise, region_has, region_ascends}
 use Rattle.nll_problem.proofs.constraint_index.ConstraintIndex.reading.Goals as goal
-use Rattle.nll_problem.proofs.constraint_index.ConstraintIndex.reading.Goals.{After-partition_point-count}
+use Rattle.nll_problem.proofs.constraint_index.ConstraintIndex.reading.Goals.{After-index-end}
 
-ascend : (c : After-partition_point-count) → AllPairs IsReadEarlier c.as_slice-constraints.result.now
-ascend c = subst (AllPairs IsReadEarlier) (sym c.as_slice-constraints.ensures.value) c.self.invariant
+-- a region that has no start is read by no constraint
+pub returns-then-region-len-clause-each : goal.returns-then-region-len-clause-each
+returns-then-region-len-clause-each c =
+    rw (← c.self.view_is) (λ x. (
+      λ h. absurd (none_contained x (subst (λ xs. Contains xs x) c.part.ensures h)),
+      λ h. absurd (omega (arith, (c.self.invariant.1.all x h.0), h.1, c.if-region-len.true, c.len.ensures, c.self.inside.starts.ok.0, c.sub.view_is)),
+    ))
 
-parted : (c : After-partition_point-count) → IsPartitionPoint (λ (d : Constraint). ltb d.sub c.args.sub ≡ true) (λ (d : Constraint). ltb d.sub c.args.sub ≡ false) c.as_slice-constraints.result.now c.partition_point-first.result
-parted c = IsPartitionPoint-from_clause (λ (d : Constraint). ltb d.sub c.args.sub) _ _ c.partition_point-first.ensures.partitioned (IsPartitionedBy-ltb (λ (d : Constraint). d.sub) _ c.args.sub (subs_rise _ (ascend c))) (λ a r q k. search rules)
+within : (c : After-index-end) → c.args.sub + 1 < length c.self.inside.starts.items
+within c = omega (arith, c.if-region-len.false, c.len.ensures, c.self.inside.starts.ok.0, c.sub.view_is)
 
-parted_rest : (c : After-partition_point-count) → IsPartitionPoint (λ (d : Constraint). leb d.sub c.args.sub ≡ true) (λ (d : Constraint). leb d.sub c.args.sub ≡ false) (rest_of c.as_slice-constraints.result.now c.partition_point-first.result) c.partition_point-count.result
-parted_rest c = IsPartitionPoint-from_clause (λ (d : Constraint). leb d.sub c.args.sub) _ _ c.partition_point-count.ensures.partitioned (IsPartitionedBy-leb (λ (d : Constraint). d.sub) _ c.args.sub (rest_rise _ c.partition_point-first.result (ascend c))) (λ a r q k. search rules)
+first_is : (c : After-index-end) → c.index-first.result.now ≡ get_or c.self.inside.starts.items c.args.sub 0
+first_is c = rw c.sub.view_is at (c.index-first.ensures ∙ get_or_default c.self.inside.starts.items c.sub.inside.0 c.index-first.result.now 0 (omega (arith, within c, c.sub.view_is)))
+
+end_is : (c : After-index-end) → c.index-end.result.now ≡ get_or c.self.inside.starts.items (c.args.sub + 1) 0
+end_is c = rw c.sub.view_is at (c.index-end.ensures ∙ get_or_default c.self.inside.starts.items (c.sub.inside.0 + 1) c.index-end.result.now 0 (omega (arith, within c, c.sub.view_is)))
+
+pub part-requires-2-clause-order : goal.part-requires-2-clause-order
+part-requires-2-clause-order c =
+    let d = (goal.at.part-requires-2-clause-order c).After-index-end in
+    omega (arith, first_is d, end_is d, starts_rise c.self.inside.constraints.items c.self.inside.starts.items c.self.invariant.1 c.args.sub (within d))
+
+pub part-requires-2-clause-within : goal.part-requires-2-clause-within
+part-requires-2-clause-within c =
+    let d = (goal.at.part-requires-2-clause-within c).After-index-end in
+    omega (arith, end_is d, (c.self.invariant.1.each (c.args.sub + 1) (within d)).bound, ap length c.as_slice-2.ensures.value)
 
 pub returns-clause-each : goal.returns-clause-each
 returns-clause-each c =
-    let d = (goal.at.returns-clause-each c).After-partition_point-count in
-    λ x. subst (λ xs. Contains (take c.partition_point-count.result (rest_of c.as_slice-constraints.result.now c.partition_point-first.result)) x ↔ (Contains xs x × (x.sub ≡ c.args.sub))) (c.as_slice-constraints.ensures.value ∙ c.self.view_is)
-    (part_has _ c.args.sub c.partition_point-first.result c.partition_point-count.result c.partition_point-first.ensures.bound c.partition_point-count.ensures.bound (parted d) (parted_rest d) x)
+    let d = (goal.at.returns-clause-each c).After-index-end in
+    rw (← c.self.view_is, c.part-2.ensures, first_is d, end_is d, c.as_slice-2.ensures.value)
+    (region_has c.self.inside.constraints.items c.self.inside.starts.items c.self.invariant.1 c.args.sub (within d))
 
 pub returns-clause-ascending : goal.returns-clause-ascending
 returns-clause-ascending c =
-    let d = (goal.at.returns-clause-ascending c).After-partition_point-count in
-    part_ascends _ c.args.sub c.partition_point-first.result c.partition_point-count.result c.partition_point-first.ensures.bound c.partition_point-count.ensures.bound (parted d) (parted_rest d) (ascend d)
+    let d = (goal.at.returns-clause-ascending c).After-index-end in
+    rw (c.part-2.ensures, first_is d, end_is d, c.as_slice-2.ensures.value)
+    (region_ascends c.self.inside.constraints.items c.self.inside.starts.items c.self.invariant.1 c.args.sub (within d) c.self.invariant.0)
