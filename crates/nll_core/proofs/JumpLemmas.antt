@@ -1,9 +1,9 @@
 -- Lists of jumps: how they grow, and which part of them is of the points of a run.
-use Rattle.std.proofs.Common.{◌≡◌, ◌≢◌, ◌⊎◌, ◌↔◌, ℕ, ◌+◌, ◌-◌, ◌<◌, ◌≤◌, Bool, true, false, List, [], ◌∷◌, ◌++◌, Contains, length, get_or, drop, slice_range, refl, sym, ap, ◌∙◌, subst, inl, inr, ⊎_elim, arith, zero, suc, length-append, length-take, length-drop, get_or-take, get_or-drop}
+use Rattle.std.proofs.Common.{◌≡◌, ◌≢◌, ◌⊎◌, ◌↔◌, ℕ, ◌+◌, ◌-◌, ◌<◌, ◌≤◌, Bool, true, List, [], ◌∷◌, ◌++◌, Contains, length, get_or, drop, slice_range, refl, sym, ap, ◌∙◌, subst, inl, inr, ⊎_elim, arith, zero, suc, length-append, length-take, length-drop, get_or-take, get_or-drop}
 use Rattle.std.proofs.lemmas.Bool.{cases_lt, cases_eq}
 use Rattle.std.proofs.lemmas.List.{get_or_append_left, get_or_at, get_or_default}
 use Rattle.nll_problem.specs.Graph.{Graph, IsNext, IsReturn}
-use Rattle.nll_core.specs.Lines.{IsJump, StandsIn, AreGoingOn, AreJumps, Pushes}
+use Rattle.nll_core.specs.Lines.{IsJump, StandsIn, AreJumps, Pushes}
 
 -- ---- what a list gets
 
@@ -90,23 +90,6 @@ is_among_other list count t some apart before = (
 )
 
 -- ---- the jumps of points, one point after another
-
-pub going_first : (g : Graph) → AreGoingOn g 0 []
-going_first g = record { sized = refl; each = λ x h. absurd (omega (arith, h)) }
-
-pub going_more : (g : Graph) (count : ℕ) (flags : List Bool) (more : Bool) → AreGoingOn g count flags → (more ≡ true) ↔ IsNext g count (count + 1) → AreGoingOn g (count + 1) (flags ++ more ∷ [])
-going_more g count flags more all is = record {
-  sized = omega (arith, length-append flags (more ∷ []), all.sized);
-  each = λ x h. ⊎_elim
-      (λ own.
-      let at : get_or (flags ++ more ∷ []) x false ≡ more = get_or_at flags more [] false x (omega (arith, own, all.sized)) in
-      (λ e. subst (λ y. IsNext g y (y + 1)) (sym own) (is.0 (sym at ∙ e)), λ next. at ∙ is.1 (subst (λ y. IsNext g y (y + 1)) own next)))
-      (λ other.
-      let within : x < count = omega (arith, h, other) in
-      let at : get_or (flags ++ more ∷ []) x false ≡ get_or flags x false = get_or_append_left flags (more ∷ []) false x (omega (arith, within, all.sized)) in
-      (λ e. (all.each x within).0 (sym at ∙ e), λ next. at ∙ (all.each x within).1 next))
-      (cases_eq x count);
-}
 
 pub jumps_first : (g : Graph) → AreJumps g 0 (0 ∷ []) []
 jumps_first g = record {

@@ -9,7 +9,7 @@ use Rattle.nll_problem.specs.Walks.{Reaches}
 use Rattle.nll_core.specs.Search.{missing, IsIn}
 use Rattle.nll_sets.specs.Runs.{no_run, IsInRuns, IsWithin, IsRunFrom, Fills}
 use Rattle.nll_core.specs.Lines.{IsJump, IsLineEnd}
-use Rattle.nll_core.specs.Walking.{IsLineClosed, IsStretch, IsFreeTo, Grows, IsJumpedTo, IsFollowed, AreOfPoints, IsLedTo, IsSpread, FillsFrom, constraint_at, no_constraint, PointsAscend, IsLedFrom, AreLedFrom}
+use Rattle.nll_core.specs.Walking.{IsLineClosed, IsStretch, IsFreeTo, Grows, IsJumpedTo, IsFollowed, AreOfPoints, IsLedTo, IsSpread, FillsFrom, constraint_at, no_constraint, PointsAscend, IsLedFrom, AreLedFrom, NoneInside}
 use Rattle.nll_sets.specs.declared.run.Run.{Run}
 use Rattle.nll_problem.specs.declared.constraint.Constraint.{Constraint}
 use Rattle.nll_problem.proofs.WalkLemmas.{reaches_first, reaches_more, reaches_starts, reaches_carries, reaches_inside}
@@ -344,6 +344,15 @@ module _ (g : Graph) (sub : List Bool) where
         (λ past. settled (constraint_at pair k).at (omega (arith, is, ascending place k (omega (arith, other)) (omega (arith, h, bound)))) (passed k (omega (arith, other, past)) h) s)
         (cases_eq k place))
         (cases_lt k place);
+    within = bound;
+  }
+
+  -- constraints whose points aren't in `sub` are passed over
+  pub entering_skip : (pair : List Constraint) (old now : List Bool) (before then : List Run) (place at : ℕ) → at ≤ length pair → NoneInside sub pair place at → Entering pair old now before then place → Entering pair old now before then at
+  entering_skip pair old now before then place at bound none e = record {
+    grows = e.grows;
+    closed = e.closed;
+    covers = λ k h s. ⊎_elim (λ front. e.covers k front s) (λ past. absurd (false≢true (sym (none k past h) ∙ s))) (cases_lt k place);
     within = bound;
   }
 

@@ -1,7 +1,7 @@
 -- The lines of a graph: the points that follow each other by number, and the steps that leave them.
 -- Source: project's choice. Private contracts alone cite this file.
 use Rattle.std.specs.Prelude.{◌≡◌, ◌≢◌, ◌⊎◌, ◌↔◌, ℕ, ◌+◌, ◌≤◌, ◌<◌, List, length}
-use Rattle.std.specs.Prelude.{Bool, true, false, slice_index, slice_index_or}
+use Rattle.std.specs.Prelude.{slice_index}
 use Rattle.nll_problem.specs.Graph.{Graph, IsNext, IsReturn}
 
 -- e is the last point of the line of x
@@ -21,10 +21,12 @@ pub record AreLineEnds (g : Graph) (ends : List ℕ) : Type 0 where
   pub sized : length ends ≡ g.points
   pub each : (x : ℕ) → x < g.points → IsLineEnd g x (slice_index ends x)
 
--- The flags of the points before `count` say whether the line of each goes on behind it.
-pub record AreGoingOn (g : Graph) (count : ℕ) (flags : List Bool) : Type 0 where
-  pub sized : length flags ≡ count
-  pub each : (x : ℕ) → x < count → (slice_index_or flags x false ≡ true) ↔ IsNext g x (x + 1)
+-- The list has the last point of the line of each of its points; the line of those behind them goes
+-- on to the point `count` at least.
+pub record AreEndsTo (g : Graph) (count : ℕ) (ends : List ℕ) : Type 0 where
+  pub within : length ends ≤ count
+  pub each : (x : ℕ) → x < length ends → IsLineEnd g x (slice_index ends x)
+  pub going : (x : ℕ) → length ends ≤ x → x < count → IsNext g x (x + 1)
 
 -- t stands in the list at a place from `from` on and before `to`
 abbrev pub StandsIn : List ℕ → ℕ → ℕ → ℕ → Type 0

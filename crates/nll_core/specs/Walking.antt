@@ -107,6 +107,11 @@ abbrev pub PointsAscend : List Constraint → Type 0
 PointsAscend pair =
     (j k : ℕ) → j ≤ k → k < length pair → (constraint_at pair j).at ≤ (constraint_at pair k).at
 
+-- the points of the constraints at the places from one up to another aren't in `sub`
+abbrev pub NoneInside : List Bool → List Constraint → ℕ → ℕ → Type 0
+NoneInside sub pair from to =
+    (k : ℕ) → from ≤ k → k < to → flag sub (constraint_at pair k).at ≡ false
+
 -- the constraints are at points
 abbrev pub AreAtPoints : Graph → List Constraint → Type 0
 AreAtPoints g pair = (c : Constraint) → Contains pair c → c.at < g.points

@@ -2,8 +2,9 @@
 
 ghost use Rattle.std.specs.Prelude.{◌≡◌, ◌≢◌, ◌↔◌, ◌+◌, ◌<◌, true, Contains, IfOk, OnOk};
 ghost use Rattle.nll_problem.specs.Graph.{IsNext};
-ghost use Rattle.nll_core.specs.Lines.{AreGoingOn, AreJumps, IsJump, Pushes};
+ghost use Rattle.nll_core.specs.Lines.{AreJumps, AreLineEnds, IsJump, Pushes};
 
+use crate::line_ends::pass_point;
 use nll_problem::Graph;
 use nll_sets::Memory;
 use std::alloc::Global;
@@ -19,24 +20,23 @@ pub struct Jumps {
     pub targets: Vec<u32>,
 }
 
-/// The jumps of a graph, and of each point whether its line goes on behind it.
-pub fn jumps_of(alloc: Global, graph: &Graph) -> Result<(Jumps, Vec<bool>), Memory>
+/// The jumps of a graph, and the last point of the line of each point.
+pub fn jumps_of(alloc: Global, graph: &Graph) -> Result<(Jumps, Vec<u32>), Memory>
     ensures jumps { IfOk result (λ made.
         AreJumps graph.now graph.now.points made.0.starts.items made.0.targets.items) }
-    ensures lines { IfOk result (λ made.
-        AreGoingOn graph.now graph.now.points made.1.items) }
+    ensures ends { IfOk result (λ made. AreLineEnds graph.now made.1.items) }
 {
     let points = graph.points();
     let mut starts = Vec::with_capacity(alloc, points as usize + 1)?;
     let mut targets = Vec::new(alloc);
-    let mut going = Vec::with_capacity(alloc, points as usize)?;
+    let mut ends = Vec::with_capacity(alloc, points as usize)?;
     starts.push(0usize)?;
     for point in 0..points {
         let goes_on = push_jumps(graph, point, &mut targets)?;
-        going.push(goes_on)?;
         starts.push(targets.len())?;
+        pass_point(graph, &mut ends, point, goes_on)?;
     }
-    Ok((Jumps { starts, targets }, going))
+    Ok((Jumps { starts, targets }, ends))
 }
 
 // Puts the targets of the jumps of a point at the end of a list. Answers whether its line goes on.

@@ -6,7 +6,6 @@ ghost use Rattle.nll_sets.specs.Runs.{IsWithin};
 ghost use Rattle.nll_core.specs.Lines.{IsJump, IsLineEnd};
 
 use crate::jumps::{Jumps, jumps_of};
-use crate::line_ends::line_ends;
 use nll_problem::Graph;
 use nll_sets::{Memory, Run};
 use std::alloc::Global;
@@ -44,8 +43,7 @@ impl<'a> Lines<'a> {
     pub fn of(alloc: Global, graph: &'a Graph) -> Result<Lines<'a>, Memory>
         ensures { IfOk result (λ lines. lines ≡ graph.now) }
     {
-        let (jumps, going) = jumps_of(alloc, graph)?;
-        let ends = line_ends(alloc, graph, going.as_slice())?;
+        let (jumps, ends) = jumps_of(alloc, graph)?;
         Ok(Lines { graph, ends, jumps })
     }
 

@@ -67,38 +67,31 @@ fn enter_run(
     Ok(last + 1)
 }
 
-/// Enters a point, where it is in `sub`. Answers a number up to which each number from the point on
-/// is settled, and a place of a run of `sub` near which later points may lie.
-#[inline]
+/// Enters a point of a run of `sub`. Answers a number up to which each number from the point on is
+/// settled.
 pub fn enter(
     lines: &Lines,
-    sub: &RunSet,
-    near: usize,
+    inside: Run,
     reached: &mut RunSet,
     todo: &mut Vec<Run>,
     point: u32,
-) -> Result<(u32, usize), Memory>
+) -> Result<u32, Memory>
     requires point { point < lines.now.points }
     requires widths { lines.now.points ≤ length reached.old }
-    ensures grows { OnOk result (Grows lines.now sub.now (Reaches lines.now (IsIn sub.now) point)
+    requires inside { IsWithin inside point }
+    ensures grows { OnOk result ((sub : List Bool) → IsRunFrom sub point inside
+        → Grows lines.now sub (Reaches lines.now (IsIn sub) point)
         reached.old reached.new todo.old.items todo.new.items) }
-    ensures settled { IfOk result (λ next. IsLineClosed lines.now sub.now reached.old
-        → (x : ℕ) → point ≤ x → x < next.0 → IsIn sub.now x → IsIn reached.new x) }
-    ensures covers { OnOk result (IsIn sub.now point → IsIn reached.new point) }
+    ensures settled { IfOk result (λ next. (sub : List Bool) → IsRunFrom sub point inside
+        → IsLineClosed lines.now sub reached.old
+        → (x : ℕ) → point ≤ x → x < next → IsIn reached.new x) }
+    ensures covers { OnOk result (IsIn reached.new point) }
 {
-    let points = lines.points();
-    let found = sub.run_near(near, point);
-    let Some(inside) = found.1 else {
-        return Ok((points, found.0));
-    };
-    if inside.first > point {
-        return Ok((inside.first, found.0));
-    }
+    let _points = lines.points();
     let Err(limit) = look_up(reached, point) else {
-        return Ok((point + 1, found.0));
+        return Ok(point + 1);
     };
-    let next = enter_run(lines, inside, limit, reached, todo, point)?;
-    Ok((next, found.0))
+    enter_run(lines, inside, limit, reached, todo, point)
 }
 
 // Enters a point, where it is in `sub` and not reached. Answers a run of reached points: the one

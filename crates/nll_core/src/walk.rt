@@ -1,12 +1,14 @@
 //! Walks from the points of the constraints of a pair of regions.
 
 ghost use Rattle.std.specs.Prelude.{◌≡◌, ℕ, ◌≤◌, ◌<◌, false, Contains, length, [], OnOk, IfOk};
+ghost use Rattle.std.specs.Prelude.{IfSome, IfNone};
 ghost use Rattle.nll_sets.specs.ElementSet.{flag};
 ghost use Rattle.nll_problem.specs.Graph.{element_count};
 ghost use Rattle.nll_problem.specs.declared.constraint.Constraint as spec;
 ghost use Rattle.nll_core.specs.Search.{IsIn};
 ghost use Rattle.nll_core.specs.Walking.{Grows, IsLineClosed, FillsFrom, PointsAscend, AreAtPoints};
-ghost use Rattle.nll_core.specs.Walking.{IsLedFrom, AreLedFrom, constraint_at};
+ghost use Rattle.nll_core.specs.Walking.{IsLedFrom, AreLedFrom, NoneInside, constraint_at};
+ghost use Rattle.nll_sets.specs.Runs.{IsRunFrom, IsWithin};
 
 use crate::lines::Lines;
 use crate::stretches::{enter, spread};
@@ -95,12 +97,47 @@ fn enter_all(
 {
     let mut place = 0;
     let mut near = 0;
-    while place < pair.len() {
-        let next = enter(lines, sub, near, reached, todo, pair[place].at)?;
-        place = place_from(pair, place + 1, next.0);
-        near = next.1;
+    while let Some(found) = next_inside(sub, near, pair, place) {
+        let next = enter(lines, found.run, reached, todo, pair[found.place].at)?;
+        place = place_from(pair, found.place + 1, next);
+        near = found.near;
     }
     Ok(())
+}
+
+// A constraint whose point is in the value, the run in which it is, and the place of this run.
+#[derive(Clone, Copy)]
+struct Found {
+    place: usize,
+    near: usize,
+    run: Run,
+}
+
+// The first constraint, from a place on, whose point is in `sub`.
+fn next_inside(sub: &RunSet, near: usize, pair: &[Constraint], from: usize) -> Option<Found>
+    requires ascending { PointsAscend pair.now }
+    requires from { from ≤ length pair.now }
+    ensures found { IfSome result (λ f. (from ≤ f.place) × (f.place < length pair.now)) }
+    ensures run { IfSome result (λ f. IsRunFrom sub.now (constraint_at pair.now f.place).at f.run) }
+    ensures has { IfSome result (λ f. IsWithin f.run (constraint_at pair.now f.place).at) }
+    ensures before { IfSome result (λ f. NoneInside sub.now pair.now from f.place) }
+    ensures none { IfNone result (NoneInside sub.now pair.now from (length pair.now)) }
+{
+    let mut place = from;
+    let mut near = near;
+    while place < pair.len() {
+        let point = pair[place].at;
+        let (at, inside) = sub.run_near(near, point);
+        let Some(run) = inside else {
+            return None;
+        };
+        near = at;
+        if run.first <= point {
+            return Some(Found { place, near, run });
+        }
+        place = place_from(pair, place + 1, run.first);
+    }
+    None
 }
 
 // The first place, from one on, of a constraint whose point isn't below `least`.

@@ -1,24 +1,41 @@
-use Rattle.std.proofs.Common.{◌<◌, get_or, subst, sym, ap, arith}
+use Rattle.std.proofs.Common.{◌<◌, get_or, subst, sym, ap, ◌∙◌, ⊎_elim, arith}
+use Rattle.std.proofs.lemmas.Bool.{cases_lt, false≢true}
 use Rattle.std.proofs.lemmas.List.{get_or_default}
+use Rattle.nll_sets.specs.Runs.{IsRunFrom}
 use Rattle.nll_core.specs.Search.{IsIn}
 use Rattle.nll_core.specs.Walking.{no_constraint}
 use Rattle.nll_problem.specs.declared.constraint.Constraint.{Constraint}
-use Rattle.nll_core.proofs.WalkingLemmas.{contained_at, each_contained, entering_more}
+use Rattle.nll_core.proofs.WalkingLemmas.{contained_at, each_contained, entering_more, entering_skip}
 use Rattle.nll_core.proofs.walk.enter_all.Goals as goal
 
 pub enter-requires-clause-point : goal.enter-requires-clause-point
 enter-requires-clause-point c =
-    let place = c.loop-place.place in
-    subst (λ (k : Constraint). k.at < c.args.lines.now.points) (sym (get_or_default c.args.pair.now place c.index-pair-place.result no_constraint c.loop-place-test.true))
-    (c.requires.points _ (contained_at c.args.pair.now place c.loop-place-test.true))
+    let place = c.in-Some.found.place in
+    subst (λ (k : Constraint). k.at < c.args.lines.now.points) (sym (get_or_default c.args.pair.now place c.index-pair-found.result no_constraint c.in-Some.ensures.found.1))
+    (c.requires.points _ (contained_at c.args.pair.now place c.in-Some.ensures.found.1))
 
-pub loop-place-preserved : goal.loop-place-preserved
-loop-place-preserved c =
-    let place = c.loop-place.place in
-    let is = ap (λ (k : Constraint). k.at) (get_or_default c.args.pair.now place c.index-pair-place.result no_constraint c.loop-place-test.true) in
-    entering_more c.args.lines.now c.args.sub.now c.args.pair.now _ _ _ _ _ _ place (get_or c.args.pair.now place c.index-pair-place.result).at c.in_ok-next.next.0 c.place_from-place.result c.requires.ascending is c.loop-place-test.true
-    c.loop-place.invariant c.in_ok-next.ensures.grows (c.in_ok-next.ensures.settled c.loop-place.invariant.closed) c.in_ok-next.ensures.covers
+pub enter-requires-clause-inside : goal.enter-requires-clause-inside
+enter-requires-clause-inside c =
+    let is = ap (λ (k : Constraint). k.at) (get_or_default c.args.pair.now c.in-Some.found.place c.index-pair-found.result no_constraint c.in-Some.ensures.found.1) in
+    (omega (arith, is, c.in-Some.ensures.has.0), omega (arith, is, c.in-Some.ensures.has.1))
+
+pub loop-found-preserved : goal.loop-found-preserved
+loop-found-preserved c =
+    let graph = c.args.lines.now in
+    let sub = c.args.sub.now in
+    let pair = c.args.pair.now in
+    let place = c.in-Some.found.place in
+    let within = c.in-Some.ensures.found.1 in
+    let point = (get_or pair place c.index-pair-found.result).at in
+    let is = ap (λ (k : Constraint). k.at) (get_or_default pair place c.index-pair-found.result no_constraint within) in
+    let from = subst (λ p. IsRunFrom sub p c.in-Some.found.run) (sym is) c.in-Some.ensures.run in
+    entering_more graph sub pair _ _ _ _ _ _ place point c.in_ok-next.next c.place_from-place.result c.requires.ascending is within
+    (entering_skip graph sub pair _ _ _ _ c.loop-found.place place (omega (arith, within)) c.in-Some.ensures.before c.loop-found.invariant)
+    (c.in_ok-next.ensures.grows sub from) (λ x a b _. c.in_ok-next.ensures.settled sub from c.loop-found.invariant.closed x a b) (λ _. c.in_ok-next.ensures.covers)
     c.place_from-place.ensures.bound c.place_from-place.ensures.before
 
 pub returns-clause-covers : goal.returns-clause-covers
-returns-clause-covers c = each_contained (λ (k : Constraint). IsIn c.args.sub.now k.at → IsIn c.loop-place.reached k.at) c.args.pair.now (λ k l. c.loop-place.invariant.covers k (omega (arith, l, c.loop-place-test.false)))
+returns-clause-covers c = each_contained (λ (k : Constraint). IsIn c.args.sub.now k.at → IsIn c.loop-found.reached k.at) c.args.pair.now (λ k l s. ⊎_elim
+    (λ front. c.loop-found.invariant.covers k front s)
+    (λ past. absurd (false≢true (sym (c.in_default.ensures.none k past l) ∙ s)))
+    (cases_lt k c.loop-found.place))
