@@ -8,8 +8,8 @@ ghost use Rattle.nll_problem.specs.Graph.{element_count};
 ghost use Rattle.nll_owner.specs.Logs.{IsPrefix};
 ghost use Rattle.nll_owner.specs.Owner.{IsSound, IsDone, IsReady, Has, Passes, part_for, given_to};
 ghost use Rattle.nll_owner.specs.Owner.{received_from, with_growth, first_owner};
-ghost use Rattle.nll_owner.specs.Keeping.{Grows};
-ghost use Rattle.nll_owner.specs.Following.{IsFollowing, Nothing};
+ghost use Rattle.nll_owner.specs.Keeping.{Grows, IsClosed};
+ghost use Rattle.nll_owner.specs.Following.{IsFollowing, Nothing, Pair};
 ghost use Rattle.nll_owner.specs.declared.error.OwnerError.TheVariants.{RankFull, Broken};
 
 use crate::error::OwnerError;
@@ -48,7 +48,7 @@ pub struct Owner<'q> {
 impl<'q> Model for Owner<'q> {
     ghost use Rattle.std.specs.Prelude.{◌≡◌, false};
     ghost use Rattle.nll_owner.specs.Owner as spec;
-    ghost use Rattle.nll_owner.specs.Following.{IsFollowing, Nothing};
+    ghost use Rattle.nll_owner.specs.Following.{IsFollowing, Nothing, Pair};
 
     ghost Value = { spec.Owner };
 
@@ -304,6 +304,28 @@ fn receive_all(
         ..
     } = growth;
     knowledge.enter_received(from, growth)?;
+    pursue(alloc, knowledge, following, region, element)
+}
+
+// Follows up an element that the owner has got, and settles.
+fn pursue(
+    alloc: Global,
+    knowledge: &mut Knowledge,
+    following: &mut Following,
+    region: RegionId,
+    element: Element,
+) -> Result<(), OwnerError>
+    requires sound { IsSound knowledge.old }
+    requires region { region < knowledge.old.problem.regions }
+    requires element { element < element_count knowledge.old.problem.graph }
+    requires has { Has knowledge.old region element }
+    requires following { IsFollowing (Pair region element) knowledge.old following.old }
+    ensures grows { Grows knowledge.old knowledge.new }
+    ensures following { OnOk result (IsFollowing Nothing knowledge.new following.new) }
+    ensures closed { OnOk result (IsClosed knowledge.new) }
+    ensures full { result ≡ Err RankFull → 2 ^ 62 ≤ knowledge.new.clock }
+    ensures whole { result ≡ Err Broken → ⊥ }
+{
     following.follow(alloc, knowledge, region, element)?;
     following.settle(alloc, knowledge)?;
     Ok(())

@@ -58,7 +58,7 @@ fn tell_one(
     frontier: &mut Frontier,
     number: u32,
     out: &mut String,
-) -> Result<(), Stop>
+) -> Result<(), Memory>
     requires previous { previous.now ≡ graph.now }
     requires width { length seen.old ≡ element_count graph.now }
     requires fits { length frontier.old.reached ≤ element_count graph.now }
@@ -77,23 +77,61 @@ fn tell_one(
     Ok(())
 }
 
-// What a frontier from the point 0 newly reaches as elements come into the set.
+// Lets it go on where the elements of these numbers come into the set, one after another.
+fn tell_all(
+    alloc: Global,
+    graph: &Graph,
+    previous: &Predecessors<'_>,
+    seen: &mut BitSet,
+    frontier: &mut Frontier,
+    numbers: &[u32],
+    out: &mut String,
+) -> Result<(), Memory>
+    requires previous { previous.now ≡ graph.now }
+    requires width { length seen.old ≡ element_count graph.now }
+    requires fits { length frontier.old.reached ≤ element_count graph.now }
+    requires whole { frontier.old.refused ≡ false }
+    requires reached { IsFrontierIn graph.now (IsIn seen.old) frontier.old }
+{
+    for number in numbers {
+        tell_one(alloc, graph, previous, seen, frontier, *number, out)?;
+    }
+    Ok(())
+}
+
+// What a frontier from the point 0 newly reaches as elements come into a set.
+fn tell_frontier(
+    alloc: Global,
+    graph: &Graph,
+    previous: &Predecessors<'_>,
+    numbers: &[u32],
+    out: &mut String,
+) -> Result<(), Memory>
+    requires { previous.now ≡ graph.now }
+{
+    let mut seen = BitSet::empty(alloc, graph.points() + graph.universals())?;
+    let mut frontier = Frontier::new(alloc, Element(0));
+    let told = tell_all(
+        alloc,
+        graph,
+        previous,
+        &mut seen,
+        &mut frontier,
+        numbers,
+        out,
+    );
+    drop(frontier);
+    drop(seen);
+    told
+}
+
+// The same, written.
 fn told_of(alloc: Global, graph: &Graph, numbers: &[u32]) -> Result<String, Stop> {
     let mut out = String::new(alloc);
     let previous = Predecessors::of(alloc, graph)?;
-    let mut seen = BitSet::empty(alloc, graph.points() + graph.universals())?;
-    let mut frontier = Frontier::new(alloc, Element(0));
-    for number in numbers {
-        tell_one(
-            alloc,
-            graph,
-            &previous,
-            &mut seen,
-            &mut frontier,
-            *number,
-            &mut out,
-        )?;
-    }
+    let told = tell_frontier(alloc, graph, &previous, numbers, &mut out);
+    drop(previous);
+    told?;
     Ok(out)
 }
 

@@ -95,10 +95,25 @@ fn exchange(first: &mut Owner<'_>, second: &mut Owner<'_>) -> Option<Ending> {
 }
 
 // How it ends with two owners.
-fn with_both(mut first: Owner<'_>, mut second: Owner<'_>) -> Ending {
-    match exchange(&mut first, &mut second) {
+fn with_both(first: &mut Owner<'_>, second: &mut Owner<'_>) -> Ending {
+    match exchange(first, second) {
         Some(ending) => ending,
         None => Ending::Grown(first.log().len(), second.log().len()),
+    }
+}
+
+// The same, where the second is made here.
+fn with_first(alloc: Global, problem: &Problem, cut: &Cut, first: &mut Owner<'_>) -> Ending
+    requires cut { length cut.now.list ≡ problem.now.regions }
+    requires two { cut.now.owners ≡ 2 }
+{
+    match Owner::new(alloc, problem, cut, 1) {
+        Ok(mut second) => {
+            let ending = with_both(first, &mut second);
+            drop(second);
+            ending
+        }
+        Err(error) => not_made(error),
     }
 }
 
@@ -115,10 +130,11 @@ fn over(alloc: Global, problem: &Problem, cut: &Cut) -> Ending
         return Ending::Wrong;
     }
     match Owner::new(alloc, problem, cut, 0) {
-        Ok(first) => match Owner::new(alloc, problem, cut, 1) {
-            Ok(second) => with_both(first, second),
-            Err(error) => not_made(error),
-        },
+        Ok(mut first) => {
+            let ending = with_first(alloc, problem, cut, &mut first);
+            drop(first);
+            ending
+        }
         Err(error) => not_made(error),
     }
 }
