@@ -1,5 +1,6 @@
 //! The problems of worked texts, and of texts that ask for something in each way.
 use super::telling::problem_told;
+use nll_body_problem::one_problem;
 use nll_worked_texts::{CALLED, DROPPED, MOVED, REBORROW, RETURNED, TWO_BORROWS};
 
 // Texts, and the problems of their bodies. Regions and points go by their numbers; constraints
@@ -75,4 +76,10 @@ fn problems_are_found(rt: HostRuntime) {
             }
         }
     }
+}
+
+// The law is a call that does nothing.
+#[test]
+fn states_a_law(_rt: HostRuntime) {
+    one_problem();
 }

@@ -18,6 +18,8 @@ mod comparing;
 #[cfg(test)]
 mod cuts;
 #[cfg(test)]
+mod frontiers;
+#[cfg(test)]
 mod graphs;
 #[cfg(test)]
 mod headers;

@@ -151,6 +151,7 @@ fn runs_told(alloc: Global, elements: &[u32]) -> Result<String, BuildError> {
     write_elements(&mut out, set.iter())?;
     let new = set.insert_run(Run { first: 2, last: 5 })?;
     write!(out, "|{new} {:?} {:?}", set.as_runs(), set.run_from(1))?;
+    write!(out, " {:?}", set.run_near(0, 8).1)?;
     set.clear();
     write!(out, "|{}", set.runs())?;
     Ok(out)
@@ -162,6 +163,6 @@ fn a_set_of_runs_counts_them(rt: HostRuntime) {
     let told = runs_told(rt.alloc(), &[5, 7, 6, 6, 9, 0]);
     let want = "true 1|true 2|true 1|false 1|true 2|true 3| 0 5 6 7 9|true [Run { first: 0, \
          last: 0 }, Run { first: 2, last: 7 }, Run { first: 9, last: 9 }] Some(Run { first: 2, \
-         last: 7 })|0";
+         last: 7 }) Some(Run { first: 9, last: 9 })|0";
     compare(&rt, "runs", told, want);
 }

@@ -1,0 +1,13 @@
+use Rattle.std.proofs.Common.{◌≡◌, ◌≤◌, false, length}
+use Rattle.nll_problem.specs.Graph.{element_count}
+use Rattle.nll_core.specs.Search.{IsIn}
+use Rattle.nll_core.specs.Frontiers.{IsFrontierIn}
+use Rattle.nll_tests.proofs.frontiers.told_of.Given as goal
+
+abbrev pub invariant-loop-number : goal.invariant-loop-number
+invariant-loop-number l = record {
+  width : length l.seen ≡ element_count l.graph;
+  fits : length l.frontier.reached ≤ element_count l.graph;
+  whole : l.frontier.refused ≡ false;
+  reached : IsFrontierIn l.graph (IsIn l.seen) l.frontier;
+}
