@@ -33,6 +33,8 @@ pub struct Reader {
     reached: u8,
     points: u32,
     names: Names,
+    // Where the next name is looked for first: the number of the region of the last base fact.
+    recent: usize,
     builder: Option<ProblemBuilder>,
 }
 
@@ -62,6 +64,7 @@ impl Reader {
             reached: 0,
             points: 0,
             names: Names::new(alloc)?,
+            recent: 0,
             builder: None,
         })
     }
@@ -98,6 +101,9 @@ impl Reader {
         ensures unknown { OnErr result (is_declared (said_by self.now) name.now ≡ false) }
         ensures err { IfErr result (λ kind. kind ≡ TextKind.Unknown) }
     {
+        if self.names.is_at(self.recent, name) {
+            return Ok(RegionId(self.recent as u32));
+        }
         match self.names.number_of(name) {
             Some(number) => Ok(RegionId(number as u32)),
             None => Err(TextKind::Unknown),
@@ -232,6 +238,7 @@ impl Reader {
             unreachable!();
         };
         builder.base(region, point)?;
+        self.recent = region.0 as usize;
         self.reached = 5;
         Ok(())
     }

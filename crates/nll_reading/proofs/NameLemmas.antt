@@ -1,13 +1,25 @@
 -- The declared names, and the set that holds them.
-use Rattle.std.proofs.Common.{◌≡◌, ℕ, suc, ◌+◌, ◌<◌, ◌≤◌, Bool, true, false, not, cond, List, [], ◌∷◌, ◌++◌, Option, Some, None, slice_get, length, get_or, refl, sym, ap, ◌∙◌, subst, map, ⊎_elim, arith, length-append}
-use Rattle.std.specs.Prelude.{◌||◌, nat_lt, position, MatchOption}
-use Rattle.std.specs.List.{position_or_len, list_any}
+use Rattle.std.proofs.Common.{◌≡◌, ℕ, zero, suc, one-add, ◌+◌, ◌<◌, ◌≤◌, Bool, true, false, not, cond, List, [], ◌∷◌, ◌++◌, Option, Some, None, slice_get, length, get_or, refl, sym, ap, ◌∙◌, subst, map, ⊎_elim, arith, length-append}
+use Rattle.std.specs.Prelude.{◌||◌, ◌↔◌, nat_lt, position, MatchOption}
+use Rattle.std.specs.List.{position_or_len, list_any, AllByRecursion, IsDistinct}
 use Rattle.std.specs.Str.{bytes_eq, IsUtf8}
-use Rattle.std.proofs.lemmas.Bool.{cases_lt, ltb-false, ltb-true}
+use Rattle.std.proofs.lemmas.Bool.{cases_lt, ltb-false, ltb-true, false≢true}
+use Rattle.std.proofs.lemmas.Slice.Eq.{bytes_eq-Decides}
+use Rattle.std.proofs.lemmas.Map.Keys.{IsDistinct-head, IsDistinct-tail}
 use Rattle.std.proofs.lemmas.List.{get_or_append_left, get_or_at, map_push, get_or-map, length-map}
 use Rattle.std.proofs.lemmas.List.Sums.{prefix_len-le-length}
 use Rattle.std.proofs.lemmas.Option.{get_or_from_slice_get, slice_get_cases}
 use Rattle.nll_reading.specs.Names.{number_of, AreTexts}
+
+bytes_eq_at : (xs ys : List ℕ) → xs ≡ ys → bytes_eq xs ys ≡ true
+bytes_eq_at xs ys e = (bytes_eq-Decides xs ys).1 e
+
+bytes_differ : (xs ys : List ℕ) → bytes_eq xs ys ≡ false → bytes_eq ys xs ≡ false
+bytes_differ xs ys differ = by (bytes_eq ys xs) refl
+  where
+    by : (b : Bool) → bytes_eq ys xs ≡ b → b ≡ false
+    by true t = absurd (false≢true (sym differ ∙ bytes_eq_at xs ys (sym ((bytes_eq-Decides ys xs).0 t))))
+    by false t = refl
 
 -- one more text
 pub texts_push : (names : List (List ℕ)) (name : List ℕ) → AreTexts names → IsUtf8 name → AreTexts (names ++ name ∷ [])
@@ -63,3 +75,42 @@ name_at f ks i v e = ⊎_elim
   where
     none_is_some : {X : Type 0} {x : X} → None ≡ Some x → ⊥
     none_is_some h = cc
+
+-- ---- the name at a place
+
+module _ {V : Type 0} (f : V → List ℕ) where
+  -- whether two that hold names hold the same
+  abbrev pub same_name : V → V → Bool
+  same_name a b = bytes_eq (f a) (f b)
+
+  none_is : (k : V) (ks : List V) (i : ℕ) → AllByRecursion (λ y. same_name k y ≡ false) ks → i < length ks → bytes_eq (f k) (get_or (map f ks) i []) ≡ false
+  none_is k [] i h lt = absurd (omega (arith, lt))
+  none_is k (y ∷ ks) zero h lt = h.0
+  none_is k (y ∷ ks) (suc i) h lt = none_is k ks i h.1 (omega (arith, lt))
+
+  -- among distinct names the one at a place stands nowhere before it
+  pub place_of : (ks : List V) (i : ℕ) (name : List ℕ) → IsDistinct same_name ks → i < length ks → get_or (map f ks) i [] ≡ name → number_of (map f ks) name ≡ i
+  place_of [] i name d lt e = absurd (omega (arith, lt))
+  place_of (k ∷ ks) zero name d lt e = rw (bytes_eq_at name (f k) (sym e)) refl
+  place_of (k ∷ ks) (suc i) name d lt e =
+      let before : bytes_eq (f k) name ≡ false = ap (bytes_eq (f k)) (sym e) ∙ none_is k ks i (IsDistinct-head same_name k ks d) (omega (arith, lt)) in
+      let later = place_of ks i name (IsDistinct-tail same_name k ks d) (omega (arith, lt)) e in
+      rw (bytes_differ (f k) name before) (omega (arith, later))
+
+-- a name that has a place stands there
+pub name_there : (names : List (List ℕ)) (name : List ℕ) → number_of names name < length names → get_or names (number_of names name) [] ≡ name
+name_there [] name lt = absurd (omega (arith, lt))
+name_there (x ∷ names) name lt = by (bytes_eq name x) refl (name_there names name)
+  where
+    by : (b : Bool) → bytes_eq name x ≡ b → (number_of names name < length names → get_or names (number_of names name) [] ≡ name) → get_or (x ∷ names) (number_of (x ∷ names) name) [] ≡ name
+    by true t later = rw t (sym ((bytes_eq-Decides name x).0 t))
+    by false t later = rw (t, one-add) (later (let k : number_of (x ∷ names) name ≡ 1 + number_of names name = rw t refl in omega (arith, k, lt)))
+
+-- what a comparison with what stands at a place tells
+pub at_place : {V : Type 0} (f : V → List ℕ) (ks : List V) (i : ℕ) (known v : V) (name : List ℕ) (b : Bool) → IsDistinct (same_name f) ks → i < length ks → known ≡ get_or ks i v → b ≡ bytes_eq (f known) name → (b ≡ true) ↔ ((number_of (map f ks) name ≡ i) × (i < length (map f ks)))
+at_place f ks i known v name b d lt is told =
+    let within : i < length (map f ks) = omega (arith, lt, length-map ks f) in
+    let here : get_or (map f ks) i [] ≡ f known = get_or-map f ks i v [] lt ∙ ap f (sym is) in (
+      λ yes. (place_of f ks i name d lt (here ∙ (bytes_eq-Decides (f known) name).0 (sym told ∙ yes)), within),
+      λ at. told ∙ bytes_eq_at (f known) name (sym here ∙ ap (λ (k : ℕ). get_or (map f ks) k []) (sym at.0) ∙ name_there (map f ks) name (omega (arith, at.0, at.1))),
+    )

@@ -1,6 +1,7 @@
 //! The names of regions, in the order in which they are declared.
 
 ghost use Rattle.std.specs.Prelude.{◌≡◌, ◌<◌, ◌++◌, ◌∷◌, [], length, codes, position, IfOk};
+ghost use Rattle.std.specs.Prelude.{◌↔◌, IsTrue};
 ghost use Rattle.std.specs.Prelude.{MatchOption, OnOk, OnErr, slice_index_or};
 ghost use Rattle.std.specs.Str.{bytes_eq, IsUtf8};
 ghost use Rattle.nll_reading.specs.Names.{number_of};
@@ -60,6 +61,17 @@ impl Names {
             (λ number. (number ≡ number_of self.now name.now) × (number < length self.now)) }
     {
         self.set.get_index_of(name)
+    }
+
+    /// Whether a name is the one at a place: then that is its number, and nothing is hashed.
+    pub fn is_at(&self, number: usize, name: &[u8]) -> bool
+        ensures { IsTrue result ↔
+            ((number_of self.now name.now ≡ number) × (number < length self.now)) }
+    {
+        match self.set.as_slice().get(number) {
+            Some(known) => known.as_slice() == name,
+            None => false,
+        }
     }
 
     /// Adds a name that isn't among them.

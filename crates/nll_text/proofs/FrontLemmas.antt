@@ -18,7 +18,7 @@ use Rattle.nll_text.proofs.TokenLemmas.{token_solid, token_after, begins_with, w
 
 module _ (line gap core : List ℕ) (s : SplitsWhile is_blank line gap core) where
   -- what stands behind the blanks of a line begins with the line's first token
-  first_token : (t : Token) (ts : List Token) (h : IsMadeOf line (t ∷ ts)) → core ≡ spelling t ++ h.1
+  pub first_token : (t : Token) (ts : List Token) (h : IsMadeOf line (t ∷ ts)) → core ≡ spelling t ++ h.1
   first_token t ts h = (same_split is_blank gap core h.0 (spelling t ++ h.1) s.each s.stops h.3 (token_solid t h.1 h.4) (sym s.joined ∙ h.2)).1
 
   -- ---- a word

@@ -1,6 +1,7 @@
 pub mod LineLemmas
 pub mod ByteLemmas
 pub mod FrontLemmas
+pub mod DigitLemmas
 pub mod TokenLemmas
 pub mod Utf8Lemmas
 pub mod NumberLemmas

@@ -8,7 +8,7 @@ ghost use Rattle.nll_text.specs.Tokens.{IsGap, IsWord, first_passes};
 ghost use Rattle.nll_text.specs.Lexing.{BeginsWith, BeginsNotWith};
 
 use crate::bytes::{is_word_byte, split_gap, split_word};
-use crate::number::number_of;
+use crate::number::digits_in_front;
 
 // Whether the first byte is one that words are made of.
 fn goes_on(bytes: &[u8]) -> bool
@@ -44,8 +44,15 @@ pub fn first_number(line: &[u8]) -> Option<(u32, &[u8])>
         (λ p. (p.0 < 10 ^ 9) × BeginsWith line.now (tokens.word (decimal p.0)) p.1.now) }
 {
     let (_gap, core) = split_gap(line);
-    let (word, rest) = split_word(core);
-    let number = number_of(word)?;
+    let (number, count) = digits_in_front(core);
+    let (digits, rest) = core.split_at(count);
+    let first = digits.first()?;
+    if *first == b'0' && count > 1 {
+        return None;
+    }
+    if goes_on(rest) {
+        return None;
+    }
     Some((number, rest))
 }
 
