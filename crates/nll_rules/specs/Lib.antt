@@ -4,3 +4,4 @@ pub mod Reborrows
 pub mod Asking
 pub mod Pairs
 pub mod Walks
+pub mod RegionFree
