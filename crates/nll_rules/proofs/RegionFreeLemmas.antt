@@ -15,7 +15,8 @@ use Rattle.nll_types.specs.declared.place.Projection.TheVariants.{Deref, Field}
 use Rattle.nll_rules.specs.Positions.{Turn, own, target, part, region_argument, type_argument, HasRegionAt}
 use Rattle.nll_rules.specs.Subtyping.{SubtypeAsks}
 use Rattle.nll_rules.specs.Reborrows.{RestsOn, prefix}
-use Rattle.nll_rules.specs.Pairs.{BothAsk}
+use Rattle.nll_rules.specs.Pairs.{AddsPairs, BothAsk}
+use Rattle.nll_rules.proofs.PairLemmas.{adds_none}
 use Rattle.nll_rules.specs.RegionFree.{AreRegionFree, IsSilent, IsBare, AreBare, HaveBareFields}
 
 -- ---- bare types have no region
@@ -187,23 +188,23 @@ at_position t way r h = absurd h
 
 -- ---- types without regions ask nothing
 
+pub constant_asks : (structs : List Struct) (other : Option TypeTree) (x : ℕ × ℕ) → BothAsk structs (Some int) other x → ⊥
+constant_asks structs other x b = (let w = b.4 in let e : int ≡ b.0 = (let d = b.2 in cc) in at_position int w.0 w.1 (subst (λ (t : TypeTree). HasRegionAt t w.0 w.1) (sym e) w.3))
+
 module _ (structs : List Struct) (variables : List TypeTree) (marks : List Bool) (free : AreRegionFree structs variables marks) where
-  pub silent_place : (p : PlacePath) (other : Option TypeTree) (x : ℕ × ℕ) → slice_get marks p.variable ≡ Some true → BothAsk structs (type_of structs variables p) other x → ⊥
+  silent_place : (p : PlacePath) (other : Option TypeTree) (x : ℕ × ℕ) → slice_get marks p.variable ≡ Some true → BothAsk structs (type_of structs variables p) other x → ⊥
   silent_place p other x m b = (let w = b.4 in free p b.0 w.1 m b.2 (at_position b.0 w.0 w.1 w.3))
 
-  pub silent_target : (p : PlacePath) (one : Option TypeTree) (x : ℕ × ℕ) → slice_get marks p.variable ≡ Some true → BothAsk structs one (type_of structs variables p) x → ⊥
+  silent_target : (p : PlacePath) (one : Option TypeTree) (x : ℕ × ℕ) → slice_get marks p.variable ≡ Some true → BothAsk structs one (type_of structs variables p) x → ⊥
   silent_target p one x m b = (let w = b.4 in free p b.1 w.2 m b.3 (at_position b.1 w.0 w.2 w.4))
 
-  pub silent_constant : (other : Option TypeTree) (x : ℕ × ℕ) → BothAsk structs (Some int) other x → ⊥
-  silent_constant other x b = (let w = b.4 in let e : int ≡ b.0 = (let d = b.2 in cc) in at_position int w.0 w.1 (subst (λ (t : TypeTree). HasRegionAt t w.0 w.1) (sym e) w.3))
-
-  pub silent_operand : (op : Operand) (other : Option TypeTree) (x : ℕ × ℕ) → IsSilent marks op → BothAsk structs (operand_type structs variables op) other x → ⊥
-  silent_operand constant other x m b = silent_constant other x b
+  silent_operand : (op : Operand) (other : Option TypeTree) (x : ℕ × ℕ) → IsSilent marks op → BothAsk structs (operand_type structs variables op) other x → ⊥
+  silent_operand constant other x m b = constant_asks structs other x b
   silent_operand (copied p) other x m b = silent_place p other x m b
   silent_operand (moved p) other x m b = silent_place p other x m b
 
   -- no reborrow rests on a reference in them
-  pub rests_on_none : (p : PlacePath) (a : ℕ) → slice_get marks p.variable ≡ Some true → RestsOn structs variables p a → ⊥
+  rests_on_none : (p : PlacePath) (a : ℕ) → slice_get marks p.variable ≡ Some true → RestsOn structs variables p a → ⊥
   rests_on_none p a m w = (let through = w.2 in free (prefix w.0 p) (reference a w.1 through.1) a m through.2 (inl refl))
 
   -- behind a reference an `int` may stand for such a type
@@ -224,3 +225,13 @@ module _ (structs : List Struct) (variables : List TypeTree) (marks : List Bool)
           let w = b.4 in
           let d : reference r mutable u ≡ b.0 = (let c = b.2 in cc) in
           (reference r mutable v, b.1, refl, b.3, (w.0, w.1, w.2, same u v free_of w.0 w.1 (subst (λ (z : TypeTree). HasRegionAt z w.0 w.1) (sym d) w.3), w.4, w.5))
+
+  -- nothing is added where nothing is asked
+  pub adds_of_silent : (op : Operand) (other : Option TypeTree) (a : List (ℕ × ℕ)) → IsSilent marks op → AddsPairs (BothAsk structs (operand_type structs variables op) other) a a
+  adds_of_silent op other a m = adds_none _ a (λ x. silent_operand op other x m)
+
+  pub adds_into_silent : (p : PlacePath) (one : Option TypeTree) (a : List (ℕ × ℕ)) → slice_get marks p.variable ≡ Some true → AddsPairs (BothAsk structs one (type_of structs variables p)) a a
+  adds_into_silent p one a m = adds_none _ a (λ x. silent_target p one x m)
+
+  pub adds_rests_of_silent : (p : PlacePath) (r : ℕ) (a : List (ℕ × ℕ)) → slice_get marks p.variable ≡ Some true → AddsPairs (λ x. RestsOn structs variables p x.0 × (x.1 ≡ r)) a a
+  adds_rests_of_silent p r a m = adds_none _ a (λ x w. rests_on_none p x.0 m w.0)

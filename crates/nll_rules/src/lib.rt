@@ -3,6 +3,7 @@
 
 mod asking;
 mod marking;
+mod places;
 mod reborrow;
 mod sign;
 mod statement;
