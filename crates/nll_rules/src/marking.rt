@@ -2,23 +2,31 @@
 
 ghost use Rattle.std.specs.Prelude.{◌≡◌, ◌<◌, ℕ, true, IfOk, IsTrue, Some, length, map, slice_get};
 ghost use Rattle.nll_types.specs.Declarations.{structs_of};
+ghost use Rattle.nll_types.specs.Places.{path_of};
 ghost use Rattle.nll_types.specs.Structs.{struct_at};
 ghost use Rattle.nll_types.specs.Types.{TypeTree};
 ghost use Rattle.nll_types.specs.Views.{tree, trees};
 ghost use Rattle.nll_rules.specs.RegionFree.{AreBare, AreRegionFree, HaveBareFields, IsBare};
 
 use nll_sets::Memory;
-use nll_types::{Structs, Ty};
+use nll_types::{Place, Structs, Ty};
 use std::alloc::Global;
 
-/// Whether this number is marked.
-pub(crate) fn is_marked(marks: &[bool], number: usize) -> bool
+// Whether this number is marked.
+fn is_marked(marks: &[bool], number: usize) -> bool
     ensures { IsTrue result → slice_get marks.now number ≡ Some true }
 {
     if number >= marks.len() {
         return false;
     }
     marks[number]
+}
+
+/// Whether the variable of a place is marked.
+pub(crate) fn is_of_marked(marks: &[bool], place: &Place) -> bool
+    ensures { IsTrue result → slice_get marks.now (path_of place.now).variable ≡ Some true }
+{
+    is_marked(marks, place.variable as usize)
 }
 
 // Whether no region stands in a type, and the structs that it names are marked.
@@ -96,11 +104,7 @@ fn bare_types(alloc: Global, marks: &[bool], types: &[Ty]) -> Result<Vec<bool>, 
 ///
 /// # Cost
 /// Linear in the types of the variables and the fields of the structs (not proved).
-pub fn region_free(
-    alloc: Global,
-    structs: &Structs,
-    variables: &[Ty],
-) -> Result<Vec<bool>, Memory>
+pub fn region_free(alloc: Global, structs: &Structs, variables: &[Ty]) -> Result<Vec<bool>, Memory>
     ensures { IfOk result (λ v.
         AreRegionFree (structs_of structs.now) (map tree variables.now) v.items) }
 {

@@ -17,7 +17,7 @@ ghost use Rattle.nll_rules.specs.Pairs.{OneOutlives, PartAsks};
 ghost use Rattle.nll_rules.specs.Reborrows.{RestsOn};
 ghost use Rattle.nll_rules.specs.RegionFree.{AreRegionFree, IsSilent};
 
-use crate::marking::is_marked;
+use crate::marking::is_of_marked;
 use crate::places::{ask_from, ask_into, ask_reference_into};
 use crate::reborrow::rests_on;
 use crate::written::written_type;
@@ -33,9 +33,7 @@ fn is_silent(region_free: &[bool], operand: &Operand) -> bool
 {
     match operand {
         Operand::Const => true,
-        Operand::Copy(place) | Operand::Move(place) => {
-            is_marked(region_free, place.variable as usize)
-        }
+        Operand::Copy(place) | Operand::Move(place) => { is_of_marked(region_free, place) }
     }
 }
 
@@ -238,7 +236,7 @@ fn ask_result(
         (type_of (structs_of structs.now) (map tree variables.now) (path_of place.now)))
         asked.old.items asked.new.items) }
 {
-    if is_marked(region_free, place.variable as usize) {
+    if is_of_marked(region_free, place) {
         return Ok(());
     }
     ask_into(alloc, structs, variables, ty, place, asked)?;
@@ -310,7 +308,7 @@ fn ask_assign(
     if is_silent(region_free, operand) {
         return Ok(());
     }
-    if is_marked(region_free, place.variable as usize) {
+    if is_of_marked(region_free, place) {
         return Ok(());
     }
     ask_assigned(alloc, structs, variables, place, operand, asked)?;
@@ -340,10 +338,17 @@ fn ask_borrowed(
         (type_of (structs_of structs.now) (map tree variables.now) (path_of place.now)))
         asked.old.items asked.new.items) }
 {
-    if is_marked(region_free, borrowed.variable as usize) {
+    if is_of_marked(region_free, borrowed) {
         // An `int` stands for a type without regions.
         ask_reference_into(
-            alloc, structs, variables, region, mutable, &Ty::Int, place, asked,
+            alloc,
+            structs,
+            variables,
+            region,
+            mutable,
+            &Ty::Int,
+            place,
+            asked,
         )?;
         return Ok(());
     }
@@ -374,13 +379,21 @@ fn ask_reference(
         (type_of (structs_of structs.now) (map tree variables.now) (path_of place.now)))
         asked.old.items asked.new.items) }
 {
-    if is_marked(region_free, place.variable as usize) {
+    if is_of_marked(region_free, place) {
         return Ok(());
     }
     match written_type(variables, borrowed) {
         Some(target) => {
             ask_borrowed(
-                alloc, structs, variables, region_free, place, region, mutable, borrowed, target,
+                alloc,
+                structs,
+                variables,
+                region_free,
+                place,
+                region,
+                mutable,
+                borrowed,
+                target,
                 asked,
             )?;
             Ok(())
@@ -390,8 +403,16 @@ fn ask_reference(
             match &made {
                 Some(target) => {
                     ask_borrowed(
-                        alloc, structs, variables, region_free, place, region, mutable, borrowed,
-                        target, asked,
+                        alloc,
+                        structs,
+                        variables,
+                        region_free,
+                        place,
+                        region,
+                        mutable,
+                        borrowed,
+                        target,
+                        asked,
                     )?;
                     Ok(())
                 }
@@ -417,7 +438,7 @@ fn ask_rests(
         × (x.1 ≡ region))
         asked.old.items asked.new.items) }
 {
-    if is_marked(region_free, borrowed.variable as usize) {
+    if is_of_marked(region_free, borrowed) {
         return Ok(());
     }
     let regions = rests_on(alloc, structs, variables, borrowed)?;
@@ -444,9 +465,25 @@ fn ask_borrow(
         asked.old.items asked.new.items) }
 {
     ask_reference(
-        alloc, structs, variables, region_free, place, region, mutable, borrowed, asked,
+        alloc,
+        structs,
+        variables,
+        region_free,
+        place,
+        region,
+        mutable,
+        borrowed,
+        asked,
     )?;
-    ask_rests(alloc, structs, variables, region_free, region, borrowed, asked)?;
+    ask_rests(
+        alloc,
+        structs,
+        variables,
+        region_free,
+        region,
+        borrowed,
+        asked,
+    )?;
     Ok(())
 }
 
@@ -537,7 +574,15 @@ pub fn asks(
         Statement::Borrow(place, region, mutable, borrowed) => {
             let (region, mutable) = (*region, *mutable);
             ask_borrow(
-                alloc, structs, variables, region_free, place, region, mutable, borrowed, asked,
+                alloc,
+                structs,
+                variables,
+                region_free,
+                place,
+                region,
+                mutable,
+                borrowed,
+                asked,
             )?;
             Ok(())
         }
