@@ -17,7 +17,8 @@ use Rattle.nll_rules.specs.Subtyping.{SubtypeAsks}
 use Rattle.nll_rules.specs.Reborrows.{RestsOn, prefix}
 use Rattle.nll_rules.specs.Pairs.{AddsPairs, BothAsk}
 use Rattle.nll_rules.proofs.PairLemmas.{adds_none}
-use Rattle.nll_rules.specs.RegionFree.{AreRegionFree, IsSilent, IsBare, AreBare, HaveBareFields}
+use Rattle.nll_rules.specs.Marks.{IsSilent, IsBare, AreBare, HaveBareFields}
+use Rattle.nll_rules.specs.RegionFree.{AreRegionFree}
 
 -- ---- bare types have no region
 

@@ -5,3 +5,4 @@ pub mod Asking
 pub mod Pairs
 pub mod Walks
 pub mod RegionFree
+pub mod Marks

@@ -6,7 +6,8 @@ ghost use Rattle.nll_types.specs.Places.{path_of};
 ghost use Rattle.nll_types.specs.Structs.{struct_at};
 ghost use Rattle.nll_types.specs.Types.{TypeTree};
 ghost use Rattle.nll_types.specs.Views.{tree, trees};
-ghost use Rattle.nll_rules.specs.RegionFree.{AreBare, AreRegionFree, HaveBareFields, IsBare};
+ghost use Rattle.nll_rules.specs.Marks.{AreBare, HaveBareFields, IsBare};
+ghost use Rattle.nll_rules.specs.RegionFree.{AreRegionFree};
 
 use nll_sets::Memory;
 use nll_types::{Place, Structs, Ty};

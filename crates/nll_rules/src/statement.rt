@@ -15,7 +15,8 @@ ghost use Rattle.nll_rules.specs.Asking.{Asks};
 ghost use Rattle.nll_rules.specs.Pairs.{AddsPairs, AtOne, BothAsk, InputAsks};
 ghost use Rattle.nll_rules.specs.Pairs.{OneOutlives, PartAsks};
 ghost use Rattle.nll_rules.specs.Reborrows.{RestsOn};
-ghost use Rattle.nll_rules.specs.RegionFree.{AreRegionFree, IsSilent};
+ghost use Rattle.nll_rules.specs.Marks.{IsSilent};
+ghost use Rattle.nll_rules.specs.RegionFree.{AreRegionFree};
 
 use crate::marking::is_of_marked;
 use crate::places::{ask_from, ask_into, ask_reference_into};

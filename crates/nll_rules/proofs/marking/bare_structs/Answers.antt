@@ -2,7 +2,7 @@ use Rattle.std.proofs.Common.{◌≡◌, ◌+◌, ℕ, length, [], ◌∷◌, sy
 use Rattle.std.proofs.lemmas.List.{length-append}
 use Rattle.nll_types.specs.Declarations.{structs_of}
 use Rattle.nll_types.specs.Structs.{struct_at}
-use Rattle.nll_rules.specs.RegionFree.{AreBare}
+use Rattle.nll_rules.specs.Marks.{AreBare}
 use Rattle.nll_rules.proofs.RegionFreeLemmas.{more_fields}
 use Rattle.nll_rules.proofs.marking.bare_structs.Goals as goal
 

@@ -1,6 +1,6 @@
 use Rattle.std.proofs.Common.{◌≡◌, length}
 use Rattle.nll_types.specs.Declarations.{structs_of}
-use Rattle.nll_rules.specs.RegionFree.{HaveBareFields}
+use Rattle.nll_rules.specs.Marks.{HaveBareFields}
 use Rattle.nll_rules.proofs.marking.bare_structs.Given as goal
 
 abbrev pub invariant-loop-number : goal.invariant-loop-number
