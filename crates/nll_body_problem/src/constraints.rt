@@ -2,13 +2,14 @@
 
 ghost use Rattle.std.specs.Prelude.{◌≡◌, ◌<◌, ℕ, Contains, IfErr, OnOk, length};
 ghost use Rattle.nll_body.specs.Sound.{IsSound};
+ghost use Rattle.nll_rules.specs.RegionFree.{AreRegionFree};
 ghost use Rattle.nll_body_problem.specs.Adding.{AddsConstraints, AreRegions, IsRefused};
 ghost use Rattle.nll_body_problem.specs.Adding.{IsOfPair, IsOfPairs};
 ghost use Rattle.nll_body_problem.specs.BodyProblem.{IsAskedAt, IsConstraint};
 
 use nll_body::Body;
 use nll_problem::{BuildError, Constraint, ProblemBuilder, RegionId};
-use nll_rules::asks;
+use nll_rules::{asks, region_free};
 use std::alloc::Global;
 
 /// Adds the constraints of a body to a problem of its points and regions.
@@ -22,8 +23,9 @@ pub(crate) fn add_constraints(
     ensures ok { OnOk result (AddsConstraints (IsConstraint body.now) builder.old builder.new) }
     ensures err { IfErr result (IsRefused (IsConstraint body.now) builder.old) }
 {
+    let free = region_free(alloc, body.structs(), body.variable_types())?;
     let mut asked = Vec::new(alloc);
-    let told = add_points(alloc, body, &mut asked, builder);
+    let told = add_points(alloc, body, free.as_slice(), &mut asked, builder);
     drop(asked);
     told
 }
@@ -32,16 +34,18 @@ pub(crate) fn add_constraints(
 fn add_points(
     alloc: Global,
     body: &Body,
+    free: &[bool],
     asked: &mut Vec<(RegionId, RegionId)>,
     builder: &mut ProblemBuilder,
 ) -> Result<(), BuildError>
+    requires free { AreRegionFree body.now.structs body.now.variables free.now }
     requires points { builder.old.graph.points ≡ length body.now.points }
     requires regions { builder.old.regions ≡ length body.now.names }
     ensures ok { OnOk result (AddsConstraints (IsConstraint body.now) builder.old builder.new) }
     ensures err { IfErr result (IsRefused (IsConstraint body.now) builder.old) }
 {
     for point in 0..body.points() {
-        add_point(alloc, body, point, asked, builder)?;
+        add_point(alloc, body, free, point, asked, builder)?;
     }
     Ok(())
 }
@@ -50,11 +54,13 @@ fn add_points(
 fn add_point(
     alloc: Global,
     body: &Body,
+    free: &[bool],
     point: u32,
     asked: &mut Vec<(RegionId, RegionId)>,
     builder: &mut ProblemBuilder,
 ) -> Result<(), BuildError>
     requires sound { IsSound body.now }
+    requires free { AreRegionFree body.now.structs body.now.variables free.now }
     requires point { point < length body.now.points }
     requires points { builder.old.graph.points ≡ length body.now.points }
     requires regions { builder.old.regions ≡ length body.now.names }
@@ -66,6 +72,7 @@ fn add_point(
         alloc,
         body.structs(),
         body.variable_types(),
+        free,
         body.line_at(point),
         asked,
     )?;

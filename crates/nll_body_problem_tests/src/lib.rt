@@ -1,9 +1,11 @@
 //! Tests of the problems of bodies, by public calls alone. Expected values are found by hand from
 //! the definitions.
 //!
-//! Reading order: `telling`, `problems`, `limits`.
+//! Reading order: `telling`, `problems`, `limits`, `copies`.
 #![tactic(auto)]
 
+#[cfg(test)]
+mod copies;
 #[cfg(test)]
 mod limits;
 #[cfg(test)]

@@ -58,6 +58,19 @@ const FURTHER: &[(&str, &str)] = &[
         _1 = call g(): &'b int -> bb3|block bb3|return|end|",
         "3 regions|2: 1 @ 3|",
     ),
+    // A struct without parameters has `'static` in its field, which is copied and borrowed.
+    (
+        "nll-mir 1|region 'a|region 'r|region 's|struct S (&'static int)|let _0: int|let _1: S|\
+        let _2: &'a int|let _3: &'s &'a int|blocks 1|block bb0|_2 = copy _1.0|_3 = &'r _1.0|\
+        return|end|",
+        "4 regions|0: 1 @ 1|0: 1 @ 2|2: 3 @ 2|",
+    ),
+    // A field without regions is borrowed: the pair is of the references' own regions alone.
+    (
+        "nll-mir 1|region 'a|region 'r|struct B<T +> ((T, int))|let _0: int|let _1: B<int>|\
+        let _2: &'a mut (int, int)|blocks 1|block bb0|_2 = &'r mut _1.0|return|end|",
+        "3 regions|2: 1 @ 1|",
+    ),
     // The region of a marked parameter is not held at a drop.
     (
         "nll-mir 1|region 'w|struct W<'x + ?> drop (&'x int)|let _0: int|let _1: W<'w>|blocks 2|\

@@ -1,6 +1,7 @@
 -- Types of the code that have another form than one that is looked for.
 use Rattle.std.proofs.Common.{◌≡◌, ℕ, ◌<◌, Bool, List, sym, ap, ◌∙◌, arith, ⊎_elim, ◌⊎◌}
 use Rattle.std.specs.Global.{Vec, Box}
+use Rattle.nll_types.specs.Types.{TypeTree, reference}
 use Rattle.nll_types.specs.Structs.{Struct}
 use Rattle.nll_types.specs.Views.{tree}
 use Rattle.nll_types.specs.declared.parameter.Sign.{Sign}
@@ -54,6 +55,10 @@ no_named t w e =
 -- types of two forms ask nothing of one another
 pub other_form : (structs : List Struct) (outer : Sign) (t u : Ty) (n : ℕ) (asked : List (ℕ × ℕ)) → form (tree t) ≡ n → (form (tree u) ≡ n → ⊥) → AddsPairs (SubtypeAsksBehind structs outer (tree t) (tree u)) asked asked
 other_form structs outer t u n asked e differs = adds_none _ asked (λ x. unlike structs outer (tree t) (tree u) x (λ same. differs (sym same ∙ e)))
+
+-- the type of a reference and one of another form ask nothing of one another
+pub unlike_reference : (structs : List Struct) (outer : Sign) (r : ℕ) (m : Bool) (t : TypeTree) (u : Ty) (asked : List (ℕ × ℕ)) → (form (tree u) ≡ 2 → ⊥) → AddsPairs (SubtypeAsksBehind structs outer (reference r m t) (tree u)) asked asked
+unlike_reference structs outer r m t u asked differs = adds_none _ asked (λ x. unlike structs outer (reference r m t) (tree u) x (λ same. differs (sym same)))
 
 -- an `int` and a parameter ask nothing
 pub no_region : (structs : List Struct) (outer : Sign) (t u : Ty) (asked : List (ℕ × ℕ)) → (t ≡ Int) ⊎ ((k : ℕ) × (t ≡ Parameter k)) → AddsPairs (SubtypeAsksBehind structs outer (tree t) (tree u)) asked asked

@@ -3,3 +3,4 @@ pub mod SubtypeLemmas
 pub mod FormLemmas
 pub mod ReborrowLemmas
 pub mod StatementLemmas
+pub mod RegionFreeLemmas

@@ -12,7 +12,7 @@ use Rattle.nll_rules.specs.Subtyping.{SubtypeAsks}
 use Rattle.nll_rules.specs.Reborrows.{RestsOn}
 use Rattle.nll_rules.specs.Asking.{Asks}
 use Rattle.nll_rules.specs.Pairs.{AddsPairs, AtOne, BothAsk, PartAsks, InputAsks, OneOutlives}
-use Rattle.nll_rules.proofs.PairLemmas.{adds_none}
+use Rattle.nll_rules.proofs.PairLemmas.{adds_none, adds_same}
 use Rattle.nll_rules.proofs.SubtypeLemmas.{get_below}
 
 some_is : {X : Type 0} (a b : X) → Some a ≡ Some b → a ≡ b
@@ -26,17 +26,21 @@ inner_of : (r : ℕ) (m : Bool) (o : Option TypeTree) (t : TypeTree) → option_
 inner_of r m None t e = absurd cc
 inner_of r m (Some inner) t e = (inner, refl, cc)
 
-pub asks_borrow : (structs : List Struct) (variables : List TypeTree) (p : PlacePath) (r : ℕ) (m : Bool) (q : PlacePath) (regions : List ℕ) (x : ℕ × ℕ)
-    → ((a : ℕ) → Contains regions a ↔ RestsOn structs variables q a)
-    → (BothAsk structs (option_map (reference r m) (type_of structs variables q)) (type_of structs variables p) x ⊎ OneOutlives regions r x) ↔ Asks structs variables (borrow p r m q) x
-asks_borrow structs variables p r m q regions x rests = (⊎_elim there (λ w. inr ((rests x.0).0 w.0, w.1)), ⊎_elim back (λ w. inr ((rests x.0).1 w.0, w.1)))
+pub asks_borrow : (structs : List Struct) (variables : List TypeTree) (p : PlacePath) (r : ℕ) (m : Bool) (q : PlacePath) (x : ℕ × ℕ)
+    → (BothAsk structs (option_map (reference r m) (type_of structs variables q)) (type_of structs variables p) x ⊎ (RestsOn structs variables q x.0 × (x.1 ≡ r))) ↔ Asks structs variables (borrow p r m q) x
+asks_borrow structs variables p r m q x = (⊎_elim there inr, ⊎_elim back inr)
   where
     there : BothAsk structs (option_map (reference r m) (type_of structs variables q)) (type_of structs variables p) x → Asks structs variables (borrow p r m q) x
     there b = (let i = inner_of r m (type_of structs variables q) b.0 b.2 in inl (b.0, b.1, (i.0, i.1, i.2, b.3), b.4))
 
     back : ((t u : TypeTree) × ((inner : TypeTree) × (type_of structs variables q ≡ Some inner) × (t ≡ reference r m inner) × (type_of structs variables p ≡ Some u)) × SubtypeAsks structs t u x)
-        → BothAsk structs (option_map (reference r m) (type_of structs variables q)) (type_of structs variables p) x ⊎ OneOutlives regions r x
+        → BothAsk structs (option_map (reference r m) (type_of structs variables q)) (type_of structs variables p) x ⊎ (RestsOn structs variables q x.0 × (x.1 ≡ r))
     back w = (let i = w.2 in inl (w.0, w.1, ap (option_map (reference r m)) i.1 ∙ ap Some (sym i.2), i.3, w.3))
+
+-- the regions on which a reborrow rests, one by one
+pub outlives_rests : (structs : List Struct) (variables : List TypeTree) (q : PlacePath) (regions : List ℕ) (r : ℕ) (a b : List (ℕ × ℕ)) → ((s : ℕ) → Contains regions s ↔ RestsOn structs variables q s)
+    → AddsPairs (OneOutlives regions r) a b → AddsPairs (λ x. RestsOn structs variables q x.0 × (x.1 ≡ r)) a b
+outlives_rests structs variables q regions r a b rests = adds_same _ _ a b (λ x. (λ w. ((rests x.0).0 w.0, w.1), λ w. ((rests x.0).1 w.0, w.1)))
 
 pub asks_make : (structs : List Struct) (variables : List TypeTree) (p : PlacePath) (made : TypeTree) (ops : List Operand) (x : ℕ × ℕ)
     → (AtOne (PartAsks structs variables made ops) x ⊎ BothAsk structs (Some made) (type_of structs variables p) x) ↔ Asks structs variables (make p made ops) x
@@ -93,6 +97,11 @@ both_there structs t u x = (
   λ h. (t, u, refl, refl, h),
   λ b. subst (λ (z : TypeTree). SubtypeAsks structs z u x) (sym (some_is t b.0 b.2)) (subst (λ (z : TypeTree). SubtypeAsks structs b.0 z x) (sym (some_is u b.1 b.3)) b.4),
 )
+
+-- where both types are there, what the subtyping asks is all
+pub adds_both : (structs : List Struct) (one other : Option TypeTree) (t u : TypeTree) (a b : List (ℕ × ℕ)) → one ≡ Some t → other ≡ Some u
+    → AddsPairs (SubtypeAsks structs t u) a b → AddsPairs (BothAsk structs one other) a b
+adds_both structs one other t u a b e d h = rw (e, d) (adds_same _ _ a b (both_there structs t u) h)
 
 -- the pairs that are put behind the others are those
 pub adds_list : (old new pairs : List (ℕ × ℕ)) → new ≡ old ++ pairs → AddsPairs (Contains pairs) old new

@@ -4,3 +4,5 @@ pub mod Reborrows
 pub mod Asking
 pub mod Pairs
 pub mod Walks
+pub mod RegionFree
+pub mod Marks

@@ -2,6 +2,7 @@
 
 ghost use Rattle.std.specs.Prelude.{OnOk};
 ghost use Rattle.nll_types.specs.Declarations.{structs_of};
+ghost use Rattle.nll_types.specs.Types.{reference};
 ghost use Rattle.nll_types.specs.Views.{tree, trees};
 ghost use Rattle.nll_rules.specs.Pairs.{AddsPairs, ArgumentAsks, AtOne, TypeAsks};
 ghost use Rattle.nll_rules.specs.Subtyping.{IsAsked, SubtypeAsks, SubtypeAsksBehind};
@@ -62,6 +63,33 @@ pub fn subtyping(
 {
     ask(structs, one, other, Sign::Covariant, asked)?;
     Ok(())
+}
+
+/// Puts what is asked where the type of a reference to the first type is to be a subtype of the
+/// second behind the others.
+pub(crate) fn subtyping_of_reference(
+    structs: &Structs,
+    region: RegionId,
+    mutable: bool,
+    target: &Ty,
+    other: &Ty,
+    asked: &mut Vec<(RegionId, RegionId)>,
+) -> Result<(), Memory>
+    ensures { OnOk result (AddsPairs
+        (SubtypeAsks (structs_of structs.now) (reference region mutable (tree target.now))
+        (tree other.now))
+        asked.old.items asked.new.items) }
+{
+    match other {
+        Ty::Reference(other_region, other_mutable, other_target) => {
+            ask_pair(Sign::Covariant, region, *other_region, asked)?;
+            if mutable == *other_mutable {
+                ask(structs, target, other_target, target_sign(mutable), asked)?;
+            }
+            Ok(())
+        }
+        Ty::Int | Ty::Parameter(_) | Ty::Tuple(_) | Ty::Named(_, _, _) => Ok(()),
+    }
 }
 
 // Puts what a subtyping at a position of this sign asks behind the others.

@@ -2,10 +2,14 @@
 #![tactic(auto)]
 
 mod asking;
+mod marking;
+mod places;
 mod reborrow;
 mod sign;
 mod statement;
+mod written;
 
 pub use asking::subtyping;
+pub use marking::region_free;
 pub use reborrow::rests_on;
 pub use statement::asks;

@@ -1,6 +1,6 @@
 //! What a statement or terminator asks.
 
-ghost use Rattle.std.specs.Prelude.{◌≡◌, ◌⊎◌, Contains, IfOk, OnOk, Some, length, map, option_map};
+ghost use Rattle.std.specs.Prelude.{◌≡◌, ◌⊎◌, Contains, IfOk, IsTrue, OnOk, Some, length, map, option_map};
 ghost use Rattle.nll_types.specs.Declarations.{structs_of};
 ghost use Rattle.nll_types.specs.Operands as operands;
 ghost use Rattle.nll_types.specs.Operands.{operand_of};
@@ -14,118 +14,81 @@ ghost use Rattle.nll_statements.specs.Statements.{map_statement, borrow, make};
 ghost use Rattle.nll_rules.specs.Asking.{Asks};
 ghost use Rattle.nll_rules.specs.Pairs.{AddsPairs, AtOne, BothAsk, InputAsks};
 ghost use Rattle.nll_rules.specs.Pairs.{OneOutlives, PartAsks};
+ghost use Rattle.nll_rules.specs.Reborrows.{RestsOn};
+ghost use Rattle.nll_rules.specs.Marks.{IsSilent};
+ghost use Rattle.nll_rules.specs.RegionFree.{AreRegionFree};
 
-use crate::asking::subtyping;
+use crate::marking::is_of_marked;
+use crate::places::{ask_from, ask_into, ask_reference_into};
 use crate::reborrow::rests_on;
+use crate::written::written_type;
 use nll_problem::RegionId;
 use nll_sets::Memory;
 use nll_statements::{Call, Statement};
-use nll_types::{Operand, Place, Structs, Ty, copy, field_type, place_type};
+use nll_types::{Operand, Place, Structs, Ty, field_type, place_type};
 use std::alloc::Global;
 
-// The type of an operand, where it has one.
-fn operand_type(
+// Whether an operand is a constant or of a variable that is marked.
+fn is_silent(region_free: &[bool], operand: &Operand) -> bool
+    ensures { IsTrue result → IsSilent region_free.now (operand_of operand.now) }
+{
+    match operand {
+        Operand::Const => true,
+        Operand::Copy(place) | Operand::Move(place) => { is_of_marked(region_free, place) }
+    }
+}
+
+// Puts what an operand that goes to a value of this type asks behind the others.
+fn ask_operand(
     alloc: Global,
     structs: &Structs,
     variables: &[Ty],
     operand: &Operand,
-) -> Result<Option<Ty>, Memory>
-    ensures { IfOk result (λ o. option_map tree o ≡ operands.operand_type
-        (structs_of structs.now) (map tree variables.now) (operand_of operand.now)) }
-{
-    match operand {
-        Operand::Const => Ok(Some(Ty::Int)),
-        Operand::Copy(place) | Operand::Move(place) => {
-            let found = place_type(alloc, structs, variables, place)?;
-            Ok(found)
-        }
-    }
-}
-
-// The type of a part of a tuple or of a field of a struct, where it has one.
-fn part_type(alloc: Global, structs: &Structs, ty: &Ty, place: usize) -> Result<Option<Ty>, Memory>
-    ensures { IfOk result (λ o. option_map tree o
-        ≡ behind (structs_of structs.now) (field place) (tree ty.now)) }
-{
-    match ty {
-        Ty::Tuple(parts) => {
-            if place >= parts.len() {
-                return Ok(None);
-            }
-            let part = copy(alloc, &parts[place])?;
-            Ok(Some(part))
-        }
-        Ty::Named(number, regions, types) => {
-            let (regions, types) = (regions.as_slice(), types.as_slice());
-            let made = field_type(alloc, structs, *number, regions, types, place)?;
-            Ok(made)
-        }
-        Ty::Int | Ty::Parameter(_) | Ty::Reference(_, _, _) => Ok(None),
-    }
-}
-
-// Puts what a subtyping of a type asks behind the others, where the other type is there.
-fn ask_one(
-    structs: &Structs,
-    one: &Ty,
-    other: &Option<Ty>,
-    asked: &mut Vec<(RegionId, RegionId)>,
-) -> Result<(), Memory>
-    ensures { OnOk result (AddsPairs
-        (BothAsk (structs_of structs.now) (Some (tree one.now)) (option_map tree other.now))
-        asked.old.items asked.new.items) }
-{
-    match other {
-        Some(other) => {
-            subtyping(structs, one, other, asked)?;
-            Ok(())
-        }
-        None => Ok(()),
-    }
-}
-
-// Puts what a subtyping asks behind the others, where the first type is there.
-fn ask_before(
-    structs: &Structs,
-    one: &Option<Ty>,
     other: &Ty,
     asked: &mut Vec<(RegionId, RegionId)>,
 ) -> Result<(), Memory>
     ensures { OnOk result (AddsPairs
-        (BothAsk (structs_of structs.now) (option_map tree one.now) (Some (tree other.now)))
+        (BothAsk (structs_of structs.now)
+        (operands.operand_type (structs_of structs.now) (map tree variables.now)
+        (operand_of operand.now)) (Some (tree other.now)))
         asked.old.items asked.new.items) }
 {
-    match one {
-        Some(one) => {
-            subtyping(structs, one, other, asked)?;
+    match operand {
+        Operand::Const => Ok(()),
+        Operand::Copy(place) | Operand::Move(place) => {
+            ask_from(alloc, structs, variables, place, other, asked)?;
             Ok(())
         }
-        None => Ok(()),
     }
 }
 
-// Puts what a subtyping asks behind the others, where both types are there.
-fn ask_both(
+// Puts what an operand asks behind the others, where the type to which it goes is there.
+fn ask_operand_to(
+    alloc: Global,
     structs: &Structs,
-    one: &Option<Ty>,
+    variables: &[Ty],
+    operand: &Operand,
     other: &Option<Ty>,
     asked: &mut Vec<(RegionId, RegionId)>,
 ) -> Result<(), Memory>
     ensures { OnOk result (AddsPairs
-        (BothAsk (structs_of structs.now) (option_map tree one.now) (option_map tree other.now))
+        (BothAsk (structs_of structs.now)
+        (operands.operand_type (structs_of structs.now) (map tree variables.now)
+        (operand_of operand.now)) (option_map tree other.now))
         asked.old.items asked.new.items) }
 {
-    match one {
-        Some(one) => {
-            ask_one(structs, one, other, asked)?;
+    match other {
+        Some(other) => {
+            ask_operand(alloc, structs, variables, operand, other, asked)?;
             Ok(())
         }
         None => Ok(()),
     }
 }
 
-// Puts what the operand at a place, of which a type is made, asks behind the others.
-fn ask_part(
+// Puts what an operand that becomes the part at a place of a tuple, or the field of a struct, asks
+// behind the others.
+fn ask_part_of(
     alloc: Global,
     structs: &Structs,
     variables: &[Ty],
@@ -141,10 +104,47 @@ fn ask_part(
         (behind (structs_of structs.now) (field place) (tree ty.now)))
         asked.old.items asked.new.items) }
 {
-    let one = operand_type(alloc, structs, variables, operand)?;
-    let other = part_type(alloc, structs, ty, place)?;
-    let told = ask_both(structs, &one, &other, asked);
-    told
+    match ty {
+        Ty::Tuple(parts) => {
+            if place < parts.len() {
+                ask_operand(alloc, structs, variables, operand, &parts[place], asked)?;
+            }
+            Ok(())
+        }
+        Ty::Named(number, regions, types) => {
+            let (regions, types) = (regions.as_slice(), types.as_slice());
+            let made = field_type(alloc, structs, *number, regions, types, place)?;
+            ask_operand_to(alloc, structs, variables, operand, &made, asked)?;
+            Ok(())
+        }
+        Ty::Int | Ty::Parameter(_) | Ty::Reference(_, _, _) => Ok(()),
+    }
+}
+
+// Puts what the operand at a place, of which a type is made, asks behind the others.
+fn ask_part(
+    alloc: Global,
+    structs: &Structs,
+    variables: &[Ty],
+    region_free: &[bool],
+    ty: &Ty,
+    operand: &Operand,
+    place: usize,
+    asked: &mut Vec<(RegionId, RegionId)>,
+) -> Result<(), Memory>
+    requires { AreRegionFree (structs_of structs.now) (map tree variables.now) region_free.now }
+    ensures { OnOk result (AddsPairs
+        (BothAsk (structs_of structs.now)
+        (operands.operand_type (structs_of structs.now) (map tree variables.now)
+        (operand_of operand.now))
+        (behind (structs_of structs.now) (field place) (tree ty.now)))
+        asked.old.items asked.new.items) }
+{
+    if is_silent(region_free, operand) {
+        return Ok(());
+    }
+    ask_part_of(alloc, structs, variables, ty, operand, place, asked)?;
+    Ok(())
 }
 
 // Puts what the operands of which a type is made ask behind the others.
@@ -152,10 +152,12 @@ fn ask_parts(
     alloc: Global,
     structs: &Structs,
     variables: &[Ty],
+    region_free: &[bool],
     ty: &Ty,
     operands: &[Operand],
     asked: &mut Vec<(RegionId, RegionId)>,
 ) -> Result<(), Memory>
+    requires { AreRegionFree (structs_of structs.now) (map tree variables.now) region_free.now }
     ensures { OnOk result (AddsPairs
         (AtOne (PartAsks (structs_of structs.now) (map tree variables.now) (tree ty.now)
         (map operand_of operands.now))) asked.old.items asked.new.items) }
@@ -165,6 +167,7 @@ fn ask_parts(
             alloc,
             structs,
             variables,
+            region_free,
             ty,
             &operands[place],
             place,
@@ -179,18 +182,22 @@ fn ask_input(
     alloc: Global,
     structs: &Structs,
     variables: &[Ty],
+    region_free: &[bool],
     argument: &(Operand, Ty),
     asked: &mut Vec<(RegionId, RegionId)>,
 ) -> Result<(), Memory>
+    requires { AreRegionFree (structs_of structs.now) (map tree variables.now) region_free.now }
     ensures { OnOk result (AddsPairs
         (BothAsk (structs_of structs.now)
         (operands.operand_type (structs_of structs.now) (map tree variables.now)
         (operand_of argument.now.0)) (Some (tree argument.now.1)))
         asked.old.items asked.new.items) }
 {
-    let one = operand_type(alloc, structs, variables, &argument.0)?;
-    let told = ask_before(structs, &one, &argument.1, asked);
-    told
+    if is_silent(region_free, &argument.0) {
+        return Ok(());
+    }
+    ask_operand(alloc, structs, variables, &argument.0, &argument.1, asked)?;
+    Ok(())
 }
 
 // Puts what the operands of a call ask behind the others.
@@ -198,15 +205,18 @@ fn ask_inputs(
     alloc: Global,
     structs: &Structs,
     variables: &[Ty],
+    region_free: &[bool],
     arguments: &[(Operand, Ty)],
     asked: &mut Vec<(RegionId, RegionId)>,
 ) -> Result<(), Memory>
+    requires { AreRegionFree (structs_of structs.now) (map tree variables.now) region_free.now }
     ensures { OnOk result (AddsPairs
         (AtOne (InputAsks (structs_of structs.now) (map tree variables.now)
         (map (λ a. (operand_of a.0, tree a.1)) arguments.now))) asked.old.items asked.new.items) }
 {
     for place in 0..arguments.len() {
-        ask_input(alloc, structs, variables, &arguments[place], asked)?;
+        let argument = &arguments[place];
+        ask_input(alloc, structs, variables, region_free, argument, asked)?;
     }
     Ok(())
 }
@@ -216,18 +226,22 @@ fn ask_result(
     alloc: Global,
     structs: &Structs,
     variables: &[Ty],
+    region_free: &[bool],
     ty: &Ty,
     place: &Place,
     asked: &mut Vec<(RegionId, RegionId)>,
 ) -> Result<(), Memory>
+    requires { AreRegionFree (structs_of structs.now) (map tree variables.now) region_free.now }
     ensures { OnOk result (AddsPairs
         (BothAsk (structs_of structs.now) (Some (tree ty.now))
         (type_of (structs_of structs.now) (map tree variables.now) (path_of place.now)))
         asked.old.items asked.new.items) }
 {
-    let target = place_type(alloc, structs, variables, place)?;
-    let told = ask_one(structs, ty, &target, asked);
-    told
+    if is_of_marked(region_free, place) {
+        return Ok(());
+    }
+    ask_into(alloc, structs, variables, ty, place, asked)?;
+    Ok(())
 }
 
 // Puts behind the others that each of these regions outlives this one.
@@ -246,7 +260,7 @@ fn ask_outlives(
 }
 
 // Puts what an operand that goes to a place asks behind the others.
-fn ask_assign(
+fn ask_assigned(
     alloc: Global,
     structs: &Structs,
     variables: &[Ty],
@@ -261,42 +275,104 @@ fn ask_assign(
         (type_of (structs_of structs.now) (map tree variables.now) (path_of place.now)))
         asked.old.items asked.new.items) }
 {
-    let one = operand_type(alloc, structs, variables, operand)?;
-    let other = place_type(alloc, structs, variables, place)?;
-    let told = ask_both(structs, &one, &other, asked);
-    told
-}
-
-// The type of a reference to a place, where the place has a type.
-fn reference_type(
-    alloc: Global,
-    structs: &Structs,
-    variables: &[Ty],
-    region: RegionId,
-    mutable: bool,
-    place: &Place,
-) -> Result<Option<Ty>, Memory>
-    ensures { IfOk result (λ o. option_map tree o ≡ option_map (reference region mutable)
-        (type_of (structs_of structs.now) (map tree variables.now) (path_of place.now))) }
-{
-    match place_type(alloc, structs, variables, place)? {
-        Some(target) => Ok(Some(Ty::Reference(region, mutable, Box::new(alloc, target)?))),
-        None => Ok(None),
+    match written_type(variables, place) {
+        Some(other) => {
+            ask_operand(alloc, structs, variables, operand, other, asked)?;
+            Ok(())
+        }
+        None => {
+            let other = place_type(alloc, structs, variables, place)?;
+            let told = ask_operand_to(alloc, structs, variables, operand, &other, asked);
+            told
+        }
     }
 }
 
-// Puts behind the others what a value of the type of a reference to the second place that goes to
-// the first asks.
+// Puts what an operand that goes to a place asks behind the others.
+fn ask_assign(
+    alloc: Global,
+    structs: &Structs,
+    variables: &[Ty],
+    region_free: &[bool],
+    place: &Place,
+    operand: &Operand,
+    asked: &mut Vec<(RegionId, RegionId)>,
+) -> Result<(), Memory>
+    requires { AreRegionFree (structs_of structs.now) (map tree variables.now) region_free.now }
+    ensures { OnOk result (AddsPairs
+        (BothAsk (structs_of structs.now)
+        (operands.operand_type (structs_of structs.now) (map tree variables.now)
+        (operand_of operand.now))
+        (type_of (structs_of structs.now) (map tree variables.now) (path_of place.now)))
+        asked.old.items asked.new.items) }
+{
+    if is_silent(region_free, operand) {
+        return Ok(());
+    }
+    if is_of_marked(region_free, place) {
+        return Ok(());
+    }
+    ask_assigned(alloc, structs, variables, place, operand, asked)?;
+    Ok(())
+}
+
+// Puts behind the others what a reference to the borrowed place, whose type this is, asks where it
+// goes to the first place.
+fn ask_borrowed(
+    alloc: Global,
+    structs: &Structs,
+    variables: &[Ty],
+    region_free: &[bool],
+    place: &Place,
+    region: RegionId,
+    mutable: bool,
+    borrowed: &Place,
+    target: &Ty,
+    asked: &mut Vec<(RegionId, RegionId)>,
+) -> Result<(), Memory>
+    requires free { AreRegionFree (structs_of structs.now) (map tree variables.now)
+        region_free.now }
+    requires target { type_of (structs_of structs.now) (map tree variables.now)
+        (path_of borrowed.now) ≡ Some (tree target.now) }
+    ensures { OnOk result (AddsPairs
+        (BothAsk (structs_of structs.now) (Some (reference region mutable (tree target.now)))
+        (type_of (structs_of structs.now) (map tree variables.now) (path_of place.now)))
+        asked.old.items asked.new.items) }
+{
+    if is_of_marked(region_free, borrowed) {
+        // An `int` stands for a type without regions.
+        ask_reference_into(
+            alloc,
+            structs,
+            variables,
+            region,
+            mutable,
+            &Ty::Int,
+            place,
+            asked,
+        )?;
+        return Ok(());
+    }
+    ask_reference_into(
+        alloc, structs, variables, region, mutable, target, place, asked,
+    )?;
+    Ok(())
+}
+
+// Puts behind the others what a reference to the borrowed place asks where it goes to the first
+// place.
 fn ask_reference(
     alloc: Global,
     structs: &Structs,
     variables: &[Ty],
+    region_free: &[bool],
     place: &Place,
     region: RegionId,
     mutable: bool,
     borrowed: &Place,
     asked: &mut Vec<(RegionId, RegionId)>,
 ) -> Result<(), Memory>
+    requires { AreRegionFree (structs_of structs.now) (map tree variables.now) region_free.now }
     ensures { OnOk result (AddsPairs
         (BothAsk (structs_of structs.now)
         (option_map (reference region mutable)
@@ -304,33 +380,111 @@ fn ask_reference(
         (type_of (structs_of structs.now) (map tree variables.now) (path_of place.now)))
         asked.old.items asked.new.items) }
 {
-    let one = reference_type(alloc, structs, variables, region, mutable, borrowed)?;
-    let other = place_type(alloc, structs, variables, place)?;
-    let told = ask_both(structs, &one, &other, asked);
-    told
+    if is_of_marked(region_free, place) {
+        return Ok(());
+    }
+    match written_type(variables, borrowed) {
+        Some(target) => {
+            ask_borrowed(
+                alloc,
+                structs,
+                variables,
+                region_free,
+                place,
+                region,
+                mutable,
+                borrowed,
+                target,
+                asked,
+            )?;
+            Ok(())
+        }
+        None => {
+            let made = place_type(alloc, structs, variables, borrowed)?;
+            match &made {
+                Some(target) => {
+                    ask_borrowed(
+                        alloc,
+                        structs,
+                        variables,
+                        region_free,
+                        place,
+                        region,
+                        mutable,
+                        borrowed,
+                        target,
+                        asked,
+                    )?;
+                    Ok(())
+                }
+                None => Ok(()),
+            }
+        }
+    }
 }
 
-// Puts what a reference to the second place that goes to the first asks behind the others.
+// Puts behind the others that the regions on which a reborrow of the place rests outlive this one.
+fn ask_rests(
+    alloc: Global,
+    structs: &Structs,
+    variables: &[Ty],
+    region_free: &[bool],
+    region: RegionId,
+    borrowed: &Place,
+    asked: &mut Vec<(RegionId, RegionId)>,
+) -> Result<(), Memory>
+    requires { AreRegionFree (structs_of structs.now) (map tree variables.now) region_free.now }
+    ensures { OnOk result (AddsPairs
+        (λ x. RestsOn (structs_of structs.now) (map tree variables.now) (path_of borrowed.now) x.0
+        × (x.1 ≡ region))
+        asked.old.items asked.new.items) }
+{
+    if is_of_marked(region_free, borrowed) {
+        return Ok(());
+    }
+    let regions = rests_on(alloc, structs, variables, borrowed)?;
+    ask_outlives(regions.as_slice(), region, asked)?;
+    Ok(())
+}
+
+// Puts what a reference to the borrowed place that goes to the first place asks behind the others.
 fn ask_borrow(
     alloc: Global,
     structs: &Structs,
     variables: &[Ty],
+    region_free: &[bool],
     place: &Place,
     region: RegionId,
     mutable: bool,
     borrowed: &Place,
     asked: &mut Vec<(RegionId, RegionId)>,
 ) -> Result<(), Memory>
+    requires { AreRegionFree (structs_of structs.now) (map tree variables.now) region_free.now }
     ensures { OnOk result (AddsPairs
         (Asks (structs_of structs.now) (map tree variables.now)
         (borrow (path_of place.now) region mutable (path_of borrowed.now)))
         asked.old.items asked.new.items) }
 {
     ask_reference(
-        alloc, structs, variables, place, region, mutable, borrowed, asked,
+        alloc,
+        structs,
+        variables,
+        region_free,
+        place,
+        region,
+        mutable,
+        borrowed,
+        asked,
     )?;
-    let regions = rests_on(alloc, structs, variables, borrowed)?;
-    ask_outlives(regions.as_slice(), region, asked)?;
+    ask_rests(
+        alloc,
+        structs,
+        variables,
+        region_free,
+        region,
+        borrowed,
+        asked,
+    )?;
     Ok(())
 }
 
@@ -340,18 +494,20 @@ fn ask_make(
     alloc: Global,
     structs: &Structs,
     variables: &[Ty],
+    region_free: &[bool],
     place: &Place,
     ty: &Ty,
     operands: &[Operand],
     asked: &mut Vec<(RegionId, RegionId)>,
 ) -> Result<(), Memory>
+    requires { AreRegionFree (structs_of structs.now) (map tree variables.now) region_free.now }
     ensures { OnOk result (AddsPairs
         (Asks (structs_of structs.now) (map tree variables.now)
         (make (path_of place.now) (tree ty.now) (map operand_of operands.now)))
         asked.old.items asked.new.items) }
 {
-    ask_parts(alloc, structs, variables, ty, operands, asked)?;
-    ask_result(alloc, structs, variables, ty, place, asked)?;
+    ask_parts(alloc, structs, variables, region_free, ty, operands, asked)?;
+    ask_result(alloc, structs, variables, region_free, ty, place, asked)?;
     Ok(())
 }
 
@@ -360,9 +516,11 @@ fn ask_call(
     alloc: Global,
     structs: &Structs,
     variables: &[Ty],
+    region_free: &[bool],
     call: &Call<RegionId, Ty>,
     asked: &mut Vec<(RegionId, RegionId)>,
 ) -> Result<(), Memory>
+    requires { AreRegionFree (structs_of structs.now) (map tree variables.now) region_free.now }
     ensures { OnOk result (AddsPairs
         (Asks (structs_of structs.now) (map tree variables.now)
         (spec.call (path_of call.now.place)
@@ -370,14 +528,20 @@ fn ask_call(
         call.now.wheres.items call.now.target call.now.unwind))
         asked.old.items asked.new.items) }
 {
-    ask_inputs(alloc, structs, variables, call.arguments.as_slice(), asked)?;
-    ask_result(alloc, structs, variables, &call.result, &call.place, asked)?;
+    let arguments = call.arguments.as_slice();
+    ask_inputs(alloc, structs, variables, region_free, arguments, asked)?;
+    let (ty, place) = (&call.result, &call.place);
+    ask_result(alloc, structs, variables, region_free, ty, place, asked)?;
     asked.extend_from_slice(call.wheres.as_slice())?;
     Ok(())
 }
 
 /// Puts the pairs of regions that a statement or terminator asks behind the others: of each pair
-/// the first is to outlive the second.
+/// the first is to outlive the second. `region_free` gives the marks.
+///
+/// # Cost
+/// The types of the places that aren't of variables that are marked; those of fields of structs are
+/// made (not proved).
 ///
 /// # Source
 /// RFC 2094, "Subtyping" and "Reborrow constraints".
@@ -385,9 +549,11 @@ pub fn asks(
     alloc: Global,
     structs: &Structs,
     variables: &[Ty],
+    region_free: &[bool],
     statement: &Statement<RegionId, Ty>,
     asked: &mut Vec<(RegionId, RegionId)>,
 ) -> Result<(), Memory>
+    requires { AreRegionFree (structs_of structs.now) (map tree variables.now) region_free.now }
     ensures { OnOk result (AddsPairs
         (Asks (structs_of structs.now) (map tree variables.now)
         (map_statement (λ r. r) tree (statement_of statement.now)))
@@ -395,23 +561,48 @@ pub fn asks(
 {
     match statement {
         Statement::Assign(place, operand) => {
-            ask_assign(alloc, structs, variables, place, operand, asked)?;
+            ask_assign(
+                alloc,
+                structs,
+                variables,
+                region_free,
+                place,
+                operand,
+                asked,
+            )?;
             Ok(())
         }
         Statement::Borrow(place, region, mutable, borrowed) => {
             let (region, mutable) = (*region, *mutable);
             ask_borrow(
-                alloc, structs, variables, place, region, mutable, borrowed, asked,
+                alloc,
+                structs,
+                variables,
+                region_free,
+                place,
+                region,
+                mutable,
+                borrowed,
+                asked,
             )?;
             Ok(())
         }
         Statement::Make(made) => {
             let (place, ty, operands) = (&made.place, &made.ty, made.operands.as_slice());
-            ask_make(alloc, structs, variables, place, ty, operands, asked)?;
+            ask_make(
+                alloc,
+                structs,
+                variables,
+                region_free,
+                place,
+                ty,
+                operands,
+                asked,
+            )?;
             Ok(())
         }
         Statement::Call(call) => {
-            ask_call(alloc, structs, variables, call, asked)?;
+            ask_call(alloc, structs, variables, region_free, call, asked)?;
             Ok(())
         }
         Statement::Read(_)

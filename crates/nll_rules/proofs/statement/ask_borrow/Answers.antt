@@ -8,7 +8,5 @@ use Rattle.nll_rules.proofs.statement.ask_borrow.Goals as goal
 
 pub returns : goal.returns
 returns c =
-    let both = c.in_ok-ask_reference.ensures in
-    let outlives = rw c.as_slice.ensures.value at c.in_ok-ask_outlives.ensures in
-    adds_same _ _ _ _ (λ x. asks_borrow (structs_of c.args.structs.now) (map tree c.args.variables.now) (path_of c.args.place.now) c.args.region c.args.mutable (path_of c.args.borrowed.now) c.in_ok-regions.regions.items x c.in_ok-regions.ensures)
-    (adds_append _ _ _ _ _ both outlives)
+    adds_same _ _ _ _ (λ x. asks_borrow (structs_of c.args.structs.now) (map tree c.args.variables.now) (path_of c.args.place.now) c.args.region c.args.mutable (path_of c.args.borrowed.now) x)
+    (adds_append _ _ _ _ _ c.in_ok-ask_reference.ensures c.in_ok-ask_rests.ensures)
