@@ -13,6 +13,7 @@ mod meaning;
 mod mir;
 mod own_names;
 mod parameters;
+mod parts;
 mod reader;
 mod stating;
 mod tables;

@@ -18,7 +18,7 @@ use std::alloc::Global;
 use std::str;
 
 // The error of a line; want of memory is no line's.
-fn refusal(line: u64, kind: TextKind) -> TextError
+pub(crate) fn refusal(line: u64, kind: TextKind) -> TextError
     ensures memory { kind ≡ TextKind.Memory → result ≡ record { line = 0; kind = TextKind.Memory } }
     ensures fault { (result ≡ record { line = 0; kind = TextKind.Memory })
         ⊎ ((result ≡ record { line = line; kind = kind }) × (kind ≢ TextKind.Memory)) }
