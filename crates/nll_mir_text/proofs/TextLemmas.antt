@@ -65,7 +65,8 @@ amid_fault all left line after s number step kind wrong a =
 
 -- all lines are read
 pub amid_all : (all : List (List ℕ)) (s : Said) (number : ℕ) → IsAmid all [] s number → (forms : List Form) × Says mir [] all forms × (said forms ≡ s) × (number ≡ 1 + length all)
-amid_all all s number a = (a.forms, read_all all a.front a.forms s number (from_amid all [] s number a))
+amid_all all s number a =
+    let done = read_all all a.front a.forms s number (from_amid all [] s number a) in (a.forms, done.0, done.1, done.2)
 
 -- ---- the tokens of a line
 

@@ -102,7 +102,7 @@ pub(crate) fn read_text(alloc: Global, text: &[u8]) -> Result<Reader, TextError>
 }
 
 // Whether the first line is the header.
-fn check_header(header: &[u8]) -> Result<(), TextError>
+pub(crate) fn check_header(header: &[u8]) -> Result<(), TextError>
     ensures ok { OnOk result (IsUtf8 header.now × IsHeader mir header.now) }
     ensures fault { IfErr result (IsHeaderFault mir header.now) }
 {
