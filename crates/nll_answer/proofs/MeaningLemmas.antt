@@ -1,5 +1,6 @@
 -- Texts of either format, and why they have no answer.
-use Rattle.std.proofs.Common.{◌≡◌, ℕ, Bool, true, false, List, ◌∷◌, length, inl, inr, ⊎_elim, refl, sym, ap, ◌∙◌, subst}
+use Rattle.std.proofs.Common.{◌≡◌, ℕ, Bool, true, false, List, ◌∷◌, Result, Ok, Err, IfErr, IfOk, length, inl, inr, ⊎_elim, refl, sym, ap, ◌∙◌, subst}
+use Rattle.std.specs.Prelude.{IsOkAnd}
 use Rattle.std.proofs.lemmas.Bool.{false≢true}
 use Rattle.nll_problem.specs.Problem.{Problem}
 use Rattle.nll_text.specs.Lines.{lines_of}
@@ -9,11 +10,11 @@ use Rattle.nll_reading.specs.declared.error.TextError.{TextError}
 use Rattle.nll_reading.specs.declared.error.TextKind.{TextKind}
 use Rattle.nll_reading.specs.declared.error.TextKind.TheVariants as kind
 use Rattle.nll_facts.specs.FactsText.{facts}
-use Rattle.nll_body.specs.Bodies.{BodyText}
+use Rattle.nll_body.specs.Bodies.{BodyText, labels_of}
 use Rattle.nll_mir_text.specs.MirText.{mir, Means as IsBodyOf}
 use Rattle.nll_answer.specs.declared.error.AnswerError.{AnswerError}
 use Rattle.nll_answer.specs.declared.error.AnswerError.TheVariants.{Text, Rule, Memory}
-use Rattle.nll_body_problem.specs.BodyProblem.{IsRuleError}
+use Rattle.nll_body_problem.specs.BodyProblem.{HasTooMany, IsProblemOf, IsRuleError}
 use Rattle.nll_body_problem.specs.declared.error.RuleError.{RuleError}
 use Rattle.nll_body_problem.specs.declared.error.RuleError.TheVariants as rule
 use Rattle.nll_answer.specs.Texts.{IsOf, HasProblem, told_as, error_of_text, error_of_body, IsErrorOf, IsBodyError, IsAnswerError}
@@ -69,6 +70,19 @@ module _ (format : Format) (text : List ℕ) (error : TextError) (refusal : IsRe
   pub text_error : (told : AnswerError) → told ≡ error_of_text error → IsErrorOf format text told
   text_error told is = subst (IsErrorOf format text) (sym is) (told_in error.kind refl)
 
+-- what was read and its error, as they are handed on
+pub told_ok : {T : Type 0} (P : T → Type 0) (read : Result T TextError) (r : Result T AnswerError)
+    → IfOk read (λ value. r ≡ Ok value) → IfErr read (λ error. r ≡ Err (error_of_text error)) → IfOk read P → IfOk r P
+told_ok P (Ok value) r ok err h = subst (λ x. IfOk x P) (sym ok) h
+told_ok P (Err error) r ok err h = subst (λ x. IfOk x P) (sym err) tt
+
+pub told_err : {T : Type 0} (format : Format) (text : List ℕ) (read : Result T TextError) (r : Result T AnswerError)
+    → IfOk read (λ value. r ≡ Ok value) → IfErr read (λ error. r ≡ Err (error_of_text error))
+    → IfErr read (IsRefusal (IsFault format text)) → IfErr r (IsErrorOf format text)
+told_err format text (Ok value) r ok err h = subst (λ x. IfErr x (IsErrorOf format text)) (sym ok) tt
+told_err format text (Err error) r ok err h =
+    subst (λ x. IfErr x (IsErrorOf format text)) (sym err) (text_error format text error h (error_of_text error) refl)
+
 -- the error of a body, as an answer tells it
 pub body_error : (body : BodyText) (error : RuleError) (told : AnswerError) → told ≡ error_of_body error → IsRuleError body error → IsBodyError body told
 body_error body error told is h = subst (IsBodyError body) (sym is) (as_told error h)
@@ -76,6 +90,26 @@ body_error body error told is h = subst (IsBodyError body) (sym is) (as_told err
     as_told : (e : RuleError) → IsRuleError body e → IsBodyError body (error_of_body e)
     as_told (rule.Limit kind) k = k
     as_told rule.Memory k = tt
+
+-- a problem with the labels of its body, and why there is none, as they are handed on
+module _ {F : Type 0} (problem_in : F → Problem) (labels_in : F → Labels) (body : BodyText) where
+  abbrev IsLabelled : Result Problem RuleError → Result F AnswerError → Type 0
+  IsLabelled made r = IfOk made (λ q. IsOkAnd r (λ f. (problem_in f ≡ q) × (labels_in f ≡ labels_of body)))
+
+  abbrev IsUnlabelled : Result Problem RuleError → Result F AnswerError → Type 0
+  IsUnlabelled made r = IfErr made (λ e. r ≡ Err (error_of_body e))
+
+  pub labelled_ok : (made : Result Problem RuleError) (r : Result F AnswerError) → IsLabelled made r → IsUnlabelled made r
+      → IfOk made (IsProblemOf body) → IfOk made (λ _. HasTooMany body → ⊥) → IfOk r (λ f. HasProblem body (problem_in f) (labels_in f))
+  labelled_ok (Ok q) (Ok f) ok err is few = record { problem = subst (IsProblemOf body) (sym ok.0) is; few = few; labels = ok.1 }
+  labelled_ok (Ok q) (Err e) ok err is few = tt
+  labelled_ok (Err e) r ok err is few = subst (λ x. IfOk x (λ f. HasProblem body (problem_in f) (labels_in f))) (sym err) tt
+
+  pub labelled_err : (made : Result Problem RuleError) (r : Result F AnswerError) → IsLabelled made r → IsUnlabelled made r
+      → IfErr made (IsRuleError body) → IfErr r (IsBodyError body)
+  labelled_err (Ok q) (Ok f) ok err h = tt
+  labelled_err (Ok q) (Err e) ok err h = absurd ok
+  labelled_err (Err e) r ok err h = subst (λ x. IfErr x (IsBodyError body)) (sym err) (body_error body e (error_of_body e) refl h)
 
 -- the labels of a body name each region of its problem
 pub named : (body : BodyText) (q : Problem) (labels : Labels) → HasProblem body q labels → length labels.names ≡ q.regions

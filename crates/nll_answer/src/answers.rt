@@ -43,8 +43,11 @@ pub fn answer(alloc: Global, command: Command, text: &[u8]) -> Result<(Vec<u8>, 
     Ok(answer?)
 }
 
-// The answer to the command on facts.
-fn answer_of(alloc: Global, command: Command, facts: &Facts) -> Result<(Vec<u8>, u8), Memory>
+/// The answer to a command on a problem and its labels.
+///
+/// # Errors
+/// `Memory` alone.
+pub fn answer_of(alloc: Global, command: Command, facts: &Facts) -> Result<(Vec<u8>, u8), Memory>
     requires { length facts.now.labels.names ≡ facts.now.problem.regions }
     ensures ok { IfOk result (λ r.
         IsProblemAnswer command facts.now.problem facts.now.labels r.0.items r.1) }

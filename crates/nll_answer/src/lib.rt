@@ -11,9 +11,9 @@ mod laws;
 mod meanings;
 mod values_report;
 
-pub use answers::{Command, answer};
+pub use answers::{Command, answer, answer_of};
 pub use error::AnswerError;
 pub use faults_report::faults_text;
 pub use laws::{no_text_has_both, one_text_fault, one_text_meaning};
-pub use meanings::meaning;
+pub use meanings::{meaning, read_meaning};
 pub use values_report::values_text;

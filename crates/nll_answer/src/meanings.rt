@@ -1,14 +1,16 @@
 //! The problem that a text means.
 
-ghost use Rattle.std.specs.Prelude.{◌≡◌, ◌↔◌, length, IfErr, IfOk, IsTrue};
+ghost use Rattle.std.specs.Prelude.{◌≡◌, ◌↔◌, length, Err, IfErr, IfOk, IsOkAnd, IsTrue, Ok};
 ghost use Rattle.nll_facts.specs.FactsText.{facts, Means as IsFactsOf};
+ghost use Rattle.nll_body.specs.Bodies.{labels_of};
 ghost use Rattle.nll_mir_text.specs.MirText.{mir, Means as IsBodyOf};
 ghost use Rattle.nll_answer.specs.Texts.{HasProblem, IsAnswerError, IsBodyError, IsErrorOf};
-ghost use Rattle.nll_answer.specs.Texts.{IsMeaning, IsOf};
+ghost use Rattle.nll_answer.specs.Texts.{IsMeaning, IsOf, error_of_body, error_of_text};
 
 use crate::error::AnswerError;
-use nll_body_problem::problem_of;
-use nll_mir::{Body, Facts, read_facts, read_mir};
+use nll_body_problem::{RuleError, problem_of};
+use nll_core::Problem;
+use nll_mir::{Body, Facts, TextError, read_facts, read_mir};
 use nll_text::{is_header, next_line};
 use std::alloc::Global;
 
@@ -27,6 +29,25 @@ pub fn meaning(alloc: Global, text: &[u8]) -> Result<Facts, AnswerError>
         mir_meaning(alloc, text)
     } else {
         facts_meaning(alloc, text)
+    }
+}
+
+/// The same of a text that is handed over, which is let go as soon as it is read: of a MIR text,
+/// before the problem of its body is made.
+///
+/// # Errors
+/// As of `meaning`.
+pub fn read_meaning(alloc: Global, text: Vec<u8>) -> Result<Facts, AnswerError>
+    ensures ok { IfOk result (λ facts. IsMeaning text.items facts.problem facts.labels) }
+    ensures named { IfOk result (λ facts. length facts.labels.names ≡ facts.problem.regions) }
+    ensures err { IfErr result (IsAnswerError text.items) }
+{
+    if is_mir(text.as_slice()) {
+        read_mir_meaning(alloc, text)
+    } else {
+        let facts = facts_meaning(alloc, text.as_slice());
+        drop(text);
+        facts
     }
 }
 
@@ -49,6 +70,27 @@ fn mir_meaning(alloc: Global, text: &[u8]) -> Result<Facts, AnswerError>
     facts_of_body(alloc, body)
 }
 
+// The same of a text that is let go before the problem of its body is made.
+fn read_mir_meaning(alloc: Global, text: Vec<u8>) -> Result<Facts, AnswerError>
+    requires { IsOf mir text.items }
+    ensures ok { IfOk result (λ facts. IsMeaning text.items facts.problem facts.labels) }
+    ensures named { IfOk result (λ facts. length facts.labels.names ≡ facts.problem.regions) }
+    ensures err { IfErr result (IsAnswerError text.items) }
+{
+    let body = read_body(alloc, text)?;
+    facts_of_body(alloc, body)
+}
+
+// The body of a MIR text that is let go.
+fn read_body(alloc: Global, text: Vec<u8>) -> Result<Body, AnswerError>
+    ensures ok { IfOk result (IsBodyOf text.items) }
+    ensures err { IfErr result (IsErrorOf mir text.items) }
+{
+    let body = body_of(alloc, text.as_slice());
+    drop(text);
+    body
+}
+
 // The problem that a facts text means.
 fn facts_meaning(alloc: Global, text: &[u8]) -> Result<Facts, AnswerError>
     requires { IsOf mir text.now → ⊥ }
@@ -65,10 +107,7 @@ fn facts_of(alloc: Global, text: &[u8]) -> Result<Facts, AnswerError>
     ensures named { IfOk result (λ facts. length facts.labels.names ≡ facts.problem.regions) }
     ensures err { IfErr result (IsErrorOf facts text.now) }
 {
-    match read_facts(alloc, text) {
-        Ok(facts) => Ok(facts),
-        Err(error) => Err(AnswerError::from(error)),
-    }
+    told(read_facts(alloc, text))
 }
 
 // The body of a MIR text.
@@ -76,8 +115,16 @@ fn body_of(alloc: Global, text: &[u8]) -> Result<Body, AnswerError>
     ensures ok { IfOk result (IsBodyOf text.now) }
     ensures err { IfErr result (IsErrorOf mir text.now) }
 {
-    match read_mir(alloc, text) {
-        Ok(body) => Ok(body),
+    told(read_mir(alloc, text))
+}
+
+// What was read of a text, or the error of its answer.
+fn told<T>(read: Result<T, TextError>) -> Result<T, AnswerError>
+    ensures ok { IfOk read (λ value. result ≡ Ok value) }
+    ensures err { IfErr read (λ error. result ≡ Err (error_of_text error)) }
+{
+    match read {
+        Ok(value) => Ok(value),
         Err(error) => Err(AnswerError::from(error)),
     }
 }
@@ -87,7 +134,17 @@ fn facts_of_body(alloc: Global, body: Body) -> Result<Facts, AnswerError>
     ensures ok { IfOk result (λ facts. HasProblem body facts.problem facts.labels) }
     ensures err { IfErr result (IsBodyError body) }
 {
-    match problem_of(alloc, &body) {
+    let problem = problem_of(alloc, &body);
+    labelled(problem, body)
+}
+
+// A problem with the labels of its body, or the error of the answer.
+fn labelled(problem: Result<Problem, RuleError>, body: Body) -> Result<Facts, AnswerError>
+    ensures ok { IfOk problem (λ problem. IsOkAnd result (λ facts.
+        (facts.problem ≡ problem) × (facts.labels ≡ labels_of body))) }
+    ensures err { IfErr problem (λ error. result ≡ Err (error_of_body error)) }
+{
+    match problem {
         Ok(problem) => Ok(Facts {
             problem,
             labels: body.into_labels(),

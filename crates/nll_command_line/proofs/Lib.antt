@@ -1,5 +1,6 @@
 pub mod FileWordLemmas
 pub mod GrammarLemmas
+pub mod HelpLemmas
 pub mod LineErrorLemmas
 pub mod LineLemmas
 pub mod PlainLineLemmas

@@ -11,7 +11,7 @@ use Rattle.nll_command_line.specs.Grammar.{line_by_grammar, line_of_matches, pro
 use Rattle.nll_command_line.proofs.FileWordLemmas.{file_in, level, takes_file}
 use Rattle.nll_command_line.proofs.TaskWordLemmas.{is_none, names, or_else-left, or_else-right, rules_for, start, stops, subcommand_of-named, task_first, top}
 
-entered_fault-named : (task : Task) (rest : List Text) → entered_fault (built program) (Some (name_of task, rest)) ≡ level (name_of task) rest
+pub entered_fault-named : (task : Task) (rest : List Text) → entered_fault (built program) (Some (name_of task, rest)) ≡ level (name_of task) rest
 entered_fault-named Values rest = refl
 entered_fault-named Check rest = refl
 

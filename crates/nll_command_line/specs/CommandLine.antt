@@ -1,6 +1,8 @@
 -- Which words make a command line.
 -- Source: this project's own.
-use Rattle.std.specs.Prelude.{◌≡◌, ◌⊎◌, ◌==◌, ℕ, Bool, false, List, [], ◌∷◌, codes}
+use Rattle.std.specs.Prelude.{◌≡◌, ◌⊎◌, ◌==◌, ℕ, Bool, false, List, [], ◌∷◌, ◌++◌, codes}
+use Rattle.std.specs.Prelude.{Option, None, Some, if◌then◌else◌}
+use Rattle.std.specs.Str.{bytes_eq}
 use Rattle.nll_command_line.specs.declared.task.Task.{Task}
 use Rattle.nll_command_line.specs.declared.task.Task.TheVariants.{Values, Check}
 
@@ -8,6 +10,12 @@ use Rattle.nll_command_line.specs.declared.task.Task.TheVariants.{Values, Check}
 abbrev pub name_of : Task → List ℕ
 name_of Values = codes "values"
 name_of Check = codes "check"
+
+-- the task that a word names
+abbrev pub task_named : List ℕ → Option Task
+task_named word =
+    if bytes_eq word (codes "values") then Some Values
+    else (if bytes_eq word (codes "check") then Some Check else None)
 
 -- a hyphen (45) and more: an option, or the end of the options
 abbrev pub begins_as_option : List ℕ → Bool
@@ -37,3 +45,25 @@ IsPlainLine task file words = (AsksFor task (file ∷ []) words × (begins_as_op
 -- no task and file make a plain line of the words
 abbrev pub IsNoPlainLine : List (List ℕ) → Type 0
 IsNoPlainLine words = (task : Task) (file : List ℕ) → IsPlainLine task file words → ⊥
+
+-- a word that asks for help
+abbrev pub IsHelpWord : List ℕ → Type 0
+IsHelpWord word = (word ≡ codes "--help") ⊎ (word ≡ codes "-h")
+
+-- what stands before a word that asks for help: nothing, a task, or a task and a file that does
+-- not begin as an option
+abbrev pub MayStandBeforeHelp : List (List ℕ) → Type 0
+MayStandBeforeHelp [] = Unit {0}
+MayStandBeforeHelp (name ∷ []) = (task : Task) × (name ≡ name_of task)
+MayStandBeforeHelp (name ∷ file ∷ []) =
+    ((task : Task) × (name ≡ name_of task)) × (begins_as_option file ≡ false)
+MayStandBeforeHelp (name ∷ file ∷ other ∷ rest) = ⊥
+
+-- A word asks for help, behind nothing but a task and its file; whatever follows it.
+pub record AsksPlainlyForHelp (words : List (List ℕ)) : Type 0 where
+  pub front : List (List ℕ)
+  pub word : List ℕ
+  pub rest : List (List ℕ)
+  pub are : words ≡ front ++ word ∷ rest
+  pub before : MayStandBeforeHelp front
+  pub asks : IsHelpWord word

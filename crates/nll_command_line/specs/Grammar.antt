@@ -1,19 +1,19 @@
 -- The commands as the parser of the words reads them, the line that its matches come to, and the
 -- error where it has none.
 -- Source: this project's own, over the words of the crate `clap`.
-use Rattle.std.specs.Prelude.{◌≡◌, List, Option, Some, None, true, codes, if◌then◌else◌}
-use Rattle.std.specs.Prelude.{option_and_then, option_map}
-use Rattle.std.specs.Str.{bytes_eq}
+use Rattle.std.specs.Prelude.{◌≡◌, ◌≢◌, ◌⊎◌, List, [], ◌∷◌, Option, Some, true, codes}
+use Rattle.std.specs.Prelude.{option_and_then, option_map, string_bytes}
 use Rattle.clap.specs.Words.{App, IsAmong, Row, Rule, Text, fault_of, first_of, new_app, new_rule}
 use Rattle.clap.specs.Words.{subcommand_of, with_rule, with_subcommand}
 use Rattle.clap.specs.declared.builder.ArgAction.TheVariants.{Set}
 use Rattle.clap.specs.declared.error.kind.ErrorKind.{ErrorKind}
-use Rattle.clap.specs.declared.error.kind.ErrorKind.TheVariants.{DisplayHelp}
+use Rattle.clap.specs.declared.error.kind.ErrorKind.TheVariants.{DisplayHelp, OutOfMemory}
 use Rattle.nll_command_line.specs.declared.error.LineError.{LineError}
 use Rattle.nll_command_line.specs.declared.error.LineError.TheVariants.{Help, Usage, Memory}
 use Rattle.nll_command_line.specs.declared.task.Task.{Task}
 use Rattle.nll_command_line.specs.declared.task.Task.TheVariants.{Values, Check}
-use Rattle.nll_command_line.specs.CommandLine.{IsNoPlainLine, name_of}
+use Rattle.nll_command_line.specs.CommandLine.{IsNoPlainLine, name_of, task_named}
+use Rattle.nll_command_line.specs.Help.{help_for}
 
 -- the place of the file among the words of a command
 abbrev pub file_rule : Rule
@@ -38,12 +38,6 @@ abbrev pub program : App
 program =
     with_subcommand (with_subcommand bare_program (command_of Values).top) (command_of Check).top
 
--- the task of a name
-abbrev pub task_named : Text → Option Task
-task_named name =
-    if bytes_eq name (codes "values") then Some Values
-    else (if bytes_eq name (codes "check") then Some Check else None)
-
 -- the line of a command and what was found for it
 abbrev pub line_of_found : Text × List Row → Option (Task × Text)
 line_of_found found = option_and_then (λ task. option_map (λ file. (task, file))
@@ -61,14 +55,26 @@ line_by_grammar words = line_of_matches (subcommand_of program words)
 abbrev pub AsksForHelp : List Text → Type 0
 AsksForHelp words = IsAmong DisplayHelp (fault_of program words)
 
--- the error tells why the words are not taken
+-- the parser answers the words with nothing but help
+abbrev pub AsksForHelpAlone : List Text → Type 0
+AsksForHelpAlone words = fault_of program words ≡ DisplayHelp ∷ []
+
+-- the error tells why the words are not taken; want of memory says nothing of them
 abbrev pub IsLineError : List Text → LineError → Type 0
-IsLineError words (Help text) = AsksForHelp words × IsNoPlainLine words
-IsLineError words Usage = IsNoPlainLine words
+IsLineError words (Help text) =
+    AsksForHelp words × IsNoPlainLine words × (string_bytes text ≡ help_for words)
+IsLineError words Usage = IsNoPlainLine words × (AsksForHelpAlone words → ⊥)
 IsLineError words Memory = Unit {0}
 
--- the kind of the parser's error where help is given
-abbrev pub IsHelpKind : LineError → ErrorKind → Type 0
-IsHelpKind (Help text) kind = kind ≡ DisplayHelp
-IsHelpKind Usage kind = Unit {0}
-IsHelpKind Memory kind = Unit {0}
+-- the error is the help for the words, or want of memory
+abbrev pub IsHelpFor : List Text → LineError → Type 0
+IsHelpFor words (Help text) = string_bytes text ≡ help_for words
+IsHelpFor words Usage = ⊥
+IsHelpFor words Memory = Unit {0}
+
+-- the error is what is told of an error of this kind: help, or want of memory for its text; want
+-- of memory; or that the words are refused
+abbrev pub IsTold : List Text → ErrorKind → LineError → Type 0
+IsTold words kind (Help text) = (kind ≡ DisplayHelp) × (string_bytes text ≡ help_for words)
+IsTold words kind Usage = (kind ≢ DisplayHelp) × (kind ≢ OutOfMemory)
+IsTold words kind Memory = (kind ≡ OutOfMemory) ⊎ (kind ≡ DisplayHelp)

@@ -1,41 +1,29 @@
 //! What the words of the command line ask for.
-ghost use Rattle.std.specs.Prelude.{◌≡◌, ◌⊎◌, ℕ, List, MatchResult, IfErr, IfOk, None, Some, false};
-ghost use Rattle.std.specs.Prelude.{map, string_bytes};
+ghost use Rattle.std.specs.Prelude.{◌≡◌, ◌≢◌, ◌⊎◌, ℕ, List, None, Some, false, map, string_bytes};
+ghost use Rattle.std.specs.Prelude.{IfErr, IfOk, MatchResult, OnErr};
 ghost use Rattle.nll_command_line.specs.declared.task.Task.{Task};
-ghost use Rattle.nll_command_line.specs.CommandLine.{IsLine, IsPlainLine};
-ghost use Rattle.clap.specs.Words.{app_of, found_of, kind_of, rows_of, rule_of};
+ghost use Rattle.nll_command_line.specs.CommandLine.{AsksPlainlyForHelp, IsLine, IsPlainLine};
+ghost use Rattle.clap.specs.Words.{app_of, found_of, rows_of, rule_of};
 ghost use Rattle.clap.specs.Words.{new_app, subcommand_rows_of, with_rule, with_subcommand};
 ghost use Rattle.clap.specs.declared.builder.Command.TheViews.{out-Command};
-ghost use Rattle.nll_command_line.specs.Grammar.{IsHelpKind, IsLineError, bare_program, file_rule};
-ghost use Rattle.nll_command_line.specs.Grammar.{line_of_found, line_of_matches, program};
-ghost use Rattle.nll_command_line.specs.Grammar.{task_named};
+ghost use Rattle.nll_command_line.specs.Grammar.{IsHelpFor, IsLineError, IsTold};
+ghost use Rattle.nll_command_line.specs.Grammar.{bare_program, file_rule, program};
+ghost use Rattle.nll_command_line.specs.Grammar.{line_of_found, line_of_matches};
 
 use crate::error::LineError;
-use crate::task::{Line, Task};
+use crate::help::help_for;
+use crate::task::{CHECK, Line, VALUES, task_of};
 use clap::error::ErrorKind;
-use clap::{Arg, ArgAction, ArgMatches, Command, Error};
+use clap::{Arg, ArgAction, ArgMatches, Command};
 use std::alloc::{AllocError, Global};
 
-const VALUES: &str = "values";
-
-const CHECK: &str = "check";
-
 const FILE: &str = "FILE";
-
-const AFTER_HELP: &str = "\
-Statuses:
-  0  the values are printed, or check found no fault, or this help
-  1  check found a fault
-  2  the words, the file or its text are refused, and standard error says why
-  3  memory was refused, or standard output did not take the whole report
-
-docs/FORMATS.md says how facts texts and MIR texts are written, and how the reports are.
-With /dev/stdin for FILE the text is read from standard input.";
 
 /// Reads the program's words, without its name.
 ///
 /// # Errors
-/// - `Help`: `-h` or `--help` stands before the first word that is refused.
+/// - `Help`: `-h` or `--help` stands before the first word that is refused. The text is that of the
+///   command that the first word names, or of the program.
 /// - `Usage`: a word is refused, or one is missing.
 /// - `Memory`: an allocation was refused.
 pub fn line(alloc: Global, words: &[String]) -> Result<Line, LineError>
@@ -45,6 +33,8 @@ pub fn line(alloc: Global, words: &[String]) -> Result<Line, LineError>
         → IsPlainLine task file (map string_bytes words.now)
         → MatchResult result (λ l. (l.task ≡ task) × (string_bytes l.file ≡ file))
         (λ e. e ≡ LineError.Memory) }
+    ensures help { AsksPlainlyForHelp (map string_bytes words.now)
+        → MatchResult result (λ _. ⊥) (IsHelpFor (map string_bytes words.now)) }
     ensures err { IfErr result (IsLineError (map string_bytes words.now)) }
 {
     match grammar(alloc)?.try_get_matches_from(words) {
@@ -54,7 +44,7 @@ pub fn line(alloc: Global, words: &[String]) -> Result<Line, LineError>
             line
         }
         Err(error) => {
-            let refusal = refusal(alloc, &error);
+            let refusal = refusal(alloc, words, error.kind());
             drop(error);
             Err(refusal)
         }
@@ -66,18 +56,8 @@ fn grammar<'a>(alloc: Global) -> Result<Command<'a>, AllocError>
     ensures { IfOk result (λ c. app_of c ≡ program) }
 {
     let bare = bare_program(alloc)?;
-    let with_values = with_command(
-        alloc,
-        bare,
-        VALUES,
-        "Prints the values of the regions of FILE",
-    )?;
-    with_command(
-        alloc,
-        with_values,
-        CHECK,
-        "Checks the universal regions of FILE",
-    )
+    let with_values = with_command(alloc, bare, VALUES)?;
+    with_command(alloc, with_values, CHECK)
 }
 
 // The program with one more command.
@@ -85,12 +65,11 @@ fn with_command<'a>(
     alloc: Global,
     program: Command<'a>,
     name: &'a str,
-    about: &'a str,
 ) -> Result<Command<'a>, AllocError>
     ensures { IfOk result (λ c. app_of c
         ≡ with_subcommand (app_of program.entry) (with_rule (new_app name.now) file_rule).top) }
 {
-    match command(alloc, name, about) {
+    match command(alloc, name) {
         Ok(command) => program.subcommand(command),
         Err(refused) => {
             drop(program);
@@ -104,37 +83,33 @@ fn bare_program<'a>(alloc: Global) -> Result<Command<'a>, AllocError>
     ensures { IfOk result (λ c. app_of c ≡ bare_program) }
 {
     let program = Command::new(alloc, "nllc")
-        .about("Solves the region constraints of location-aware non-lexical lifetimes")
         .no_binary_name(true)
         .disable_help_subcommand(true)
-        .subcommand_required(true)
-        .after_help(AFTER_HELP);
+        .subcommand_required(true);
     program.bin_name("nllc")
 }
 
 // A command, with its file.
-fn command<'a>(alloc: Global, name: &'a str, about: &'a str) -> Result<Command<'a>, AllocError>
+fn command<'a>(alloc: Global, name: &'a str) -> Result<Command<'a>, AllocError>
     ensures shape { IfOk result (λ c. app_of c ≡ with_rule (new_app name.entry.now) file_rule) }
     ensures local { IfOk result (λ c. (out-Command c).has_globals ≡ false) }
 {
-    Command::new(alloc, name).about(about).arg(file_word(alloc))
+    Command::new(alloc, name).arg(file_word(alloc))
 }
 
 fn file_word<'a>(alloc: Global) -> Arg<'a>
     ensures rule { rule_of result ≡ file_rule }
     ensures local { result.global ≡ false }
 {
-    Arg::new(alloc, FILE)
-        .help("The facts text or MIR text, or /dev/stdin for standard input")
-        .action(ArgAction::Set)
-        .required(true)
+    Arg::new(alloc, FILE).action(ArgAction::Set).required(true)
 }
 
 // The line that the words came to.
 fn line_of(alloc: Global, matches: &ArgMatches<'_>) -> Result<Line, LineError>
     ensures ok { IfOk result (λ l. line_of_matches (subcommand_rows_of matches.now)
         ≡ Some (l.task, string_bytes l.file)) }
-    ensures err { IfErr result (λ e. (e ≡ LineError.Memory)
+    ensures err { IfErr result (λ e. ((e ≡ LineError.Memory)
+        × (line_of_matches (subcommand_rows_of matches.now) ≢ None))
         ⊎ ((e ≡ LineError.Usage)
         × (line_of_matches (subcommand_rows_of matches.now) ≡ None))) }
 {
@@ -148,7 +123,8 @@ fn line_of(alloc: Global, matches: &ArgMatches<'_>) -> Result<Line, LineError>
 fn line_of_command(alloc: Global, name: &str, found: &ArgMatches<'_>) -> Result<Line, LineError>
     ensures ok { IfOk result (λ l. line_of_found (name.now, rows_of (found_of found.now))
         ≡ Some (l.task, string_bytes l.file)) }
-    ensures err { IfErr result (λ e. (e ≡ LineError.Memory)
+    ensures err { IfErr result (λ e. ((e ≡ LineError.Memory)
+        × (line_of_found (name.now, rows_of (found_of found.now)) ≢ None))
         ⊎ ((e ≡ LineError.Usage)
         × (line_of_found (name.now, rows_of (found_of found.now)) ≡ None))) }
 {
@@ -162,27 +138,24 @@ fn line_of_command(alloc: Global, name: &str, found: &ArgMatches<'_>) -> Result<
     Ok(Line { task, file })
 }
 
-fn task_of(name: &str) -> Option<Task>
-    ensures { result ≡ task_named name.now }
+// What the program makes of words for which the parser has an error of this kind.
+fn refusal(alloc: Global, words: &[String], kind: ErrorKind) -> LineError
+    ensures { IsTold (map string_bytes words.now) kind result }
 {
-    match name {
-        VALUES => Some(Task::Values),
-        CHECK => Some(Task::Check),
-        _ => None,
+    match kind {
+        ErrorKind::OutOfMemory => LineError::Memory,
+        ErrorKind::DisplayHelp => helped(String::from_str(alloc, help_for(words))),
+        _ => LineError::Usage,
     }
 }
 
-// What the program makes of words that have no matches.
-fn refusal(alloc: Global, error: &Error) -> LineError
-    ensures help { IsHelpKind result (kind_of error.now) }
-    ensures memory { kind_of error.now ≡ ErrorKind.OutOfMemory → result ≡ LineError.Memory }
+// Help, where there is room for its text.
+fn helped(text: Result<String, AllocError>) -> LineError
+    ensures help { IfOk text (λ text. result ≡ LineError.Help text) }
+    ensures memory { OnErr text (result ≡ LineError.Memory) }
 {
-    match error.kind() {
-        ErrorKind::OutOfMemory => LineError::Memory,
-        ErrorKind::DisplayHelp => match error.to_string(alloc) {
-            Ok(text) => LineError::Help(text),
-            Err(_) => LineError::Memory,
-        },
-        _ => LineError::Usage,
+    match text {
+        Ok(text) => LineError::Help(text),
+        Err(_) => LineError::Memory,
     }
 }

@@ -1,10 +1,11 @@
 //! The command line of `nllc`: which words are a line, and what they ask for.
 //!
-//! Read `task` first (what a line asks for), then `command_line` (how words become one).
+//! Read `task` first (what a line asks for), then `command_line` (how words become one) and `help`.
 #![tactic(auto)]
 
 mod command_line;
 mod error;
+mod help;
 mod task;
 
 pub use command_line::line;

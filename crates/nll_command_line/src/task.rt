@@ -1,4 +1,10 @@
 //! What a command line asks for.
+ghost use Rattle.std.specs.Prelude.{◌≡◌};
+ghost use Rattle.nll_command_line.specs.CommandLine.{task_named};
+
+pub(crate) const VALUES: &str = "values";
+
+pub(crate) const CHECK: &str = "check";
 
 /// What is asked of the file.
 #[derive(Clone, Copy, Debug, PartialEq, Eq)]
@@ -14,4 +20,15 @@ pub enum Task {
 pub struct Line {
     pub task: Task,
     pub file: String,
+}
+
+/// The task that a word names.
+pub(crate) fn task_of(name: &str) -> Option<Task>
+    ensures { result ≡ task_named name.now }
+{
+    match name {
+        VALUES => Some(Task::Values),
+        CHECK => Some(Task::Check),
+        _ => None,
+    }
 }

@@ -1,3 +1,4 @@
+pub mod ReadingLemmas
 pub mod RunLemmas
 pub mod SinkLemmas
 pub mod WritingLemmas

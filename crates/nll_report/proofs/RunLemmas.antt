@@ -1,5 +1,6 @@
 -- What the program tells where it gives no report.
-use Rattle.std.proofs.Common.{◌≡◌, ◌⊎◌, ℕ, List, [], Option, length, take, ⊎_elim, ap, sym, subst, arith}
+use Rattle.std.proofs.Common.{◌≡◌, ◌⊎◌, ℕ, List, [], ◌∷◌, ◌++◌, Option, length, take, ⊎_elim, ap, sym, subst, arith}
+use Rattle.std.proofs.lemmas.List.{length-append}
 use Rattle.std.specs.Io.KnownBytes.{Appends}
 use Rattle.nll_reading.specs.declared.error.TextKind.{TextKind}
 use Rattle.nll_reading.specs.declared.error.TextKind.TheVariants as kind
@@ -9,8 +10,9 @@ use Rattle.nll_answer.specs.declared.error.AnswerError.{AnswerError}
 use Rattle.nll_answer.specs.declared.error.AnswerError.TheVariants as answer
 use Rattle.nll_report.specs.Refusal.{refusal_at, refusal_of}
 use Rattle.nll_report.specs.declared.messages.Refusal.{Refusal}
-use Rattle.nll_report.specs.declared.messages.Refusal.TheVariants.{Usage, Memory}
-use Rattle.nll_command_line.specs.CommandLine.{IsNoPlainLine}
+use Rattle.nll_report.specs.declared.messages.Refusal.TheVariants.{Usage, CannotRead, Text, Limit, Memory, CannotWrite}
+use Rattle.nll_command_line.specs.CommandLine.{AsksPlainlyForHelp, IsLine, IsNoPlainLine}
+use Rattle.nll_command_line.specs.declared.task.Task.{Task}
 use Rattle.nll_report.specs.Run.{Holds, Lacks, Words, IsBegun, IsFileFault, IsFileRefused, IsRefused, IsRun}
 use Rattle.nll_report.specs.Sink.{IsCut, MayRefuse}
 
@@ -23,11 +25,17 @@ no_words task file line = ⊎_elim
     (λ plain. let none : 0 ≡ 3 = ap length plain.0 in absurd (omega (arith, none))))
     line
 
+-- and they ask for nothing
+no_help : AsksPlainlyForHelp [] → ⊥
+no_help h =
+    let long : 0 ≡ length (h.front ++ h.word ∷ h.rest) = ap length h.are in
+    absurd (omega (arith, long, length-append h.front (h.word ∷ h.rest)))
+
 -- words that are lost, or want of memory, are refused as no words are
 pub lost_words : (holds : Holds) (lacks : Lacks) (refusal : Refusal) → (refusal ≡ Usage) ⊎ (refusal ≡ Memory)
     → IsRefused holds lacks [] refusal
 lost_words holds lacks refusal = ⊎_elim
-    (λ is. subst (IsRefused holds lacks []) (sym is) no_words)
+    (λ is. subst (IsRefused holds lacks []) (sym is) (no_words, no_help))
     (λ is. subst (IsRefused holds lacks []) (sym is) tt)
 
 -- bytes of a run of which a sink took some only
@@ -43,6 +51,16 @@ begun_by holds words status room old new bytes slice written run is begun refuse
   where
     cut_slice : IsCut room old new slice
     cut_slice = record { count = written; begun = begun; refused = refused }
+
+-- the refusal of a line's file
+pub line_told : (holds : Holds) (lacks : Lacks) (words : Words) (task : Task) (file : List ℕ) (refusal : Refusal)
+    → IsLine task file words → (AsksPlainlyForHelp words → ⊥) → IsFileRefused holds lacks file refusal → IsRefused holds lacks words refusal
+line_told holds lacks words task file Usage is other h = absurd h
+line_told holds lacks words task file (CannotRead path) is other h = record { task = task; file = file; line = is; other = other; refused = h }
+line_told holds lacks words task file (Text line kind) is other h = record { task = task; file = file; line = is; other = other; refused = h }
+line_told holds lacks words task file (Limit counted) is other h = record { task = task; file = file; line = is; other = other; refused = h }
+line_told holds lacks words task file Memory is other h = tt
+line_told holds lacks words task file CannotWrite is other h = absurd h
 
 -- ---- a text that has no answer
 

@@ -15,7 +15,10 @@ use Rattle.nll_command_line.specs.declared.task.Task.{Task}
 use Rattle.nll_command_line.specs.declared.task.Task.TheVariants.{Values, Check}
 use Rattle.nll_answer.specs.Answer.{IsAnswer}
 use Rattle.nll_answer.specs.Texts.{IsTextFault, IsAnswerError}
-use Rattle.nll_command_line.specs.CommandLine.{IsLine, IsNoPlainLine}
+use Rattle.nll_command_line.specs.CommandLine.{AsksPlainlyForHelp, IsLine, IsNoPlainLine}
+use Rattle.nll_command_line.specs.Help.{help_for}
+use Rattle.nll_command_line.specs.declared.error.LineError.{LineError}
+use Rattle.nll_command_line.specs.declared.error.LineError.TheVariants as line
 use Rattle.nll_command_line.specs.Grammar.{AsksForHelp}
 use Rattle.nll_report.specs.Sink.{IsCut}
 
@@ -51,22 +54,25 @@ pub record IsFileAnswer (holds : Holds) (task : Task) (file report : List ℕ) (
   pub held : holds file text
   pub answer : IsAnswer (command_of task) text report status
 
--- The words are a line, and the report and the status answer its task on its file.
+-- The words are a line and do not plainly ask for help, and the report and the status answer its
+-- task on its file.
 pub record IsReport (holds : Holds) (words : Words) (report : List ℕ) (status : ℕ) : Type 0 where
   pub task : Task
   pub file : List ℕ
   pub line : IsLine task file words
+  pub other : AsksPlainlyForHelp words → ⊥
   pub answer : IsFileAnswer holds task file report status
 
--- The words ask for help, and are no plain line; the status of help is 0.
-pub record IsHelp (words : Words) (status : ℕ) : Type 0 where
+-- The words ask for help, and are no plain line; the bytes are the help for them, with status 0.
+pub record IsHelp (words : Words) (bytes : List ℕ) (status : ℕ) : Type 0 where
   pub asked : AsksForHelp words
   pub other : IsNoPlainLine words
+  pub is : bytes ≡ help_for words
   pub told : status ≡ 0
 
 -- the bytes and the status are a report and its status, or those of help
 abbrev pub IsRun : Holds → Words → List ℕ → ℕ → Type 0
-IsRun holds words bytes status = IsReport holds words bytes status ⊎ IsHelp words status
+IsRun holds words bytes status = IsReport holds words bytes status ⊎ IsHelp words bytes status
 
 -- The bytes of a run with this status were put behind the known bytes of a writer.
 pub record IsPrinted (holds : Holds) (words : Words) (status : ℕ) (old new : Option (List ℕ))
@@ -104,19 +110,35 @@ IsFileRefused holds lacks file (Limit counted) = IsFileLimit holds file counted
 IsFileRefused holds lacks file Memory = Unit {0}
 IsFileRefused holds lacks file CannotWrite = ⊥
 
--- The words are a line, and the refusal tells the truth of its file.
+-- The words are a line and do not plainly ask for help, and the refusal tells the truth of its
+-- file.
 pub record IsLineRefused (holds : Holds) (lacks : Lacks) (words : Words) (refusal : Refusal)
     : Type 0 where
   pub task : Task
   pub file : List ℕ
   pub line : IsLine task file words
+  pub other : AsksPlainlyForHelp words → ⊥
   pub refused : IsFileRefused holds lacks file refusal
 
 -- the refusal tells the truth of the words and the texts; want of memory says nothing of them
 abbrev pub IsRefused : Holds → Lacks → Words → Refusal → Type 0
-IsRefused holds lacks words Usage = IsNoPlainLine words
+IsRefused holds lacks words Usage = IsNoPlainLine words × (AsksPlainlyForHelp words → ⊥)
 IsRefused holds lacks words (CannotRead path) = IsLineRefused holds lacks words (CannotRead path)
 IsRefused holds lacks words (Text line kind) = IsLineRefused holds lacks words (Text line kind)
 IsRefused holds lacks words (Limit counted) = IsLineRefused holds lacks words (Limit counted)
 IsRefused holds lacks words Memory = Unit {0}
 IsRefused holds lacks words CannotWrite = ⊥
+
+-- ---- what is made of the error of the words: private contracts alone cite this
+
+-- the bytes and the status are those of the error's help
+abbrev pub IsHelpOf : LineError → List ℕ → ℕ → Type 0
+IsHelpOf (line.Help text) bytes status = (bytes ≡ string_bytes text) × (status ≡ 0)
+IsHelpOf line.Usage bytes status = ⊥
+IsHelpOf line.Memory bytes status = ⊥
+
+-- the refusal follows from the error
+abbrev pub IsRefusalOf : LineError → Refusal → Type 0
+IsRefusalOf (line.Help text) refusal = ⊥
+IsRefusalOf line.Usage refusal = refusal ≡ Usage
+IsRefusalOf line.Memory refusal = refusal ≡ Memory

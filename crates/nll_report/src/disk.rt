@@ -1,6 +1,7 @@
 //! The files of the system as texts.
-ghost use Rattle.std.specs.Prelude.{◌≡◌, ◌≢◌, Err, IfErr, IfOk, Ok};
+ghost use Rattle.std.specs.Prelude.{◌≡◌, ◌≢◌, Err, IfErr, IfOk, IfSome, Ok, take};
 ghost use Rattle.std.specs.IoError.{error_kind};
+ghost use Rattle.nll_report.specs.Disk.{read_limit};
 ghost use Rattle.nll_report.specs.Run.{holds_anything, lacks_anything};
 
 use crate::error::Unread;
@@ -66,13 +67,32 @@ fn given(read: io::Result<Vec<u8>>) -> Result<Vec<u8>, Unread>
 }
 
 fn read_file<R: Files + AllocGlobal>(rt: &R, path: &str) -> io::Result<Vec<u8>> {
-    let file = fs::open(rt, path)?;
+    text_of(rt.alloc(), fs::open(rt, path))
+}
+
+// The text of a file, or why it is not open.
+fn text_of<F: Read + OpenFile + Drop>(alloc: Global, opened: io::Result<F>) -> io::Result<Vec<u8>>
+    ensures text { IfOk opened (λ file. IfOk result (λ text.
+        IfSome (F.remaining file) (λ bytes. text.items ≡ take read_limit bytes))) }
+    ensures closed { IfErr opened (λ error. result ≡ Err error) }
+{
+    match opened {
+        Ok(file) => read_open(alloc, file),
+        Err(error) => Err(error),
+    }
+}
+
+// The bytes of a file, or the first of them.
+fn read_open<F: Read + OpenFile + Drop>(alloc: Global, file: F) -> io::Result<Vec<u8>>
+    ensures { IfOk result (λ text.
+        IfSome (F.remaining file) (λ bytes. text.items ≡ take read_limit bytes)) }
+{
     let length = match file.metadata() {
         Ok(known) => known.len().min(READ_LIMIT),
         Err(_) => 0,
     };
     // The byte more shows the end of the file without another allocation.
-    let mut text = Vec::with_capacity(rt.alloc(), length as usize + 1)?;
+    let mut text = Vec::with_capacity(alloc, length as usize + 1)?;
     file.take(READ_LIMIT).read_to_end(&mut text)?;
     Ok(text)
 }

@@ -1,11 +1,13 @@
 //! The whole program, over whatever holds its files and takes its lines.
 ghost use Rattle.std.specs.Prelude.{◌≡◌, ◌⊎◌, ◌<◌, ◌≤◌, ℕ, List, map, string_bytes};
-ghost use Rattle.std.specs.Prelude.{IfErr, IfOk, OnErr, OnOk};
+ghost use Rattle.std.specs.Prelude.{IfErr, IfOk, MatchResult};
 ghost use Rattle.std.specs.Io.KnownBytes.{Appends};
+ghost use Rattle.nll_answer.specs.Answer.{IsAnswer};
+ghost use Rattle.nll_answer.specs.Texts.{IsAnswerError};
 ghost use Rattle.nll_report.specs.declared.messages.Refusal.{Refusal};
 ghost use Rattle.nll_report.specs.Refusal.{refusal_line, status_of};
 ghost use Rattle.nll_report.specs.Run.{IsBegun, IsFileAnswer, IsFileRefused, IsPrinted};
-ghost use Rattle.nll_report.specs.Run.{IsRefused, IsRun, command_of};
+ghost use Rattle.nll_report.specs.Run.{IsHelpOf, IsRefusalOf, IsRefused, IsRun, command_of};
 ghost use Rattle.nll_report.specs.Run.{Words, holds_anything, lacks_anything};
 ghost use Rattle.nll_report.specs.Sink.{IsCut, IsPut};
 
@@ -13,11 +15,11 @@ use crate::disk::Disk;
 use crate::error::Unread;
 use crate::messages::Refusal;
 use crate::sink::Sink;
-use nll_answer::{Command, answer};
+use crate::words::words_of;
+use nll_answer::{AnswerError, Command, answer_of, read_meaning};
 use nll_command_line::{Line, LineError, Task, line};
 use std::alloc::Global;
 use std::rt::{Env, Files};
-use std::{env, io};
 
 /// The texts that the program can read, by their paths.
 pub trait Texts {
@@ -108,20 +110,6 @@ pub fn run_in_process<R: Env + Files + AllocGlobal, O: Sink, E: Sink>(
     }
 }
 
-// The words of the process, without the program's name.
-fn words_of<R: Env + AllocGlobal>(rt: &R) -> Result<Vec<String>, Refusal>
-    ensures { IfErr result (λ e. (e ≡ Refusal.Usage) ⊎ (e ≡ Refusal.Memory)) }
-{
-    match env::args(rt) {
-        Ok(mut words) => {
-            let _name = words.next();
-            Ok(words.collect(rt.alloc())?)
-        }
-        Err(error) if error.kind() == io::ErrorKind::OutOfMemory => Err(Refusal::Memory),
-        Err(_) => Err(Refusal::Usage),
-    }
-}
-
 // What goes to standard output, and the status.
 fn report<T: Texts>(alloc: Global, words: &[String], texts: &T) -> Result<(Vec<u8>, u8), Refusal>
     ensures ok { IfOk result (λ r.
@@ -132,9 +120,18 @@ fn report<T: Texts>(alloc: Global, words: &[String], texts: &T) -> Result<(Vec<u
 {
     match line(alloc, words) {
         Ok(line) => answered(alloc, line, texts),
-        Err(LineError::Help(text)) => Ok((text.into_bytes(), 0)),
-        Err(LineError::Usage) => Err(Refusal::Usage),
-        Err(LineError::Memory) => Err(Refusal::Memory),
+        Err(error) => without_line(error),
+    }
+}
+
+// What is made of words that are no line: help, or a refusal.
+fn without_line(error: LineError) -> Result<(Vec<u8>, u8), Refusal>
+    ensures { MatchResult result (λ r. IsHelpOf error r.0.items r.1) (IsRefusalOf error) }
+{
+    match error {
+        LineError::Help(text) => Ok((text.into_bytes(), 0)),
+        LineError::Usage => Err(Refusal::Usage),
+        LineError::Memory => Err(Refusal::Memory),
     }
 }
 
@@ -148,9 +145,31 @@ fn answered<T: Texts>(alloc: Global, line: Line, texts: &T) -> Result<(Vec<u8>, 
 {
     let Line { task, file } = line;
     match texts.get(file.as_str()) {
-        Ok(text) => Ok(answer(alloc, command_of(task), text.as_slice())?),
-        Err(Unread::Cannot) => Err(Refusal::CannotRead(file)),
-        Err(Unread::Memory) => Err(Refusal::Memory),
+        Ok(text) => Ok(answer_text(alloc, command_of(task), text)?),
+        Err(unread) => Err(without_text(unread, file)),
+    }
+}
+
+// The answer to a text, which is let go as soon as it is read.
+fn answer_text(alloc: Global, command: Command, text: Vec<u8>) -> Result<(Vec<u8>, u8), AnswerError>
+    ensures ok { IfOk result (λ r. IsAnswer command text.items r.0.items r.1) }
+    ensures status { IfOk result (λ r. r.1 ≤ 1) }
+    ensures err { IfErr result (IsAnswerError text.items) }
+{
+    let facts = read_meaning(alloc, text)?;
+    let answer = answer_of(alloc, command, &facts);
+    drop(facts);
+    Ok(answer?)
+}
+
+// Why a text is not given, told of its file.
+fn without_text(unread: Unread, file: String) -> Refusal
+    ensures cannot { unread ≡ Unread.Cannot → result ≡ Refusal.CannotRead file }
+    ensures memory { unread ≡ Unread.Memory → result ≡ Refusal.Memory }
+{
+    match unread {
+        Unread::Cannot => Refusal::CannotRead(file),
+        Unread::Memory => Refusal::Memory,
     }
 }
 

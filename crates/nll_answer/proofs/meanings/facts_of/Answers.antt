@@ -1,6 +1,10 @@
 use Rattle.nll_facts.specs.FactsText.{facts}
-use Rattle.nll_answer.proofs.MeaningLemmas.{text_error}
+use Rattle.nll_answer.proofs.MeaningLemmas.{told_err, told_ok}
 use Rattle.nll_answer.proofs.meanings.facts_of.Goals as goal
 
-pub returns-in-Err-clause-err : goal.returns-in-Err-clause-err
-returns-in-Err-clause-err c = text_error facts c.args.text.now c.in-Err.error c.in-Err.ensures.fault c.from.result c.from.ensures
+pub returns-clause-ok : goal.returns-clause-ok
+returns-clause-ok c = told_ok _ c.read_facts.result c.told.result c.told.ensures.ok c.told.ensures.err c.read_facts.ensures.ok
+
+pub returns-clause-err : goal.returns-clause-err
+returns-clause-err c =
+    told_err facts c.args.text.now c.read_facts.result c.told.result c.told.ensures.ok c.told.ensures.err c.read_facts.ensures.fault

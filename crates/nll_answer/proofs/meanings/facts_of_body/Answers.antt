@@ -1,5 +1,12 @@
-use Rattle.nll_answer.proofs.MeaningLemmas.{body_error}
+use Rattle.nll_answer.proofs.MeaningLemmas.{labelled_err, labelled_ok}
 use Rattle.nll_answer.proofs.meanings.facts_of_body.Goals as goal
 
-pub returns-in-Err-clause-err : goal.returns-in-Err-clause-err
-returns-in-Err-clause-err c = body_error c.args.body c.in-Err.error c.from.result c.from.ensures c.in-Err.ensures.err
+pub returns-clause-ok : goal.returns-clause-ok
+returns-clause-ok c =
+    labelled_ok (λ f. f.problem) (λ f. f.labels) c.args.body c.problem_of-problem.result c.labelled.result c.labelled.ensures.ok c.labelled.ensures.err
+    c.problem_of-problem.ensures.ok c.problem_of-problem.ensures.few
+
+pub returns-clause-err : goal.returns-clause-err
+returns-clause-err c =
+    labelled_err (λ f. f.problem) (λ f. f.labels) c.args.body c.problem_of-problem.result c.labelled.result c.labelled.ensures.ok c.labelled.ensures.err
+    c.problem_of-problem.ensures.err

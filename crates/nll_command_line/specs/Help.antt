@@ -1,0 +1,55 @@
+-- The text of help. It is the one that the crate `clap` makes of the two commands.
+-- Source: project's choice.
+use Rattle.std.specs.Prelude.{ℕ, List, [], ◌∷◌, ◌++◌, Option, None, Some, codes}
+use Rattle.nll_command_line.specs.declared.task.Task.{Task}
+use Rattle.nll_command_line.specs.declared.task.Task.TheVariants.{Values, Check}
+use Rattle.nll_command_line.specs.CommandLine.{task_named}
+
+-- the help of the program
+abbrev pub program_help : List ℕ
+program_help =
+    codes "Solves the region constraints of location-aware non-lexical lifetimes\n"
+    ++ codes "\n"
+    ++ codes "Usage: nllc <COMMAND>\n"
+    ++ codes "\n"
+    ++ codes "Commands:\n"
+    ++ codes "  values  Prints the values of the regions of FILE\n"
+    ++ codes "  check   Checks the universal regions of FILE\n"
+    ++ codes "\n"
+    ++ codes "Options:\n"
+    ++ codes "  -h, --help  Print help\n"
+    ++ codes "\n"
+    ++ codes "Statuses:\n"
+    ++ codes "  0  the values are printed, or check found no fault, or this help\n"
+    ++ codes "  1  check found a fault\n"
+    ++ codes "  2  the words, the file or its text are refused, and standard error says why\n"
+    ++ codes "  3  memory was refused, or standard output did not take the whole report\n"
+    ++ codes "\n"
+    ++ codes "docs/FORMATS.md says how facts texts and MIR texts are written, and how the "
+    ++ codes "reports are.\n"
+    ++ codes "With /dev/stdin for FILE the text is read from standard input.\n"
+
+-- how the help of a task begins
+abbrev pub help_begin : Task → List ℕ
+help_begin Values = codes "Prints the values of the regions of FILE\n\nUsage: nllc values <FILE>\n"
+help_begin Check = codes "Checks the universal regions of FILE\n\nUsage: nllc check <FILE>\n"
+
+-- the help of a task
+abbrev pub task_help : Task → List ℕ
+task_help task = help_begin task
+    ++ codes "\n"
+    ++ codes "Arguments:\n"
+    ++ codes "  <FILE>  The facts text or MIR text, or /dev/stdin for standard input\n"
+    ++ codes "\n"
+    ++ codes "Options:\n"
+    ++ codes "  -h, --help  Print help\n"
+
+-- the help of a task where there is one, else that of the program
+abbrev pub help_of : Option Task → List ℕ
+help_of None = program_help
+help_of (Some task) = task_help task
+
+-- the help that words ask for: of the task that the first one names, else of the program
+abbrev pub help_for : List (List ℕ) → List ℕ
+help_for [] = program_help
+help_for (word ∷ rest) = help_of (task_named word)

@@ -1,0 +1,71 @@
+//! The text of help.
+ghost use Rattle.std.specs.Prelude.{◌≡◌, map, string_bytes};
+ghost use Rattle.nll_command_line.specs.Help.{help_for, help_of};
+
+use crate::task::{Task, task_of};
+
+const PROGRAM: &str = "\
+Solves the region constraints of location-aware non-lexical lifetimes
+
+Usage: nllc <COMMAND>
+
+Commands:
+  values  Prints the values of the regions of FILE
+  check   Checks the universal regions of FILE
+
+Options:
+  -h, --help  Print help
+
+Statuses:
+  0  the values are printed, or check found no fault, or this help
+  1  check found a fault
+  2  the words, the file or its text are refused, and standard error says why
+  3  memory was refused, or standard output did not take the whole report
+
+docs/FORMATS.md says how facts texts and MIR texts are written, and how the reports are.
+With /dev/stdin for FILE the text is read from standard input.
+";
+
+const VALUES: &str = "\
+Prints the values of the regions of FILE
+
+Usage: nllc values <FILE>
+
+Arguments:
+  <FILE>  The facts text or MIR text, or /dev/stdin for standard input
+
+Options:
+  -h, --help  Print help
+";
+
+const CHECK: &str = "\
+Checks the universal regions of FILE
+
+Usage: nllc check <FILE>
+
+Arguments:
+  <FILE>  The facts text or MIR text, or /dev/stdin for standard input
+
+Options:
+  -h, --help  Print help
+";
+
+/// The help that words ask for: of the command that the first one names, else of the program.
+pub(crate) fn help_for(words: &[String]) -> &'static str
+    ensures { result.now ≡ help_for (map string_bytes words.now) }
+{
+    match words {
+        [] => PROGRAM,
+        [word, ..] => help_of(task_of(word.as_str())),
+    }
+}
+
+fn help_of(task: Option<Task>) -> &'static str
+    ensures { result.now ≡ help_of task }
+{
+    match task {
+        None => PROGRAM,
+        Some(Task::Values) => VALUES,
+        Some(Task::Check) => CHECK,
+    }
+}
