@@ -10,7 +10,7 @@ ghost use Rattle.nll_answer.specs.Texts.{IsMeaning, IsOf, error_of_body, error_o
 use crate::error::AnswerError;
 use nll_body_problem::{RuleError, problem_of};
 use nll_core::Problem;
-use nll_mir::{Body, Facts, TextError, read_facts, read_mir};
+use nll_mir::{Body, Facts, TextError, read_facts, read_mir, read_mir_parts};
 use nll_text::{is_header, next_line};
 use std::alloc::Global;
 
@@ -81,14 +81,12 @@ fn read_mir_meaning(alloc: Global, text: Vec<u8>) -> Result<Facts, AnswerError>
     facts_of_body(alloc, body)
 }
 
-// The body of a MIR text that is let go.
+// The body of a MIR text that is let go while it is read.
 fn read_body(alloc: Global, text: Vec<u8>) -> Result<Body, AnswerError>
     ensures ok { IfOk result (IsBodyOf text.items) }
     ensures err { IfErr result (IsErrorOf mir text.items) }
 {
-    let body = body_of(alloc, text.as_slice());
-    drop(text);
-    body
+    told(read_mir_parts(alloc, text))
 }
 
 // The problem that a facts text means.

@@ -7,5 +7,6 @@ pub use nll_facts::{
 };
 pub use nll_mir_text::{
     mir_meaning_is_sound, mir_not_both, mir_not_neither, mir_one_fault, mir_one_meaning, read_mir,
+    read_mir_parts,
 };
 pub use nll_reading::{Labels, MAX_TEXT, PointName, TextError, TextKind};

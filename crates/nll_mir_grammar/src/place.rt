@@ -69,10 +69,7 @@ pub fn place_at<'t, 'a>(
         return Ok(None);
     };
     let (projections, rest) = projections_at(alloc, behind)?;
-    let place = Place {
-        variable,
-        projections,
-    };
+    let place = Place::new(alloc, variable, projections)?;
     Ok(Some((place, rest)))
 }
 

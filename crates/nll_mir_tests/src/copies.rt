@@ -7,7 +7,7 @@ use std::alloc::{AllocError, Global};
 
 // Writes a place.
 fn write_place(out: &mut String, place: &Place) -> Result<(), AllocError> {
-    let (variable, projections) = (place.variable, place.projections.as_slice());
+    let (variable, projections) = (place.variable(), place.projections());
     write!(out, "_{variable} {projections:?}|")
 }
 
@@ -35,20 +35,10 @@ fn write_operands(out: &mut String, operands: &[Operand]) -> Result<(), AllocErr
 }
 
 // The place `_3.*.1`.
-fn part_behind(alloc: Global) -> Result<Place, AllocError> {
-    let projections = [Projection::Deref, Projection::Field(1)];
-    Ok(Place {
-        variable: 3,
-        projections: Vec::from_slice(alloc, &projections)?,
-    })
-}
-
-// The whole of a variable.
-fn variable(alloc: Global, variable: u32) -> Place {
-    Place {
-        variable,
-        projections: Vec::new(alloc),
-    }
+fn part_behind(alloc: Global) -> Result<Place, Memory> {
+    let projections = Vec::from_slice(alloc, &[Projection::Deref, Projection::Field(1)])?;
+    let place = Place::new(alloc, 3, projections)?;
+    Ok(place)
 }
 
 // Writes a copy of a place.
@@ -98,7 +88,7 @@ fn place_told(alloc: Global) -> Result<String, Memory> {
 // What is told of copies of the operands `const`, `copy _3.*.1` and `move _2`.
 fn operands_told(alloc: Global) -> Result<String, Memory> {
     let mut out = String::new(alloc);
-    let (copied, moved) = (part_behind(alloc)?, variable(alloc, 2));
+    let (copied, moved) = (part_behind(alloc)?, Place::Whole(2));
     let all = [Operand::Const, Operand::Copy(copied), Operand::Move(moved)];
     let together = write_all_copied(alloc, &mut out, &all);
     let each = write_each_copied(alloc, &mut out, &all);

@@ -2,7 +2,8 @@
 use super::comparing::compare;
 use super::reading::read_size;
 use super::repeating::{
-    Numbered, Repeated, read_numbered, read_repeated, read_written, write_numbered,
+    Numbered, Repeated, read_numbered, read_repeated, read_repeated_in_parts, read_written,
+    write_numbered,
 };
 use nll_reading::MAX_TEXT;
 use std::alloc::{AllocError, Global};
@@ -63,6 +64,16 @@ fn as_many_points_as_may_be(rt: HostRuntime) {
 fn a_point_too_many(rt: HostRuntime) {
     let told = read_repeated(rt.alloc(), POINTS, 1_048_576);
     compare(&rt, "a point more", told, "line 1048581: Limit(Points)");
+}
+
+// A large text that is freed while it is read says the same, and its fault is at the same line.
+#[test]
+fn large_texts_in_parts(rt: HostRuntime) {
+    let told = read_repeated_in_parts(rt.alloc(), POINTS, 1_048_575);
+    let want = "1 regions, 1 variables|bb0/1048575 returns uses 0|";
+    compare(&rt, "1,048,576 points", told, want);
+    let refused = read_repeated_in_parts(rt.alloc(), POINTS, 1_048_576);
+    compare(&rt, "a point more", refused, "line 1048581: Limit(Points)");
 }
 
 // Many blocks.

@@ -2,7 +2,7 @@
 ghost use Rattle.std.specs.Prelude.{◌<◌, length};
 
 use nll_body::Body;
-use nll_mir_text::read_mir;
+use nll_mir_text::{read_mir, read_mir_parts};
 use nll_problem::{Graph, RegionId};
 use nll_reading::{Labels, PointName, TextError};
 use nll_worked_texts::text_of;
@@ -183,9 +183,9 @@ pub fn read_lines(alloc: Global, lines: &str) -> Result<String, AllocError> {
     told
 }
 
-/// How much a text's body has, and what its last point does; or the text's fault.
-pub fn read_size(alloc: Global, text: &[u8]) -> Result<String, AllocError> {
-    match read_mir(alloc, text) {
+// How much the body that was read has, and what its last point does; or the text's fault.
+fn size_read(alloc: Global, read: Result<Body, TextError>) -> Result<String, AllocError> {
+    match read {
         Ok(body) => {
             let told = size_told(alloc, &body);
             drop(body);
@@ -193,6 +193,16 @@ pub fn read_size(alloc: Global, text: &[u8]) -> Result<String, AllocError> {
         }
         Err(fault) => fault_told(alloc, fault),
     }
+}
+
+/// How much a text's body has, and what its last point does; or the text's fault.
+pub fn read_size(alloc: Global, text: &[u8]) -> Result<String, AllocError> {
+    size_read(alloc, read_mir(alloc, text))
+}
+
+/// The same of a text that is freed while it is read.
+pub fn read_size_in_parts(alloc: Global, text: Vec<u8>) -> Result<String, AllocError> {
+    size_read(alloc, read_mir_parts(alloc, text))
 }
 
 /// The fault of a text, where it has one.

@@ -1,5 +1,5 @@
 //! Texts in which something stands very often.
-use super::reading::read_size;
+use super::reading::{read_size, read_size_in_parts};
 use std::alloc::{AllocError, Global};
 
 /// What stands in front, what stands often, and what stands behind.
@@ -56,6 +56,18 @@ pub fn read_repeated(alloc: Global, parts: Repeated, count: u32) -> Result<Strin
     let mut text = String::new(alloc);
     let written = write_repeated(&mut text, parts, count);
     read_written(alloc, written, text)
+}
+
+/// The same, where the text is freed while it is read.
+pub fn read_repeated_in_parts(
+    alloc: Global,
+    parts: Repeated,
+    count: u32,
+) -> Result<String, AllocError> {
+    let mut text = String::new(alloc);
+    let written = write_repeated(&mut text, parts, count);
+    let told = read_size_in_parts(alloc, text.into_bytes());
+    written.and(told)
 }
 
 /// What is told of a text with so many numbers.

@@ -114,10 +114,8 @@ fn told_of_place(
     variable: u32,
     projections: &[Projection],
 ) -> Result<String, Memory> {
-    let place = Place {
-        variable,
-        projections: Vec::from_slice(alloc, projections)?,
-    };
+    let projections = Vec::from_slice(alloc, projections)?;
+    let place = Place::new(alloc, variable, projections)?;
     let told = told_of_body(alloc, Some(&place));
     drop(place);
     told

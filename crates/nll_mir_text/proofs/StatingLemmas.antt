@@ -5,6 +5,7 @@ use Rattle.std.specs.List.{list_all, flat_map}
 use Rattle.std.specs.Borrow.{Bor}
 use Rattle.std.proofs.lemmas.List.{append-nil, append_assoc, map_push}
 use Rattle.std.proofs.lemmas.List.Folds.{list_all-append}
+use Rattle.nll_types.specs.Places.{path_of}
 use Rattle.nll_types.specs.Types.{TypeTree}
 use Rattle.nll_types.specs.Shapes.{shape_of}
 use Rattle.nll_types.specs.Table.{Extends, AreBelow, shape_in}
@@ -54,18 +55,18 @@ pub operands_are_within : (count : ℕ) (ops : List KeptOperand) → list_all (o
 operands_are_within count [] = refl
 operands_are_within count (Const ∷ ops) = operands_are_within count ops
 operands_are_within count (Copy p ∷ ops) =
-    ap (λ b. operand_within count (Copy p) && b) (operands_are_within count ops) ∙ and_assoc (nat_lt p.variable count) true _
+    ap (λ b. operand_within count (Copy p) && b) (operands_are_within count ops) ∙ and_assoc (nat_lt (path_of p).variable count) true _
 operands_are_within count (Move p ∷ ops) =
-    ap (λ b. operand_within count (Move p) && b) (operands_are_within count ops) ∙ and_assoc (nat_lt p.variable count) true _
+    ap (λ b. operand_within count (Move p) && b) (operands_are_within count ops) ∙ and_assoc (nat_lt (path_of p).variable count) true _
 
 -- and of arguments of a call
 pub arguments_are_within : (count : ℕ) (args : List (KeptOperand × List TypeNode)) → list_all (argument_within count) args ≡ list_all (λ x. nat_lt x count) (map (λ p. p.variable) (flat_map place_in (operands_of (arguments_of args))))
 arguments_are_within count [] = refl
 arguments_are_within count ((Const, t) ∷ args) = arguments_are_within count args
 arguments_are_within count ((Copy p, t) ∷ args) =
-    ap (λ b. operand_within count (Copy p) && b) (arguments_are_within count args) ∙ and_assoc (nat_lt p.variable count) true _
+    ap (λ b. operand_within count (Copy p) && b) (arguments_are_within count args) ∙ and_assoc (nat_lt (path_of p).variable count) true _
 arguments_are_within count ((Move p, t) ∷ args) =
-    ap (λ b. operand_within count (Move p) && b) (arguments_are_within count args) ∙ and_assoc (nat_lt p.variable count) true _
+    ap (λ b. operand_within count (Move p) && b) (arguments_are_within count args) ∙ and_assoc (nat_lt (path_of p).variable count) true _
 
 -- ---- written types
 

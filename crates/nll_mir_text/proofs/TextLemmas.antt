@@ -9,7 +9,7 @@ use Rattle.nll_reading.specs.Text.{HasFault, IsFaulty, Says}
 use Rattle.nll_reading.specs.declared.error.TextKind.{TextKind}
 use Rattle.nll_reading.proofs.ReadingLemmas as lemmas
 use Rattle.nll_mir_text.specs.MirSaid.{Said, said}
-use Rattle.nll_mir_text.specs.MirReading.{Adds, ReadsLine}
+use Rattle.nll_mir_text.specs.MirReading.{Adds, ReadsLine, IsAmid}
 use Rattle.nll_mir_text.specs.MirText.{mir}
 use Rattle.nll_mir_text.proofs.SaidLemmas.{adds_said, same_fault}
 
@@ -39,6 +39,34 @@ read_bound = lemmas.read_bound mir Same
 -- all lines are read
 pub read_all : (all front : List (List ℕ)) (forms : List Form) (s : Said) (number : ℕ) → IsRead all front [] forms s number → Says mir [] all forms × (said forms ≡ s) × (number ≡ 1 + length all)
 read_all = lemmas.read_all mir Same
+
+-- ---- a text in parts
+
+to_amid : (all left : List (List ℕ)) (s : Said) (number : ℕ) → (front : List (List ℕ)) (forms : List Form) → IsRead all front left forms s number → IsAmid all left s number
+to_amid all left s number front forms r = record { front = front; forms = forms; cut = r.cut; place = r.place; fine = r.fine; holds = r.holds }
+
+from_amid : (all left : List (List ℕ)) (s : Said) (number : ℕ) → (a : IsAmid all left s number) → IsRead all a.front left a.forms s number
+from_amid all left s number a = record { cut = a.cut; place = a.place; fine = a.fine; holds = a.holds }
+
+-- nothing is read yet
+pub amid_none : (all : List (List ℕ)) (s : Said) → s ≡ said [] → IsAmid all all s 1
+amid_none all s e = to_amid all all s 1 [] [] (read_none all s e)
+
+-- one more line is read
+pub amid_more : (all left : List (List ℕ)) (line : List ℕ) (after : List (List ℕ)) (s t : Said) (number : ℕ) → left ≡ line ∷ after → ReadsLine s line t → IsAmid all left s number → IsAmid all after t (number + 1)
+amid_more all left line after s t number step h a =
+    let more = read_more all a.front left line after a.forms s t number step (from_amid all left s number a) h in
+    to_amid all after t (number + 1) (a.front ++ line ∷ []) more.0 more.1
+
+-- the next line is faulty
+pub amid_fault : (all left : List (List ℕ)) (line : List ℕ) (after : List (List ℕ)) (s : Said) (number : ℕ) → left ≡ line ∷ after → (kind : TextKind) → IsFaulty mir s line kind → IsAmid all left s number → (1 ≤ number) × HasFault mir all (number + 1 - 2) kind
+amid_fault all left line after s number step kind wrong a =
+    (omega (arith, a.place), read_fault all a.front left line after a.forms s number step (from_amid all left s number a) kind wrong)
+
+-- all lines are read
+pub amid_all : (all : List (List ℕ)) (s : Said) (number : ℕ) → IsAmid all [] s number → (forms : List Form) × Says mir [] all forms × (said forms ≡ s) × (number ≡ 1 + length all)
+amid_all all s number a =
+    let done = read_all all a.front a.forms s number (from_amid all [] s number a) in (a.forms, done.0, done.1, done.2)
 
 -- ---- the tokens of a line
 

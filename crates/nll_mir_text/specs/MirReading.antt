@@ -1,7 +1,7 @@
 -- What a reader of MIR texts holds, and how a line changes it.
 -- Source: project's choice. Only private contracts cite this file.
 use Rattle.std.specs.Prelude.{◌≡◌, ◌⊎◌, ℕ, ◌+◌, ◌<◌, ◌≤◌, Bool, true, false, List, [], ◌∷◌, map}
-use Rattle.std.specs.Prelude.{length, slice_index_or, Some, None}
+use Rattle.std.specs.Prelude.{◌++◌, length, slice_index_or, Option, Some, None}
 use Rattle.std.specs.List.{AllByRecursion}
 use Rattle.std.specs.Str.{IsUtf8}
 use Rattle.nll_problem.specs.Limits.{most_points, most_edges, most_universals, most_regions}
@@ -18,6 +18,7 @@ use Rattle.nll_statements.specs.Statements.{Statement, map_statement}
 use Rattle.nll_statements.specs.Edges.{edges_from, edge_count}
 use Rattle.nll_statements.specs.Kept.{statement_of}
 use Rattle.nll_statements.specs.declared.statement.Statement.{Statement as Kept}
+use Rattle.nll_text.specs.Lines.{lines_of}
 use Rattle.nll_reading.specs.Reading as reading
 use Rattle.nll_reading.specs.Text.{Says, IsText, IsFault, IsHeaded, IsRefusal}
 use Rattle.nll_reading.specs.declared.error.TextError.{TextError}
@@ -199,6 +200,21 @@ AreShort body = AllByRecursion (λ line. length line ≤ most_bytes) body
 -- the lines have no fault, and the reader holds what they say
 abbrev pub HasRead : List (List ℕ) → Reader → Type 0
 HasRead body r = (forms : List Form) × Says mir [] body forms × (said forms ≡ said_by r)
+
+-- Of all lines those that are left are not read yet; the others have no fault, s is what they say,
+-- and with the header they are so many.
+pub record IsAmid (all left : List (List ℕ)) (s : Said) (number : ℕ) : Type 0 where
+  pub front : List (List ℕ)
+  pub forms : List Form
+  pub cut : all ≡ front ++ left
+  pub place : number ≡ 1 + length front
+  pub fine : Says mir [] front forms
+  pub holds : said forms ≡ s
+
+-- the lines of the text that is left, and none where no text is left
+abbrev pub lines_in : Option (List ℕ) → List (List ℕ)
+lines_in None = []
+lines_in (Some text) = lines_of text
 
 -- the error refuses each text that has a header and these lines behind it
 abbrev pub RefusesBody : List (List ℕ) → TextError → Type 0

@@ -2,6 +2,7 @@
 
 ghost use Rattle.std.specs.Prelude.{◌≡◌, ◌&&◌, ◌∷◌, map, nat_lt};
 ghost use Rattle.std.specs.List.{list_all};
+ghost use Rattle.nll_types.specs.Places.{path_of};
 ghost use Rattle.nll_statements.specs.Effects.{other_block, targets};
 ghost use Rattle.nll_statements.specs.Kept.{statement_of};
 ghost use Rattle.nll_statements.specs.Written.{regions_written, variables_written};
@@ -38,7 +39,7 @@ fn operand_declared(count: usize, operand: &Operand) -> bool
 {
     match operand {
         Operand::Const => true,
-        Operand::Copy(place) | Operand::Move(place) => is_below(place.variable, count),
+        Operand::Copy(place) | Operand::Move(place) => is_below(place.variable(), count),
     }
 }
 
@@ -68,19 +69,19 @@ fn arguments_declared(count: usize, arguments: &[(Operand, TypeText<'_>)]) -> bo
 
 // Whether the variables of what is made, and of where it goes, are among the first so many.
 fn made_declared(count: usize, made: &Make<TypeText<'_>>) -> bool
-    ensures { result ≡ nat_lt made.now.place.variable count
+    ensures { result ≡ nat_lt (path_of made.now.place).variable count
         && list_all (operand_within count) made.now.operands.items }
 {
-    is_below(made.place.variable, count) & operands_declared(count, made.operands.as_slice())
+    is_below(made.place.variable(), count) & operands_declared(count, made.operands.as_slice())
 }
 
 // Whether the variables of a call's operands, and of where its result goes, are among the first so
 // many.
 fn call_declared(count: usize, call: &Call<&[u8], TypeText<'_>>) -> bool
-    ensures { result ≡ nat_lt call.now.place.variable count
+    ensures { result ≡ nat_lt (path_of call.now.place).variable count
         && list_all (argument_within count) call.now.arguments.items }
 {
-    is_below(call.place.variable, count) & arguments_declared(count, call.arguments.as_slice())
+    is_below(call.place.variable(), count) & arguments_declared(count, call.arguments.as_slice())
 }
 
 /// Whether the variables in a statement are among the first so many.
@@ -90,14 +91,14 @@ pub fn variables_declared(count: usize, statement: &Statement<&[u8], TypeText<'_
 {
     match statement {
         Statement::Assign(place, operand) => {
-            is_below(place.variable, count) & operand_declared(count, operand)
+            is_below(place.variable(), count) & operand_declared(count, operand)
         }
         Statement::Borrow(place, _, _, source) => {
-            is_below(place.variable, count) & is_below(source.variable, count)
+            is_below(place.variable(), count) & is_below(source.variable(), count)
         }
         Statement::Make(made) => made_declared(count, made),
         Statement::Call(call) => call_declared(count, call),
-        Statement::Read(place) => is_below(place.variable, count),
+        Statement::Read(place) => is_below(place.variable(), count),
         Statement::Live(variable) | Statement::Dead(variable) => is_below(*variable, count),
         Statement::Drop(variable, _, _) => is_below(*variable, count),
         Statement::Switch(operand, _) => operand_declared(count, operand),

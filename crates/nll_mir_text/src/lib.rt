@@ -1,6 +1,6 @@
 //! The reader of MIR texts, version 1.
-//! Read `tables`, `judging`, `own_names`, `fields`, `reader`, `text`, `mir`, then `laws`; the
-//! definitions are in specs/.
+//! Read `tables`, `judging`, `own_names`, `fields`, `reader`, `text`, `parts`, `mir`, then `laws`;
+//! the definitions are in specs/.
 #![tactic(auto)]
 
 mod fields;
@@ -13,6 +13,7 @@ mod meaning;
 mod mir;
 mod own_names;
 mod parameters;
+mod parts;
 mod reader;
 mod stating;
 mod tables;
@@ -22,4 +23,4 @@ pub use laws::{
     mir_meaning_is_sound, mir_not_both, mir_not_neither, mir_one_fault, mir_one_meaning,
 };
 pub use limits::{MAX_STRUCTS, MAX_VARIABLES};
-pub use mir::read_mir;
+pub use mir::{read_mir, read_mir_parts};

@@ -6,6 +6,7 @@ ghost use Rattle.nll_body.specs.Sound.{IsSound};
 ghost use Rattle.nll_mir_text.specs.MirReading.{said_by, IsReady};
 ghost use Rattle.nll_mir_text.specs.MirText.{body_said, mir, Means};
 
+use crate::parts::read_text_parts;
 use crate::reader::Reader;
 use crate::text::read_text;
 use nll_body::Body;
@@ -48,5 +49,27 @@ pub fn read_mir(alloc: Global, text: &[u8]) -> Result<Body, TextError>
     match body(alloc, reader) {
         Ok(body) => Ok(body),
         Err(kind) => Err(TextError { line: 0, kind }),
+    }
+}
+
+/// Reads a MIR text, version 1, which is freed while it is read.
+///
+/// # Errors
+/// Those of `read_mir`.
+///
+/// # Cost
+/// That of `read_mir`, but that less than the text is copied: once half of a large text is read, the
+/// rest is kept by itself and the text freed, and so with the rest (not proved).
+pub fn read_mir_parts(alloc: Global, text: Vec<u8>) -> Result<Body, TextError>
+    ensures ok { IfOk result (Means text.items) }
+    ensures fault { IfErr result (IsRefusal (IsFault mir text.items)) }
+{
+    let reader = read_text_parts(alloc, text)?;
+    match body(alloc, reader) {
+        Ok(body) => Ok(body),
+        Err(memory) => Err(TextError {
+            line: 0,
+            kind: memory,
+        }),
     }
 }

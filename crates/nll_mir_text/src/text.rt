@@ -18,7 +18,7 @@ use std::alloc::Global;
 use std::str;
 
 // The error of a line; want of memory is no line's.
-fn refusal(line: u64, kind: TextKind) -> TextError
+pub(crate) fn refusal(line: u64, kind: TextKind) -> TextError
     ensures memory { kind ≡ TextKind.Memory → result ≡ record { line = 0; kind = TextKind.Memory } }
     ensures fault { (result ≡ record { line = 0; kind = TextKind.Memory })
         ⊎ ((result ≡ record { line = line; kind = kind }) × (kind ≢ TextKind.Memory)) }
@@ -102,7 +102,7 @@ pub(crate) fn read_text(alloc: Global, text: &[u8]) -> Result<Reader, TextError>
 }
 
 // Whether the first line is the header.
-fn check_header(header: &[u8]) -> Result<(), TextError>
+pub(crate) fn check_header(header: &[u8]) -> Result<(), TextError>
     ensures ok { OnOk result (IsUtf8 header.now × IsHeader mir header.now) }
     ensures fault { IfErr result (IsHeaderFault mir header.now) }
 {

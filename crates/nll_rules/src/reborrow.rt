@@ -113,11 +113,11 @@ pub fn rests_on(
         ↔ RestsOn (structs_of structs.now) (map tree variables.now) (path_of place.now) a) }
 {
     let mut regions = Vec::new(alloc);
-    let variable = place.variable as usize;
+    let variable = place.variable() as usize;
     if variable >= variables.len() {
         return Ok(regions);
     }
-    let (ty, projections) = (&variables[variable], place.projections.as_slice());
+    let (ty, projections) = (&variables[variable], place.projections());
     walk_all(alloc, structs, ty, projections, &mut regions)?;
     Ok(regions)
 }

@@ -12,11 +12,9 @@ use std::alloc::Global;
 pub fn copy_place(alloc: Global, place: &Place) -> Result<Place, Memory>
     ensures { IfOk result (λ p. path_of p ≡ path_of place.now) }
 {
-    let projections = Vec::from_slice(alloc, place.projections.as_slice())?;
-    Ok(Place {
-        variable: place.variable,
-        projections,
-    })
+    let projections = Vec::from_slice(alloc, place.projections())?;
+    let copy = Place::new(alloc, place.variable(), projections)?;
+    Ok(copy)
 }
 
 /// The same operand once more.

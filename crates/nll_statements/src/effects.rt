@@ -96,7 +96,7 @@ impl<R, T> Statement<R, T> {
                 push_operand(operand, used)?;
             }
             Statement::Borrow(_, _, _, place) | Statement::Read(place) => {
-                used.push(place.variable)?;
+                used.push(place.variable())?;
             }
             Statement::Make(made) => push_operands(made.operands.as_slice(), used)?,
             Statement::Call(call) => push_arguments(call.arguments.as_slice(), used)?,
@@ -126,8 +126,8 @@ impl<R, T> Statement<R, T> {
 fn whole_variable(place: &Place) -> Option<u32>
     ensures { result ≡ spec.whole_variable (path_of place.now) }
 {
-    if place.projections.is_empty() {
-        Some(place.variable)
+    if place.projections().is_empty() {
+        Some(place.variable())
     } else {
         None
     }
@@ -141,7 +141,7 @@ fn push_operand(operand: &Operand, used: &mut Vec<u32>) -> Result<(), Memory>
     match operand {
         Operand::Const => Ok(()),
         Operand::Copy(place) | Operand::Move(place) => {
-            used.push(place.variable)?;
+            used.push(place.variable())?;
             Ok(())
         }
     }
@@ -176,8 +176,8 @@ fn push_projected(place: Option<&Place>, used: &mut Vec<u32>) -> Result<(), Memo
         ++ map (λ q. q.variable) (filter is_projected (path_of p.now ∷ [])))) }
 {
     if let Some(place) = place {
-        if !place.projections.is_empty() {
-            used.push(place.variable)?;
+        if !place.projections().is_empty() {
+            used.push(place.variable())?;
         }
     }
     Ok(())

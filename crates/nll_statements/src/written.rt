@@ -44,7 +44,7 @@ fn push_place(place: Option<&Place>, written: &mut Vec<u32>) -> Result<(), Memor
         (λ p. written.new.items ≡ written.old.items ++ (path_of p.now).variable ∷ [])) }
 {
     if let Some(place) = place {
-        written.push(place.variable)?;
+        written.push(place.variable())?;
     }
     Ok(())
 }

@@ -15,8 +15,8 @@ type Written<'a> = Statement<&'a [u8], TypeText<'a>>;
 
 // Writes a place.
 fn write_place(out: &mut String, place: &Place) -> Result<(), AllocError> {
-    write!(out, "_{}", place.variable)?;
-    for projection in &place.projections {
+    write!(out, "_{}", place.variable())?;
+    for projection in place.projections() {
         match projection {
             Projection::Deref => out.push_str(".*")?,
             Projection::Field(number) => write!(out, ".{number}")?,

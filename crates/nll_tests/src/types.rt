@@ -119,10 +119,7 @@ fn write_place(
 ) -> Result<(), BuildError> {
     let variable = types.len().saturating_sub(1).min(100) as u32;
     let projections = Vec::from_slice(alloc, projections)?;
-    let place = Place {
-        variable,
-        projections,
-    };
+    let place = Place::new(alloc, variable, projections)?;
     match place_type(alloc, structs, types, &place)? {
         Some(ty) => write_type(out, &ty)?,
         None => out.push_str("none")?,

@@ -7,6 +7,7 @@ use Rattle.nll_types.specs.Types.{TypeTree, reference, tuple, named, type_at, ty
 use Rattle.nll_types.specs.Structs.{Struct, struct_at, field_type}
 use Rattle.nll_types.specs.Shapes.{is_small}
 use Rattle.nll_types.specs.declared.place.Place.{Place}
+use Rattle.nll_types.specs.declared.place.Place.TheVariants.{Whole, Part, Parts}
 use Rattle.nll_types.specs.declared.place.Projection.{Projection}
 use Rattle.nll_types.specs.declared.place.Projection.TheVariants.{Deref, Field}
 
@@ -55,7 +56,9 @@ small_prefixes structs variables p =
 
 -- a place of the code as a path
 abbrev pub path_of : Place → PlacePath
-path_of p = record { variable = p.variable; projections = p.projections.items }
+path_of (Whole x) = record { variable = x; projections = [] }
+path_of (Part x p) = record { variable = x; projections = p ∷ [] }
+path_of (Parts x b) = record { variable = x; projections = b.value.items }
 
 -- From the type t, the projections from one place of the list to another lead to the type u, and
 -- they are some if any are left.

@@ -121,15 +121,10 @@ pub fn place_type(
     ensures { IfOk result (λ o. option_map tree o
         ≡ type_of (structs_of structs.now) (map tree variables.now) (path_of place.now)) }
 {
-    let variable = place.variable as usize;
+    let variable = place.variable() as usize;
     if variable >= variables.len() {
         return Ok(None);
     }
-    let found = type_behind(
-        alloc,
-        structs,
-        &variables[variable],
-        place.projections.as_slice(),
-    )?;
+    let found = type_behind(alloc, structs, &variables[variable], place.projections())?;
     Ok(found)
 }

@@ -128,6 +128,12 @@ borrow_order true false = refl
 borrow_order false true = refl
 borrow_order false false = refl
 
+pub assign_order : (sources target : Bool) → (sources && target) ≡ ((true && (target && sources)) && true)
+assign_order true true = refl
+assign_order true false = refl
+assign_order false true = refl
+assign_order false false = refl
+
 pub return_order : (place : Bool) → place ≡ ((true && (place && true)) && true)
 return_order true = refl
 return_order false = refl

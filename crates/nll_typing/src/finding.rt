@@ -55,12 +55,12 @@ pub(crate) fn place_found(
         (type_of (structs_of table.old.structs) types (path_of place.now))
         (small_prefixes (structs_of table.old.structs) types (path_of place.now))) }
 {
-    let variable = place.variable as usize;
+    let variable = place.variable() as usize;
     if variable >= variables.len() {
         return Ok(None);
     }
     let from = variables[variable];
-    match table.place_shape(alloc, from, place.projections.as_slice())? {
+    match table.place_shape(alloc, from, place.projections())? {
         Some((shape, small)) => Ok(Some(Found { shape, small })),
         None => Ok(None),
     }

@@ -1,13 +1,15 @@
 use Rattle.std.proofs.Common.{◌≡◌, ℕ, List, map, refl, subst}
+use Rattle.std.specs.List.{list_all}
 use Rattle.nll_types.specs.Declarations.{structs_of}
 use Rattle.nll_types.specs.Operands.{Operand, operand_of}
 use Rattle.nll_types.specs.Places.{path_of, small_prefixes}
 use Rattle.nll_types.specs.Types.{TypeTree}
+use Rattle.nll_statements.specs.Effects.{place_in}
 use Rattle.nll_statements.specs.Statements.{call}
 use Rattle.nll_typing.specs.Judging.{IsJudged}
 use Rattle.nll_typing.specs.Typing.{types_agree, types_are_small}
 use Rattle.nll_typing.proofs.CallLemmas.{arguments_mapped, written_mapped}
-use Rattle.nll_typing.proofs.JudgedLemmas.{borrow_order, return_order, judged_as}
+use Rattle.nll_typing.proofs.JudgedLemmas.{assign_order, borrow_order, return_order, judged_as}
 use Rattle.std.proofs.lemmas.Result.{IfOk-weaker}
 use Rattle.nll_typing.proofs.judging.judge_statement.Goals as goal
 
@@ -38,3 +40,10 @@ pub returns-in-Return-clause-judged : goal.returns-in-Return-clause-judged
 returns-in-Return-clause-judged g c =
     let structs = structs_of c.args.table.now.structs in
     rw c.in-Return.is (λ types f h e w. judged_as refl (return_order _) ((rw c.shapes.ensures at c.judge_return.ensures) structs types e))
+
+pub returns-in-Assign-clause-judged : goal.returns-in-Assign-clause-judged
+returns-in-Assign-clause-judged g c =
+    let structs = structs_of c.args.table.now.structs in
+    rw c.in-Assign.is (IfOk-weaker c.judge_assign.result _ _ (λ j told. λ types f h e w.
+    judged_as refl (assign_order (list_all (small_prefixes structs types) (place_in (operand_of c.in-Assign.operand))) (small_prefixes structs types (path_of c.in-Assign.place)))
+    (told types e)) c.judge_assign.ensures.judged)
