@@ -18,7 +18,7 @@ use crate::judging::type_meant;
 use crate::tables::{Regions, StructNames};
 use nll_problem::RegionId;
 use nll_sets::Memory;
-use nll_statements::{Call, Make, Statement, copy_operand, copy_operands, copy_place};
+use nll_statements::{Call, Make, Statement, copy_operand, copy_place};
 use nll_type_grammar::TypeText;
 use nll_types::{Operand, Ty};
 use std::alloc::Global;
@@ -124,29 +124,40 @@ fn call_meant(
     })
 }
 
-// A tuple or struct that is made.
+// A tuple or struct that is made. Only its type is made anew.
 fn made_meant(
     alloc: Global,
     regions: &Regions,
     structs: &StructNames,
-    made: &Make<TypeText<'_>>,
+    made: Make<TypeText<'_>>,
 ) -> Result<Make<Ty>, Memory>
     requires none { structs.now.none ≡ [] }
     requires few { length regions.now.names ≤ most_regions }
-    ensures place { IfOk result (λ m. path_of m.place ≡ path_of made.now.place) }
+    ensures place { IfOk result (λ m. path_of m.place ≡ path_of made.entry.place) }
     ensures meaning { IfOk result (λ m. tree m.ty
-        ≡ meant (scope_in regions.now structs.now) (written made.now.ty)) }
+        ≡ meant (scope_in regions.now structs.now) (written made.entry.ty)) }
     ensures operands { IfOk result (λ m. map operand_of m.operands.items
-        ≡ map operand_of made.now.operands.items) }
+        ≡ map operand_of made.entry.operands.items) }
 {
-    let place = copy_place(alloc, &made.place)?;
-    let operands = copy_operands(alloc, made.operands.as_slice())?;
-    let ty = type_meant(alloc, regions, structs, &made.ty)?;
-    Ok(Make {
+    let Make {
         place,
         ty,
         operands,
-    })
+    } = made;
+    let meant = type_meant(alloc, regions, structs, &ty);
+    drop(ty);
+    match meant {
+        Ok(ty) => Ok(Make {
+            place,
+            ty,
+            operands,
+        }),
+        Err(memory) => {
+            drop(place);
+            drop(operands);
+            Err(memory)
+        }
+    }
 }
 
 /// The statement that a written statement means. It recurses to the depth of its types.
@@ -168,9 +179,7 @@ pub fn statement_meant(
             Ok(Statement::Borrow(place, region, mutable, source))
         }
         Statement::Make(made) => {
-            let meant = made_meant(alloc, regions, structs, &*made);
-            drop(made);
-            let meant = meant?;
+            let meant = made_meant(alloc, regions, structs, Box::into_inner(made))?;
             Ok(Statement::Make(Box::new(alloc, meant)?))
         }
         Statement::Read(place) => Ok(Statement::Read(place)),

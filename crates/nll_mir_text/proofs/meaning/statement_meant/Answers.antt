@@ -9,7 +9,7 @@ returns-in-Borrow c = rw (c.in-Borrow.is, c.region_meant-region.ensures) refl
 
 pub returns-in_ok-new-in-Make : goal.returns-in_ok-new-in-Make
 returns-in_ok-new-in-Make c =
-    let made = rw c.deref.ensures at c.in_ok-meant-in-Make.ensures in
+    let made = rw c.into_inner.ensures at c.in_ok-meant-in-Make.ensures in
     rw (c.in-Make.is, c.in_ok-new-in-Make.ensures.ok, made.place, made.meaning, made.operands) refl
 
 pub returns-in-Read : goal.returns-in-Read
@@ -35,7 +35,7 @@ returns-in-Drop c = rw c.in-Drop.is refl
 
 pub returns-in_ok-new-in-Call : goal.returns-in_ok-new-in-Call
 returns-in_ok-new-in-Call c =
-    let call = rw c.deref-in-Call.ensures at c.in_ok-meant-in-Call.ensures in
+    let call = rw c.deref.ensures at c.in_ok-meant-in-Call.ensures in
     rw (c.in-Call.is, c.in_ok-new-in-Call.ensures.ok) call
 
 pub returns-in-Return : goal.returns-in-Return
