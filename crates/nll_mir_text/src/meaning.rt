@@ -160,6 +160,40 @@ fn made_meant(
     }
 }
 
+// A tuple or struct that is made, as a statement.
+fn make_meant(
+    alloc: Global,
+    regions: &Regions,
+    structs: &StructNames,
+    made: Box<Make<TypeText<'_>>>,
+) -> Result<Statement<RegionId, Ty>, Memory>
+    requires none { structs.now.none ≡ [] }
+    requires few { length regions.now.names ≤ most_regions }
+    ensures { IfOk result (λ i. statement_kept i
+        ≡ meant_in (scope_in regions.now structs.now) (as_written (Statement.Make made.entry))) }
+{
+    let meant = made_meant(alloc, regions, structs, Box::into_inner(made))?;
+    Ok(Statement::Make(Box::new(alloc, meant)?))
+}
+
+// A call, as a statement.
+fn called_meant(
+    alloc: Global,
+    regions: &Regions,
+    structs: &StructNames,
+    call: Box<Call<&[u8], TypeText<'_>>>,
+) -> Result<Statement<RegionId, Ty>, Memory>
+    requires none { structs.now.none ≡ [] }
+    requires few { length regions.now.names ≤ most_regions }
+    ensures { IfOk result (λ i. statement_kept i
+        ≡ meant_in (scope_in regions.now structs.now) (as_written (Statement.Call call.entry))) }
+{
+    let meant = call_meant(alloc, regions, structs, &*call);
+    drop(call);
+    let meant = meant?;
+    Ok(Statement::Call(Box::new(alloc, meant)?))
+}
+
 /// The statement that a written statement means. It recurses to the depth of its types.
 pub fn statement_meant(
     alloc: Global,
@@ -178,10 +212,7 @@ pub fn statement_meant(
             let region = region_meant(regions, region);
             Ok(Statement::Borrow(place, region, mutable, source))
         }
-        Statement::Make(made) => {
-            let meant = made_meant(alloc, regions, structs, Box::into_inner(made))?;
-            Ok(Statement::Make(Box::new(alloc, meant)?))
-        }
+        Statement::Make(made) => make_meant(alloc, regions, structs, made),
         Statement::Read(place) => Ok(Statement::Read(place)),
         Statement::Live(variable) => Ok(Statement::Live(variable)),
         Statement::Dead(variable) => Ok(Statement::Dead(variable)),
@@ -189,12 +220,7 @@ pub fn statement_meant(
         Statement::Goto(block) => Ok(Statement::Goto(block)),
         Statement::Switch(operand, blocks) => Ok(Statement::Switch(operand, blocks)),
         Statement::Drop(variable, block, unwind) => { Ok(Statement::Drop(variable, block, unwind)) }
-        Statement::Call(call) => {
-            let meant = call_meant(alloc, regions, structs, &*call);
-            drop(call);
-            let meant = meant?;
-            Ok(Statement::Call(Box::new(alloc, meant)?))
-        }
+        Statement::Call(call) => called_meant(alloc, regions, structs, call),
         Statement::Return => Ok(Statement::Return),
         Statement::Stop => Ok(Statement::Stop),
     }
