@@ -28,7 +28,8 @@ fn next_operand<'t, 'a>(alloc: Global, tokens: &'t [Token<'a>]) -> Read<'t, 'a, 
     }
 }
 
-// Puts operands parted by commas into the list, as many as there are.
+// Puts operands parted by commas into the list, as many as there are. It asks for room for two at
+// first, which is what most have.
 fn list_operands<'t, 'a>(
     alloc: Global,
     tokens: &'t [Token<'a>],
@@ -44,6 +45,7 @@ fn list_operands<'t, 'a>(
         return Ok(None);
     };
     let mut at = tokens.len() - behind.len();
+    operands.reserve_exact(2)?;
     operands.push(first)?;
     while let Some((operand, behind)) = next_operand(alloc, &tokens[at..])? {
         operands.push(operand)?;

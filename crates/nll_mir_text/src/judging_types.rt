@@ -13,6 +13,7 @@ use nll_sets::Memory;
 use nll_statements::Statement;
 use nll_type_grammar::TypeText;
 use nll_types::{Operand, TypeTable};
+use smallvec::SmallVec;
 use std::alloc::Global;
 
 /// What is judged of written types.
@@ -23,7 +24,7 @@ pub struct JudgedTypes {
     /// Each name in each of them has arguments of the kinds that it takes.
     pub fit: bool,
     /// The numbers of their shapes, in order.
-    pub shapes: Vec<usize>,
+    pub shapes: SmallVec<usize, 4>,
 }
 
 // Judges a further type.
@@ -117,7 +118,7 @@ pub fn judge_types(
     let mut judged = JudgedTypes {
         known: true,
         fit: true,
-        shapes: Vec::new(alloc),
+        shapes: SmallVec::new(alloc),
     };
     judge_written(alloc, regions, structs, table, statement, &mut judged)?;
     Ok(judged)

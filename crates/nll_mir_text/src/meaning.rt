@@ -18,7 +18,7 @@ use crate::judging::type_meant;
 use crate::tables::{Regions, StructNames};
 use nll_problem::RegionId;
 use nll_sets::Memory;
-use nll_statements::{Call, Make, Statement, copy_operand, copy_operands, copy_place};
+use nll_statements::{Call, Make, Statement, copy_operand, copy_place};
 use nll_type_grammar::TypeText;
 use nll_types::{Operand, Ty};
 use std::alloc::Global;
@@ -124,29 +124,74 @@ fn call_meant(
     })
 }
 
-// A tuple or struct that is made.
+// A tuple or struct that is made. Only its type is made anew.
 fn made_meant(
     alloc: Global,
     regions: &Regions,
     structs: &StructNames,
-    made: &Make<TypeText<'_>>,
+    made: Make<TypeText<'_>>,
 ) -> Result<Make<Ty>, Memory>
     requires none { structs.now.none ≡ [] }
     requires few { length regions.now.names ≤ most_regions }
-    ensures place { IfOk result (λ m. path_of m.place ≡ path_of made.now.place) }
+    ensures place { IfOk result (λ m. path_of m.place ≡ path_of made.entry.place) }
     ensures meaning { IfOk result (λ m. tree m.ty
-        ≡ meant (scope_in regions.now structs.now) (written made.now.ty)) }
+        ≡ meant (scope_in regions.now structs.now) (written made.entry.ty)) }
     ensures operands { IfOk result (λ m. map operand_of m.operands.items
-        ≡ map operand_of made.now.operands.items) }
+        ≡ map operand_of made.entry.operands.items) }
 {
-    let place = copy_place(alloc, &made.place)?;
-    let operands = copy_operands(alloc, made.operands.as_slice())?;
-    let ty = type_meant(alloc, regions, structs, &made.ty)?;
-    Ok(Make {
+    let Make {
         place,
         ty,
         operands,
-    })
+    } = made;
+    let meant = type_meant(alloc, regions, structs, &ty);
+    drop(ty);
+    match meant {
+        Ok(ty) => Ok(Make {
+            place,
+            ty,
+            operands,
+        }),
+        Err(memory) => {
+            drop(place);
+            drop(operands);
+            Err(memory)
+        }
+    }
+}
+
+// A tuple or struct that is made, as a statement.
+fn make_meant(
+    alloc: Global,
+    regions: &Regions,
+    structs: &StructNames,
+    made: Box<Make<TypeText<'_>>>,
+) -> Result<Statement<RegionId, Ty>, Memory>
+    requires none { structs.now.none ≡ [] }
+    requires few { length regions.now.names ≤ most_regions }
+    ensures { IfOk result (λ i. statement_kept i
+        ≡ meant_in (scope_in regions.now structs.now) (as_written (Statement.Make made.entry))) }
+{
+    let meant = made_meant(alloc, regions, structs, Box::into_inner(made))?;
+    Ok(Statement::Make(Box::new(alloc, meant)?))
+}
+
+// A call, as a statement.
+fn called_meant(
+    alloc: Global,
+    regions: &Regions,
+    structs: &StructNames,
+    call: Box<Call<&[u8], TypeText<'_>>>,
+) -> Result<Statement<RegionId, Ty>, Memory>
+    requires none { structs.now.none ≡ [] }
+    requires few { length regions.now.names ≤ most_regions }
+    ensures { IfOk result (λ i. statement_kept i
+        ≡ meant_in (scope_in regions.now structs.now) (as_written (Statement.Call call.entry))) }
+{
+    let meant = call_meant(alloc, regions, structs, &*call);
+    drop(call);
+    let meant = meant?;
+    Ok(Statement::Call(Box::new(alloc, meant)?))
 }
 
 /// The statement that a written statement means. It recurses to the depth of its types.
@@ -167,12 +212,7 @@ pub fn statement_meant(
             let region = region_meant(regions, region);
             Ok(Statement::Borrow(place, region, mutable, source))
         }
-        Statement::Make(made) => {
-            let meant = made_meant(alloc, regions, structs, &*made);
-            drop(made);
-            let meant = meant?;
-            Ok(Statement::Make(Box::new(alloc, meant)?))
-        }
+        Statement::Make(made) => make_meant(alloc, regions, structs, made),
         Statement::Read(place) => Ok(Statement::Read(place)),
         Statement::Live(variable) => Ok(Statement::Live(variable)),
         Statement::Dead(variable) => Ok(Statement::Dead(variable)),
@@ -180,12 +220,7 @@ pub fn statement_meant(
         Statement::Goto(block) => Ok(Statement::Goto(block)),
         Statement::Switch(operand, blocks) => Ok(Statement::Switch(operand, blocks)),
         Statement::Drop(variable, block, unwind) => { Ok(Statement::Drop(variable, block, unwind)) }
-        Statement::Call(call) => {
-            let meant = call_meant(alloc, regions, structs, &*call);
-            drop(call);
-            let meant = meant?;
-            Ok(Statement::Call(Box::new(alloc, meant)?))
-        }
+        Statement::Call(call) => called_meant(alloc, regions, structs, call),
         Statement::Return => Ok(Statement::Return),
         Statement::Stop => Ok(Statement::Stop),
     }

@@ -1,8 +1,8 @@
 -- What is judged of types, judged of their parts.
-use Rattle.std.proofs.Common.{◌≡◌, ℕ, zero, suc, ◌+◌, ◌-◌, ◌<◌, ◌≤◌, Bool, true, false, ◌&&◌, List, [], ◌∷◌, ◌++◌, length, get_or, map, refl, sym, ap, ◌∙◌, arith, subst}
+use Rattle.std.proofs.Common.{◌≡◌, ℕ, zero, suc, ◌+◌, ◌-◌, ◌<◌, ◌≤◌, Bool, true, false, ◌&&◌, List, [], ◌∷◌, ◌++◌, length, map, refl, sym, ap, ◌∙◌, arith, subst}
 use Rattle.std.proofs.Common.{⊎_elim}
 use Rattle.std.proofs.Math.Seq.{get_or-append_seam}
-use Rattle.std.proofs.lemmas.List.{get_or_append_left, get_or_default, length-append}
+use Rattle.std.proofs.lemmas.List.{get_or_append_left, length-append}
 use Rattle.std.proofs.lemmas.Bool.{cases_lt, cases_Bool, eqb-true}
 use Rattle.std.specs.List.{list_all}
 use Rattle.std.specs.Prelude.{◌==◌, ◌||◌, if◌then◌else◌, slice_index_or}
@@ -208,10 +208,10 @@ judged_push s old new ts js t j e a last = record {
 }
 
 -- what is judged of the last node is judged of the type
-pub judged_here : (s : Scope) (shapes : List Node) (ns text : List TypeNode) (js : List Judged) (j : Judged) → ns ≡ text → length ns - 1 < length js → j ≡ get_or js (length ns - 1) j → AreJudged s shapes (types_from [] ns) js → IsJudged s shapes (written text) j
+pub judged_here : (s : Scope) (shapes : List Node) (ns text : List TypeNode) (js : List Judged) (j : Judged) → ns ≡ text → length ns - 1 < length js → j ≡ judged_at js (length ns - 1) → AreJudged s shapes (types_from [] ns) js → IsJudged s shapes (written text) j
 judged_here s shapes ns text js j e within is judged =
     subst (λ t. IsJudged s shapes (written t) j) e
-    (subst (λ i. IsJudged s shapes (at (types_from [] ns) (length ns - 1)) i) (get_or_default js (length ns - 1) (record { known = false; fits = false; shape = 0 }) j within ∙ sym is) (judged.each (length ns - 1) within))
+    (subst (λ i. IsJudged s shapes (at (types_from [] ns) (length ns - 1)) i) (sym is) (judged.each (length ns - 1) within))
 
 -- a tuple is judged by its parts
 pub judged_tuple : (s : Scope) (old new : List Node) (ts : List WrittenType) (js : List Judged) → AreJudged s old ts js → (is : List ℕ) → AreBelow (length js) is → (j : Judged) → j.shape < length new

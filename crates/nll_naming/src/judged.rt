@@ -1,7 +1,7 @@
 //! What is judged of a written type.
 
 /// What is judged of a written type.
-#[derive(Clone, Copy)]
+#[derive(Clone, Copy, Default)]
 pub struct Judged {
     /// Each name in it is known.
     pub known: bool,

@@ -21,7 +21,11 @@ use nll_reading::Names;
 use nll_sets::Memory;
 use nll_type_grammar::{Argument, TypeNode, TypeText};
 use nll_types::{Node, TypeTable};
+use smallvec::SmallVec;
 use std::alloc::Global;
+
+/// A list of the types among arguments, which are few.
+pub(crate) type FewTypes = SmallVec<usize, 4>;
 
 // The number of a name, and whether it is among the names.
 pub(crate) fn find(names: &Names, name: &[u8]) -> (usize, bool)
@@ -35,10 +39,10 @@ pub(crate) fn find(names: &Names, name: &[u8]) -> (usize, bool)
 }
 
 // The numbers of the types among arguments.
-pub(crate) fn types_among(alloc: Global, arguments: &[Argument<'_>]) -> Result<Vec<usize>, Memory>
+pub(crate) fn types_among(alloc: Global, arguments: &[Argument<'_>]) -> Result<FewTypes, Memory>
     ensures { IfOk result (λ v. v.items ≡ texts.types_among arguments.now) }
 {
-    let mut types = Vec::new(alloc);
+    let mut types = SmallVec::new(alloc);
     for argument in arguments {
         if let Argument::Type(number) = *argument {
             types.push(number)?;
@@ -301,6 +305,14 @@ fn judge_node(
     }
 }
 
+// What is judged of the node of this number.
+fn judged_of(done: &[Judged], number: usize) -> Judged
+    requires { number < length done.now }
+    ensures { result ≡ judged_at done.now number }
+{
+    done[number]
+}
+
 /// Judges a written type, and puts its shape into the table.
 ///
 /// # Cost
@@ -317,10 +329,10 @@ pub fn judge(
         (IsJudged (scope_of scope.now) table.new.shapes (written text.now)) }
 {
     let nodes = text.nodes();
-    let mut done: Vec<Judged> = Vec::with_capacity(alloc, nodes.len())?;
+    let mut done: SmallVec<Judged, 8> = SmallVec::new(alloc);
     for node in nodes {
         let judged = judge_node(alloc, scope, table, node, done.as_slice())?;
         done.push(judged)?;
     }
-    Ok(done[nodes.len() - 1])
+    Ok(judged_of(done.as_slice(), nodes.len() - 1))
 }

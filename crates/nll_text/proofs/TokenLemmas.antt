@@ -219,11 +219,10 @@ no_other b bs o (region name) more k h e = cc
 no_other b bs o arrow more k h e = cc
 no_other b bs o (sign c) more k h e = cc
 
-pub other_none : (line : List ℕ) (b : ℕ) (bs name rest : List ℕ) → line ≡ b ∷ bs
+pub other_none : (line : List ℕ) (b : ℕ) (bs : List ℕ) → line ≡ b ∷ bs
     → first_passes is_blank line ≡ false → b ≢ 39 → b ≢ 45 → is_sign b ≡ false
-    → SplitsWhile is_word_byte line name rest → length name ≡ 0 → IsNotMade line
-other_none line b bs name rest e solid q d s split nothing =
-    let stop = first_fails is_word_byte line name rest split nothing in
+    → first_passes is_word_byte line ≡ false → IsNotMade line
+other_none line b bs e solid q d s stop =
     let w : is_word_byte b ≡ false = sym (ap (first_passes is_word_byte) e) ∙ stop in
     let blank : is_blank b ≡ false = sym (ap (first_passes is_blank) e) ∙ solid in
     let q' : eqb b 39 ≡ false = grind (arith, nat_tests) in
@@ -341,7 +340,7 @@ word_front b bs solid q d unsigned =
     let rest : List ℕ = drop (prefix_len is_word_byte line) line in
     let s = splits_while is_word_byte line in
     ⊎_elim
-    (λ none. inr (other_none line b bs name rest refl solid q d unsigned s none))
+    (λ none. inr (other_none line b bs refl solid q d unsigned (first_fails is_word_byte line name rest s none)))
     (λ some. inl (word name, rest, word_begins line name rest s (omega (arith, some))))
     (cases_eq (length name) 0)
 

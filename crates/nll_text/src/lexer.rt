@@ -12,10 +12,11 @@ use crate::bytes::{is_sign, split_gap, split_word};
 use crate::error::LexError;
 use crate::token::Token;
 
-// The token that a line begins with, where it begins with no blank, and the rest.
-fn token_at(line: &[u8]) -> Option<(Token<'_>, &[u8])>
-    requires some { 0 < length line.now }
+// The token that a line begins with, where it begins with no blank and no word, and the rest.
+fn other_token_at(line: &[u8]) -> Option<(Token<'_>, &[u8])>
     requires solid { first_passes lines.is_blank line.now ≡ false }
+    requires wordless { first_passes specs.is_word_byte line.now ≡ false }
+    requires some { 0 < length line.now }
     ensures { MatchOption result (IsNotMade line.now)
         (λ p. BeginsWith line.now (view p.0) p.1.now) }
 {
@@ -36,14 +37,23 @@ fn token_at(line: &[u8]) -> Option<(Token<'_>, &[u8])>
             Some((Token::Arrow, rest))
         }
         sign if is_sign(sign) => Some((Token::Sign(sign), after)),
-        _ => {
-            let (name, rest) = split_word(line);
-            if name.is_empty() {
-                return None;
-            }
-            Some((Token::Word(name), rest))
-        }
+        _ => None,
     }
+}
+
+// The token that a line begins with, where it begins with no blank, and the rest. Words come first,
+// since most tokens are words.
+fn token_at(line: &[u8]) -> Option<(Token<'_>, &[u8])>
+    requires some { 0 < length line.now }
+    requires solid { first_passes lines.is_blank line.now ≡ false }
+    ensures { MatchOption result (IsNotMade line.now)
+        (λ p. BeginsWith line.now (view p.0) p.1.now) }
+{
+    let (name, rest) = split_word(line);
+    if name.is_empty() {
+        return other_token_at(line);
+    }
+    Some((Token::Word(name), rest))
 }
 
 // The first token of a line, and what stands after it.

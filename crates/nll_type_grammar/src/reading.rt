@@ -68,7 +68,7 @@ pub fn type_at<'a>(
     ensures reads { IfOk result (λ o. MatchOption o (HasNoType (views tokens.now))
         (λ p. IsTypeIn (views tokens.now) (written p.0) (views (drop p.1 tokens.now)))) }
 {
-    let mut nodes = Vec::new(alloc);
+    let mut nodes = Vec::with_capacity(alloc, 4)?;
     match nodes_at(alloc, tokens, &mut nodes) {
         Ok(Some(count)) => Ok(Some((TypeText::of(nodes), count))),
         Ok(None) => Ok(None),

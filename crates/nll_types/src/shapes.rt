@@ -26,6 +26,8 @@ const TOO_MANY: usize = MAX_NODES + 1;
 pub struct Shapes {
     nodes: IndexSet<Node>,
     sizes: Vec<usize>,
+    // Where an `int` may stand: it is asked for so often that its number is looked up here first.
+    int: usize,
 }
 
 impl Model for Shapes {
@@ -88,6 +90,7 @@ impl Shapes {
         Shapes {
             nodes: IndexSet::new(alloc),
             sizes: Vec::new(alloc),
+            int: 0,
         }
     }
 
@@ -133,9 +136,23 @@ impl Shapes {
         a == b
     }
 
-    /// The number of the shape that a node makes of earlier ones. After an error each number has
-    /// the shape that it had.
-    pub fn add(&mut self, node: Node) -> Result<usize, Memory>
+    // Whether an `int` has this number.
+    fn has_int(&self, number: usize) -> bool
+        ensures within { IsTrue result → number < length self.now }
+        ensures at { IsTrue result
+            → shape_in self.now number ≡ shape_over (shapes_in self.now) Node.Int }
+    {
+        if number >= self.len() {
+            return false;
+        }
+        match self.node(number) {
+            Node::Int => true,
+            _ => false,
+        }
+    }
+
+    // The number of the shape that a node makes of earlier ones, by a search for the node.
+    fn put(&mut self, node: Node) -> Result<usize, Memory>
         requires { IsOver (length self.old) node }
         ensures extends { Extends self.old self.new }
         ensures within { IfOk result (λ i. i < length self.new) }
@@ -148,5 +165,35 @@ impl Shapes {
             self.sizes.push_reserved(size);
         }
         Ok(place)
+    }
+
+    // The number of the shape of an `int`.
+    fn add_int(&mut self) -> Result<usize, Memory>
+        ensures extends { Extends self.old self.new }
+        ensures within { IfOk result (λ i. i < length self.new) }
+        ensures at { IfOk result
+            (λ i. shape_in self.new i ≡ shape_over (shapes_in self.old) Node.Int) }
+    {
+        let known = self.int;
+        if self.has_int(known) {
+            return Ok(known);
+        }
+        let number = self.put(Node::Int)?;
+        self.int = number;
+        Ok(number)
+    }
+
+    /// The number of the shape that a node makes of earlier ones. After an error each number has
+    /// the shape that it had.
+    pub fn add(&mut self, node: Node) -> Result<usize, Memory>
+        requires { IsOver (length self.old) node }
+        ensures extends { Extends self.old self.new }
+        ensures within { IfOk result (λ i. i < length self.new) }
+        ensures at { IfOk result (λ i. shape_in self.new i ≡ shape_over (shapes_in self.old) node) }
+    {
+        match node {
+            Node::Int => self.add_int(),
+            node => self.put(node),
+        }
     }
 }

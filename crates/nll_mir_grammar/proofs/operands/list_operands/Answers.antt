@@ -14,7 +14,7 @@ overflow_sub-at c = let found = rw c.in-Some.is at c.in_ok-first.ensures in (lis
 pub loop-operand-init : goal.loop-operand-init
 loop-operand-init c =
     let found = rw c.in-Some.is at c.in_ok-first.ensures in
-    rw (c.in_ok-push.ensures.items, c.requires) (lists_from parts.operands _ _ _ found).to
+    rw (c.in_ok-push.ensures.items, c.in_ok-reserve_exact.ensures.items, c.requires) (lists_from parts.operands _ _ _ found).to
 
 pub overflow_sub-at-in-Some-2 : goal.overflow_sub-at-in-Some-2
 overflow_sub-at-in-Some-2 c =

@@ -7,10 +7,8 @@ returns-in-Assign c = rw c.in-Assign.is refl
 pub returns-in-Borrow : goal.returns-in-Borrow
 returns-in-Borrow c = rw (c.in-Borrow.is, c.region_meant-region.ensures) refl
 
-pub returns-in_ok-new-in-Make : goal.returns-in_ok-new-in-Make
-returns-in_ok-new-in-Make c =
-    let made = rw c.deref.ensures at c.in_ok-meant-in-Make.ensures in
-    rw (c.in-Make.is, c.in_ok-new-in-Make.ensures.ok, made.place, made.meaning, made.operands) refl
+pub returns-in-Make : goal.returns-in-Make
+returns-in-Make c = rw c.in-Make.is c.make_meant.ensures
 
 pub returns-in-Read : goal.returns-in-Read
 returns-in-Read c = rw c.in-Read.is refl
@@ -33,10 +31,8 @@ returns-in-Switch c = rw c.in-Switch.is refl
 pub returns-in-Drop : goal.returns-in-Drop
 returns-in-Drop c = rw c.in-Drop.is refl
 
-pub returns-in_ok-new-in-Call : goal.returns-in_ok-new-in-Call
-returns-in_ok-new-in-Call c =
-    let call = rw c.deref-in-Call.ensures at c.in_ok-meant-in-Call.ensures in
-    rw (c.in-Call.is, c.in_ok-new-in-Call.ensures.ok) call
+pub returns-in-Call : goal.returns-in-Call
+returns-in-Call c = rw c.in-Call.is c.called_meant.ensures
 
 pub returns-in-Return : goal.returns-in-Return
 returns-in-Return c = rw c.in-Return.is refl

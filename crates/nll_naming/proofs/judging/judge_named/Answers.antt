@@ -10,14 +10,14 @@ overflow_sub-regions c = omega (arith, c.len.ensures, ap length c.in_ok-types.en
 
 pub returns-then-is_parameter-clause-judged : goal.returns-then-is_parameter-clause-judged
 returns-then-is_parameter-clause-judged c = λ ts judged.
-    let types = c.as_slice.ensures.value in
+    let types = c.as_slice.ensures in
     let among = c.in_ok-types.ensures in
     let number = c.find-number.ensures.number in
     let found = c.find-number.ensures.known in
     let yes = c.if-is_parameter.true in
     let known = c.arguments_known-known.ensures in
     let all = c.all_fit-fits.ensures in
-    let second = c.as_slice-2.ensures.value in
+    let second = c.as_slice-2.ensures in
     let pair = c.both.ensures in
     let at = c.in_ok-shape.ensures.at in
     let none : c.is_empty.result ≡ same_kinds (map is_region c.args.arguments.now) [] = none_empty c.args.arguments.now c.is_empty.result c.is_empty.ensures in
@@ -31,12 +31,12 @@ pub add-requires-2 : goal.add-requires-2
 add-requires-2 c =
     let among = c.in_ok-types.ensures in
     let made = c.in_ok-shapes.ensures in
-    let third = c.as_slice-3.ensures.value in
+    let third = c.as_slice-3.ensures in
     rw (made, third, among) (shapes_below c.args.table.now.shapes c.args.done.now c.requires.shapes (types_among c.args.arguments.now) c.requires.parts)
 
 pub returns-clause-judged : goal.returns-clause-judged
 returns-clause-judged c = λ ts judged.
-    let types = c.as_slice.ensures.value in
+    let types = c.as_slice.ensures in
     let among = c.in_ok-types.ensures in
     let found = c.find-number.ensures.known in
     let none = c.if-is_parameter.false in
@@ -44,8 +44,8 @@ returns-clause-judged c = λ ts judged.
     let struct_found = c.find-number-2.ensures.known in
     let known = c.arguments_known-known.ensures in
     let all = c.all_fit-fits.ensures in
-    let second = c.as_slice-2.ensures.value in
-    let third = c.as_slice-3.ensures.value in
+    let second = c.as_slice-2.ensures in
+    let third = c.as_slice-3.ensures in
     let made = c.in_ok-shapes.ensures in
     let one = c.both-2.ensures in
     let two = c.both-3.ensures in

@@ -56,7 +56,7 @@ node_meant-returns-in_ok-types-in-Named t c = IfOk-weaker c.struct_meant.result 
     let below = parts_of_node c.args.nodes.now sound c.args.number c.index-nodes-number.result n c.if-number-nodes.false c.index-nodes-number.is c.in-Named.is in
     let first = c.as_slice-in-Named.ensures.value in
     let among = c.in_ok-numbers-in-Named.ensures in
-    let second = c.as_slice-in-Named-2.ensures.value in
+    let second = c.as_slice-in-Named-2.ensures in
     let types = (rw (second, among, first) at (c.in_ok-types-in-Named.ensures room sound)) below in
     let third = c.as_slice-in-Named-3.ensures.value in
     (rw third at (told room))

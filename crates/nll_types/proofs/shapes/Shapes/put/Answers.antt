@@ -1,6 +1,6 @@
 use Rattle.std.proofs.Common.{◌≡◌, ◌++◌, ◌∷◌, []}
 use Rattle.nll_types.proofs.TableLemmas.{kept_push, extends_push}
-use Rattle.nll_types.proofs.shapes.Shapes.add.Goals as goal
+use Rattle.nll_types.proofs.shapes.Shapes.put.Goals as goal
 
 keys : (c : goal.After-push_reserved) → c.intern.new.nodes.keys ≡ c.self.inside.nodes.keys ++ c.args.node ∷ []
 keys c = rw c.if-new.true at c.in_ok-place.ensures.ok
