@@ -3,7 +3,7 @@
 -- Source: RFC 2094, "Solving constraints" (the search from a constraint's point that stops where it
 -- leaves the region); that it is resumed when the region grows is project's choice. The code looks
 -- at one new element at a time; this speaks of whole walks.
-use Rattle.std.specs.Prelude.{◌≡◌, ◌≢◌, ◌⊎◌, ◌↔◌, ℕ, ◌<◌, Bool, true, false, List, []}
+use Rattle.std.specs.Prelude.{◌≡◌, ◌≢◌, ◌⊎◌, ◌↔◌, ℕ, ◌<◌, Bool, false, List, []}
 use Rattle.std.specs.Prelude.{◌++◌, Contains, AllPairs}
 use Rattle.nll_sets.specs.ElementSet.{flag}
 use Rattle.nll_problem.specs.Graph.{Graph, IsStep}

@@ -1,7 +1,6 @@
-use Rattle.std.proofs.Common.{◌≡◌, ◌<◌, ℕ, Contains, get_or, length, refl, ap, sym, ◌∙◌, subst, arith}
+use Rattle.std.proofs.Common.{◌≡◌, ◌<◌, ℕ, Contains, get_or, length, refl, ap, arith}
 use Rattle.std.proofs.lemmas.List.{get_or_default}
 use Rattle.nll_sets.specs.declared.run.Run.{Run}
-use Rattle.nll_core.specs.Values.{set_of}
 use Rattle.nll_core.specs.Growing.{base_at}
 use Rattle.nll_core.proofs.BaseLemmas.{of_run, listing_run}
 use Rattle.nll_core.proofs.bases.insert_bases.Goals as goal

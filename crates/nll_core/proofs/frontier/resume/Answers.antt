@@ -1,5 +1,4 @@
-use Rattle.std.proofs.Common.{◌≡◌, ◌<◌, ◌≤◌, length, sym, ap, ◌∙◌, subst, arith}
-use Rattle.nll_core.specs.Search.{Search}
+use Rattle.std.proofs.Common.{arith}
 use Rattle.nll_core.proofs.SearchLemmas.{flag_within}
 use Rattle.nll_core.proofs.FrontierLemmas.{pending_one, resumes_one, lists_one}
 use Rattle.nll_core.proofs.frontier.resume.Goals as goal

@@ -1,6 +1,6 @@
-use Rattle.std.proofs.Common.{◌≡◌, ◌+◌, ◌↔◌, ℕ, true, false, refl, sym, ap, ◌∙◌, get_or, ⊎_elim, arith}
-use Rattle.std.proofs.lemmas.Bool.{cases_eq, false≢true}
-use Rattle.nll_core.proofs.JumpLemmas.{AmongFirst, IsAmongFirst, pushes_none, pushes_more, pushes_same, among_first_none, among_first_more, among_first_skip, among_all, is_among_all, is_among_here, is_among_other}
+use Rattle.std.proofs.Common.{◌+◌, refl, arith}
+use Rattle.std.proofs.lemmas.Bool.{false≢true}
+use Rattle.nll_core.proofs.JumpLemmas.{AmongFirst, pushes_none, pushes_more, pushes_same, among_first_none, among_first_more, among_first_skip, among_all, is_among_all, is_among_here, is_among_other}
 use Rattle.nll_core.proofs.jumps.push_others.Goals as goal
 use Rattle.nll_core.proofs.jumps.push_others.Goals.{then-successor-point, else-successor-point+in_ok-push}
 

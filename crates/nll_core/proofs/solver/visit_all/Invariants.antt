@@ -1,4 +1,4 @@
-use Rattle.std.proofs.Common.{◌≡◌, ℕ, length}
+use Rattle.std.proofs.Common.{◌≡◌, length}
 use Rattle.nll_problem.specs.Graph.{element_count}
 use Rattle.nll_core.specs.Growing.{missing_pairs}
 use Rattle.nll_core.specs.Worklist.{IsOnTheWay}

@@ -1,7 +1,7 @@
-use Rattle.std.proofs.Common.{◌≡◌, ◌≤◌, ◌<◌, ◌+◌, ℕ, Bool, List, refl, subst, sym, arith}
+use Rattle.std.proofs.Common.{Bool, List, refl, subst, sym, arith}
 use Rattle.nll_problem.specs.Walks.{Reaches}
 use Rattle.nll_core.specs.Search.{IsIn}
-use Rattle.nll_core.specs.Walking.{Grows, IsLineClosed}
+use Rattle.nll_core.specs.Walking.{Grows}
 use Rattle.nll_sets.specs.Runs.{IsRunFrom}
 use Rattle.nll_sets.specs.declared.run.Run.{Run}
 use Rattle.nll_core.proofs.WalkingLemmas.{grows_stretch, settled_entry, stretch_of}

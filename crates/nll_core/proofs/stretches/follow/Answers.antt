@@ -1,4 +1,4 @@
-use Rattle.std.proofs.Common.{◌≡◌, ◌≤◌, ◌<◌, get_or, arith, true, refl, sym, ◌∙◌}
+use Rattle.std.proofs.Common.{◌≡◌, ◌≤◌, ◌<◌, get_or, arith, true, refl}
 use Rattle.nll_problem.specs.Walks.{Reaches}
 use Rattle.nll_core.proofs.SearchLemmas.{contains_from, covers_contained}
 use Rattle.nll_core.specs.Search.{IsIn}

@@ -1,4 +1,4 @@
-use Rattle.std.proofs.Common.{◌≡◌, ℕ, List, ◌<◌, Contains, inl, inr, ⊎_elim, sym, subst, arith}
+use Rattle.std.proofs.Common.{ℕ, List, Contains, inl, inr, ⊎_elim, sym, subst, arith}
 use Rattle.nll_core.proofs.frontier.Frontier.is_next.Goals as goal
 
 pub has_one-requires : goal.has_one-requires

@@ -1,4 +1,4 @@
-use Rattle.std.proofs.Common.{◌≡◌, ◌∷◌, Contains, true, sym, ◌∙◌, subst}
+use Rattle.std.proofs.Common.{sym, ◌∙◌}
 use Rattle.nll_core.proofs.FrontierLemmas.{found_in, behind_first}
 use Rattle.nll_core.proofs.frontier.Frontier.is_start.Goals as goal
 
