@@ -1,6 +1,6 @@
 //! Answers to facts texts, as text.
 use super::comparing::compare;
-use nll_report::{AnswerError, Command, answer};
+use nll_report::{AnswerError, Command, answer, answer_of, read_meaning};
 use std::alloc::{AllocError, Global};
 use std::str;
 
@@ -40,6 +40,26 @@ pub fn answer_to(alloc: Global, command: Command, text: &[u8]) -> Result<String,
     }
 }
 
+// The answer to a command on a text that is handed over, which is let go before it is answered.
+fn answer_handed(
+    alloc: Global,
+    command: Command,
+    text: Vec<u8>,
+) -> Result<(Vec<u8>, u8), AnswerError> {
+    let facts = read_meaning(alloc, text)?;
+    let answer = answer_of(alloc, command, &facts);
+    drop(facts);
+    Ok(answer?)
+}
+
+// The same, as text.
+fn handed_told(alloc: Global, command: Command, text: &[u8]) -> Result<String, AllocError> {
+    match answer_handed(alloc, command, Vec::from_slice(alloc, text)?) {
+        Ok((report, status)) => shown(alloc, report.as_slice(), status),
+        Err(_) => String::from_str(alloc, "no answer"),
+    }
+}
+
 /// The answer to a command on a text of lines.
 pub fn answer_to_lines(alloc: Global, command: Command, lines: &str) -> Result<String, AllocError> {
     let text = text_of(alloc, lines)?;
@@ -63,5 +83,31 @@ fn passes_over_blanks(rt: HostRuntime) {
         compare(&rt, text, values, want);
         let faults = answer_to(rt.alloc(), Command::Check, text.as_bytes());
         compare(&rt, text, faults, "ok\n");
+    }
+}
+
+// Texts of either kind, and the values and faults that are printed where they are handed over.
+const HANDED: &[(&str, &str, &str)] = &[
+    (
+        "nll-facts 1\npoints 1\nuniversal 'a\nreturn 0\nconstraint 'a 'static 0\nend\n",
+        "'static: 0 end('static)\n'a: 0 end('static) end('a)\n",
+        "fault 'a must outlive 'static\nstatus 1",
+    ),
+    (
+        "nll-mir 1\nlet _0: int\nblocks 1\nblock bb0\nreturn\nend\n",
+        "'static: bb0/0 end('static)\n",
+        "ok\n",
+    ),
+    ("nll-mir 1\n", "no answer", "no answer"),
+];
+
+// A text that is handed over has the same answer.
+#[test]
+fn answers_texts_that_are_handed_over(rt: HostRuntime) {
+    for (text, values, faults) in HANDED {
+        let told = handed_told(rt.alloc(), Command::Values, text.as_bytes());
+        compare(&rt, text, told, values);
+        let told = handed_told(rt.alloc(), Command::Check, text.as_bytes());
+        compare(&rt, text, told, faults);
     }
 }

@@ -1,6 +1,7 @@
 //! Which words are a line, which ask for help, and which are refused.
 use super::comparing::compare;
 use super::fakes::words_of;
+use clap::{Arg, ArgAction, Command};
 use nll_report::{LineError, line};
 use std::alloc::{AllocError, Global};
 
@@ -156,4 +157,65 @@ fn gives_help(rt: HostRuntime) {
     for (words, want) in HELPED {
         compare(&rt, words, line_of(rt.alloc(), words), want);
     }
+}
+
+const ABOUT: &str = "Solves the region constraints of location-aware non-lexical lifetimes";
+
+const STATUSES: &str = "\
+Statuses:
+  0  the values are printed, or check found no fault, or this help
+  1  check found a fault
+  2  the words, the file or its text are refused, and standard error says why
+  3  memory was refused, or standard output did not take the whole report
+
+docs/FORMATS.md says how facts texts and MIR texts are written, and how the reports are.
+With /dev/stdin for FILE the text is read from standard input.";
+
+// A command with its file, for `clap`.
+fn command<'a>(alloc: Global, name: &'a str, about: &'a str) -> Result<Command<'a>, AllocError> {
+    let file = Arg::new(alloc, "FILE")
+        .help("The facts text or MIR text, or /dev/stdin for standard input")
+        .action(ArgAction::Set)
+        .required(true);
+    Command::new(alloc, name).about(about).arg(file)
+}
+
+// The program with its commands, for `clap`.
+fn program<'a>(alloc: Global) -> Result<Command<'a>, AllocError> {
+    let values = command(alloc, "values", "Prints the values of the regions of FILE")?;
+    let check = command(alloc, "check", "Checks the universal regions of FILE")?;
+    Command::new(alloc, "nllc")
+        .about(ABOUT)
+        .no_binary_name(true)
+        .disable_help_subcommand(true)
+        .subcommand_required(true)
+        .after_help(STATUSES)
+        .bin_name("nllc")?
+        .subcommand(values)?
+        .subcommand(check)
+}
+
+// The text that `clap` answers words with where it has no matches.
+fn text_of_clap(alloc: Global, words: &[&str]) -> Result<String, AllocError> {
+    match program(alloc)?.try_get_matches_from(words) {
+        Ok(matches) => {
+            drop(matches);
+            String::from_str(alloc, "matches")
+        }
+        Err(error) => {
+            let text = error.to_string(alloc);
+            drop(error);
+            text
+        }
+    }
+}
+
+// The text of help is the one that `clap` makes of the commands.
+#[test]
+fn help_is_that_of_clap(rt: HostRuntime) {
+    compare(&rt, "-h", text_of_clap(rt.alloc(), &["--help"]), HELP);
+    let told = text_of_clap(rt.alloc(), &["values", "-h"]);
+    compare(&rt, "values -h", told, VALUES_HELP);
+    let told = text_of_clap(rt.alloc(), &["check", "a", "--help"]);
+    compare(&rt, "check a --help", told, CHECK_HELP);
 }
