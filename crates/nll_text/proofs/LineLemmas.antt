@@ -1,12 +1,13 @@
 -- Cutting off the first line of a text.
-use Rattle.std.proofs.Common.{◌≡◌, ℕ, ◌+◌, ◌-◌, ◌<◌, ◌≤◌, Bool, true, false, cond, eqb, ltb, List, [], ◌∷◌, ◌++◌, length, get_or, take, drop, refl, sym, ap, ◌∙◌, arith, All, Option, Some, None}
+use Rattle.std.proofs.Common.{◌≡◌, ⊎_elim, ℕ, zero, suc, subst, ◌+◌, ◌-◌, ◌<◌, ◌≤◌, Bool, true, false, cond, eqb, ltb, List, [], ◌∷◌, ◌++◌, length, get_or, take, drop, refl, sym, ap, ◌∙◌, arith, All, Option, Some, None}
 use Rattle.std.specs.List.{slice_split, position, position_or_len}
 use Rattle.std.proofs.lemmas.List.{take_rest, get_or-take, get_or_default, length-take, take-append-drop, drop_more, nil_from_length}
 use Rattle.std.proofs.lemmas.List.Splits.{length-slice_split, slice_split_at, slice_split_none}
 use Rattle.std.proofs.lemmas.List.Sums.{count_by-le-length, fails_before_first, position_or_len_is}
 use Rattle.std.proofs.lemmas.List.Quantifiers.{position-Some}
-use Rattle.std.proofs.lemmas.Bool.{ltb-false, eqb-true, lt-ltb, le-ltb, false_from_ne_true}
-use Rattle.memchr.specs.Find.{IsFirstByte}
+use Rattle.std.proofs.lemmas.Bool.{ltb-false, eqb-true, lt-ltb, le-ltb, false_from_ne_true, false≢true, cases_eq}
+use Rattle.std.specs.Prelude.{MatchOption, IfSome, slice_index}
+use Rattle.memchr.specs.Find.{IsFirstByte, IsFirst, Nowhere, Passes, places, places_from}
 use Rattle.std.proofs.lemmas.List.Elements.{All-head, All-tail}
 use Rattle.nll_text.specs.Lines.{lines_of, without_last_feed}
 
@@ -142,3 +143,62 @@ first_place test bytes (Some k) first =
     let here : position_or_len test bytes ≡ k =
     position_or_len_is test bytes k 0 (omega (arith, first.0.high)) (λ j below. false_from_ne_true _ (first.0.before j (omega arith) below)) (λ below. first.1) in
     rw (here, lt-ltb k (length bytes) first.0.high) refl
+
+-- ---- the first of all places
+
+nowhere_more : (P : ℕ → Type 0) (i j : ℕ) → (P i → ⊥) → Nowhere P (i + 1) j → Nowhere P i j
+nowhere_more P i j none later = λ k low high p. ⊎_elim
+    (λ same. none (subst P same p))
+    (λ other. later k (omega (arith, other, low)) high p)
+    (cases_eq k i)
+
+module _ (test : ℕ → Bool) (hay : List ℕ) where
+  one_place : (i n : ℕ) (r : Option ℕ) (rest later : List ℕ) (t : Bool) → test (slice_index hay i) ≡ t
+      → MatchOption r (cond t (i ∷ rest) rest ≡ []) (λ k. cond t (i ∷ rest) rest ≡ k ∷ later)
+      → (MatchOption r (rest ≡ []) (λ k. rest ≡ k ∷ later) → IsFirst (Passes test hay) (i + 1) (i + 1 + n) r)
+      → IsFirst (Passes test hay) i (i + suc n) r
+  one_place i n None rest later true e h more = absurd cc
+  one_place i n (Some k) rest later true e h more =
+      let same : i ≡ k = cc in (
+        record {
+          low = omega (arith, same);
+          high = omega (arith, same);
+          before = λ j low below. absurd (omega (arith, same, low, below));
+        },
+        ap (λ m. test (slice_index hay m)) (sym same) ∙ e,
+      )
+  one_place i n None rest later false e h more =
+      nowhere_more (Passes test hay) i (i + suc n) (λ p. false≢true (sym e ∙ p)) (λ k low high. more h k low (omega (arith, high)))
+  one_place i n (Some k) rest later false e h more =
+      let f = more h in (
+        record {
+          low = omega (arith, f.0.low);
+          high = omega (arith, f.0.high);
+          before = nowhere_more (Passes test hay) i k (λ p. false≢true (sym e ∙ p)) f.0.before;
+        },
+        f.1,
+      )
+
+  first_of : (i n : ℕ) (r : Option ℕ) (later : List ℕ)
+      → MatchOption r (places_from test hay i n ≡ []) (λ k. places_from test hay i n ≡ k ∷ later)
+      → IsFirst (Passes test hay) i (i + n) r
+  unfolding places_from
+  first_of i zero None later h = λ k low high. absurd (omega (arith, low, high))
+  first_of i zero (Some k) later h = absurd cc
+  first_of i (suc n) r later h = one_place i n r (places_from test hay (i + 1) n) later (test (slice_index hay i)) refl h (first_of (i + 1) n r later)
+
+  from_start : (r : Option ℕ) → IsFirst (Passes test hay) 0 (0 + length hay) r → IsFirstByte test hay r
+  from_start r h = (let e : 0 + length hay ≡ length hay = omega arith in subst (λ (j : ℕ). IsFirst (Passes test hay) 0 j r) e h)
+
+  -- the first of all places of bytes that pass is the first such place
+  pub first_yielded : (r : Option ℕ) (s later : List ℕ) → s ≡ places test hay
+      → MatchOption r ((s ≡ []) × (later ≡ [])) (λ k. s ≡ k ∷ later) → IsFirstByte test hay r
+  first_yielded r s later e h = by r (e ∙ ap (places_from test hay 0) (omega arith)) h
+    where
+      by : (found : Option ℕ) → s ≡ places_from test hay 0 (length hay) → MatchOption found ((s ≡ []) × (later ≡ [])) (λ k. s ≡ k ∷ later) → IsFirstByte test hay found
+      by None all none = from_start None (first_of 0 (length hay) None later (sym all ∙ none.0))
+      by (Some k) all some = from_start (Some k) (first_of 0 (length hay) (Some k) later (sym all ∙ some))
+
+pub first_within : (test : ℕ → Bool) (hay : List ℕ) (r : Option ℕ) → IsFirstByte test hay r → IfSome r (λ i. i < length hay)
+first_within test hay None h = tt
+first_within test hay (Some k) h = h.0.high

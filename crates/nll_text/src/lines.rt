@@ -3,14 +3,14 @@
 ghost use Rattle.std.specs.Prelude.{◌≡◌, ◌==◌, ◌∷◌, position, length, ◌<◌, IfSome};
 ghost use Rattle.nll_text.specs.Lines.{lines_of, lines_left};
 
-use memchr::memchr;
+use memchr::memchr_iter;
 
 // Where the first line feed stands.
 fn first_line_feed(text: &[u8]) -> Option<usize>
     ensures place { result ≡ position (λ b. b == 10) text.now }
     ensures within { IfSome result (λ i. i < length text.now) }
 {
-    memchr(b'\n', text)
+    memchr_iter(b'\n', text).next()
 }
 
 /// Cuts off the first line of a text: the line, and the text of the lines after it, if any.
