@@ -27,7 +27,7 @@ fn is_marked(marks: &[bool], number: usize) -> bool
 pub(crate) fn is_of_marked(marks: &[bool], place: &Place) -> bool
     ensures { IsTrue result → slice_get marks.now (path_of place.now).variable ≡ Some true }
 {
-    is_marked(marks, place.variable as usize)
+    is_marked(marks, place.variable() as usize)
 }
 
 // Whether no region stands in a type, and the structs that it names are marked.

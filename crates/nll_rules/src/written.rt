@@ -43,10 +43,10 @@ pub(crate) fn written_type<'a>(variables: &'a [Ty], place: &Place) -> Option<&'a
     ensures { MatchOption result Unit (λ t. (structs : List Struct)
         → type_of structs (map tree variables.now) (path_of place.now) ≡ Some (tree t.now)) }
 {
-    let variable = place.variable as usize;
+    let variable = place.variable() as usize;
     if variable >= variables.len() {
         return None;
     }
-    let found = written_behind(&variables[variable], place.projections.as_slice(), 0);
+    let found = written_behind(&variables[variable], place.projections(), 0);
     found
 }
