@@ -1,6 +1,6 @@
 //! Operands between `(` and `)`.
 
-ghost use Rattle.std.specs.Prelude.{◌≡◌, [], IfOk, MatchOption, map};
+ghost use Rattle.std.specs.Prelude.{◌≡◌, ◌≤◌, [], IfOk, MatchOption, map};
 ghost use Rattle.nll_text.specs.Tokens as lex;
 ghost use Rattle.nll_text.specs.Tokens.{views};
 ghost use Rattle.nll_types.specs.Operands.{operand_of};
@@ -28,8 +28,17 @@ fn next_operand<'t, 'a>(alloc: Global, tokens: &'t [Token<'a>]) -> Read<'t, 'a, 
     }
 }
 
-// Puts operands parted by commas into the list, as many as there are. It asks for room for two at
-// first, which is what most have.
+// For how many operands room is asked for at first, with these tokens behind the first one.
+fn first_room(behind: &[Token<'_>]) -> usize
+    ensures { result ≤ 2 }
+{
+    match after_sign(behind, b',') {
+        Some(_) => 2,
+        None => 1,
+    }
+}
+
+// Puts operands parted by commas into the list, as many as there are.
 fn list_operands<'t, 'a>(
     alloc: Global,
     tokens: &'t [Token<'a>],
@@ -45,7 +54,7 @@ fn list_operands<'t, 'a>(
         return Ok(None);
     };
     let mut at = tokens.len() - behind.len();
-    operands.reserve_exact(2)?;
+    operands.reserve_exact(first_room(behind))?;
     operands.push(first)?;
     while let Some((operand, behind)) = next_operand(alloc, &tokens[at..])? {
         operands.push(operand)?;
