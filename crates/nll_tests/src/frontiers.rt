@@ -99,7 +99,7 @@ fn told_of(alloc: Global, graph: &Graph, numbers: &[u32]) -> Result<String, Buil
 
 // The graph of four points with the edges 0 to 1 and 2 to 3.
 fn two_edges(alloc: Global) -> Result<Graph, BuildError> {
-    let mut builder = GraphBuilder::new(alloc, 4, 0)?;
+    let mut builder = GraphBuilder::new(alloc, 4, 1)?;
     let first = builder.next(0, 1);
     let second = builder.next(2, 3);
     let graph = Ok(builder.finish());
@@ -122,6 +122,11 @@ fn a_frontier_goes_on_from_each_of_its_points(rt: HostRuntime) {
         // Nothing leads to 1 or 3 but from where walks begin.
         ([1, 3, 2, 0], "|| 2 3| 0 1|"),
     ] {
-        compare(&rt, "a frontier of two points", told(rt.alloc(), &numbers), want);
+        compare(
+            &rt,
+            "a frontier of two points",
+            told(rt.alloc(), &numbers),
+            want,
+        );
     }
 }
