@@ -4,3 +4,4 @@ pub mod FormLemmas
 pub mod ReborrowLemmas
 pub mod StatementLemmas
 pub mod RegionFreeLemmas
+pub mod LeadingLemmas

@@ -1,5 +1,5 @@
 -- Types without regions.
-use Rattle.std.proofs.Common.{◌≡◌, ℕ, zero, suc, ◌+◌, ◌<◌, ◌≤◌, Bool, true, false, List, [], ◌∷◌, ◌++◌, length, map, Option, Some, None, refl, sym, ap, ◌∙◌, subst, arith, inl, inr, ⊎_elim, ◌↔◌, ◌⊎◌, Contains, take}
+use Rattle.std.proofs.Common.{◌≡◌, ℕ, zero, suc, ◌+◌, ◌<◌, ◌≤◌, Bool, true, List, [], ◌∷◌, ◌++◌, length, map, Option, Some, None, refl, sym, ap, ◌∙◌, subst, arith, inl, inr, ⊎_elim, ◌↔◌, ◌⊎◌, Contains}
 use Rattle.std.specs.Prelude.{slice_get, option_map, option_and_then}
 use Rattle.std.proofs.lemmas.Option.{slice_get_within, get_or_from_slice_get}
 use Rattle.nll_types.specs.Types.{TypeTree, TypeTrees, int, parameter, reference, tuple, named, none, more, type_at, HasRegion, AnyHasRegion}
@@ -13,7 +13,6 @@ use Rattle.nll_types.specs.Operands.{Operand, constant, copied, moved, operand_t
 use Rattle.nll_types.specs.declared.place.Projection.{Projection}
 use Rattle.nll_types.specs.declared.place.Projection.TheVariants.{Deref, Field}
 use Rattle.nll_rules.specs.Positions.{Turn, own, target, part, region_argument, type_argument, HasRegionAt}
-use Rattle.nll_rules.specs.Subtyping.{SubtypeAsks}
 use Rattle.nll_rules.specs.Reborrows.{RestsOn, prefix}
 use Rattle.nll_rules.specs.Pairs.{AddsPairs, BothAsk}
 use Rattle.nll_rules.proofs.PairLemmas.{adds_none}

@@ -6,3 +6,4 @@ pub mod Pairs
 pub mod Walks
 pub mod RegionFree
 pub mod Marks
+pub mod Leading

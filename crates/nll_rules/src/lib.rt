@@ -2,6 +2,7 @@
 #![tactic(auto)]
 
 mod asking;
+mod leading;
 mod marking;
 mod places;
 mod reborrow;

@@ -1,7 +1,7 @@
 //! What a statement or terminator asks.
 
-ghost use Rattle.std.specs.Prelude.{◌≡◌, ◌⊎◌, Contains, IfOk, IsTrue, OnOk, Some, length, map};
-ghost use Rattle.std.specs.Prelude.{option_map};
+ghost use Rattle.std.specs.Prelude.{◌≡◌, ◌⊎◌, Contains, IsTrue, OnOk, Some, length, map};
+ghost use Rattle.std.specs.Prelude.{option_map, slice_get, true};
 ghost use Rattle.nll_types.specs.Declarations.{structs_of};
 ghost use Rattle.nll_types.specs.Operands as operands;
 ghost use Rattle.nll_types.specs.Operands.{operand_of};
@@ -16,9 +16,11 @@ ghost use Rattle.nll_rules.specs.Asking.{Asks};
 ghost use Rattle.nll_rules.specs.Pairs.{AddsPairs, AtOne, BothAsk, InputAsks};
 ghost use Rattle.nll_rules.specs.Pairs.{OneOutlives, PartAsks};
 ghost use Rattle.nll_rules.specs.Reborrows.{RestsOn};
+ghost use Rattle.nll_rules.specs.Leading.{IsThere};
 ghost use Rattle.nll_rules.specs.Marks.{IsSilent};
 ghost use Rattle.nll_rules.specs.RegionFree.{AreRegionFree};
 
+use crate::leading::has_type;
 use crate::marking::is_of_marked;
 use crate::places::{ask_from, ask_into, ask_reference_into};
 use crate::reborrow::rests_on;
@@ -317,47 +319,59 @@ fn ask_assign(
     Ok(())
 }
 
-// Puts behind the others what a reference to the borrowed place, whose type this is, asks where it
-// goes to the first place.
-fn ask_borrowed(
+// Puts behind the others what a reference to the borrowed place asks where it goes to the first
+// place.
+fn ask_target(
     alloc: Global,
     structs: &Structs,
     variables: &[Ty],
-    region_free: &[bool],
     place: &Place,
     region: RegionId,
     mutable: bool,
     borrowed: &Place,
-    target: &Ty,
     asked: &mut Vec<(RegionId, RegionId)>,
 ) -> Result<(), Memory>
-    requires free { AreRegionFree (structs_of structs.now) (map tree variables.now)
-        region_free.now }
-    requires target { type_of (structs_of structs.now) (map tree variables.now)
-        (path_of borrowed.now) ≡ Some (tree target.now) }
     ensures { OnOk result (AddsPairs
-        (BothAsk (structs_of structs.now) (Some (reference region mutable (tree target.now)))
+        (BothAsk (structs_of structs.now)
+        (option_map (reference region mutable)
+        (type_of (structs_of structs.now) (map tree variables.now) (path_of borrowed.now)))
         (type_of (structs_of structs.now) (map tree variables.now) (path_of place.now)))
         asked.old.items asked.new.items) }
 {
-    if is_of_marked(region_free, borrowed) {
-        // An `int` stands for a type without regions.
-        ask_reference_into(
-            alloc,
-            structs,
-            variables,
-            region,
-            mutable,
-            &Ty::Int,
-            place,
-            asked,
-        )?;
-        return Ok(());
+    match written_type(variables, borrowed) {
+        Some(target) => {
+            ask_reference_into(
+                alloc, structs, variables, region, mutable, target, place, asked,
+            )?;
+            Ok(())
+        }
+        None => {
+            let made = place_type(alloc, structs, variables, borrowed)?;
+            match &made {
+                Some(target) => {
+                    ask_reference_into(
+                        alloc, structs, variables, region, mutable, target, place, asked,
+                    )?;
+                    Ok(())
+                }
+                None => Ok(()),
+            }
+        }
     }
-    ask_reference_into(
-        alloc, structs, variables, region, mutable, target, place, asked,
-    )?;
-    Ok(())
+}
+
+// Whether a place has a type, and its variable is marked.
+fn is_bare_place(structs: &Structs, variables: &[Ty], region_free: &[bool], place: &Place) -> bool
+    ensures marked { IsTrue result
+        → slice_get region_free.now (path_of place.now).variable ≡ Some true }
+    ensures there { IsTrue result → IsThere
+        (type_of (structs_of structs.now) (map tree variables.now) (path_of place.now)) }
+{
+    if !is_of_marked(region_free, place) {
+        return false;
+    }
+    let there = has_type(structs, variables, place);
+    there
 }
 
 // Puts behind the others what a reference to the borrowed place asks where it goes to the first
@@ -384,44 +398,24 @@ fn ask_reference(
     if is_of_marked(region_free, place) {
         return Ok(());
     }
-    match written_type(variables, borrowed) {
-        Some(target) => {
-            ask_borrowed(
-                alloc,
-                structs,
-                variables,
-                region_free,
-                place,
-                region,
-                mutable,
-                borrowed,
-                target,
-                asked,
-            )?;
-            Ok(())
-        }
-        None => {
-            let made = place_type(alloc, structs, variables, borrowed)?;
-            match &made {
-                Some(target) => {
-                    ask_borrowed(
-                        alloc,
-                        structs,
-                        variables,
-                        region_free,
-                        place,
-                        region,
-                        mutable,
-                        borrowed,
-                        target,
-                        asked,
-                    )?;
-                    Ok(())
-                }
-                None => Ok(()),
-            }
-        }
+    if is_bare_place(structs, variables, region_free, borrowed) {
+        // An `int` stands for a type without regions.
+        ask_reference_into(
+            alloc,
+            structs,
+            variables,
+            region,
+            mutable,
+            &Ty::Int,
+            place,
+            asked,
+        )?;
+        return Ok(());
     }
+    ask_target(
+        alloc, structs, variables, place, region, mutable, borrowed, asked,
+    )?;
+    Ok(())
 }
 
 // Puts behind the others that the regions on which a reborrow of the place rests outlive this one.

@@ -1,10 +1,8 @@
 use Rattle.std.proofs.Common.{ap, ◌∙◌}
 use Rattle.nll_types.specs.Declarations.{structs_of}
-use Rattle.nll_types.specs.Types.{reference}
 use Rattle.nll_types.specs.Views.{tree}
 use Rattle.nll_types.specs.declared.parameter.Sign.TheVariants.{Covariant}
 use Rattle.nll_types.proofs.ViewLemmas.{tree_reference}
-use Rattle.nll_rules.specs.Pairs.{AddsPairs}
 use Rattle.nll_rules.proofs.PairLemmas.{adds_append, adds_same}
 use Rattle.nll_rules.proofs.SubtypeLemmas.{same_flag, other_flag, asks_reference, asks_own}
 use Rattle.nll_rules.proofs.FormLemmas.{no_reference, unlike_reference}

@@ -1,4 +1,4 @@
-use Rattle.std.proofs.Common.{◌≤◌, ◌<◌, length, refl, arith}
+use Rattle.std.proofs.Common.{◌≤◌, length, refl, arith}
 use Rattle.std.proofs.lemmas.Option.{slice_get_read}
 use Rattle.nll_rules.proofs.RegionFreeLemmas.{bare_below_more, bare_below_all}
 use Rattle.nll_rules.proofs.marking.+bare.Goals as goal

@@ -1,7 +1,4 @@
-use Rattle.std.proofs.Common.{map, ap, ◌∙◌}
 use Rattle.nll_types.specs.Declarations.{structs_of}
-use Rattle.nll_types.specs.Operands.{operand_of, operand_type}
-use Rattle.nll_types.specs.Views.{tree}
 use Rattle.nll_rules.proofs.PairLemmas.{adds_none}
 use Rattle.nll_rules.proofs.RegionFreeLemmas.{constant_asks}
 use Rattle.nll_rules.proofs.statement.ask_operand.Goals as goal

@@ -1,8 +1,7 @@
-use Rattle.std.proofs.Common.{◌<◌, ◌≤◌, ◌∙◌, length, map, sym, refl, ap, arith, None}
+use Rattle.std.proofs.Common.{◌<◌, ◌≤◌, ◌∙◌, length, sym, refl, ap, arith}
 use Rattle.std.specs.Prelude.{option_map}
 use Rattle.std.proofs.lemmas.Option.{slice_get_read, slice_get_past}
 use Rattle.nll_types.specs.Declarations.{structs_of}
-use Rattle.nll_types.specs.Operands.{operand_of, operand_type}
 use Rattle.nll_types.specs.Places.{behind}
 use Rattle.nll_types.specs.Views.{tree}
 use Rattle.nll_types.specs.declared.place.Projection.TheVariants.{Field}

@@ -1,8 +1,7 @@
-use Rattle.std.proofs.Common.{◌≡◌, ◌<◌, ◌∙◌, ℕ, List, Option, Some, None, ap, refl, length, arith}
+use Rattle.std.proofs.Common.{◌<◌, ◌∙◌, Option, Some, None, ap, refl, length, arith}
 use Rattle.std.specs.Prelude.{MatchOption}
 use Rattle.std.proofs.lemmas.Option.{slice_get_read}
 use Rattle.nll_types.specs.Places.{behind}
-use Rattle.nll_types.specs.Structs.{Struct}
 use Rattle.nll_types.specs.Views.{tree}
 use Rattle.nll_types.specs.declared.place.Projection.TheVariants.{Deref, Field}
 use Rattle.nll_types.proofs.ViewLemmas.{tree_tuple, type_at_item}
