@@ -1,3 +1,4 @@
+pub mod VectorLemmas
 pub mod GatheringLemmas
 pub mod MarkLemmas
 pub mod WalkLemmas

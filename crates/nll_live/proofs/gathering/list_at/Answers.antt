@@ -1,6 +1,6 @@
 use Rattle.std.proofs.Common.{◌≡◌, ◌<◌, length, map, subst, sym, arith}
 use Rattle.std.proofs.lemmas.List.{length-map}
-use Rattle.nll_problem.proofs.RowLemmas.{rows_more}
+use Rattle.nll_live.proofs.VectorLemmas.{rows_more}
 use Rattle.nll_live.specs.Gathering.{Lists}
 use Rattle.nll_live.proofs.GatheringLemmas.{lists_one}
 use Rattle.nll_live.proofs.gathering.list_at.Goals as goal

@@ -1,6 +1,6 @@
 use Rattle.std.proofs.Common.{◌≡◌, ◌↔◌, ◌+◌, ℕ, true, length, map, Contains, subst, sym, ◌∙◌, arith}
 use Rattle.nll_problem.specs.Rows.{row_at}
-use Rattle.nll_problem.proofs.RowLemmas.{row_here}
+use Rattle.nll_live.proofs.VectorLemmas.{row_here}
 use Rattle.nll_sets.specs.ElementSet.{flag}
 use Rattle.nll_live.specs.Live.{IsLive}
 use Rattle.nll_live.specs.Gathering.{IsListed}
