@@ -13,7 +13,7 @@ use Rattle.nll_core.specs.Values.{set_of, IsHeld}
 use Rattle.nll_problem.specs.Problem.{Problem, IsSound, end_of}
 use Rattle.nll_problem.specs.Faults.{AreFaults}
 use Rattle.nll_reading.specs.Labels.{Labels}
-use Rattle.nll_answer.specs.Report.{IsListed, IsValuesReport}
+use Rattle.nll_answer.specs.Report.{IsListed, IsValuesReport, value_lines}
 
 cons_cases : (x : ℕ) (xs : List ℕ) (y : ℕ) → Contains (x ∷ xs) y → (x ≡ y) ⊎ Contains xs y
 cons_cases x xs y h = ⊎_elim
@@ -143,3 +143,14 @@ faults_within q sound values faults are k d lt =
     let fault = get_or faults k d in
     let f = (are.each fault.0 fault.1).0 (Contains-get_or faults k d lt) in
     (omega (arith, f.0, sound.universals_are_regions), omega (arith, f.1, sound.universals_are_regions))
+
+-- the lines of the values that are handed in are their report
+pub lines_report : (q : Problem) (labels : Labels) (values : List (List Bool)) (points regions : ℕ) → points ≡ q.graph.points → regions ≡ q.regions
+    → (text : List ℕ) → text ≡ value_lines points regions labels (λ r. elements (set_of values r)) → IsValuesReport q labels (IsHeld values) text
+lines_report q labels values points regions of_points of_regions text printed = record {
+  elements = λ r. elements (set_of values r);
+  listed = λ r within. elements_are_listed values r;
+  printed = printed
+      ∙ ap (λ n. value_lines n regions labels (λ r. elements (set_of values r))) of_points
+      ∙ ap (λ n. value_lines q.graph.points n labels (λ r. elements (set_of values r))) of_regions;
+}

@@ -39,17 +39,17 @@ pub record IsListed (value : ℕ → Type 0) (elements : List ℕ) : Type 0 wher
   pub each : (e : ℕ) → Contains elements e ↔ value e
   pub ascending : AllPairs (λ d e. d < e) elements
 
--- the lines of the regions, in region order
-abbrev pub value_lines : Problem → Labels → (ℕ → List ℕ) → List ℕ
-value_lines q labels elements =
-    flat_map (λ r. value_line labels q.graph.points r (elements r)) (range_with_len 0 q.regions)
+-- the lines of so many regions, in region order, with so many points
+abbrev pub value_lines : ℕ → ℕ → Labels → (ℕ → List ℕ) → List ℕ
+value_lines points regions labels elements =
+    flat_map (λ r. value_line labels points r (elements r)) (range_with_len 0 regions)
 
 -- The text is the report of the values: the line of each region, in region order.
 pub record IsValuesReport (q : Problem) (labels : Labels) (values : ℕ → ℕ → Type 0) (text : List ℕ)
     : Type 0 where
   pub elements : ℕ → List ℕ
   pub listed : (r : ℕ) → r < q.regions → IsListed (values r) (elements r)
-  pub printed : text ≡ value_lines q labels elements
+  pub printed : text ≡ value_lines q.graph.points q.regions labels elements
 
 -- the line of a fault
 abbrev pub fault_line : Labels → ℕ × ℕ → List ℕ

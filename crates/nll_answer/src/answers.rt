@@ -12,9 +12,9 @@ ghost use Rattle.nll_answer.specs.Texts.{IsAnswerError};
 use crate::error::AnswerError;
 use crate::faults_report::faults_text;
 use crate::meanings::meaning;
-use crate::values_report::values_text;
+use crate::values_report::region_lines;
 use nll_core::{Memory, Problem, RegionId, faults, solve};
-use nll_mir::Facts;
+use nll_mir::{Facts, Labels};
 use std::alloc::Global;
 
 /// What is asked of a text.
@@ -38,51 +38,72 @@ pub fn answer(alloc: Global, command: Command, text: &[u8]) -> Result<(Vec<u8>, 
     ensures err { IfErr result (IsAnswerError text.now) }
 {
     let facts = meaning(alloc, text)?;
-    let answer = answer_of(alloc, command, &facts);
-    drop(facts);
-    Ok(answer?)
+    Ok(answer_of(alloc, command, facts)?)
 }
 
-/// The answer to a command on a problem and its labels.
+/// The answer to a command on a problem and its labels. The problem is let go before its report is
+/// made.
 ///
 /// # Errors
 /// `Memory` alone.
-pub fn answer_of(alloc: Global, command: Command, facts: &Facts) -> Result<(Vec<u8>, u8), Memory>
-    requires { length facts.now.labels.names ≡ facts.now.problem.regions }
+pub fn answer_of(alloc: Global, command: Command, facts: Facts) -> Result<(Vec<u8>, u8), Memory>
+    requires { length facts.labels.names ≡ facts.problem.regions }
     ensures ok { IfOk result (λ r.
-        IsProblemAnswer command facts.now.problem facts.now.labels r.0.items r.1) }
+        IsProblemAnswer command facts.problem facts.labels r.0.items r.1) }
+    ensures status { IfOk result (λ r. r.1 ≤ 1) }
+{
+    let Facts { problem, labels } = facts;
+    let answer = asked(alloc, command, problem, &labels);
+    drop(labels);
+    answer
+}
+
+// The answer to a command on a problem, by the names of the labels.
+fn asked(
+    alloc: Global,
+    command: Command,
+    problem: Problem,
+    labels: &Labels,
+) -> Result<(Vec<u8>, u8), Memory>
+    requires { length labels.now.names ≡ problem.regions }
+    ensures ok { IfOk result (λ r. IsProblemAnswer command problem labels.now r.0.items r.1) }
     ensures status { IfOk result (λ r. r.1 ≤ 1) }
 {
     match command {
         Command::Values => {
-            let report = values_of(alloc, facts)?;
+            let report = values_of(alloc, problem, labels)?;
             Ok((report, 0))
         }
-        Command::Check => check_of(alloc, facts),
+        Command::Check => check_of(alloc, problem, labels),
     }
 }
 
 // The report of the least values.
-fn values_of(alloc: Global, facts: &Facts) -> Result<Vec<u8>, Memory>
-    requires { length facts.now.labels.names ≡ facts.now.problem.regions }
+fn values_of(alloc: Global, problem: Problem, labels: &Labels) -> Result<Vec<u8>, Memory>
+    requires { length labels.now.names ≡ problem.regions }
     ensures { IfOk result (λ report.
-        IsValuesReport facts.now.problem facts.now.labels (Least facts.now.problem) report.items) }
+        IsValuesReport problem labels.now (Least problem) report.items) }
 {
-    let values = solve(alloc, &facts.problem)?;
-    let report = values_text(alloc, &facts.problem, &facts.labels, &values);
+    let points = problem.points();
+    let regions = problem.regions();
+    let solved = solve(alloc, &problem);
+    drop(problem);
+    let values = solved?;
+    let report = region_lines(alloc, points, regions, labels, &values);
     drop(values);
     report
 }
 
 // The report of the faults of the least values, and the status.
-fn check_of(alloc: Global, facts: &Facts) -> Result<(Vec<u8>, u8), Memory>
-    requires { length facts.now.labels.names ≡ facts.now.problem.regions }
-    ensures ok { IfOk result (λ r.
-        IsCheckReport facts.now.problem facts.now.labels r.0.items r.1) }
+fn check_of(alloc: Global, problem: Problem, labels: &Labels) -> Result<(Vec<u8>, u8), Memory>
+    requires { length labels.now.names ≡ problem.regions }
+    ensures ok { IfOk result (λ r. IsCheckReport problem labels.now r.0.items r.1) }
     ensures status { IfOk result (λ r. r.1 ≤ 1) }
 {
-    let faults = faults_of(alloc, &facts.problem)?;
-    let report = faults_text(alloc, &facts.labels, faults.as_slice());
+    let found = faults_of(alloc, &problem);
+    drop(problem);
+    let faults = found?;
+    let report = faults_text(alloc, labels, faults.as_slice());
     let status = status_of_faults(faults.as_slice());
     drop(faults);
     Ok((report?, status))

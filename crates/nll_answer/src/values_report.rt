@@ -7,7 +7,7 @@ ghost use Rattle.nll_sets.specs.ElementSet.{elements};
 ghost use Rattle.nll_sets.specs.Runs.{first_of, last_of, numbers, numbers_of};
 ghost use Rattle.nll_core.specs.Values.{IsHeld, IsShaped, set_of};
 ghost use Rattle.nll_answer.specs.Report.{IsValuesReport, element_text, point_text, value_line};
-ghost use Rattle.nll_answer.specs.Report.{end_text};
+ghost use Rattle.nll_answer.specs.Report.{end_text, value_lines};
 
 use itoa::write_digits;
 use nll_core::{Element, Memory, Problem, RegionId, Run, Values};
@@ -31,9 +31,25 @@ pub fn values_text(
     ensures { IfOk result (λ bytes.
         IsValuesReport problem.now labels.now (IsHeld values.now) bytes.items) }
 {
+    region_lines(alloc, problem.points(), problem.regions(), labels, values)
+}
+
+/// The lines of the regions, in region order, with so many points.
+pub(crate) fn region_lines(
+    alloc: Global,
+    points: u32,
+    regions: u32,
+    labels: &Labels,
+    values: &Values,
+) -> Result<Vec<u8>, Memory>
+    requires valued { length values.now ≡ regions }
+    requires named { length labels.now.names ≡ regions }
+    requires ends { (r : ℕ) → r < regions → length (set_of values.now r) ≤ points + regions }
+    ensures { IfOk result (λ bytes.
+        bytes.items ≡ value_lines points regions labels.now (λ r. elements (set_of values.now r))) }
+{
     let mut out = Vec::new(alloc);
-    let points = problem.points();
-    for number in 0..problem.regions() {
+    for number in 0..regions {
         push_line(&mut out, labels, values, points, RegionId(number))?;
     }
     Ok(out)

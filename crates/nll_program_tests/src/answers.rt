@@ -47,9 +47,7 @@ fn answer_handed(
     text: Vec<u8>,
 ) -> Result<(Vec<u8>, u8), AnswerError> {
     let facts = read_meaning(alloc, text)?;
-    let answer = answer_of(alloc, command, &facts);
-    drop(facts);
-    Ok(answer?)
+    Ok(answer_of(alloc, command, facts)?)
 }
 
 // The same, as text.

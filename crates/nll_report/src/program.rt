@@ -157,9 +157,7 @@ fn answer_text(alloc: Global, command: Command, text: Vec<u8>) -> Result<(Vec<u8
     ensures err { IfErr result (IsAnswerError text.items) }
 {
     let facts = read_meaning(alloc, text)?;
-    let answer = answer_of(alloc, command, &facts);
-    drop(facts);
-    Ok(answer?)
+    Ok(answer_of(alloc, command, facts)?)
 }
 
 // Why a text is not given, told of its file.
