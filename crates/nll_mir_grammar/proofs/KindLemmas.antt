@@ -227,3 +227,13 @@ line_grammars_one (Some k) = behind_one (tails k) (word (keyword_name k)) (tails
 pub lines_one : IsOne lines
 lines_one = kinds_one LineParts line_grammars line_grammars_one
     (λ k l p q r s a b e. sym (line_kind_of k p r) ∙ (ap line_kind e ∙ line_kind_of l q s))
+
+-- ---- keywords
+
+-- no keyword begins with `_`
+pub no_marked_keyword : (w digits : List ℕ) → w ≡ 95 ∷ digits → (k : Keyword) → w ≡ keyword_name k → ⊥
+unfolding line_kind keyword_in
+no_marked_keyword w digits marked k is =
+    let e : line_kind (word (95 ∷ digits) ∷ []) ≡ Some k = ap (λ l. line_kind (word l ∷ [])) (sym marked ∙ is) ∙ line_kind_of_name k [] in
+    let f : None ≡ Some k = e in
+    cc

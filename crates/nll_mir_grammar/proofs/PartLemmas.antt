@@ -21,7 +21,7 @@ use Rattle.nll_mir_grammar.specs.Tuples.{parts, IsTuple}
 use Rattle.nll_mir_grammar.specs.MirForms.{WrittenParameter, region_parameter, type_parameter, spelled_place, spelled_operand, dangling_mark, sign_token, block_word}
 use Rattle.nll_mir_grammar.specs.Grammars.{Grammar, Begins, HasNone, IsOne, IsNotNext, behind, empty, pair, many, commas}
 use Rattle.nll_mir_grammar.specs.Parts.{regions, any_words, names, prefixed, variables, block_names, projections, places, operands, types, tuples, arguments, marks, parameter_marks, parameters, parameter_lists, bounds, bound_lists, block_lists, exits, MayFollowMark}
-use Rattle.nll_mir_grammar.proofs.GrammarLemmas.{IsSolid, inside_one, tail_same, head_same, signs_apart, signs_differ, behind_one, behind_none, Joins, pair_one, many_one, IsLoose, commas_one, IsBefore, IsListable, enclosed}
+use Rattle.nll_mir_grammar.proofs.GrammarLemmas.{pair_found, IsSolid, inside_one, tail_same, head_same, signs_apart, signs_differ, behind_one, behind_none, Joins, pair_one, many_one, IsLoose, commas_one, IsBefore, IsListable, enclosed}
 use Rattle.nll_type_grammar.proofs.OneTree.{one_tree}
 
 -- the first byte of a word, or 0
@@ -93,6 +93,9 @@ to_path ts p r b = record { joined = b.joined; allowed = b.allowed; follows = b.
 
 pub from_path : (ts : List Token) (p : PlacePath) (r : List Token) → Begins paths ts (p.variable, p.projections) r → Begins places ts p r
 from_path ts p r b = record { joined = b.joined; allowed = b.allowed; follows = b.follows }
+
+pub place_found : (ts mid rest : List Token) (x : ℕ) (p : PlacePath) → Begins variables ts x mid → p.variable ≡ x → Begins (many projections) mid p.projections rest → Begins places ts p rest
+place_found ts mid rest x p v e b = from_path ts p rest (pair_found variables (many projections) ts mid rest p.variable p.projections (subst (λ y. Begins variables ts y mid) (sym e) v) b)
 
 pub places_one : IsOne places
 places_one ts p q r s x y =

@@ -1,6 +1,6 @@
 //! The first words of lines.
 
-ghost use Rattle.std.specs.Prelude.{◌≡◌, MatchOption};
+ghost use Rattle.std.specs.Prelude.{◌≡◌, ◌∷◌, MatchOption, drop, true};
 ghost use Rattle.nll_mir_grammar.specs.Kinds.{keyword_name, IsNoLineKeyword, IsNoPointKeyword};
 ghost use Rattle.nll_mir_grammar.specs.declared.keyword.Keyword.{Keyword as keyword};
 
@@ -91,11 +91,24 @@ fn point_keyword(word: &[u8]) -> Option<Keyword>
     None
 }
 
-/// The keyword that a word is, where it is one.
+// Whether the word begins with `_`.
+fn is_mark(word: &[u8]) -> bool
+    ensures { result ≡ true → word.now ≡ 95 ∷ drop 1 word.now }
+{
+    match word {
+        [b'_', ..] => true,
+        _ => false,
+    }
+}
+
+/// The keyword that a word is, where it is one. None begins with `_`, as variables do.
 pub fn keyword_of(word: &[u8]) -> Option<Keyword>
     ensures { MatchOption result ((k : keyword) → word.now ≡ keyword_name k → ⊥)
         (λ k. word.now ≡ keyword_name k) }
 {
+    if is_mark(word) {
+        return None;
+    }
     match line_keyword(word) {
         Some(keyword) => Some(keyword),
         None => point_keyword(word),

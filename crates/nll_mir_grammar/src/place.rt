@@ -57,6 +57,41 @@ fn projections_at<'t, 'a>(
     Ok((projections, &tokens[at..]))
 }
 
+// The place of the variable, of which is taken what stands at the front, in a list.
+fn listed_place<'t, 'a>(
+    alloc: Global,
+    variable: u32,
+    tokens: &'t [Token<'a>],
+) -> Result<(Place, &'t [Token<'a>]), Memory>
+    ensures variable { IfOk result (λ p. (path_of p.0).variable ≡ variable) }
+    ensures taken { IfOk result (λ p. Begins (many parts.projections) (views tokens.now)
+        (path_of p.0).projections (views p.1.now)) }
+{
+    let (projections, rest) = projections_at(alloc, tokens)?;
+    let place = Place::new(alloc, variable, projections)?;
+    Ok((place, rest))
+}
+
+// The place of the variable, of which is taken what stands at the front. Most places take nothing
+// or one projection, and these need no list.
+fn place_behind<'t, 'a>(
+    alloc: Global,
+    variable: u32,
+    tokens: &'t [Token<'a>],
+) -> Result<(Place, &'t [Token<'a>]), Memory>
+    ensures variable { IfOk result (λ p. (path_of p.0).variable ≡ variable) }
+    ensures taken { IfOk result (λ p. Begins (many parts.projections) (views tokens.now)
+        (path_of p.0).projections (views p.1.now)) }
+{
+    let Some((projection, rest)) = projection_at(tokens) else {
+        return Ok((Place::Whole(variable), tokens));
+    };
+    match projection_at(rest) {
+        Some(_) => listed_place(alloc, variable, tokens),
+        None => Ok((Place::Part(variable, projection), rest)),
+    }
+}
+
 /// The place at the front.
 pub fn place_at<'t, 'a>(
     alloc: Global,
@@ -68,8 +103,7 @@ pub fn place_at<'t, 'a>(
     let Some((variable, behind)) = variable_at(tokens) else {
         return Ok(None);
     };
-    let (projections, rest) = projections_at(alloc, behind)?;
-    let place = Place::new(alloc, variable, projections)?;
+    let (place, rest) = place_behind(alloc, variable, behind)?;
     Ok(Some((place, rest)))
 }
 

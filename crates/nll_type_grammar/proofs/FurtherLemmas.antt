@@ -2,16 +2,20 @@
 use Rattle.std.proofs.Common.{◌≡◌, ℕ, ◌+◌, ◌-◌, ◌<◌, ◌≤◌, Bool, List, [], ◌∷◌, ◌++◌, length, drop, refl, sym, ap, ◌∙◌, subst, arith}
 use Rattle.std.specs.Borrow.{Bor}
 use Rattle.std.specs.Prelude.{Option, Some, None, MatchOption}
+use Rattle.std.specs.Global.{Vec}
 use Rattle.std.proofs.lemmas.List.{length-append}
 use Rattle.nll_text.specs.Tokens.{Token, region, views}
 use Rattle.nll_text.specs.declared.token.Token.{Token as InLine}
 use Rattle.nll_type_grammar.specs.WrittenTypes.{Name, WrittenType, Arguments, int, reference, none, more, no_argument, region_argument, type_argument}
 use Rattle.nll_type_grammar.specs.TypeTexts.{at, all_at, arguments_at, type_over, types_from, written, types_among, parts_of}
-use Rattle.nll_type_grammar.specs.OpenTypes.{Frame, behind, parts, arguments, joined, joined_arguments, Steps, IsStuck, frame_over, frames_of, numbers_of, AreBelow, AreRead, GoesFurther, pending}
+use Rattle.nll_type_grammar.specs.OpenTypes.{Frame, behind, parts, arguments, joined, joined_arguments, Steps, IsStuck, frame_over, frames_of, numbers_of, AreBelow, AreRead, GoesFurther, pending, Begins, BeginsWithin, IsBegun, IsCompleted, HasMoreParts, HasMoreArguments}
 use Rattle.nll_type_grammar.specs.declared.opens.State.{State}
 use Rattle.nll_type_grammar.specs.declared.opens.State.TheVariants.{Want, WantArgument, Have, Inside}
+use Rattle.nll_type_grammar.specs.declared.fronts.Front.{Front}
 use Rattle.nll_type_grammar.specs.declared.opens.Open.{Open}
+use Rattle.nll_type_grammar.specs.declared.opens.Open.TheVariants as opens
 use Rattle.nll_type_grammar.specs.declared.type_text.TypeNode.{TypeNode}
+use Rattle.nll_type_grammar.specs.declared.type_text.TypeNode.TheVariants as nodes
 use Rattle.nll_type_grammar.specs.declared.type_text.Argument.{Argument}
 use Rattle.nll_type_grammar.specs.declared.type_text.Argument.TheVariants as argument
 use Rattle.nll_type_grammar.proofs.NodeLemmas.{to_node, to_frame, read_push_node, read_push_open, read_pop, frames_push_open, all_at_push, type_at_push, region_at_push, below_push, among_push_type, among_push_region}
@@ -162,14 +166,96 @@ stuck_argument_none tokens rest ns old q is e =
     (subst (λ (z : List Token). IsStuck WantArgument [] (written ns) z) (sym is)
     (stuck_region [] (written ns) q rest (λ n args gs h. cc)))
 
-pub further_complete : (s' : State) (tokens : List InLine) (ns ns' : List TypeNode) (os os' : List Open) → ((ts : List Token) → Steps Have (frames_of ns os) (written ns) ts s' (frames_of ns' os') (written ns') ts) → AreRead ns' os' → length os' + pending s' ≤ length os → 0 < length ns' → GoesFurther Have ns os tokens s' ns' os' 0
-further_complete s' tokens ns ns' os os' same r few some = record {
-  within = omega arith;
-  falls = omega arith;
-  same = same (views tokens);
-  read = r;
-  some = λ h. some;
-}
+pub further_complete : (s' : State) (tokens : List InLine) (ns ns' : List TypeNode) (os os' : List Open) → IsCompleted ns os s' ns' os' → GoesFurther Have ns os tokens s' ns' os' 0
+further_complete s' tokens ns ns' os os' h =
+    let few = h.few in
+    record { within = omega arith; falls = omega arith; same = h.same (views tokens); read = h.read; some = λ _. h.some }
+
+-- ---- the beginning of a type
+
+-- with it a type is complete
+pub begun_node : (front : Front) (ns ns' : List TypeNode) (n : TypeNode) (os : List Open) (s : State) → AreRead ns os → AreBelow (length ns) (parts_of n) → ((ts rest : List Token) → Begins front ts rest → Steps Want (frames_of ns os) (written ns) ts Have (frames_of ns os) (type_over (types_from [] ns) n) rest) → (s ≡ Have) × (ns' ≡ ns ++ n ∷ []) → IsBegun front ns os s ns' os
+begun_node front ns ns' n os s r below step h =
+    let e = h.1 in
+    subst (λ (z : State). IsBegun front ns os z ns' os) (sym h.0)
+    (record {
+      same = λ ts rest b. to_node Want (frames_of ns os) (written ns) ts rest ns ns' n os r e (step ts rest b);
+      read = read_push_node ns ns' n os r below e;
+      few = omega arith;
+      some = λ _. (let l : length ns' ≡ length ns + 1 = ap length e ∙ length-append ns (n ∷ []) in omega arith);
+    })
+
+-- it opens something
+pub begun_frame : (front : Front) (ns : List TypeNode) (os os' : List Open) (o : Open) (s s' : State) → AreRead ns os → AreBelow (length ns) (numbers_of o) → (s' ≡ Have → ⊥) → pending s' < 2 → ((ts rest : List Token) → Begins front ts rest → Steps Want (frames_of ns os) (written ns) ts s' (frame_over (types_from [] ns) o ∷ frames_of ns os) (written ns) rest) → (s ≡ s') × (os' ≡ os ++ o ∷ []) → IsBegun front ns os s ns os'
+begun_frame front ns os os' o s s' r below other few step h =
+    let e = h.1 in
+    let l : length os' ≡ length os + 1 = ap length e ∙ length-append os (o ∷ []) in
+    subst (λ (z : State). IsBegun front ns os z ns os') (sym h.0)
+    (record {
+      same = λ ts rest b. to_frame Want s' (frames_of ns os) (written ns) (written ns) ts rest ns os os' o e (step ts rest b);
+      read = read_push_open ns os os' o r below e;
+      few = omega arith;
+      some = λ have. absurd (other have);
+    })
+
+pub further_begin : (front : Front) (n : ℕ) (tokens : List InLine) (ns ns' : List TypeNode) (os os' : List Open) (s' : State) → BeginsWithin front n tokens → IsBegun front ns os s' ns' os' → GoesFurther Want ns os tokens s' ns' os' n
+further_begin front n tokens ns ns' os os' s' b h =
+    let some = b.some in
+    let few = h.few in
+    record { within = b.within; falls = omega arith; same = h.same _ _ b.begins; read = h.read; some = h.some }
+
+-- ---- what is open has one thing more
+
+pub more_parts : (os os' : List Open) (is : List ℕ) (i : ℕ) (v : Vec ℕ) (s : State) → v.items ≡ is ++ i ∷ [] → (s ≡ Inside) × (os' ≡ os ++ opens.Tuple v ∷ []) → HasMoreParts os is i s os'
+more_parts os os' is i v s grown h = record { inside = h.0; held = (v, grown, h.1) }
+
+pub more_arguments : (os os' : List Open) (n : Bor (List ℕ)) (args : List Argument) (a : Argument) (v : Vec Argument) (s : State) → v.items ≡ args ++ a ∷ [] → (s ≡ Inside) × (os' ≡ os ++ opens.Arguments n v ∷ []) → HasMoreArguments os n args a s os'
+more_arguments os os' n args a v s grown h = record { inside = h.0; held = (v, grown, h.1) }
+
+-- ---- what a complete type completes
+
+pub completed_behind : (ns ns' : List TypeNode) (os old : List Open) (o : Open) (q : Bor (List ℕ)) (m : Bool) (last : ℕ) (s : State) → AreRead ns old → 0 < length ns → last ≡ length ns - 1 → old ≡ os ++ o ∷ [] → o ≡ opens.Behind q m → (s ≡ Have) × (ns' ≡ ns ++ nodes.Reference q m last ∷ []) → IsCompleted ns old s ns' os
+completed_behind ns ns' os old o q m last s r some is_last e is h =
+    let f = h.1 in
+    subst (λ (z : State). IsCompleted ns old z ns' os) (sym h.0)
+    (record {
+      same = λ ts. complete_behind ts ns ns' (nodes.Reference q m last) os old o q.now m last r e f (ap (frame_over (types_from [] ns)) is) refl is_last;
+      read = complete_behind_read ns ns' (nodes.Reference q m last) os old o last r e f refl is_last some;
+      few = (let l : length old ≡ length os + 1 = ap length e ∙ length-append os (o ∷ []) in omega arith);
+      some = (let l : length ns' ≡ length ns + 1 = ap length f ∙ length-append ns (nodes.Reference q m last ∷ []) in omega arith);
+    })
+
+pub completed_tuple : (ns : List TypeNode) (os old new : List Open) (o : Open) (v : Vec ℕ) (last : ℕ) (s : State) → AreRead ns old → 0 < length ns → last ≡ length ns - 1 → old ≡ os ++ o ∷ [] → o ≡ opens.Tuple v → HasMoreParts os v.items last s new → IsCompleted ns old s ns new
+completed_tuple ns os old new o v last s r some is_last e is h =
+    let w = h.held.0 in
+    let grown = h.held.1 in
+    let f = h.held.2 in
+    subst (λ (z : State). IsCompleted ns old z ns new) (sym h.inside)
+    (record {
+      same = λ ts. complete_tuple ts ns os old new o (opens.Tuple w) v.items w.items last e f (ap (frame_over (types_from [] ns)) is) refl grown is_last;
+      read = complete_tuple_read ns os old new o (opens.Tuple w) v.items w.items last r e f (ap numbers_of is) refl grown is_last some;
+      few = (let l : length old ≡ length os + 1 = ap length e ∙ length-append os (o ∷ []) in let k : length new ≡ length os + 1 = ap length f ∙ length-append os (opens.Tuple w ∷ []) in omega arith);
+      some = some;
+    })
+
+pub completed_argument : (ns : List TypeNode) (os old new : List Open) (o : Open) (n : Bor (List ℕ)) (v : Vec Argument) (last : ℕ) (s : State) → AreRead ns old → 0 < length ns → last ≡ length ns - 1 → old ≡ os ++ o ∷ [] → o ≡ opens.Arguments n v → HasMoreArguments os n v.items (argument.Type last) s new → IsCompleted ns old s ns new
+completed_argument ns os old new o n v last s r some is_last e is h =
+    let w = h.held.0 in
+    let grown = h.held.1 in
+    let f = h.held.2 in
+    subst (λ (z : State). IsCompleted ns old z ns new) (sym h.inside)
+    (record {
+      same = λ ts. complete_argument ts ns os old new o (opens.Arguments n w) n.now v.items w.items last e f (ap (frame_over (types_from [] ns)) is) refl grown is_last;
+      read = complete_argument_read ns os old new o (opens.Arguments n w) v.items w.items last r e f (ap numbers_of is) refl grown is_last some;
+      few = (let l : length old ≡ length os + 1 = ap length e ∙ length-append os (o ∷ []) in let k : length new ≡ length os + 1 = ap length f ∙ length-append os (opens.Arguments n w ∷ []) in omega arith);
+      some = some;
+    })
+
+pub further_region_of : (tokens : List InLine) (ns : List TypeNode) (os old new : List Open) (o : Open) (n : Bor (List ℕ)) (v : Vec Argument) (q : Bor (List ℕ)) (s : State) → AreRead ns old → views tokens ≡ region q.now ∷ views (drop 1 tokens) → old ≡ os ++ o ∷ [] → o ≡ opens.Arguments n v → HasMoreArguments os n v.items (argument.Region q) s new → GoesFurther WantArgument ns old tokens s ns new 1
+further_region_of tokens ns os old new o n v q s r front e is h =
+    let w = h.held.0 in
+    subst (λ (z : State). GoesFurther WantArgument ns old tokens z ns new 1) (sym h.inside)
+    (further_region tokens ns os old new o (opens.Arguments n w) n.now v.items w.items q r front e h.held.2 (ap (frame_over (types_from [] ns)) is) refl (ap numbers_of is) refl h.held.1)
 
 -- what is so for all lists of nodes is so for one
 pub at_nodes : (told : Option (State × ℕ)) (tokens : List InLine) (ns : List TypeNode) (old new : List Open) → AreRead ns old → MatchOption told ((ns : List TypeNode) → IsStuck WantArgument (frames_of ns old) (written ns) (views tokens)) (λ p. (ns : List TypeNode) → AreRead ns old → GoesFurther WantArgument ns old tokens p.0 ns new p.1) → MatchOption told (IsStuck WantArgument (frames_of ns old) (written ns) (views tokens)) (λ p. GoesFurther WantArgument ns old tokens p.0 ns new p.1)

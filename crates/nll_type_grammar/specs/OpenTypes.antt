@@ -2,7 +2,9 @@
 -- Source: project's choice.
 use Rattle.std.specs.Prelude.{◌≡◌, ◌⊎◌, ℕ, Bool, true, false, List, [], ◌∷◌, ◌++◌, ◌<◌, ◌≤◌, ◌+◌}
 use Rattle.std.specs.Prelude.{◌*◌, length, drop, reverse, map, codes, slice_index_or, All}
+use Rattle.std.specs.Global.{Vec}
 use Rattle.std.specs.List.{AllByRecursion}
+use Rattle.std.specs.Borrow.{Bor}
 use Rattle.nll_text.specs.Tokens.{Token, word, region, sign, views}
 use Rattle.nll_text.specs.declared.token.Token.{Token as InLine}
 use Rattle.nll_type_grammar.specs.WrittenTypes.{Name, WrittenType, WrittenTypes, Arguments}
@@ -13,6 +15,7 @@ use Rattle.nll_type_grammar.specs.WrittenTypes.{spelled_more_arguments, is_capit
 use Rattle.nll_type_grammar.specs.WrittenTypes.{HasNames, HaveNames, ArgumentsHaveNames, IsFree}
 use Rattle.nll_type_grammar.specs.TypeTexts.{all_at, arguments_at, types_among, types_from, written}
 use Rattle.nll_type_grammar.specs.TypeTexts.{parts_of}
+use Rattle.nll_type_grammar.specs.declared.type_text.Argument.{Argument}
 use Rattle.nll_type_grammar.specs.declared.type_text.TypeNode.{TypeNode}
 use Rattle.nll_type_grammar.specs.declared.type_text.TypeNode.TheVariants as nodes
 use Rattle.nll_type_grammar.specs.declared.fronts.Front.{Front}
@@ -195,3 +198,36 @@ pub record GoesFurther (s : State) (ns : List TypeNode) (opened : List Open) (to
       s' (frames_of ns' opened') (written ns') (views (drop n tokens))
   pub read : AreRead ns' opened'
   pub some : s' ≡ Have → 0 < length ns'
+
+-- A type began like this: the nodes and frames fit together, and say the same.
+pub record IsBegun (front : Front) (ns : List TypeNode) (opened : List Open)
+    (s' : State) (ns' : List TypeNode) (opened' : List Open) : Type 0 where
+  pub same : (ts rest : List Token) → Begins front ts rest → Steps Want (frames_of ns opened)
+      (written ns) ts s' (frames_of ns' opened') (written ns') rest
+  pub read : AreRead ns' opened'
+  pub few : length opened' + pending s' ≤ length opened + 2
+  pub some : s' ≡ Have → 0 < length ns'
+
+-- A complete type became a part of the innermost thing that was open, and that says the same.
+pub record IsCompleted (ns : List TypeNode) (opened : List Open)
+    (s' : State) (ns' : List TypeNode) (opened' : List Open) : Type 0 where
+  pub same : (ts : List Token) → Steps Have (frames_of ns opened) (written ns) ts
+      s' (frames_of ns' opened') (written ns') ts
+  pub read : AreRead ns' opened'
+  pub few : length opened' + pending s' ≤ length opened
+  pub some : 0 < length ns'
+
+-- A tuple is open, and has one part more than these.
+pub record HasMoreParts (opened : List Open) (parts : List ℕ) (part : ℕ)
+    (s' : State) (opened' : List Open) : Type 0 where
+  pub inside : s' ≡ Inside
+  pub held :
+      (v : Vec ℕ) × (v.items ≡ parts ++ part ∷ []) × (opened' ≡ opened ++ opens.Tuple v ∷ [])
+
+-- A name is open, and has one argument more than these.
+pub record HasMoreArguments (opened : List Open) (name : Bor (List ℕ)) (args : List Argument)
+    (arg : Argument) (s' : State) (opened' : List Open) : Type 0 where
+  pub inside : s' ≡ Inside
+  pub held :
+      (v : Vec Argument) × (v.items ≡ args ++ arg ∷ [])
+      × (opened' ≡ opened ++ opens.Arguments name v ∷ [])

@@ -1,18 +1,19 @@
 //! What of a type is begun and not complete, and one step through a type.
 
-ghost use Rattle.std.specs.Prelude.{◌≡◌, ◌∷◌, [], ◌++◌, ◌<◌, ◌+◌, ◌≤◌, List, length};
-ghost use Rattle.std.specs.Prelude.{MatchOption, IfOk, OnOk};
+ghost use Rattle.std.specs.Prelude.{◌≡◌, ◌∷◌, [], ◌++◌, ◌<◌, List, length, MatchOption, IfOk};
 ghost use Rattle.nll_text.specs.Tokens as lex;
 ghost use Rattle.nll_text.specs.Tokens.{views};
 ghost use Rattle.nll_type_grammar.specs.TypeTexts.{written};
 ghost use Rattle.nll_type_grammar.specs.declared.type_text.TypeNode.{TypeNode as node};
-ghost use Rattle.nll_type_grammar.specs.OpenTypes.{Begins, Steps, IsStuck, AreRead, GoesFurther};
-ghost use Rattle.nll_type_grammar.specs.OpenTypes.{frames_of, pending};
+ghost use Rattle.nll_type_grammar.specs.OpenTypes.{IsStuck, AreRead, GoesFurther, IsBegun};
+ghost use Rattle.nll_type_grammar.specs.OpenTypes.{IsCompleted, HasMoreParts, HasMoreArguments};
+ghost use Rattle.nll_type_grammar.specs.OpenTypes.{frames_of};
 
 use crate::fronts::{Front, front_at, is_sign, region_at};
 use crate::type_text::{Argument, TypeNode};
 use nll_sets::Memory;
 use nll_text::Token;
+use smallvec::SmallVec;
 use std::alloc::Global;
 
 /// What is begun and not complete; parts go by the numbers of their nodes.
@@ -39,48 +40,59 @@ pub enum State {
     Inside,
 }
 
+impl<'a> Default for Open<'a> {
+    fn default() -> Open<'a> {
+        Open::Behind(&[], false)
+    }
+}
+
+/// What is open, the innermost last. Few types are so deep that this needs memory of its own.
+pub type Opened<'a> = SmallVec<Open<'a>, 3>;
+
+// Puts a node behind the others: a type is complete.
+fn put<'a>(nodes: &mut Vec<TypeNode<'a>>, node: TypeNode<'a>) -> Result<State, Memory>
+    ensures { IfOk result
+        (λ s. (s ≡ State.Have) × (nodes.new.items ≡ nodes.old.items ++ node.entry ∷ [])) }
+{
+    nodes.push(node)?;
+    Ok(State::Have)
+}
+
+// Opens something, in which this may come next.
+fn put_open<'a>(opened: &mut Opened<'a>, inner: Open<'a>, state: State) -> Result<State, Memory>
+    ensures { IfOk result
+        (λ s. (s ≡ state) × (opened.new.items ≡ opened.old.items ++ inner.entry ∷ [])) }
+{
+    opened.push(inner)?;
+    Ok(state)
+}
+
 /// Goes on behind the beginning of a type.
 pub fn begin<'a>(
     alloc: Global,
     front: Front<'a>,
     nodes: &mut Vec<TypeNode<'a>>,
-    opened: &mut Vec<Open<'a>>,
+    opened: &mut Opened<'a>,
 ) -> Result<State, Memory>
     requires { AreRead nodes.old.items opened.old.items }
-    ensures same { IfOk result (λ s. (ts rest : List lex.Token) → Begins front.entry ts rest →
-        Steps State.Want
-        (frames_of nodes.old.items opened.old.items) (written nodes.old.items) ts
-        s (frames_of nodes.new.items opened.new.items) (written nodes.new.items) rest) }
-    ensures read { OnOk result (AreRead nodes.new.items opened.new.items) }
-    ensures few { IfOk result
-        (λ s. length opened.new.items + pending s ≤ length opened.old.items + 2) }
-    ensures some { IfOk result (λ s. s ≡ State.Have → 0 < length nodes.new.items) }
+    ensures { IfOk result (λ s. IsBegun front.entry nodes.old.items opened.old.items
+        s nodes.new.items opened.new.items) }
 {
     match front {
-        Front::Int => {
-            nodes.push(TypeNode::Int)?;
-            Ok(State::Have)
-        }
-        Front::Unit => {
-            nodes.push(TypeNode::Tuple(Vec::new(alloc)))?;
-            Ok(State::Have)
-        }
-        Front::Tuple => {
-            opened.push(Open::Tuple(Vec::new(alloc)))?;
-            Ok(State::Want)
-        }
-        Front::Reference(region, is_mut) => {
-            opened.push(Open::Behind(region, is_mut))?;
-            Ok(State::Want)
-        }
-        Front::Generic(name) => {
-            opened.push(Open::Arguments(name, Vec::new(alloc)))?;
-            Ok(State::WantArgument)
-        }
-        Front::Name(name) => {
-            nodes.push(TypeNode::Named(name, Vec::new(alloc)))?;
-            Ok(State::Have)
-        }
+        Front::Int => put(nodes, TypeNode::Int),
+        Front::Unit => put(nodes, TypeNode::Tuple(Vec::new(alloc))),
+        Front::Tuple => put_open(opened, Open::Tuple(Vec::new(alloc)), State::Want),
+        Front::Reference(region, is_mut) => put_open(
+            opened,
+            Open::Behind(region, is_mut),
+            State::Want,
+        ),
+        Front::Generic(name) => put_open(
+            opened,
+            Open::Arguments(name, Vec::new(alloc)),
+            State::WantArgument,
+        ),
+        Front::Name(name) => put(nodes, TypeNode::Named(name, Vec::new(alloc))),
     }
 }
 
@@ -89,7 +101,7 @@ fn want<'a>(
     alloc: Global,
     tokens: &[Token<'a>],
     nodes: &mut Vec<TypeNode<'a>>,
-    opened: &mut Vec<Open<'a>>,
+    opened: &mut Opened<'a>,
 ) -> Result<Option<(State, usize)>, Memory>
     requires { AreRead nodes.old.items opened.old.items }
     ensures { IfOk result (λ o. MatchOption o
@@ -107,10 +119,37 @@ fn want<'a>(
     }
 }
 
+// Opens a tuple again, which has one more part.
+fn open_tuple<'a>(
+    opened: &mut Opened<'a>,
+    mut parts: Vec<usize>,
+    part: usize,
+) -> Result<State, Memory>
+    ensures { IfOk result (λ s. HasMoreParts opened.old.items parts.items part
+        s opened.new.items) }
+{
+    parts.push(part)?;
+    put_open(opened, Open::Tuple(parts), State::Inside)
+}
+
+// Opens a name again, which has one more argument.
+fn open_name<'a>(
+    opened: &mut Opened<'a>,
+    name: &'a [u8],
+    mut arguments: Vec<Argument<'a>>,
+    argument: Argument<'a>,
+) -> Result<State, Memory>
+    ensures { IfOk result (λ s. HasMoreArguments opened.old.items name.entry
+        arguments.entry.items argument.entry s opened.new.items) }
+{
+    arguments.push(argument)?;
+    put_open(opened, Open::Arguments(name, arguments), State::Inside)
+}
+
 // One step where a type or a region comes next.
 fn want_argument<'a>(
     tokens: &[Token<'a>],
-    opened: &mut Vec<Open<'a>>,
+    opened: &mut Opened<'a>,
 ) -> Result<Option<(State, usize)>, Memory>
     ensures { IfOk result (λ o. MatchOption o
         ((ns : List node) → IsStuck State.WantArgument (frames_of ns opened.old.items)
@@ -123,10 +162,9 @@ fn want_argument<'a>(
         return Ok(Some((State::Want, 0)));
     };
     match opened.pop() {
-        Some(Open::Arguments(name, mut arguments)) => {
-            arguments.push(Argument::Region(region))?;
-            opened.push(Open::Arguments(name, arguments))?;
-            Ok(Some((State::Inside, 1)))
+        Some(Open::Arguments(name, arguments)) => {
+            let state = open_name(opened, name, arguments, Argument::Region(region))?;
+            Ok(Some((state, 1)))
         }
         Some(Open::Behind(..)) => Ok(None),
         Some(Open::Tuple(_)) => Ok(None),
@@ -135,34 +173,23 @@ fn want_argument<'a>(
 }
 
 // One step behind a complete type, which becomes a part of the innermost thing that is open.
-fn complete<'a>(nodes: &mut Vec<TypeNode<'a>>, opened: &mut Vec<Open<'a>>) -> Result<State, Memory>
+fn complete<'a>(nodes: &mut Vec<TypeNode<'a>>, opened: &mut Opened<'a>) -> Result<State, Memory>
     requires read { AreRead nodes.old.items opened.old.items }
     requires some { 0 < length nodes.old.items }
     requires inside { 0 < length opened.old.items }
-    ensures same { IfOk result (λ s. (ts : List lex.Token) →
-        Steps State.Have
-        (frames_of nodes.old.items opened.old.items) (written nodes.old.items) ts
-        s (frames_of nodes.new.items opened.new.items) (written nodes.new.items) ts) }
-    ensures read { OnOk result (AreRead nodes.new.items opened.new.items) }
-    ensures few { IfOk result (λ s. length opened.new.items + pending s ≤ length opened.old.items) }
-    ensures some { OnOk result (0 < length nodes.new.items) }
+    ensures { IfOk result (λ s. IsCompleted nodes.old.items opened.old.items
+        s nodes.new.items opened.new.items) }
 {
     let last = nodes.len() - 1;
     match opened.pop() {
-        Some(Open::Behind(region, is_mut)) => {
-            nodes.push(TypeNode::Reference(region, is_mut, last))?;
-            Ok(State::Have)
-        }
-        Some(Open::Tuple(mut parts)) => {
-            parts.push(last)?;
-            opened.push(Open::Tuple(parts))?;
-            Ok(State::Inside)
-        }
-        Some(Open::Arguments(name, mut arguments)) => {
-            arguments.push(Argument::Type(last))?;
-            opened.push(Open::Arguments(name, arguments))?;
-            Ok(State::Inside)
-        }
+        Some(Open::Behind(region, is_mut)) => put(nodes, TypeNode::Reference(region, is_mut, last)),
+        Some(Open::Tuple(parts)) => open_tuple(opened, parts, last),
+        Some(Open::Arguments(name, arguments)) => open_name(
+            opened,
+            name,
+            arguments,
+            Argument::Type(last),
+        ),
         None => Ok(State::Have),
     }
 }
@@ -172,7 +199,7 @@ fn behind_part<'a>(
     tokens: &[Token<'a>],
     parts: Vec<usize>,
     nodes: &mut Vec<TypeNode<'a>>,
-    opened: &mut Vec<Open<'a>>,
+    opened: &mut Opened<'a>,
 ) -> Result<Option<(State, usize)>, Memory>
     requires { AreRead nodes.old.items (opened.old.items ++ Open.Tuple parts ∷ []) }
     ensures { IfOk result (λ o. MatchOption o
@@ -200,7 +227,7 @@ fn behind_argument<'a>(
     name: &'a [u8],
     arguments: Vec<Argument<'a>>,
     nodes: &mut Vec<TypeNode<'a>>,
-    opened: &mut Vec<Open<'a>>,
+    opened: &mut Opened<'a>,
 ) -> Result<Option<(State, usize)>, Memory>
     requires { AreRead nodes.old.items (opened.old.items ++ Open.Arguments name arguments ∷ []) }
     ensures { IfOk result (λ o. MatchOption o
@@ -227,7 +254,7 @@ fn behind_argument<'a>(
 fn inside<'a>(
     tokens: &[Token<'a>],
     nodes: &mut Vec<TypeNode<'a>>,
-    opened: &mut Vec<Open<'a>>,
+    opened: &mut Opened<'a>,
 ) -> Result<Option<(State, usize)>, Memory>
     requires { AreRead nodes.old.items opened.old.items }
     ensures { IfOk result (λ o. MatchOption o
@@ -251,7 +278,7 @@ pub fn step<'a>(
     tokens: &[Token<'a>],
     state: State,
     nodes: &mut Vec<TypeNode<'a>>,
-    opened: &mut Vec<Open<'a>>,
+    opened: &mut Opened<'a>,
 ) -> Result<Option<(State, usize)>, Memory>
     requires read { AreRead nodes.old.items opened.old.items }
     requires some { state ≡ State.Have → 0 < length nodes.old.items }

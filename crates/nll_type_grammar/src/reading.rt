@@ -6,10 +6,11 @@ ghost use Rattle.nll_type_grammar.specs.TypeTexts.{written, AreNodes};
 ghost use Rattle.nll_type_grammar.specs.Reading.{HasNoType, IsTypeIn};
 
 use crate::fronts::is_sign;
-use crate::opens::{Open, State, step};
+use crate::opens::{Opened, State, step};
 use crate::type_text::{TypeNode, TypeText};
 use nll_sets::Memory;
 use nll_text::Token;
+use smallvec::SmallVec;
 use std::alloc::Global;
 
 // Reads the nodes of the type in front, with a list of what is open.
@@ -17,7 +18,7 @@ fn read_nodes<'a>(
     alloc: Global,
     tokens: &[Token<'a>],
     nodes: &mut Vec<TypeNode<'a>>,
-    opened: &mut Vec<Open<'a>>,
+    opened: &mut Opened<'a>,
 ) -> Result<Option<usize>, Memory>
     requires nodes { nodes.old.items ≡ [] }
     requires opened { opened.old.items ≡ [] }
@@ -55,7 +56,7 @@ fn nodes_at<'a>(
         (λ n. IsTypeIn (views tokens.now) (written nodes.new.items)
         (views (drop n tokens.now)))) }
 {
-    let mut opened = Vec::new(alloc);
+    let mut opened = SmallVec::new(alloc);
     read_nodes(alloc, tokens, nodes, &mut opened)
 }
 

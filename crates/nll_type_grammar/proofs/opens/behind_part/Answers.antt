@@ -10,7 +10,7 @@ use Rattle.nll_type_grammar.proofs.FurtherLemmas.{further_again, further_close, 
 use Rattle.nll_type_grammar.proofs.opens.behind_part.Goals as goal
 
 pub returns-then-is_sign : goal.returns-then-is_sign
-returns-then-is_sign c = further_again Want c.args.tokens.now (sign 44) c.args.nodes.now.items c.args.opened.now.items c.push.new.self.items (opens.Tuple c.args.parts) (λ h. cc) (omega arith) c.requires c.in_ok-push.ensures.items (c.is_sign.ensures.yes c.if-is_sign.true) (λ fs t u after. step_comma_part fs _ t u after)
+returns-then-is_sign c = further_again Want c.args.tokens.now (sign 44) c.args.nodes.now.items c.args.opened.now.items c.push.new.self.items (opens.Tuple c.args.parts) (λ h. cc) (omega arith) c.requires c.in_ok-push.ensures.ok (c.is_sign.ensures.yes c.if-is_sign.true) (λ fs t u after. step_comma_part fs _ t u after)
 
 pub returns-then-is_sign-2 : goal.returns-then-is_sign-2
 returns-then-is_sign-2 c = further_close c.args.tokens.now (sign 41) c.args.nodes.now.items c.push-then-is_sign-2.new.self.items (nodes.Tuple c.args.parts) c.args.opened.now.items (opens.Tuple c.args.parts) c.requires c.in_ok-push-2.ensures.items refl (c.is_sign-2.ensures.yes c.if-is_sign-2.true) (λ fs t after. step_close_part fs _ t after)

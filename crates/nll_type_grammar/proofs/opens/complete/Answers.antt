@@ -1,23 +1,13 @@
-use Rattle.std.proofs.Common.{[], ap, refl, rules}
-use Rattle.nll_type_grammar.specs.TypeTexts.{types_from}
-use Rattle.nll_type_grammar.specs.OpenTypes.{frame_over, numbers_of}
-use Rattle.nll_type_grammar.proofs.FurtherLemmas.{complete_behind, complete_behind_read, complete_tuple, complete_tuple_read, complete_argument, complete_argument_read}
+use Rattle.std.proofs.Common.{rules}
+use Rattle.std.proofs.lemmas.Result.{IfOk-weaker}
+use Rattle.nll_type_grammar.proofs.FurtherLemmas.{completed_behind, completed_tuple, completed_argument}
 use Rattle.nll_type_grammar.proofs.opens.complete.Goals as goal
 
-pub returns-in_ok-push-in-Some-Behind-clause-same : goal.returns-in_ok-push-in-Some-Behind-clause-same
-returns-in_ok-push-in-Some-Behind-clause-same c = λ ts. complete_behind ts _ _ _ _ _ _ c.in-Some-Behind.region.now c.in-Some-Behind.is_mut _ c.requires.read c.in-Some-Behind.ensures.items c.in_ok-push-in-Some-Behind.ensures.items (ap (frame_over _) c.in-Some-Behind.field-0-is) refl (search rules)
+pub returns-in-Some-Behind : goal.returns-in-Some-Behind
+returns-in-Some-Behind c = IfOk-weaker _ _ _ (λ s h. completed_behind _ _ _ _ _ _ _ _ s c.requires.read c.requires.some (search rules) c.in-Some-Behind.ensures.items c.in-Some-Behind.field-0-is h) c.put.ensures
 
-pub returns-in_ok-push-in-Some-Behind-clause-read : goal.returns-in_ok-push-in-Some-Behind-clause-read
-returns-in_ok-push-in-Some-Behind-clause-read c = complete_behind_read _ _ _ _ _ _ _ c.requires.read c.in-Some-Behind.ensures.items c.in_ok-push-in-Some-Behind.ensures.items refl (search rules) c.requires.some
+pub returns-in-Some-Tuple : goal.returns-in-Some-Tuple
+returns-in-Some-Tuple c = IfOk-weaker _ _ _ (λ s h. completed_tuple _ _ _ _ _ _ _ s c.requires.read c.requires.some (search rules) c.in-Some-Tuple.ensures.items c.in-Some-Tuple.field-0-is h) c.open_tuple.ensures
 
-pub returns-in_ok-push-in-Some-Tuple-2-clause-same : goal.returns-in_ok-push-in-Some-Tuple-2-clause-same
-returns-in_ok-push-in-Some-Tuple-2-clause-same c = λ ts. complete_tuple ts c.args.nodes.now.items _ _ _ _ _ c.in-Some-Tuple.parts.items _ _ c.in-Some-Tuple.ensures.items c.in_ok-push-in-Some-Tuple-2.ensures.items (ap (frame_over (types_from [] c.args.nodes.now.items)) c.in-Some-Tuple.field-0-is) refl c.in_ok-push-in-Some-Tuple.ensures.items (search rules)
-
-pub returns-in_ok-push-in-Some-Tuple-2-clause-read : goal.returns-in_ok-push-in-Some-Tuple-2-clause-read
-returns-in_ok-push-in-Some-Tuple-2-clause-read c = complete_tuple_read _ _ _ _ _ _ c.in-Some-Tuple.parts.items _ _ c.requires.read c.in-Some-Tuple.ensures.items c.in_ok-push-in-Some-Tuple-2.ensures.items (ap numbers_of c.in-Some-Tuple.field-0-is) refl c.in_ok-push-in-Some-Tuple.ensures.items (search rules) c.requires.some
-
-pub returns-in_ok-push-in-Some-Arguments-2-clause-same : goal.returns-in_ok-push-in-Some-Arguments-2-clause-same
-returns-in_ok-push-in-Some-Arguments-2-clause-same c = λ ts. complete_argument ts c.args.nodes.now.items _ _ _ _ _ c.in-Some-Arguments.name.now c.in-Some-Arguments.arguments.items _ _ c.in-Some-Arguments.ensures.items c.in_ok-push-in-Some-Arguments-2.ensures.items (ap (frame_over (types_from [] c.args.nodes.now.items)) c.in-Some-Arguments.field-0-is) refl c.in_ok-push-in-Some-Arguments.ensures.items (search rules)
-
-pub returns-in_ok-push-in-Some-Arguments-2-clause-read : goal.returns-in_ok-push-in-Some-Arguments-2-clause-read
-returns-in_ok-push-in-Some-Arguments-2-clause-read c = complete_argument_read _ _ _ _ _ _ c.in-Some-Arguments.arguments.items _ _ c.requires.read c.in-Some-Arguments.ensures.items c.in_ok-push-in-Some-Arguments-2.ensures.items (ap numbers_of c.in-Some-Arguments.field-0-is) refl c.in_ok-push-in-Some-Arguments.ensures.items (search rules) c.requires.some
+pub returns-in-Some-Arguments : goal.returns-in-Some-Arguments
+returns-in-Some-Arguments c = IfOk-weaker _ _ _ (λ s h. completed_argument _ _ _ _ _ _ _ _ s c.requires.read c.requires.some (search rules) c.in-Some-Arguments.ensures.items c.in-Some-Arguments.field-0-is h) c.open_name.ensures

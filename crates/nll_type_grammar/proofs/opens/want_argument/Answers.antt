@@ -2,12 +2,12 @@ use Rattle.std.proofs.Common.{◌≡◌, [], ap, refl, length, arith}
 use Rattle.std.proofs.lemmas.Grind.{common_steps}
 use Rattle.std.proofs.lemmas.List.{nil_from_length}
 use Rattle.nll_type_grammar.specs.TypeTexts.{types_from}
-use Rattle.nll_type_grammar.specs.OpenTypes.{frame_over, numbers_of}
-use Rattle.nll_type_grammar.proofs.FurtherLemmas.{further_region, stuck_argument_frame, stuck_argument_none}
+use Rattle.nll_type_grammar.specs.OpenTypes.{frame_over}
+use Rattle.nll_type_grammar.proofs.FurtherLemmas.{further_region_of, stuck_argument_frame, stuck_argument_none}
 use Rattle.nll_type_grammar.proofs.opens.want_argument.Goals as goal
 
 pub returns-in-Some-Arguments : goal.returns-in-Some-Arguments
-returns-in-Some-Arguments c = λ ns r. further_region c.args.tokens.now ns c.pop.new.self.items _ _ _ _ c.in-Some-Arguments.name.now c.in-Some-Arguments.arguments.items _ c.in-Some.region r c.in-Some.ensures c.in-Some-Arguments.ensures.items c.in_ok-push-in-Some-Arguments-2.ensures.items (ap (frame_over (types_from [] ns)) c.in-Some-Arguments.field-0-is) refl (ap numbers_of c.in-Some-Arguments.field-0-is) refl c.in_ok-push-in-Some-Arguments.ensures.items
+returns-in-Some-Arguments c = λ ns r. further_region_of c.args.tokens.now ns c.pop.new.self.items _ _ _ _ _ c.in-Some.region _ r c.in-Some.ensures c.in-Some-Arguments.ensures.items c.in-Some-Arguments.field-0-is c.in_ok-state-in-Some-Arguments.ensures
 
 pub returns-in-Some-Behind : goal.returns-in-Some-Behind
 returns-in-Some-Behind c = λ ns. stuck_argument_frame c.args.tokens.now _ ns c.pop.new.self.items _ _ c.in-Some.region.now (λ n args h. let f = ap (frame_over (types_from [] ns)) c.in-Some-Behind.field-0-is in cc) c.in-Some.ensures c.in-Some-Behind.ensures.items

@@ -1,5 +1,5 @@
 use Rattle.std.proofs.Common.{◌≡◌, length, rules, [], sym, ◌∙◌, true}
-use Rattle.std.specs.Prelude.{vec_len, ◌==◌}
+use Rattle.std.specs.Prelude.{◌==◌}
 use Rattle.std.proofs.lemmas.Bool.{eqb-true}
 use Rattle.std.proofs.lemmas.List.{take_rest, nil_from_length}
 use Rattle.nll_type_grammar.specs.TypeTexts.{written}
@@ -17,17 +17,13 @@ returns-in_default-clause-reads c =
 pub returns-then-is_sign-clause-reads : goal.returns-then-is_sign-clause-reads
 returns-then-is_sign-clause-reads c =
     let h : c.loop-opened.state ≡ Have = search rules in
-    let y : (vec_len c.loop-opened.opened == 0) ≡ true = sym c.is_empty.ensures ∙ c.if-not-is_empty.false in
-    let z : vec_len c.loop-opened.opened ≡ 0 = eqb-true _ _ y in
-    let l : vec_len c.loop-opened.opened ≡ length c.loop-opened.opened.items = search rules in
-    let k : c.loop-opened.opened.items ≡ [] = nil_from_length _ (sym l ∙ z) in
+    let y : (length c.loop-opened.opened.items == 0) ≡ true = sym c.is_empty.ensures ∙ c.if-not-is_empty.false in
+    let k : c.loop-opened.opened.items ≡ [] = nil_from_length _ (eqb-true _ _ y) in
     none_before _ _ _ _ (at_end c.loop-opened.state c.loop-opened.nodes.items c.loop-opened.opened.items _ _ h k c.loop-opened.invariant.same) (rw (take_rest c.args.tokens.now c.loop-opened.at) at (c.is_sign.ensures.yes c.if-is_sign.true))
 
 pub returns-clause-reads : goal.returns-clause-reads
 returns-clause-reads c =
     let h : c.loop-opened.state ≡ Have = search rules in
-    let y : (vec_len c.loop-opened.opened == 0) ≡ true = sym c.is_empty.ensures ∙ c.if-not-is_empty.false in
-    let z : vec_len c.loop-opened.opened ≡ 0 = eqb-true _ _ y in
-    let l : vec_len c.loop-opened.opened ≡ length c.loop-opened.opened.items = search rules in
-    let k : c.loop-opened.opened.items ≡ [] = nil_from_length _ (sym l ∙ z) in
+    let y : (length c.loop-opened.opened.items == 0) ≡ true = sym c.is_empty.ensures ∙ c.if-not-is_empty.false in
+    let k : c.loop-opened.opened.items ≡ [] = nil_from_length _ (eqb-true _ _ y) in
     type_here _ _ _ (at_end c.loop-opened.state c.loop-opened.nodes.items c.loop-opened.opened.items _ _ h k c.loop-opened.invariant.same) (rw (take_rest c.args.tokens.now c.loop-opened.at) at (c.is_sign.ensures.other c.if-is_sign.false))

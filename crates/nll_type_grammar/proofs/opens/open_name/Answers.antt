@@ -1,0 +1,6 @@
+use Rattle.std.proofs.lemmas.Result.{IfOk-weaker}
+use Rattle.nll_type_grammar.proofs.FurtherLemmas.{more_arguments}
+use Rattle.nll_type_grammar.proofs.opens.open_name.Goals as goal
+
+pub returns : goal.returns
+returns c = IfOk-weaker _ _ _ (λ s h. more_arguments _ _ _ _ _ _ s c.in_ok-push.ensures.items h) c.put_open.ensures
