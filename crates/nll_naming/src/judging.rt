@@ -1,10 +1,11 @@
 //! Judging a written type, node by node, with no recursion: it may be as large as its text.
 
 ghost use Rattle.std.specs.Prelude.{◌≡◌, ◌<◌, ◌&&◌, List, [], length, map, slice_index, IfOk};
-ghost use Rattle.std.specs.Prelude.{slice_index_or};
+ghost use Rattle.std.specs.Prelude.{slice_index_or, IsTrue};
 ghost use Rattle.std.specs.List.{list_all};
 ghost use Rattle.nll_reading.specs.Names.{number_of as number_among};
-ghost use Rattle.nll_types.specs.Table.{Extends, AreBelow};
+ghost use Rattle.nll_types.specs.Shapes.{reference_shape};
+ghost use Rattle.nll_types.specs.Table.{Extends, AreBelow, shape_in};
 ghost use Rattle.nll_type_grammar.specs.WrittenTypes.{WrittenType, int, reference, tuple, named};
 ghost use Rattle.nll_type_grammar.specs.TypeTexts as texts;
 ghost use Rattle.nll_type_grammar.specs.TypeTexts.{all_at, arguments_at, parts_of};
@@ -20,9 +21,12 @@ use crate::scope::Scope;
 use nll_reading::Names;
 use nll_sets::Memory;
 use nll_type_grammar::{Argument, TypeNode, TypeText};
-use nll_types::{Node, TypeTable};
+use nll_types::{Node, Shapes, TypeTable};
 use smallvec::SmallVec;
 use std::alloc::Global;
+
+// How far behind its target a reference is looked for.
+const NEAR: usize = 8;
 
 /// A list of the types among arguments, which are few.
 pub(crate) type FewTypes = SmallVec<usize, 4>;
@@ -32,6 +36,9 @@ pub(crate) fn find(names: &Names, name: &[u8]) -> (usize, bool)
     ensures number { result.0 ≡ number_among names.now name.now }
     ensures known { result.1 ≡ is_among names.now name.now }
 {
+    if names.len() == 0 {
+        return (0, false);
+    }
     match names.number_of(name) {
         Some(number) => (number, true),
         None => (names.len(), false),
@@ -239,6 +246,42 @@ fn judge_tuple(
     })
 }
 
+// Whether a shape is that of a reference to the target.
+fn is_reference(shapes: &Shapes, shape: usize, mutable: bool, target: usize) -> bool
+    requires shape { shape < length shapes.now }
+    requires target { target < length shapes.now }
+    ensures { IsTrue result
+        → shape_in shapes.now shape ≡ reference_shape mutable (shape_in shapes.now target) }
+{
+    match shapes.node(shape) {
+        Node::Reference(marked, behind) => {
+            let same = shapes.is_same(*behind, target);
+            (*marked == mutable) & same
+        }
+        _ => false,
+    }
+}
+
+// The number of the shape of a reference. Most stand soon behind their targets, and are found there
+// without hashing.
+fn reference_to(table: &mut TypeTable, mutable: bool, target: usize) -> Result<usize, Memory>
+    requires { target < length table.old.shapes }
+    ensures structs { table.new.structs ≡ table.old.structs }
+    ensures extends { Extends table.old.shapes table.new.shapes }
+    ensures within { IfOk result (λ i. i < length table.new.shapes) }
+    ensures at { IfOk result (λ i. shape_in table.new.shapes i
+        ≡ reference_shape mutable (shape_in table.old.shapes target)) }
+{
+    let shapes = table.shapes();
+    let end = target + NEAR.min(shapes.len() - target);
+    for shape in target + 1..end {
+        if is_reference(shapes, shape, mutable, target) {
+            return Ok(shape);
+        }
+    }
+    table.add(Node::Reference(mutable, target))
+}
+
 // Judges a reference over what is judged of its target.
 fn judge_reference(
     scope: &Scope<'_>,
@@ -255,7 +298,7 @@ fn judge_reference(
         → IsJudged (scope_of scope.now) table.new.shapes (reference region.now mutable t) j) }
 {
     let (_, is_region) = find(scope.regions, region);
-    let shape = table.add(Node::Reference(mutable, target.shape))?;
+    let shape = reference_to(table, mutable, target.shape)?;
     Ok(Judged {
         known: both(is_region, target.known),
         fits: target.fits,

@@ -91,13 +91,6 @@ place_is structs ns ts p t o e same small = record {
   small = subst (λ (z : Option TypeTree). IfSome o (λ f. f.small ≡ unwrap_or (option_map (small_behind structs p.projections) z) true)) (sym e) small;
 }
 
-pub reference_is : (ns later : List Node) (o : Found) (t : Option TypeTree) (small m : Bool) (r i : ℕ) → IsFound ns (Some o) t small
-    → shape_in later i ≡ reference_shape m (shape_in ns o.shape) → (f : Found) → f.shape ≡ i → f.small ≡ o.small → IsFound later (Some f) (reference_to r m t) small
-reference_is ns later o None small m r i h e f a b = absurd (let z = h.shape in cc)
-reference_is ns later o (Some t) small m r i h e f a b =
-    let z : shape_in ns o.shape ≡ shape_of t = (let y = h.shape in cc) in
-    record { shape = ap Some (ap (shape_in later) a ∙ e ∙ ap (reference_shape m) z); small = b ∙ h.small }
-
 pub no_reference : (ns : List Node) (t : Option TypeTree) (small m : Bool) (r : ℕ) → IsFound ns None t small → IsFound ns None (reference_to r m t) small
 no_reference ns None small m r h = record { shape = refl; small = tt }
 no_reference ns (Some t) small m r h = absurd (let z = h.shape in cc)

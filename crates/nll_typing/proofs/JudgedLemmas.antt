@@ -1,12 +1,13 @@
 -- What is judged of parts of a statement, put together.
-use Rattle.std.proofs.Common.{◌≡◌, Bool, true, false, Option, Some, None, List, refl, sym, ap, ◌∙◌, ◌↔◌}
+use Rattle.std.proofs.Common.{◌≡◌, ℕ, Bool, true, false, Option, Some, None, List, refl, sym, ap, ◌∙◌, ◌↔◌}
 use Rattle.std.specs.Prelude.{◌&&◌, IsTrue}
-use Rattle.nll_types.specs.Types.{TypeTree}
-use Rattle.nll_types.specs.Shapes.{Shape, shape_of, same_shape}
+use Rattle.std.specs.Bool.{beq}
+use Rattle.nll_types.specs.Types.{TypeTree, reference}
+use Rattle.nll_types.specs.Shapes.{Shape, shape_of, same_shape, reference_shape}
 use Rattle.nll_types.specs.Table.{shape_in}
 use Rattle.nll_types.specs.declared.node.Node.{Node}
 use Rattle.nll_types.proofs.SameShapeLemmas.{same_shape_decides}
-use Rattle.nll_typing.specs.Typing.{agree}
+use Rattle.nll_typing.specs.Typing.{agree, reference_to}
 use Rattle.nll_typing.specs.Judging.{IsJudged}
 use Rattle.nll_typing.specs.Found.{IsFound}
 use Rattle.nll_typing.specs.declared.judged.JudgedStatement.{JudgedStatement}
@@ -69,6 +70,25 @@ pub unfit_right : (ns : List Node) (t u : Option TypeTree) (q : Bool) → IsFoun
 unfit_right ns None u q y = refl
 unfit_right ns (Some t) None q y = refl
 unfit_right ns (Some t) (Some u) q y = absurd (let z = y.shape in cc)
+
+-- a type against a reference to another
+pub reference_found : (ns : List Node) (a b : Found) (t u : Option TypeTree) (r : ℕ) (m p q fits : Bool) → IsFound ns (Some a) t p → IsFound ns (Some b) u q
+    → IsTrue fits ↔ (reference_shape m (shape_in ns a.shape) ≡ shape_in ns b.shape) → (j : JudgedStatement) → j.fits ≡ fits → j.small ≡ (fits && (a.small && b.small))
+    → IsJudged (agree (reference_to r m t) u) (p && q) j
+reference_found ns a b None u r m p q fits x y w j e d = absurd (let z = x.shape in cc)
+reference_found ns a b (Some t) None r m p q fits x y w j e d = absurd (let z = y.shape in cc)
+reference_found ns a b (Some t) (Some u) r m p q fits x y w j e d =
+    let s : shape_in ns a.shape ≡ shape_of t = (let z = x.shape in cc) in
+    let n : shape_in ns b.shape ≡ shape_of u = (let z = y.shape in cc) in
+    let fits_is = shapes_agree (reference r m t) u _ _ fits (ap (reference_shape m) s) n w in
+    record { fits = e ∙ fits_is; fits_small = d ∙ ap (λ (z : Bool). z && (a.small && b.small)) fits_is ∙ rw (x.small, y.small) refl }
+
+pub same_reference : (s t u : Shape) (m n same : Bool) → s ≡ reference_shape n t → IsTrue same ↔ (t ≡ u)
+    → IsTrue (beq n m && same) ↔ (reference_shape m u ≡ s)
+same_reference s t u true true same e w = (λ h. (let z = w.0 h in cc), λ h. w.1 (let z = sym e in cc))
+same_reference s t u false false same e w = (λ h. (let z = w.0 h in cc), λ h. w.1 (let z = sym e in cc))
+same_reference s t u true false same e w = (λ h. absurd cc, λ h. absurd cc)
+same_reference s t u false true same e w = (λ h. absurd cc, λ h. absurd cc)
 
 -- ---- a row of parts
 

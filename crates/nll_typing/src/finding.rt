@@ -1,6 +1,6 @@
 //! The shapes of places and operands.
 
-ghost use Rattle.std.specs.Prelude.{◌≡◌, ◌<◌, ℕ, List, Some, length, IfOk, IfSome};
+ghost use Rattle.std.specs.Prelude.{◌≡◌, ◌<◌, List, Some, length, IfOk, IfSome};
 ghost use Rattle.std.specs.List.{list_all};
 ghost use Rattle.nll_types.specs.Declarations.{structs_of};
 ghost use Rattle.nll_types.specs.Operands.{operand_of, operand_type};
@@ -11,7 +11,6 @@ ghost use Rattle.nll_types.specs.Types.{TypeTree};
 ghost use Rattle.nll_statements.specs.Effects.{place_in};
 ghost use Rattle.nll_typing.specs.Found.{IsFound};
 ghost use Rattle.nll_typing.specs.Judging.{HaveShapes};
-ghost use Rattle.nll_typing.specs.Typing.{reference_to};
 
 use nll_sets::Memory;
 use nll_types::{Node, Operand, Place, Shapes, TypeTable};
@@ -62,35 +61,6 @@ pub(crate) fn place_found(
     let from = variables[variable];
     match table.place_shape(alloc, from, place.projections())? {
         Some((shape, small)) => Ok(Some(Found { shape, small })),
-        None => Ok(None),
-    }
-}
-
-/// The shape of a reference to a place, where the place has a type.
-pub(crate) fn reference_found(
-    alloc: Global,
-    table: &mut TypeTable,
-    variables: &[usize],
-    mutable: bool,
-    place: &Place,
-) -> Result<Option<Found>, Memory>
-    requires { AreBelow (length table.old.shapes) variables.now }
-    ensures structs { table.new.structs ≡ table.old.structs }
-    ensures extends { Extends table.old.shapes table.new.shapes }
-    ensures within { IfOk result (λ o. IfSome o (λ f. f.shape < length table.new.shapes)) }
-    ensures found { IfOk result (λ o. (types : List TypeTree) (r : ℕ)
-        → HaveShapes table.old.shapes variables.now types
-        → IsFound table.new.shapes o
-        (reference_to r mutable
-        (type_of (structs_of table.old.structs) types (path_of place.now)))
-        (small_prefixes (structs_of table.old.structs) types (path_of place.now))) }
-{
-    match place_found(alloc, table, variables, place)? {
-        Some(target) => {
-            let shape = table.add(Node::Reference(mutable, target.shape))?;
-            let small = target.small;
-            Ok(Some(Found { shape, small }))
-        }
         None => Ok(None),
     }
 }

@@ -1,14 +1,17 @@
 //! What is judged of a statement.
 
-ghost use Rattle.std.specs.Prelude.{◌≡◌, ◌&&◌, ◌<◌, Bool, true, false, Option, length};
-ghost use Rattle.std.specs.Prelude.{IfSome};
+ghost use Rattle.std.specs.Prelude.{◌≡◌, ◌↔◌, ◌&&◌, ◌<◌, ℕ, Bool, true, false, Option, length};
+ghost use Rattle.std.specs.Prelude.{IfSome, IsTrue};
+ghost use Rattle.nll_types.specs.Shapes.{reference_shape};
+ghost use Rattle.nll_types.specs.Table.{shape_in};
 ghost use Rattle.nll_types.specs.Types.{TypeTree};
 ghost use Rattle.nll_typing.specs.Found.{IsFound};
 ghost use Rattle.nll_typing.specs.Judging.{IsJudged};
 ghost use Rattle.nll_typing.specs.Typing as spec;
+ghost use Rattle.nll_typing.specs.Typing.{reference_to};
 
 use crate::finding::Found;
-use nll_types::Shapes;
+use nll_types::{Node, Shapes};
 
 /// What is judged of a statement.
 #[derive(Clone, Copy)]
@@ -61,6 +64,50 @@ pub(crate) fn agree(shapes: &Shapes, one: Option<Found>, other: Option<Found>) -
                 JudgedStatement {
                     fits,
                     small: fits & (one.small & other.small),
+                }
+            }
+            None => unfit(),
+        },
+        None => unfit(),
+    }
+}
+
+// Whether a shape is that of a reference to one of the target's shape.
+fn is_reference(shapes: &Shapes, shape: usize, mutable: bool, target: usize) -> bool
+    requires shape { shape < length shapes.now }
+    requires target { target < length shapes.now }
+    ensures { IsTrue result ↔ (reference_shape mutable (shape_in shapes.now target)
+        ≡ shape_in shapes.now shape) }
+{
+    match shapes.node(shape) {
+        Node::Reference(marked, behind) => {
+            let same = shapes.is_same(*behind, target);
+            (*marked == mutable) & same
+        }
+        Node::Int | Node::Parameter(_) | Node::Tuple(_) | Node::Named(_, _, _) => false,
+    }
+}
+
+/// Whether both have a type, and the second the shape of a reference to the first.
+pub(crate) fn refers(
+    shapes: &Shapes,
+    mutable: bool,
+    borrowed: Option<Found>,
+    place: Option<Found>,
+) -> JudgedStatement
+    requires borrowed { IfSome borrowed (λ f. f.shape < length shapes.now) }
+    requires place { IfSome place (λ f. f.shape < length shapes.now) }
+    ensures { (t u : Option TypeTree) (r : ℕ) (p q : Bool) → IsFound shapes.now borrowed t p
+        → IsFound shapes.now place u q
+        → IsJudged (spec.agree (reference_to r mutable t) u) (p && q) result }
+{
+    match borrowed {
+        Some(borrowed) => match place {
+            Some(place) => {
+                let fits = is_reference(shapes, place.shape, mutable, borrowed.shape);
+                JudgedStatement {
+                    fits,
+                    small: fits & (borrowed.small & place.small),
                 }
             }
             None => unfit(),

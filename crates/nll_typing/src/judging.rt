@@ -17,8 +17,8 @@ ghost use Rattle.nll_typing.specs.Judging.{HaveShapes, IsJudged};
 ghost use Rattle.nll_typing.specs.Typing as spec;
 ghost use Rattle.nll_typing.specs.Typing.{types_agree, types_are_small, reference_to};
 
-use crate::finding::{operand_found, place_found, reference_found, shape_found};
-use crate::judged::{JudgedStatement, agree, both, fitting, unfit};
+use crate::finding::{operand_found, place_found, shape_found};
+use crate::judged::{JudgedStatement, agree, both, fitting, refers, unfit};
 use crate::parts::{judge_arguments, judge_operand, judge_parts};
 use nll_sets::Memory;
 use nll_statements::Statement;
@@ -72,9 +72,9 @@ fn judge_borrow(
         (small_prefixes (structs_of table.old.structs) types (path_of borrowed.now)
         && small_prefixes (structs_of table.old.structs) types (path_of place.now)) j) }
 {
-    let source = reference_found(alloc, table, variables, mutable, borrowed)?;
+    let source = place_found(alloc, table, variables, borrowed)?;
     let target = place_found(alloc, table, variables, place)?;
-    Ok(agree(table.shapes(), source, target))
+    Ok(refers(table.shapes(), mutable, source, target))
 }
 
 // Judges a value of a type of this shape that goes to a place.

@@ -3,6 +3,6 @@ use Rattle.nll_typing.proofs.judging.judge_borrow.Goals as goal
 
 pub returns-clause-judged : goal.returns-clause-judged
 returns-clause-judged c = λ types r h.
-    let first = c.in_ok-source.ensures.found types r h in
-    let second = (rw c.reference_found.ensures.structs at c.in_ok-target.ensures.found) types (shapes_later _ _ _ types c.reference_found.ensures.extends c.requires h) in
-    (rw c.shapes.ensures at c.agree.ensures) _ _ _ _ (found_later _ _ _ _ _ c.place_found.ensures.extends c.in_ok-source.ensures.within first) second
+    let first = c.in_ok-source.ensures.found types h in
+    let second = (rw c.place_found.ensures.structs at c.in_ok-target.ensures.found) types (shapes_later _ _ _ types c.place_found.ensures.extends c.requires h) in
+    (rw c.shapes.ensures at c.refers.ensures) _ _ r _ _ (found_later _ _ _ _ _ c.place_found-2.ensures.extends c.in_ok-source.ensures.within first) second
