@@ -86,9 +86,9 @@ fn values_of(alloc: Global, problem: Problem, labels: &Labels) -> Result<Vec<u8>
 {
     let points = problem.points();
     let regions = problem.regions();
-    let solved = solve(alloc, &problem);
+    let values = solve(alloc, &problem);
     drop(problem);
-    let values = solved?;
+    let values = values?;
     let report = region_lines(alloc, points, regions, labels, &values);
     drop(values);
     report
@@ -100,9 +100,9 @@ fn check_of(alloc: Global, problem: Problem, labels: &Labels) -> Result<(Vec<u8>
     ensures ok { IfOk result (λ r. IsCheckReport problem labels.now r.0.items r.1) }
     ensures status { IfOk result (λ r. r.1 ≤ 1) }
 {
-    let found = faults_of(alloc, &problem);
+    let faults = faults_of(alloc, &problem);
     drop(problem);
-    let faults = found?;
+    let faults = faults?;
     let report = faults_text(alloc, labels, faults.as_slice());
     let status = status_of_faults(faults.as_slice());
     drop(faults);
