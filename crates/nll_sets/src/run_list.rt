@@ -109,7 +109,7 @@ fn begins_past(runs: &[Run], from: usize, most: u32) -> usize
     if !begins_by(runs, from + 1, most) {
         return from + 1;
     }
-    // The runs before the one that ends there or later begin before it, and those behind it past it.
+    // Those before the first run that ends there or later begin before it, those behind it past it.
     let at = ends_from(runs, most);
     if begins_by(runs, at, most) {
         at + 1
