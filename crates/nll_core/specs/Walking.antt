@@ -31,11 +31,15 @@ pub record IsStretch (g : Graph) (sub reached : List Bool) (point : ℕ) (run : 
   pub closing :
       IsNext g run.last (run.last + 1) → IsIn sub (run.last + 1) → IsIn reached (run.last + 1)
 
+-- the limit that stands for none: each point is below it
+abbrev pub no_limit : ℕ
+no_limit = 4294967295
+
 -- From the point on the set has no number below the limit, and goes on there if that is a point.
 pub record IsFreeTo (reached : List Bool) (point limit : ℕ) : Type 0 where
   pub above : point < limit
   pub new : (x : ℕ) → point ≤ x → x < limit → flag reached x ≡ false
-  pub closing : IsIn reached limit ⊎ (limit ≡ 4294967295)
+  pub closing : IsIn reached limit ⊎ (limit ≡ no_limit)
 
 -- the runs of the list are of points
 abbrev pub AreOfPoints : Graph → List Run → Type 0

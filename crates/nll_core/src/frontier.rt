@@ -91,7 +91,8 @@ impl Frontier {
     ) -> Result<(), Memory>
         requires previous { previous.now ≡ graph.now }
         requires width { length (S.flags seen.now) ≡ element_count graph.now }
-        requires fits { self.old.refused ≡ false → length self.old.reached ≤ element_count graph.now }
+        requires fits { let old = self.old in
+            old.refused ≡ false → length old.reached ≤ element_count graph.now }
         requires element { IsIn (S.flags seen.now) element }
         requires reached { self.old.refused ≡ false
             → IsFrontierIn graph.now (IsOtherOf (S.flags seen.now) element) self.old }

@@ -11,7 +11,7 @@ ghost use Rattle.nll_sets.specs.Runs.{IsInRuns, IsRunFrom, IsWithin};
 ghost use Rattle.nll_core.specs.Lines.{IsJump};
 ghost use Rattle.nll_core.specs.Search.{IsIn};
 ghost use Rattle.nll_core.specs.Walking.{IsFreeTo, Grows, IsJumpedTo, IsFollowed, AreOfPoints};
-ghost use Rattle.nll_core.specs.Walking.{AreIn, IsLineClosed, IsSpread};
+ghost use Rattle.nll_core.specs.Walking.{AreIn, IsLineClosed, IsSpread, no_limit};
 
 use crate::lines::Lines;
 use nll_sets::{Memory, Run, RunSet};
@@ -19,7 +19,7 @@ use nll_sets::{Memory, Run, RunSet};
 // The run of a set that has a point; Err with the number before which, from the point on, no number
 // is in the set.
 fn look_up(reached: &RunSet, point: u32) -> Result<Run, u32>
-    requires { point < 4294967295 }
+    requires { point < no_limit }
     ensures has { OnOk result (IsIn reached.now point) }
     ensures run { IfOk result (AreIn reached.now) }
     ensures free { IfErr result (IsFreeTo reached.now point) }

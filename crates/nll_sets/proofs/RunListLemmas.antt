@@ -1,5 +1,5 @@
 -- Lists of runs: what a run that joins them leaves.
-use Rattle.std.proofs.Common.{◌≡◌, ◌⊎◌, ℕ, ◌+◌, ◌-◌, ◌*◌, ◌<◌, ◌≤◌, List, length, get_or, insert, cond, ltb, refl, sym, ap, ◌∙◌, subst, inl, inr, ⊎_elim, arith}
+use Rattle.std.proofs.Common.{◌≡◌, ◌⊎◌, ℕ, ◌+◌, ◌-◌, ◌*◌, ◌^◌, ◌<◌, ◌≤◌, List, length, get_or, insert, cond, ltb, refl, sym, ap, ◌∙◌, subst, inl, inr, ⊎_elim, arith}
 use Rattle.std.proofs.lemmas.Bool.{cases_lt, cases_eq, lt-ltb, le-ltb}
 use Rattle.std.proofs.lemmas.List.Edits.{length-insert, get_or-insert_below, get_or-insert_at, get_or-insert_above}
 use Rattle.nll_sets.specs.Runs.{no_run, first_of, last_of, IsInRuns, IsWithin}
@@ -164,6 +164,19 @@ touches_some runs run at t (x, (k, l, a, b), c, d) = ⊎_elim
 pub joins_none : (old : List Run) (run : Run) → AreRuns old → ((x : ℕ) → run.first ≤ x → x ≤ run.last → IsInRuns old x) → Joins old old run
 joins_none old run r there = record { runs = r; each = λ x. (inl, ⊎_elim (λ h. h) (λ own. there x own.0 own.1)) }
 
+-- ---- where runs begin
+
+module _ (runs : List Run) (r : AreRuns runs) where
+  pub firsts_ascend : (j k : ℕ) → j ≤ k → k < length runs → first_of runs j ≤ first_of runs k
+  firsts_ascend j k order within = ⊎_elim
+      (λ same. omega (arith, ap (first_of runs) same))
+      (λ other. omega (arith, r.apart j k (omega (arith, order, other)) within, r.proper j (omega (arith, order, within))))
+      (cases_eq j k)
+
+  -- where the run at a place begins past a number, so do those behind it
+  pub past_from : (most at : ℕ) → (at < length runs → most < first_of runs at) → (k : ℕ) → at ≤ k → k < length runs → most < first_of runs k
+  past_from most at past k order within = omega (arith, past (omega (arith, order, within)), firsts_ascend at k order within)
+
 -- ---- a search by halves
 
 -- of a window of twice so many runs one half is left
@@ -192,3 +205,25 @@ halved runs r least base half step next some window before after is at = ⊎_eli
         (λ same. omega (arith, ap (last_of runs) same))
         (λ other. omega (arith, r.apart j k (omega (arith, order, other)) within, r.proper k within))
         (cases_eq j k)
+
+-- of a window of one run the search is at its end
+pub settled : (runs : List Run) → AreRuns runs → (least base bits step : ℕ) → bits ≡ 0 → base + 2 ^ bits ≤ length runs
+    → ((k : ℕ) → k < base → last_of runs k < least) → ((k : ℕ) → base + 2 ^ bits ≤ k → k < length runs → least ≤ last_of runs k)
+    → step ≡ cond (ltb (last_of runs base) least) 1 0
+    → (base + step ≤ length runs) × ((k : ℕ) → k < base + step → last_of runs k < least) × ((k : ℕ) → base + step ≤ k → k < length runs → least ≤ last_of runs k)
+settled runs r least base bits step none window before after is =
+    let one : 2 ^ bits ≡ 1 = ap (λ n. 2 ^ n) none in
+    ⊎_elim
+    (λ less.
+    let past : step ≡ 1 = is ∙ ap (λ b. cond b 1 0) (lt-ltb (last_of runs base) least less) in (
+      omega (arith, past, one, window),
+      λ k h. ⊎_elim (λ same. omega (arith, less, ap (last_of runs) same)) (λ other. before k (omega (arith, h, past, other))) (cases_eq k base),
+      λ k h l. after k (omega (arith, h, past, one)) l,
+    ))
+    (λ more.
+    let stays : step ≡ 0 = is ∙ ap (λ b. cond b 1 0) (le-ltb (last_of runs base) least more) in (
+      omega (arith, stays, one, window),
+      λ k h. before k (omega (arith, h, stays)),
+      λ k h l. ⊎_elim (λ same. omega (arith, more, ap (last_of runs) same)) (λ other. after k (omega (arith, h, stays, one, other)) l) (cases_eq k base),
+    ))
+    (cases_lt (last_of runs base) least)

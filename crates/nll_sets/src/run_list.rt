@@ -86,6 +86,14 @@ fn power_if(is: bool, bits: u32) -> usize
     (is as usize) << bits
 }
 
+// Whether there is a run at a place, and it begins at `most` or before.
+fn begins_by(runs: &[Run], at: usize, most: u32) -> bool
+    ensures yes { result ≡ true → (at < length runs.now) × (first_of runs.now at ≤ most) }
+    ensures no { result ≡ false → at < length runs.now → most < first_of runs.now at }
+{
+    at < runs.len() && runs[at].first <= most
+}
+
 // The place of the first run, from one on, that begins past `most`.
 fn begins_past(runs: &[Run], from: usize, most: u32) -> usize
     requires runs { AreRuns runs.now }
@@ -95,24 +103,19 @@ fn begins_past(runs: &[Run], from: usize, most: u32) -> usize
     ensures before { (k : ℕ) → from ≤ k → k < result → first_of runs.now k ≤ most }
     ensures after { (k : ℕ) → result ≤ k → k < length runs.now → most < first_of runs.now k }
 {
-    let len = runs.len();
-    if from == len || runs[from].first > most {
+    if !begins_by(runs, from, most) {
         return from;
     }
-    if from + 1 == len || runs[from + 1].first > most {
+    if !begins_by(runs, from + 1, most) {
         return from + 1;
     }
-    let mut low = from;
-    let mut high = len;
-    while low < high {
-        let middle = low + (high - low) / 2;
-        if runs[middle].first <= most {
-            low = middle + 1;
-        } else {
-            high = middle;
-        }
+    // Those before the first run that ends there or later begin before it, those behind it past it.
+    let at = ends_from(runs, most);
+    if begins_by(runs, at, most) {
+        at + 1
+    } else {
+        at
     }
-    low
 }
 
 // Takes the runs from one place up to another away.

@@ -1,9 +1,20 @@
-use Rattle.std.proofs.Common.{◌≡◌, ◌≢◌, ◌∙◌, ◌||◌, ℕ, ◌<◌, Bool, false, get_or, length, set, sym, subst, ap, arith}
+use Rattle.std.proofs.Common.{◌≡◌, ◌≢◌, ◌∙◌, ◌||◌, ℕ, ◌<◌, Bool, false, get_or, length, refl, inl, set, sym, subst, ap, arith}
 use Rattle.std.proofs.lemmas.List.{get_or_read}
 use Rattle.nll_core.specs.Worklist.{Visits}
+use Rattle.nll_core.proofs.GrowingLemmas.{tells_none}
 use Rattle.nll_core.proofs.WorklistLemmas.{visits_pair, met_pair, met_self, eqb_is, eqb_false}
 use Rattle.nll_core.proofs.meeting.meet.Goals as goal
 use Rattle.nll_core.proofs.meeting.meet.Goals.{After-fill}
+
+pub returns-then-eq-clause-visits : goal.returns-then-eq-clause-visits
+returns-then-eq-clause-visits c = record {
+  advances = record { shaped = c.requires.shaped; kept = λ r e h. h; below = λ assignment sat under. under; tells = tells_none c.args.values.now };
+  width = refl;
+  own = refl;
+  marks = λ r. inl refl;
+  stays = λ r h. h;
+  quiet = λ _. refl;
+}
 
 pub returns-then-eq-clause-met : goal.returns-then-eq-clause-met
 returns-then-eq-clause-met c = λ k h.

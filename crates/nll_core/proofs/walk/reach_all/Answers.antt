@@ -1,4 +1,5 @@
-use Rattle.std.proofs.Common.{List, [], subst}
+use Rattle.std.proofs.Common.{◌∙◌, List, [], subst, sym, arith}
+use Rattle.std.proofs.lemmas.Bool.{false≢true}
 use Rattle.std.proofs.lemmas.Result.{on_ok_weaker}
 use Rattle.nll_core.specs.Walking.{Grows, IsLedFrom, FillsFrom}
 use Rattle.nll_sets.specs.declared.run.Run.{Run}
@@ -9,6 +10,21 @@ use Rattle.nll_core.proofs.walk.reach_all.Goals.{In_ok-enter_all}
 -- what was entered, from an empty list
 entered : (c : In_ok-enter_all) → Grows c.args.lines.now c.args.sub.now (IsLedFrom c.args.lines.now c.args.sub.now c.args.pair.now) c.args.reached.now c.enter_all.new.reached [] c.enter_all.new.todo.items
 entered c = subst (λ (items : List Run). Grows c.args.lines.now c.args.sub.now (IsLedFrom c.args.lines.now c.args.sub.now c.args.pair.now) c.args.reached.now c.enter_all.new.reached items c.enter_all.new.todo.items) c.requires.no_list c.in_ok-enter_all.ensures.grows
+
+pub enter_all-requires-clause-closed : goal.enter_all-requires-clause-closed
+enter_all-requires-clause-closed c = λ x h. absurd (false≢true (sym (c.requires.nothing x) ∙ h))
+
+pub spread-requires-clause-widths : goal.spread-requires-clause-widths
+spread-requires-clause-widths c = omega (arith, c.in_ok-enter_all.ensures.grows.width, c.requires.width)
+
+pub returns-then-not-ends-clause-width : goal.returns-then-not-ends-clause-width
+returns-then-not-ends-clause-width c = c.in_ok-ends.ensures.width ∙ c.in_ok-enter_all.ensures.grows.width
+
+pub fill_from-requires-clause-width : goal.fill_from-requires-clause-width
+fill_from-requires-clause-width c = c.in_ok-ends.ensures.width ∙ (c.in_ok-enter_all.ensures.grows.width ∙ (c.requires.width ∙ sym c.requires.sub_width))
+
+pub returns-clause-width : goal.returns-clause-width
+returns-clause-width c = on_ok_weaker c.fill_from.result (λ f. f.width ∙ (c.in_ok-ends.ensures.width ∙ c.in_ok-enter_all.ensures.grows.width)) c.fill_from.ensures
 
 pub spread-requires-clause-inside : goal.spread-requires-clause-inside
 spread-requires-clause-inside c = start_inside _ _ _ _ _ _ c.requires.nothing (entered (goal.at.spread-requires-clause-inside c).In_ok-enter_all)
