@@ -1,5 +1,6 @@
 pub mod LineLemmas
 pub mod ByteLemmas
+pub mod TableLemmas
 pub mod FrontLemmas
 pub mod DigitLemmas
 pub mod TokenLemmas

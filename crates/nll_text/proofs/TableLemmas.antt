@@ -1,0 +1,28 @@
+-- Tables with a place for each byte, held against a test at each of them by computing.
+use Rattle.std.proofs.Common.{◌≡◌, ℕ, zero, suc, ◌<◌, Bool, true, false, ◌&&◌, not, nat_eq, get_or, List, refl, arith, inl, inr}
+use Rattle.std.specs.Bool.{beq}
+use Rattle.std.proofs.lemmas.Bool.{cases_eq}
+
+-- the two tests agree below n
+unfoldable pub agree_below : (ℕ → Bool) → (ℕ → Bool) → ℕ → Bool
+agree_below f g zero = true
+agree_below f g (suc n) = beq (f n) (g n) && agree_below f g n
+
+both_of : (x y rest : Bool) → (beq x y && rest) ≡ true → (x ≡ y) × (rest ≡ true)
+both_of true true rest h = (refl, h)
+both_of true false rest h = cc
+both_of false true rest h = cc
+both_of false false rest h = (refl, h)
+
+agree_at : (f g : ℕ → Bool) (n : ℕ) → agree_below f g n ≡ true → (b : ℕ) → b < n → f b ≡ g b
+unfolding agree_below
+agree_at f g zero h b lt = absurd (omega arith)
+agree_at f g (suc n) h b lt =
+    let both = both_of (f n) (g n) (agree_below f g n) h in
+    elim (cases_eq b n) [ inl same ↦ rw same both.0 | inr other ↦ agree_at f g n both.1 b (omega arith) ]
+
+-- where the table doesn't have the byte `blank`, the test passes
+pub from_table : (table : List ℕ) (blank : ℕ) (passes : ℕ → Bool) (b : ℕ) → b < 256
+    → agree_below (λ k. not (nat_eq (get_or table k 0) blank)) passes 256 ≡ true
+    → not (nat_eq (get_or table b 0) blank) ≡ passes b
+from_table table blank passes b lt h = agree_at _ _ 256 h b lt
