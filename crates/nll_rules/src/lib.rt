@@ -2,7 +2,11 @@
 #![tactic(auto)]
 
 mod asking;
+mod assigning;
+mod borrowing;
+mod calling;
 mod leading;
+mod making;
 mod marking;
 mod places;
 mod reborrow;

@@ -2,9 +2,10 @@
 
 ghost use Rattle.std.specs.Prelude.{◌≡◌, IfOk, map};
 ghost use Rattle.nll_types.specs.Structs as spec;
+ghost use Rattle.nll_types.specs.Types.{named};
 ghost use Rattle.nll_types.specs.Views.{tree, trees};
 
-use crate::copying::copy;
+use crate::copying::{copy, reference};
 use crate::ty::Ty;
 use nll_problem::RegionId;
 use nll_sets::Memory;
@@ -47,6 +48,20 @@ fn argument(alloc: Global, types: &[Ty], number: usize) -> Result<Ty, Memory>
     Ok(found)
 }
 
+// A struct with what its region arguments become, and type arguments.
+fn named_in(
+    alloc: Global,
+    number: usize,
+    own: &[RegionId],
+    regions: &[RegionId],
+    arguments: Vec<Ty>,
+) -> Result<Ty, Memory>
+    ensures { IfOk result (λ t. tree t
+        ≡ named number (map (spec.region_in regions.now) own.now) (trees arguments.items)) }
+{
+    Ok(Ty::Named(number, regions_in(alloc, regions, own)?, arguments))
+}
+
 /// A field's type with the region arguments and the type arguments put in for the parameters.
 ///
 /// # Cost
@@ -63,20 +78,15 @@ pub fn put_in(alloc: Global, ty: &Ty, regions: &[RegionId], types: &[Ty]) -> Res
         }
         Ty::Reference(region, mutable, target) => {
             let target = put_in(alloc, target, regions, types)?;
-            Ok(Ty::Reference(
-                region_in(regions, *region),
-                *mutable,
-                Box::new(alloc, target)?,
-            ))
+            reference(alloc, region_in(regions, *region), *mutable, target)
         }
         Ty::Tuple(parts) => {
             let parts = put_in_all(alloc, parts.as_slice(), regions, types)?;
             Ok(Ty::Tuple(parts))
         }
         Ty::Named(number, own, arguments) => {
-            let own = regions_in(alloc, regions, own.as_slice())?;
             let arguments = put_in_all(alloc, arguments.as_slice(), regions, types)?;
-            Ok(Ty::Named(*number, own, arguments))
+            named_in(alloc, *number, own.as_slice(), regions, arguments)
         }
     }
 }
