@@ -157,14 +157,42 @@ fn bounds_known(names: &Names, bounds: &[(&[u8], &[u8])]) -> bool
     true
 }
 
+// Whether the name is a region's, and where it may stand.
+fn found(names: &Names, name: &[u8]) -> FoundRegions
+    ensures { result.known ≡ is_among names.now name.now }
+{
+    match names.number_of(name) {
+        Some(place) => FoundRegions { known: true, place },
+        None => FoundRegions {
+            known: false,
+            place: 0,
+        },
+    }
+}
+
+/// What is found of the regions that stand outside types in a statement.
+#[derive(Clone, Copy)]
+pub struct FoundRegions {
+    /// Their names are regions'.
+    pub known: bool,
+    /// Where the region of a borrow may stand: a hint, so that it isn't sought again.
+    pub place: usize,
+}
+
 /// Whether the names of regions that stand outside types in a statement are regions'.
-pub fn regions_known(names: &Names, statement: &Statement<&[u8], TypeText<'_>>) -> bool
-    ensures { result ≡ list_all (is_among names.now)
+pub fn regions_known(names: &Names, statement: &Statement<&[u8], TypeText<'_>>) -> FoundRegions
+    ensures { result.known ≡ list_all (is_among names.now)
         (map (λ r. r.now) (regions_written (statement_of statement.now))) }
 {
     match statement {
-        Statement::Borrow(_, region, _, _) => is_region(names, *region),
-        Statement::Call(call) => bounds_known(names, call.wheres.as_slice()),
-        _ => true,
+        Statement::Borrow(_, region, _, _) => found(names, *region),
+        Statement::Call(call) => {
+            let known = bounds_known(names, call.wheres.as_slice());
+            FoundRegions { known, place: 0 }
+        }
+        _ => FoundRegions {
+            known: true,
+            place: 0,
+        },
     }
 }

@@ -34,6 +34,17 @@ fn region_meant(regions: &Regions, name: &[u8]) -> RegionId
     }
 }
 
+// The region that a name means, which may stand at this place.
+fn region_near(regions: &Regions, place: usize, name: &[u8]) -> RegionId
+    requires { length regions.now.names ≤ most_regions }
+    ensures { result ≡ number_of regions.now.names name.now }
+{
+    if regions.names.is_at(place, name) {
+        return RegionId(place as u32);
+    }
+    region_meant(regions, name)
+}
+
 // A bound of a call.
 fn bound_meant(regions: &Regions, bound: &(&[u8], &[u8])) -> (RegionId, RegionId)
     requires { length regions.now.names ≤ most_regions }
@@ -194,12 +205,14 @@ fn called_meant(
     Ok(Statement::Call(Box::new(alloc, meant)?))
 }
 
-/// The statement that a written statement means. It recurses to the depth of its types.
+/// The statement that a written statement means; the region of a borrow may stand at this place.
+/// It recurses to the depth of its types.
 pub fn statement_meant(
     alloc: Global,
     regions: &Regions,
     structs: &StructNames,
     statement: Statement<&[u8], TypeText<'_>>,
+    place: usize,
 ) -> Result<Statement<RegionId, Ty>, Memory>
     requires none { structs.now.none ≡ [] }
     requires few { length regions.now.names ≤ most_regions }
@@ -207,13 +220,13 @@ pub fn statement_meant(
         ≡ meant_in (scope_in regions.now structs.now) (as_written statement.entry)) }
 {
     match statement {
-        Statement::Assign(place, operand) => Ok(Statement::Assign(place, operand)),
-        Statement::Borrow(place, region, mutable, source) => {
-            let region = region_meant(regions, region);
-            Ok(Statement::Borrow(place, region, mutable, source))
+        Statement::Assign(target, operand) => Ok(Statement::Assign(target, operand)),
+        Statement::Borrow(target, region, mutable, source) => {
+            let region = region_near(regions, place, region);
+            Ok(Statement::Borrow(target, region, mutable, source))
         }
         Statement::Make(made) => make_meant(alloc, regions, structs, made),
-        Statement::Read(place) => Ok(Statement::Read(place)),
+        Statement::Read(source) => Ok(Statement::Read(source)),
         Statement::Live(variable) => Ok(Statement::Live(variable)),
         Statement::Dead(variable) => Ok(Statement::Dead(variable)),
         Statement::Nop => Ok(Statement::Nop),

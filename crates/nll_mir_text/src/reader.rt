@@ -54,6 +54,15 @@ pub struct Reader {
     points: Points,
 }
 
+// A statement that may stand at the next point.
+#[derive(Clone, Copy)]
+struct Admitted {
+    // How many edges there are with those of it.
+    edges: usize,
+    // Where the region of a borrow may stand.
+    region: usize,
+}
+
 // The group of a line.
 fn group(line: &Line<'_>) -> u8
     ensures { result ≡ specs.group (form_of line.now) }
@@ -382,11 +391,11 @@ impl Reader {
         &self,
         judged: JudgedPoint,
         statement: &Statement<&[u8], TypeText<'_>>,
-    ) -> Result<usize, TextKind>
+    ) -> Result<Admitted, TextKind>
         requires due { IsDue self.now (form_of (lines.At statement.now)) }
         requires judged { IsOfPoint (said_by self.now) (as_written statement.now) judged }
-        ensures admitted { IfOk result (λ edges.
-            IsAdmitted (said_by self.now) (as_written statement.now) edges self.now) }
+        ensures admitted { IfOk result (λ a.
+            IsAdmitted (said_by self.now) (as_written statement.now) a.edges self.now) }
         ensures refused { IfErr result
             (IsRefused (said_by self.now) (form_of (lines.At statement.now))) }
     {
@@ -409,14 +418,17 @@ impl Reader {
         if edges > MAX_EDGES {
             return Err(TextKind::Limit(Kind::Edges));
         }
-        Ok(edges)
+        Ok(Admitted {
+            edges,
+            region: judged.region,
+        })
     }
 
     // Judges what is to stand at the next point: how many edges there are with those of it.
-    fn admit(&mut self, statement: &Statement<&[u8], TypeText<'_>>) -> Result<usize, TextKind>
+    fn admit(&mut self, statement: &Statement<&[u8], TypeText<'_>>) -> Result<Admitted, TextKind>
         requires { IsDue self.old (form_of (lines.At statement.now)) }
-        ensures admitted { IfOk result (λ edges.
-            IsAdmitted (said_by self.old) (as_written statement.now) edges self.new) }
+        ensures admitted { IfOk result (λ a.
+            IsAdmitted (said_by self.old) (as_written statement.now) a.edges self.new) }
         ensures refused { IfErr result
             (IsRefused (said_by self.old) (form_of (lines.At statement.now))) }
     {
@@ -431,14 +443,19 @@ impl Reader {
         self.admit_judged(judged, statement)
     }
 
-    // Puts a statement that is admitted at the next point, with so many edges in all.
-    fn put(&mut self, statement: Statement<&[u8], TypeText<'_>>, edges: usize) -> Result<(), Memory>
-        requires { IsAdmitted (said_by self.old) (as_written statement) edges self.old }
+    // Puts a statement that is admitted at the next point.
+    fn put(
+        &mut self,
+        statement: Statement<&[u8], TypeText<'_>>,
+        admitted: Admitted,
+    ) -> Result<(), Memory>
+        requires { IsAdmitted (said_by self.old) (as_written statement) admitted.edges self.old }
         ensures { OnOk result
             (IsTaken (said_by self.old) (form_of (lines.At statement.entry)) self.new) }
     {
-        let meant = statement_meant(self.alloc, &self.regions, &self.structs, statement)?;
-        add_point(&mut self.points, meant, edges)?;
+        let (regions, structs) = (&self.regions, &self.structs);
+        let meant = statement_meant(self.alloc, regions, structs, statement, admitted.region)?;
+        add_point(&mut self.points, meant, admitted.edges)?;
         self.reached = 7;
         Ok(())
     }
@@ -452,8 +469,8 @@ impl Reader {
             (IsRefused (said_by self.old) (form_of (lines.At statement.entry))) }
     {
         match self.admit(&statement) {
-            Ok(edges) => {
-                self.put(statement, edges)?;
+            Ok(admitted) => {
+                self.put(statement, admitted)?;
                 Ok(())
             }
             Err(kind) => {

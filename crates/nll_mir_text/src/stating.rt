@@ -27,6 +27,8 @@ pub struct JudgedPoint {
     pub fits: bool,
     /// Its types fit, and none of them is too large.
     pub small: bool,
+    /// Where the region of a borrow may stand.
+    pub region: usize,
 }
 
 /// Judges a statement, and puts the shapes of its types into the table.
@@ -53,9 +55,10 @@ pub fn judge_point(
     let table = &mut variables.table;
     let judged = judge_statement(alloc, table, shapes, statement, types.shapes.as_slice())?;
     Ok(JudgedPoint {
-        known: declared & regions & types.known,
+        known: declared & regions.known & types.known,
         fits: types.fit & judged.fits,
         small: judged.small,
+        region: regions.place,
     })
 }
 

@@ -9,4 +9,4 @@ returns-in-Call c =
     let inside = c.deref.ensures in
     let slice = c.as_slice.ensures.value in
     let bounds : c.as_slice.result.now ≡ c.in-Call.call.value.wheres.items = cc in
-    rw c.in-Call.is (c.bounds_known.ensures ∙ (ap (list_all (is_bound c.args.names.now)) bounds ∙ names_of_bounds c.args.names.now c.in-Call.call.value.wheres.items))
+    rw c.in-Call.is (c.bounds_known-known.ensures ∙ (ap (list_all (is_bound c.args.names.now)) bounds ∙ names_of_bounds c.args.names.now c.in-Call.call.value.wheres.items))

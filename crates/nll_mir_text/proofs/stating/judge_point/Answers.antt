@@ -22,7 +22,7 @@ returns-clause-judged c =
     (λ (r : Bor (List ℕ)). number_of c.args.regions.now.names r.now)
     (λ (t : List TypeNode). meant (scope_in c.args.regions.now c.args.structs.now) (written t)) variables types in
     point_judged c.args.regions.now c.args.structs.now c.args.variables.now c.args.statement.now
-    c.variables_declared-declared.result c.regions_known-regions.result c.in_ok-types.types.known c.in_ok-types.types.fit c.in_ok-judged.judged _ refl refl refl
+    c.variables_declared-declared.result c.regions_known-regions.result.known c.in_ok-types.types.known c.in_ok-types.types.fit c.in_ok-judged.judged _ refl refl refl
     (rw count at c.variables_declared-declared.ensures)
     c.regions_known-regions.ensures
     t.known

@@ -6,4 +6,4 @@ use Rattle.nll_mir_text.proofs.reader.Reader.add_statement.Goals as goal
 pub put-requires : goal.put-requires
 put-requires c =
     let h = c.in-Ok.ensures.admitted in
-    subst (λ s. IsAdmitted s (as_written c.args.statement) c.in-Ok.edges c.admit.new.self) (sym h.same) h
+    subst (λ s. IsAdmitted s (as_written c.args.statement) c.in-Ok.admitted.edges c.admit.new.self) (sym h.same) h
