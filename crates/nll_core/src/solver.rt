@@ -12,7 +12,8 @@ ghost use Rattle.nll_problem.specs.Solution.{Least};
 ghost use Rattle.nll_problem.specs.declared.constraint.Constraint as spec;
 ghost use Rattle.nll_core.specs.Values.{IsHeld, IsShaped};
 ghost use Rattle.nll_core.specs.Growing.{StaysBelow, IsClosed, IsMet};
-ghost use Rattle.nll_core.specs.Worklist.{AreRegions, IsTracked, IsCleared, Turns, Visits};
+ghost use Rattle.nll_core.specs.Worklist.{AreRegions, IsTracked, IsCleared, IsOnTheWay, Turns};
+ghost use Rattle.nll_core.specs.Worklist.{Visits};
 
 use crate::bases::base_values;
 use crate::lines::Lines;
@@ -99,8 +100,34 @@ fn visit_all(
     let order = order_of(alloc, problem, index)?;
     let mut marks = vec![in alloc; true; problem.regions() as usize]?;
     let mut walk = Walk::new(alloc, problem.points() + problem.universals())?;
-    while sweep_backwards(problem, lines, index, &order, values, &mut marks, &mut walk)? {}
-    while sweep_all(problem, lines, index, values, &mut marks, &mut walk)? {}
+    let told = sweep(problem, lines, index, &order, values, &mut marks, &mut walk);
+    drop(walk);
+    told
+}
+
+// Visits marked regions until none is marked.
+fn sweep(
+    problem: &Problem,
+    lines: &Lines,
+    index: &ConstraintIndex,
+    order: &[u32],
+    values: &mut Values,
+    marks: &mut Vec<bool>,
+    walk: &mut Walk,
+) -> Result<(), Memory>
+    requires lines { lines.now ≡ problem.now.graph }
+    requires index { SameSet index.now problem.now.constraints }
+    requires order { AreRegions problem.now order.now }
+    requires walk { length walk.old.reached ≡ element_count lines.now }
+    requires way { IsOnTheWay problem.now values.old values.old marks.old.items }
+    ensures shaped { OnOk result (IsShaped problem.now values.new) }
+    ensures kept { OnOk result ((r e : ℕ) → IsHeld values.old r e → IsHeld values.new r e) }
+    ensures below { OnOk result (StaysBelow problem.now values.old values.new) }
+    ensures closed { OnOk result (IsClosed problem.now values.new) }
+{
+    let _regions = problem.regions();
+    while sweep_backwards(problem, lines, index, order, values, marks, walk)? {}
+    while sweep_all(problem, lines, index, values, marks, walk)? {}
     Ok(())
 }
 

@@ -1,7 +1,7 @@
 use Rattle.std.proofs.Common.{◌≡◌, ◌∙◌, ℕ, true, length, replicate, sym, subst, ap, arith}
 use Rattle.std.proofs.lemmas.List.{length-replicate}
 use Rattle.nll_core.specs.Worklist.{IsTracked, AreRegions}
-use Rattle.nll_core.proofs.WorklistLemmas.{closed_clean, tracked_first}
+use Rattle.nll_core.proofs.WorklistLemmas.{tracked_first}
 use Rattle.nll_core.proofs.solver.visit_all.Goals as goal
 use Rattle.nll_core.proofs.solver.visit_all.Goals.{In_ok-marks}
 
@@ -9,22 +9,19 @@ use Rattle.nll_core.proofs.solver.visit_all.Goals.{In_ok-marks}
 all_marked : (c : In_ok-marks) → c.in_ok-marks.marks.items ≡ replicate c.args.problem.now.regions true
 all_marked c = c.in_ok-marks.ensures.items_if_clones_equal (λ y e. e) ∙ ap (λ (n : ℕ). replicate n true) c.regions.ensures.value
 
-pub loop-walk-init : goal.loop-walk-init
-loop-walk-init c =
-    let d = (goal.at.loop-walk-init c).In_ok-marks in
+pub sweep-told-requires-clause-way : goal.sweep-told-requires-clause-way
+sweep-told-requires-clause-way c =
+    let d = (goal.at.sweep-told-requires-clause-way c).In_ok-marks in
     record {
-      way = record {
-        shaped = c.requires.shaped;
-        kept = λ r e h. h;
-        below = λ assignment sat under. under;
-        width = ap length (all_marked d) ∙ length-replicate c.args.problem.now.regions true;
-        tracked = subst (IsTracked c.args.problem.now c.args.values.now) (sym (all_marked d)) (tracked_first c.args.problem.now c.regions.ensures.sound c.args.values.now);
-      };
-      walk = rw c.requires.lines (omega (arith, c.in_ok-walk.ensures, c.points.ensures.value, c.universals.ensures.value));
+      shaped = c.requires.shaped;
+      kept = λ r e h. h;
+      below = λ assignment sat under. under;
+      width = ap length (all_marked d) ∙ length-replicate c.args.problem.now.regions true;
+      tracked = subst (IsTracked c.args.problem.now c.args.values.now) (sym (all_marked d)) (tracked_first c.args.problem.now c.regions.ensures.sound c.args.values.now);
     }
 
-pub sweep_backwards-requires-clause-order : goal.sweep_backwards-requires-clause-order
-sweep_backwards-requires-clause-order c = subst (AreRegions c.args.problem.now) (sym c.deref.ensures.value) c.in_ok-order.ensures
+pub sweep-told-requires-clause-walk : goal.sweep-told-requires-clause-walk
+sweep-told-requires-clause-walk c = rw c.requires.lines (omega (arith, c.in_ok-walk.ensures, c.points.ensures.value, c.universals.ensures.value))
 
-pub returns-clause-closed : goal.returns-clause-closed
-returns-clause-closed c = closed_clean c.args.problem.now c.regions.ensures.sound c.sweep_all.new.values c.sweep_all.new.marks.items c.in_ok-sweep_all.ensures.turns.tracked (c.in_ok-sweep_all.ensures.clean c.if-branch-2.false)
+pub sweep-told-requires-clause-order : goal.sweep-told-requires-clause-order
+sweep-told-requires-clause-order c = subst (AreRegions c.args.problem.now) (sym c.deref.ensures.value) c.in_ok-order.ensures
