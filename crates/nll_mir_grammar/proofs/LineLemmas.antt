@@ -17,14 +17,14 @@ use Rattle.nll_type_grammar.specs.declared.type_text.TypeNode.{TypeNode}
 use Rattle.nll_mir_grammar.specs.Lines.{argument_of}
 use Rattle.nll_statements.specs.Statements.{assign, borrow, make, read, live, dead, nop, goto, switch, drop, call, return, stop}
 use Rattle.nll_mir_grammar.specs.MirForms.{Form, universal, outlives, further, struct_line, variable, blocks, block, at_point, end, spelled_form, IsWritable, IsWritableOperand, IsSpelled}
-use Rattle.nll_mir_grammar.specs.Grammars.{Begins, HasNone, behind, pair}
+use Rattle.nll_mir_grammar.specs.Grammars.{Begins, HasNone, IsNotNext, behind, pair}
 use Rattle.nll_mir_grammar.specs.Parts.{any_words, places, operands, arguments, block_names, MayFollowOperand, MayFollowUnwind}
 use Rattle.nll_mir_grammar.specs.Kinds.{borrows, makes, signatures, value, borrowed, made, called, rights, tails, keyword_name, LineParts, line_grammars, lines, parts_of, IsLine, IsRightSide, IsBehind, HasNoKeyword}
 use Rattle.nll_mir_grammar.specs.declared.keyword.Keyword.{Keyword}
 use Rattle.nll_mir_grammar.specs.declared.keyword.Keyword.TheVariants as words
-use Rattle.nll_mir_grammar.proofs.GrammarLemmas.{append_nil, behind_found, behind_none, pair_found, head_same}
-use Rattle.nll_mir_grammar.proofs.PartLemmas.{no_projection_left}
-use Rattle.nll_mir_grammar.proofs.KindLemmas.{lines_one, line_kind, line_kind_of, line_kind_of_name}
+use Rattle.nll_mir_grammar.proofs.GrammarLemmas.{append_nil, behind_found, behind_none, pair_found, pair_none_behind, head_same}
+use Rattle.nll_mir_grammar.proofs.PartLemmas.{no_projection_left, places_one}
+use Rattle.nll_mir_grammar.proofs.KindLemmas.{rights_join, no_value, lines_one, line_kind, line_kind_of, line_kind_of_name}
 
 -- ---- right sides
 
@@ -79,6 +79,29 @@ assignment_line ts mid after p f r b e s = record {
       let z : Begins lines ts (None, (p, s.right)) r = record { joined = y.joined; allowed = y.allowed; follows = y.follows } in
       subst (λ l. Begins lines ts l r) (sym s.same) z;
 }
+
+-- what was read behind `=`
+pub read_assigned : {R E : Type 0} (ts after : List Token) (p : PlacePath) (form : R → Form) (rest : R → List Token) (r : Result (Option R) E) → ts ≡ sign 61 ∷ after → IfOk r (λ o. MatchOption o (HasNone rights after) (λ x. IsRightSide after p (form x) (rest x))) → IfOk r (λ o. MatchOption o (HasNone (behind (sign 61) rights) ts) (λ x. (after : List Token) × (ts ≡ sign 61 ∷ after) × IsRightSide after p (form x) (rest x)))
+read_assigned ts after p form rest (Ok None) e h = behind_none rights (sign 61) ts after e h
+read_assigned ts after p form rest (Ok (Some x)) e h = (after, e, h)
+read_assigned ts after p form rest (Err x) e h = tt
+
+-- what was read behind a place
+pub read_behind_place : {R E : Type 0} (ts mid : List Token) (p : PlacePath) (form : R → Form) (rest : R → List Token) (r : Result (Option R) E) → Begins places ts p mid → IfOk r (λ o. MatchOption o (HasNone (behind (sign 61) rights) mid) (λ x. (after : List Token) × (mid ≡ sign 61 ∷ after) × IsRightSide after p (form x) (rest x))) → IfOk r (λ o. MatchOption o (HasNone (line_grammars None) ts) (λ x. IsLine ts (form x) (rest x)))
+read_behind_place ts mid p form rest (Ok None) b h = pair_none_behind places (behind (sign 61) rights) places_one rights_join ts mid p b h
+read_behind_place ts mid p form rest (Ok (Some x)) b h = assignment_line ts mid h.0 p (form x) (rest x) b h.1 h.2
+read_behind_place ts mid p form rest (Err x) b h = tt
+
+-- an operand where no other right side begins
+pub read_value_side : {R E : Type 0} (ts : List Token) (p : PlacePath) (form : R → Form) (rest : R → List Token) (r : Result (Option R) E) → IsNotNext (sign 38) ts → IsNotNext (word (codes "make")) ts → IsNotNext (word (codes "call")) ts → IfOk r (λ o. MatchOption o (HasNone operands ts) (λ x. IsRightSide ts p (form x) (rest x))) → IfOk r (λ o. MatchOption o (HasNone rights ts) (λ x. IsRightSide ts p (form x) (rest x)))
+read_value_side ts p form rest (Ok None) a b d h = no_value ts a b d h
+read_value_side ts p form rest (Ok (Some x)) a b d h = h
+read_value_side ts p form rest (Err x) a b d h = tt
+
+-- a right side behind its first token
+pub read_side_behind : {R E : Type 0} (ts after : List Token) (t : Token) (p : PlacePath) (form : R → Form) (rest : R → List Token) (r : Result (Option R) E) → ts ≡ t ∷ after → IfOk r (λ o. (us : List Token) → us ≡ t ∷ after → MatchOption o (HasNone rights us) (λ x. IsRightSide us p (form x) (rest x))) → IfOk r (λ o. MatchOption o (HasNone rights ts) (λ x. IsRightSide ts p (form x) (rest x)))
+read_side_behind ts after t p form rest (Ok o) e h = h ts e
+read_side_behind ts after t p form rest (Err x) e h = tt
 
 -- ---- lines
 

@@ -4,48 +4,41 @@ ghost use Rattle.std.specs.Prelude.{◌≡◌, ◌∷◌, IfOk, List, MatchOptio
 ghost use Rattle.nll_text.specs.Tokens as lex;
 ghost use Rattle.nll_text.specs.Tokens.{views};
 ghost use Rattle.nll_types.specs.Places.{path_of};
-ghost use Rattle.nll_mir_grammar.specs.Grammars.{HasNone};
+ghost use Rattle.nll_mir_grammar.specs.Grammars.{HasNone, behind};
 ghost use Rattle.nll_mir_grammar.specs.Kinds.{IsLine, IsRightSide, line_grammars, rights};
-ghost use Rattle.nll_mir_grammar.specs.Lines.{point_form};
+ghost use Rattle.nll_mir_grammar.specs.Lines.{form_of};
 ghost use Rattle.nll_mir_grammar.specs.Parts.{operands};
 
+use crate::line::Line;
+use crate::pairs::Read;
 use crate::place::{operand_at, place_at};
 use crate::right::{borrow_at, make_at, signature_at};
 use crate::words::{after_sign, after_word, word_at};
-use nll_sets::Memory;
 use nll_statements::{Call, Make, Statement};
 use nll_text::Token;
-use nll_type_grammar::TypeText;
 use nll_types::Place;
 use std::alloc::Global;
 
 // The borrow that goes to the place, behind its `&`.
-fn borrowed<'t, 'a>(
-    alloc: Global,
-    place: Place,
-    tokens: &'t [Token<'a>],
-) -> Result<Option<(Statement<&'a [u8], TypeText<'a>>, &'t [Token<'a>])>, Memory>
+fn borrowed<'t, 'a>(alloc: Global, place: Place, tokens: &'t [Token<'a>]) -> Read<'t, 'a, Line<'a>>
     ensures { IfOk result
         (λ o. (ts : List lex.Token) → ts ≡ lex.sign 38 ∷ views tokens.now
         → MatchOption o (HasNone rights ts)
-        (λ p. IsRightSide ts (path_of place) (point_form p.0) (views p.1.now))) }
+        (λ p. IsRightSide ts (path_of place) (form_of p.0) (views p.1.now))) }
 {
     let Some((region, mutable, source, rest)) = borrow_at(alloc, tokens)? else {
         return Ok(None);
     };
-    Ok(Some((Statement::Borrow(place, region, mutable, source), rest)))
+    let borrow = Statement::Borrow(place, region, mutable, source);
+    Ok(Some((Line::At(borrow), rest)))
 }
 
 // The value of a tuple or struct that goes to the place, behind `make`.
-fn made<'t, 'a>(
-    alloc: Global,
-    place: Place,
-    tokens: &'t [Token<'a>],
-) -> Result<Option<(Statement<&'a [u8], TypeText<'a>>, &'t [Token<'a>])>, Memory>
+fn made<'t, 'a>(alloc: Global, place: Place, tokens: &'t [Token<'a>]) -> Read<'t, 'a, Line<'a>>
     ensures { IfOk result
         (λ o. (ts : List lex.Token) → ts ≡ lex.word (codes "make") ∷ views tokens.now
         → MatchOption o (HasNone rights ts)
-        (λ p. IsRightSide ts (path_of place) (point_form p.0) (views p.1.now))) }
+        (λ p. IsRightSide ts (path_of place) (form_of p.0) (views p.1.now))) }
 {
     let Some((made, rest)) = make_at(alloc, tokens)? else {
         return Ok(None);
@@ -56,19 +49,16 @@ fn made<'t, 'a>(
         ty,
         operands,
     };
-    Ok(Some((Statement::Make(Box::new(alloc, make)?), rest)))
+    let make = Statement::Make(Box::new(alloc, make)?);
+    Ok(Some((Line::At(make), rest)))
 }
 
 // The call whose result goes to the place, behind `call`.
-fn called<'t, 'a>(
-    alloc: Global,
-    place: Place,
-    tokens: &'t [Token<'a>],
-) -> Result<Option<(Statement<&'a [u8], TypeText<'a>>, &'t [Token<'a>])>, Memory>
+fn called<'t, 'a>(alloc: Global, place: Place, tokens: &'t [Token<'a>]) -> Read<'t, 'a, Line<'a>>
     ensures { IfOk result
         (λ o. (ts : List lex.Token) → ts ≡ lex.word (codes "call") ∷ views tokens.now
         → MatchOption o (HasNone rights ts)
-        (λ p. IsRightSide ts (path_of place) (point_form p.0) (views p.1.now))) }
+        (λ p. IsRightSide ts (path_of place) (form_of p.0) (views p.1.now))) }
 {
     let Some((_, behind)) = word_at(tokens) else {
         return Ok(None);
@@ -87,24 +77,21 @@ fn called<'t, 'a>(
         target,
         unwind,
     };
-    Ok(Some((Statement::Call(Box::new(alloc, call)?), rest)))
+    let call = Statement::Call(Box::new(alloc, call)?);
+    Ok(Some((Line::At(call), rest)))
 }
 
 // The operand that goes to the place.
-fn assigned<'t, 'a>(
-    alloc: Global,
-    place: Place,
-    tokens: &'t [Token<'a>],
-) -> Result<Option<(Statement<&'a [u8], TypeText<'a>>, &'t [Token<'a>])>, Memory>
+fn assigned<'t, 'a>(alloc: Global, place: Place, tokens: &'t [Token<'a>]) -> Read<'t, 'a, Line<'a>>
     ensures { IfOk result
         (λ o. MatchOption o (HasNone operands (views tokens.now))
-        (λ p. IsRightSide (views tokens.now) (path_of place) (point_form p.0)
+        (λ p. IsRightSide (views tokens.now) (path_of place) (form_of p.0)
         (views p.1.now))) }
 {
     let Some((operand, rest)) = operand_at(alloc, tokens)? else {
         return Ok(None);
     };
-    Ok(Some((Statement::Assign(place, operand), rest)))
+    Ok(Some((Line::At(Statement::Assign(place, operand)), rest)))
 }
 
 // What goes to the place: the right side of an assignment.
@@ -112,10 +99,10 @@ fn right_side<'t, 'a>(
     alloc: Global,
     place: Place,
     tokens: &'t [Token<'a>],
-) -> Result<Option<(Statement<&'a [u8], TypeText<'a>>, &'t [Token<'a>])>, Memory>
+) -> Read<'t, 'a, Line<'a>>
     ensures { IfOk result
         (λ o. MatchOption o (HasNone rights (views tokens.now))
-        (λ p. IsRightSide (views tokens.now) (path_of place) (point_form p.0)
+        (λ p. IsRightSide (views tokens.now) (path_of place) (form_of p.0)
         (views p.1.now))) }
 {
     if let Some(behind) = after_sign(tokens, b'&') {
@@ -127,29 +114,34 @@ fn right_side<'t, 'a>(
     if let Some(behind) = after_word(tokens, b"call") {
         return called(alloc, place, behind);
     }
-    let Some((statement, rest)) = assigned(alloc, place, tokens)? else {
-        return Ok(None);
-    };
-    Ok(Some((statement, rest)))
+    assigned(alloc, place, tokens)
+}
+
+// The `=` of an assignment to the place, and what goes there.
+fn right_behind<'t, 'a>(
+    alloc: Global,
+    place: Place,
+    tokens: &'t [Token<'a>],
+) -> Read<'t, 'a, Line<'a>>
+    ensures { IfOk result
+        (λ o. MatchOption o (HasNone (behind (lex.sign 61) rights) (views tokens.now))
+        (λ p. (after : List lex.Token) × (views tokens.now ≡ lex.sign 61 ∷ after)
+        × IsRightSide after (path_of place) (form_of p.0) (views p.1.now))) }
+{
+    match after_sign(tokens, b'=') {
+        Some(behind) => right_side(alloc, place, behind),
+        None => Ok(None),
+    }
 }
 
 /// The assignment at the front.
-pub fn assignment_at<'t, 'a>(
-    alloc: Global,
-    tokens: &'t [Token<'a>],
-) -> Result<Option<(Statement<&'a [u8], TypeText<'a>>, &'t [Token<'a>])>, Memory>
+pub fn assignment_at<'t, 'a>(alloc: Global, tokens: &'t [Token<'a>]) -> Read<'t, 'a, Line<'a>>
     ensures { IfOk result
         (λ o. MatchOption o (HasNone (line_grammars None) (views tokens.now))
-        (λ p. IsLine (views tokens.now) (point_form p.0) (views p.1.now))) }
+        (λ p. IsLine (views tokens.now) (form_of p.0) (views p.1.now))) }
 {
     let Some((place, behind)) = place_at(alloc, tokens)? else {
         return Ok(None);
     };
-    let Some(behind) = after_sign(behind, b'=') else {
-        return Ok(None);
-    };
-    let Some((statement, rest)) = right_side(alloc, place, behind)? else {
-        return Ok(None);
-    };
-    Ok(Some((statement, rest)))
+    right_behind(alloc, place, behind)
 }

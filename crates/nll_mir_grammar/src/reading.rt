@@ -1,12 +1,12 @@
 //! Reading a line from its tokens.
 
-ghost use Rattle.std.specs.Prelude.{◌≡◌, ◌∷◌, IfOk, MatchOption, None};
+ghost use Rattle.std.specs.Prelude.{◌≡◌, ◌∷◌, IfOk, MatchOption};
 ghost use Rattle.nll_text.specs.Tokens as lex;
 ghost use Rattle.nll_text.specs.Tokens.{views};
 ghost use Rattle.nll_mir_grammar.specs.Grammars.{HasNone};
 ghost use Rattle.nll_mir_grammar.specs.Kinds as kinds;
 ghost use Rattle.nll_mir_grammar.specs.Kinds.{HasNoKeyword, IsBehind, IsLine, keyword_name};
-ghost use Rattle.nll_mir_grammar.specs.Kinds.{line_grammars, tails};
+ghost use Rattle.nll_mir_grammar.specs.Kinds.{tails};
 ghost use Rattle.nll_mir_grammar.specs.Lines.{form_of};
 ghost use Rattle.nll_mir_grammar.specs.MirForms.{Form, IsSpelled};
 
@@ -65,18 +65,6 @@ fn keyword_at<'t, 'a>(tokens: &'t [Token<'a>]) -> Option<(Keyword, &'t [Token<'a
     Some((keyword, rest))
 }
 
-// The line at the front, where that is an assignment.
-fn assignment_line<'t, 'a>(alloc: Global, tokens: &'t [Token<'a>]) -> Read<'t, 'a, Line<'a>>
-    ensures { IfOk result
-        (λ o. MatchOption o (HasNone (line_grammars None) (views tokens.now))
-        (λ p. IsLine (views tokens.now) (form_of p.0) (views p.1.now))) }
-{
-    let Some((statement, rest)) = assignment_at(alloc, tokens)? else {
-        return Ok(None);
-    };
-    Ok(Some((Line::At(statement), rest)))
-}
-
 // The line at the front.
 fn line_at<'t, 'a>(alloc: Global, tokens: &'t [Token<'a>]) -> Read<'t, 'a, Line<'a>>
     ensures { IfOk result (λ o. MatchOption o (HasNone kinds.lines (views tokens.now))
@@ -84,7 +72,7 @@ fn line_at<'t, 'a>(alloc: Global, tokens: &'t [Token<'a>]) -> Read<'t, 'a, Line<
 {
     match keyword_at(tokens) {
         Some((keyword, rest)) => line_behind(alloc, keyword, rest),
-        None => assignment_line(alloc, tokens),
+        None => assignment_at(alloc, tokens),
     }
 }
 

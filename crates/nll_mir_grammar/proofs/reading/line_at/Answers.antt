@@ -7,4 +7,4 @@ pub returns-in-Some : goal.returns-in-Some
 returns-in-Some c = read_keyword_line _ _ _ (λ p. form_of p.0) (λ p. views p.1.now) _ c.in-Some.ensures c.line_behind.ensures
 
 pub returns-in-None : goal.returns-in-None
-returns-in-None c = read_assignment _ (λ p. form_of p.0) (λ p. views p.1.now) _ c.in-None.ensures c.assignment_line.ensures
+returns-in-None c = read_assignment _ (λ p. form_of p.0) (λ p. views p.1.now) _ c.in-None.ensures c.assignment_at.ensures
