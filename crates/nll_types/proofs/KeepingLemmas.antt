@@ -1,15 +1,16 @@
 -- Types that keep to what is declared, looked at one by one.
-use Rattle.std.proofs.Common.{◌≡◌, ℕ, zero, suc, ◌+◌, ◌<◌, List, [], ◌∷◌, length, sym, ◌∙◌, subst, refl, arith, ⊎_elim}
-use Rattle.std.specs.Prelude.{slice_get, Some}
-use Rattle.std.specs.Prelude.{All}
-use Rattle.std.proofs.lemmas.Bool.{cases_lt}
+use Rattle.std.proofs.Common.{◌≡◌, ℕ, zero, suc, ◌+◌, ◌<◌, List, [], ◌∷◌, length, sym, ap, ◌∙◌, subst, refl, arith, ⊎_elim}
+use Rattle.std.specs.Prelude.{slice_get, Some, All, IsTrue, ◌==◌, ◌↔◌}
+use Rattle.std.proofs.lemmas.Bool.{cases_lt, eqb-true, eq-eqb}
+use Rattle.std.proofs.lemmas.Option.{slice_get_within}
 use Rattle.std.proofs.lemmas.List.{length-map}
 use Rattle.nll_types.specs.Types.{named}
-use Rattle.nll_types.specs.Structs.{Struct, struct_at, IsWellFormed, AreWellFormed}
+use Rattle.nll_types.specs.Structs.{Struct, no_struct, struct_at, IsWellFormed, AreWellFormed}
 use Rattle.nll_types.specs.Views.{tree, trees}
 use Rattle.nll_types.specs.Declarations.{declared, structs_of}
 use Rattle.nll_types.specs.declared.structs.Declaration.{Declaration}
 use Rattle.nll_types.proofs.ViewLemmas.{count_trees}
+use Rattle.nll_types.proofs.DeclareLemmas.{get_mapped}
 use Rattle.nll_types.specs.declared.ty.Ty.{Ty}
 
 -- the first types of the row keep to what is declared
@@ -39,6 +40,24 @@ good_more structs n p types k t good is here j u l e = ⊎_elim
 -- the struct takes so many region arguments and type arguments
 abbrev pub Takes : List Declaration → ℕ → ℕ → ℕ → Type 0
 Takes ds s regions types = (s < length ds) × (regions ≡ length (struct_at (structs_of ds) s).regions) × (types ≡ length (struct_at (structs_of ds) s).types)
+
+-- the struct of a declaration that has so many region parameters
+pub takes_types : (ds : List Declaration) (s regions types n : ℕ) (d : Declaration) → slice_get ds s ≡ Some d → regions ≡ length d.regions.items → n ≡ length d.types.items
+    → IsTrue (types == n) ↔ Takes ds s regions types
+takes_types ds s regions types n d at r e =
+    let is = get_mapped declared ds s d no_struct at in (
+      λ h. (slice_get_within ds s d at, r ∙ sym (ap (λ (z : Struct). length z.regions) is), eqb-true types n h ∙ e ∙ sym (ap (λ (z : Struct). length z.types) is)),
+      λ t. eq-eqb types n (t.2 ∙ ap (λ (z : Struct). length z.types) is ∙ sym e),
+    )
+
+-- and of one that has another number of them
+pub takes_other : (ds : List Declaration) (s regions types n : ℕ) (d : Declaration) → slice_get ds s ≡ Some d → n ≡ length d.regions.items → (regions ≡ n → ⊥)
+    → IsTrue (regions == n) ↔ Takes ds s regions types
+takes_other ds s regions types n d at e not =
+    let is = get_mapped declared ds s d no_struct at in (
+      λ h. absurd (not (eqb-true regions n h)),
+      λ t. absurd (not (t.1 ∙ ap (λ (z : Struct). length z.regions) is ∙ sym e)),
+    )
 
 pub named_takes : (ds : List Declaration) (n p s : ℕ) (rs : List ℕ) (ts : List Ty) → IsWellFormed (structs_of ds) n p (named s rs (trees ts)) → Takes ds s (length rs) (length ts)
 named_takes ds n p s rs ts w =

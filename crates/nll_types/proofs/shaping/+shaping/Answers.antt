@@ -58,3 +58,24 @@ shape_all-loop-part-preserved t c = rw c.in_ok-push.ensures.items
 pub shape_all-returns-clause-at : goal.shape_all-returns-clause-at
 shape_all-returns-clause-at t c =
     shaping_all _ _ c.args.arguments.now c.args.parts.now _ c.loop-part.part-index (let a : length c.args.parts.now ≤ c.loop-part.part-index = c.loop-part-test.false in omega arith) c.loop-part.invariant
+
+pub shape-returns-in-Int-clause-extends : goal.shape-returns-in-Int-clause-extends
+shape-returns-in-Int-clause-extends t c = c.add.ensures.extends
+
+pub shape-returns-in-Int-clause-within : goal.shape-returns-in-Int-clause-within
+shape-returns-in-Int-clause-within t c = c.add.ensures.within
+
+pub shape-returns-in-Parameter-clause-extends : goal.shape-returns-in-Parameter-clause-extends
+shape-returns-in-Parameter-clause-extends t c = c.argument.ensures.extends
+
+pub shape-returns-in-Parameter-clause-within : goal.shape-returns-in-Parameter-clause-within
+shape-returns-in-Parameter-clause-within t c = c.argument.ensures.within
+
+pub shape-returns-in_ok-target-in-Reference-clause-within : goal.shape-returns-in_ok-target-in-Reference-clause-within
+shape-returns-in_ok-target-in-Reference-clause-within t c = c.add-in-Reference.ensures.within
+
+pub shape-returns-in_ok-parts-in-Tuple-clause-within : goal.shape-returns-in_ok-parts-in-Tuple-clause-within
+shape-returns-in_ok-parts-in-Tuple-clause-within t c = c.add-in-Tuple.ensures.within
+
+pub shape-returns-in_ok-types-in-Named-clause-within : goal.shape-returns-in_ok-types-in-Named-clause-within
+shape-returns-in_ok-types-in-Named-clause-within t c = c.add-in-Named.ensures.within

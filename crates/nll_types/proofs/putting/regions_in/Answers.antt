@@ -1,0 +1,13 @@
+use Rattle.std.proofs.Common.{◌≤◌, length, arith}
+use Rattle.std.proofs.lemmas.List.{take_more, take_all, map_push}
+use Rattle.nll_types.proofs.putting.regions_in.Goals as goal
+
+pub loop-region-preserved : goal.loop-region-preserved
+loop-region-preserved c =
+    let more = take_more c.args.of.now c.loop-region.region-index c.region-item.result c.loop-region-test.true in
+    rw (more, ← c.region-item.is, map_push, ← c.loop-region.invariant, ← c.region_in.ensures) c.in_ok-push.ensures.items
+
+pub returns : goal.returns
+returns c =
+    let past : length c.args.of.now ≤ c.loop-region.region-index = omega arith in
+    rw (take_all c.loop-region.region-index c.args.of.now past) at c.loop-region.invariant
