@@ -27,3 +27,26 @@ returns-in_err-insert-in-Some-2-clause-memo c =
 
 pub returns-in-None-clause-memo : goal.returns-in-None-clause-memo
 returns-in-None-clause-memo c = remembered_stay _ _ _ _ c.requires.memo c.part.ensures.extends
+
+pub returns-in_err-made-clause-extends : goal.returns-in_err-made-clause-extends
+returns-in_err-made-clause-extends c = c.part.ensures.extends
+
+pub returns-in_ok-insert-in-Some-2-clause-extends : goal.returns-in_ok-insert-in-Some-2-clause-extends
+returns-in_ok-insert-in-Some-2-clause-extends c = c.part.ensures.extends
+
+pub returns-in_err-insert-in-Some-2-clause-extends : goal.returns-in_err-insert-in-Some-2-clause-extends
+returns-in_err-insert-in-Some-2-clause-extends c = c.part.ensures.extends
+
+pub returns-in-None-clause-extends : goal.returns-in-None-clause-extends
+returns-in-None-clause-extends c = c.part.ensures.extends
+
+pub returns-in_ok-insert-in-Some-2-clause-within : goal.returns-in_ok-insert-in-Some-2-clause-within
+returns-in_ok-insert-in-Some-2-clause-within c = rw c.in-Some-2.is at c.in_ok-made.ensures.within
+
+pub returns-in_ok-insert-in-Some-2-clause-at : goal.returns-in_ok-insert-in-Some-2-clause-at
+returns-in_ok-insert-in-Some-2-clause-at c =
+    ap (option_map (shape_in c.part.new.shapes)) (sym c.in-Some-2.is) ∙ c.in_ok-made.ensures.at
+
+pub returns-in-None-clause-at : goal.returns-in-None-clause-at
+returns-in-None-clause-at c =
+    ap (option_map (shape_in c.part.new.shapes)) (sym c.in-None.is) ∙ c.in_ok-made.ensures.at

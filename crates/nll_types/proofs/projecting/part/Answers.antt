@@ -24,3 +24,12 @@ returns-else-place-parts-clause-at c =
     let l = rw c.as_slice-parts.ensures.value at c.if-place-parts.false in
     ap (option_map (at known)) (sym (slice_get_past parts c.args.place l)) ∙ shape_at_all known parts c.args.place
     ∙ ap (behind_shape (structs_of c.args.structs.now) (Field c.args.place)) (sym (c.node.ensures.at ∙ ap (shape_over known) c.in-Tuple.is))
+
+pub returns-in_ok-made-in-Named-clause-extends : goal.returns-in_ok-made-in-Named-clause-extends
+returns-in_ok-made-in-Named-clause-extends c = c.field_of.ensures.extends
+
+pub returns-in_err-made-in-Named-clause-extends : goal.returns-in_err-made-in-Named-clause-extends
+returns-in_err-made-in-Named-clause-extends c = c.field_of.ensures.extends
+
+pub returns-in_ok-made-in-Named-clause-within : goal.returns-in_ok-made-in-Named-clause-within
+returns-in_ok-made-in-Named-clause-within c = c.in_ok-made-in-Named.ensures.within
