@@ -20,6 +20,8 @@ mod cuts;
 #[cfg(test)]
 mod frontiers;
 #[cfg(test)]
+mod fronts;
+#[cfg(test)]
 mod graphs;
 #[cfg(test)]
 mod headers;

@@ -163,3 +163,38 @@ fn names_have_meanings(rt: HostRuntime) {
         compare(&rt, line, told(rt.alloc(), line), want);
     }
 }
+
+// Whether a name stands at a place among `static`, `a` and `b`.
+fn stands_at(alloc: Global, name: &str, place: usize) -> Result<String, BuildError> {
+    let mut names = Names::new(alloc)?;
+    let added = add_all(alloc, &mut names, &["a", "b"]);
+    let stands = names.is_at(place, name.as_bytes());
+    drop(names);
+    added?;
+    let mut shown = String::new(alloc);
+    write!(shown, "{stands}")?;
+    Ok(shown)
+}
+
+// Names, places, and whether the name stands there.
+const PLACES: &[(&str, usize, &str)] = &[
+    ("static", 0, "true"),
+    ("a", 1, "true"),
+    ("b", 2, "true"),
+    ("a", 2, "false"),
+    ("b", 1, "false"),
+    ("static", 1, "false"),
+    ("b", 3, "false"),
+    ("c", 3, "false"),
+    ("c", 0, "false"),
+    ("", 0, "false"),
+    ("a", usize::MAX, "false"),
+];
+
+// A name stands at its own place alone.
+#[test]
+fn names_stand_at_their_places(rt: HostRuntime) {
+    for (name, place, want) in PLACES {
+        compare(&rt, name, stands_at(rt.alloc(), name, *place), want);
+    }
+}
