@@ -1,10 +1,10 @@
 -- What a statement asks is of regions of the body.
-use Rattle.std.proofs.Common.{◌≡◌, ℕ, zero, suc, ◌<◌, List, [], ◌∷◌, ◌++◌, Contains, length, map, get_or, Some, inl, inr, refl, sym, ap, ◌∙◌, subst, ⊎_elim, arith}
+use Rattle.std.proofs.Common.{◌≡◌, ℕ, zero, suc, ◌<◌, List, [], ◌∷◌, ◌++◌, Contains, length, map, get_or, Some, refl, sym, ap, ◌∙◌, subst, ⊎_elim, arith}
 use Rattle.std.specs.Prelude.{slice_get, option_map}
 use Rattle.std.specs.List.{flat_map}
 use Rattle.std.proofs.lemmas.Option.{get_or_from_slice_get, slice_get_within, slice_get-map}
 use Rattle.std.proofs.lemmas.List.Elements.{Contains-push, Contains-append_left}
-use Rattle.nll_types.specs.Types.{TypeTree, TypeTrees, int, parameter, reference, tuple, named, none, more, type_at, HasRegion, AnyHasRegion}
+use Rattle.nll_types.specs.Types.{TypeTree, int, reference}
 use Rattle.nll_types.specs.Structs.{IsWellFormed}
 use Rattle.nll_types.specs.Places.{PlacePath, type_of}
 use Rattle.nll_types.specs.Operands.{Operand, constant, copied, moved, operand_type}
@@ -15,7 +15,8 @@ use Rattle.nll_statements.specs.Statements.{Statement, assign, borrow, make, rea
 use Rattle.nll_body.specs.Bodies.{BodyText, StandsAt}
 use Rattle.nll_body.specs.Sound.{IsSound}
 use Rattle.nll_body.proofs.RangeLemmas.{region_within, part_good}
-use Rattle.nll_rules.specs.Positions.{Turn, own, target, part, region_argument, type_argument, HasRegionAt, times, sign_of}
+use Rattle.nll_rules.proofs.RegionFreeLemmas.{at_position}
+use Rattle.nll_rules.specs.Positions.{times, sign_of}
 use Rattle.nll_rules.specs.Subtyping.{IsAsked, SubtypeAsks}
 use Rattle.nll_rules.specs.Reborrows.{RestsOn, prefix}
 use Rattle.nll_rules.specs.Asking.{AsksSubtype, AsksPair, Asks}
@@ -55,22 +56,6 @@ argument_there args result k op u at =
     Contains-append_left (map type_in args) (result ∷ []) u (there (map type_in args) k u (slice_get-map type_in args k ∙ ap (option_map type_in) at))
 
 -- ---- positions
-
-any_at : (ts : TypeTrees) (k : ℕ) (t : TypeTree) (r : ℕ) → type_at ts k ≡ Some t → HasRegion t r → AnyHasRegion ts r
-any_at none k t r e h = absurd cc
-any_at (more u ts) zero t r e h = (let s : u ≡ t = cc in inl (subst (λ (x : TypeTree). HasRegion x r) (sym s) h))
-any_at (more u ts) (suc k) t r e h = inr (any_at ts k t r e h)
-
--- a region that stands in a type is written in it
-at_position : (t : TypeTree) (way : List Turn) (r : ℕ) → HasRegionAt t way r → HasRegion t r
-at_position (reference q m t) (own ∷ way) r h = inl h.1
-at_position (reference q m t) (target n ∷ way) r h = inr (at_position t way r h.1)
-at_position (tuple ts) (part k ∷ way) r h = any_at ts k h.0 r h.1 (at_position h.0 way r h.2)
-at_position (named s rs ts) (region_argument n k ∷ way) r h = inl (there rs k r h.2)
-at_position (named s rs ts) (type_argument n k ∷ way) r h = inr (any_at ts k h.0 r h.2 (at_position h.0 way r h.3))
-at_position int (own ∷ way) r h = absurd h
-at_position (parameter j) (own ∷ way) r h = absurd h
-at_position t way r h = absurd h
 
 -- both regions of what is asked are below n, where those of the position are
 asked_below : (n : ℕ) (sign : Sign) (a b : ℕ) (x : ℕ × ℕ) → a < n → b < n → IsAsked sign a b x → (x.0 < n) × (x.1 < n)
