@@ -2,7 +2,7 @@ use Rattle.std.proofs.Common.{◌≡◌, ◌∙◌, ap, refl, length, arith, rul
 use Rattle.std.specs.Prelude.{vec_len}
 use Rattle.std.proofs.lemmas.Option.{slice_get_read}
 use Rattle.nll_types.specs.Views.{tree}
-use Rattle.nll_types.proofs.ViewLemmas.{tree_named}
+use Rattle.nll_types.proofs.ViewLemmas.{tree_int, tree_reference, tree_tuple, tree_named}
 use Rattle.nll_types.proofs.KeepingLemmas.{good_all, good_one, good_more, named_takes, named_good}
 use Rattle.nll_types.proofs.well_formed.+well_formed.Goals as goal
 
@@ -49,3 +49,34 @@ is_well_formed-returns-else-not-are_below t c =
     let good = rw c.as_slice-in-Named-2.ensures.value at c.are_well_formed-good-in-Named.ensures in
     rw (ap tree c.in-Named.is ∙ tree_named _ _ _)
     (λ h. named_good c.args.structs.now _ _ c.in-Named.number c.in-Named.own.items c.in-Named.types.items yes all (good.0 h), λ w. good.1 w.4)
+
+pub is_well_formed-returns-in-Int : goal.is_well_formed-returns-in-Int
+is_well_formed-returns-in-Int t c = rw (ap tree c.in-Int.is ∙ tree_int) (λ h. tt, λ w. refl)
+
+pub is_well_formed-returns-then-region-regions : goal.is_well_formed-returns-then-region-regions
+is_well_formed-returns-then-region-regions t c = (
+  λ h. absurd cc,
+  λ w.
+      let named = rw (ap tree c.in-Reference.is ∙ tree_reference _ _ _) at w in
+      let within = named.0 in
+      absurd (omega arith),
+)
+
+pub is_well_formed-returns-else-region-regions : goal.is_well_formed-returns-else-region-regions
+is_well_formed-returns-else-region-regions t c =
+    let good = rw c.deref.ensures at c.is_well_formed-good.ensures in
+    rw (ap tree c.in-Reference.is ∙ tree_reference _ _ _) (λ h. (omega arith, good.0 h), λ w. good.1 w.1)
+
+pub is_well_formed-returns-in-Tuple : goal.is_well_formed-returns-in-Tuple
+is_well_formed-returns-in-Tuple t c =
+    rw (ap tree c.in-Tuple.is ∙ tree_tuple _) (rw c.as_slice.ensures.value at c.are_well_formed-good.ensures)
+
+pub is_well_formed-returns-then-not-are_below : goal.is_well_formed-returns-then-not-are_below
+is_well_formed-returns-then-not-are_below t c =
+    let below = rw c.as_slice-in-Named.ensures.value at c.are_below.ensures in (
+      λ h. absurd cc,
+      λ w.
+          let named = rw (ap tree c.in-Named.is ∙ tree_named _ _ _) at w in
+          let yes = below.1 named.3 in
+          absurd (let f = c.if-not-are_below.true in cc),
+    )
