@@ -1,7 +1,7 @@
 use Rattle.std.proofs.Common.{◌≡◌, ◌∙◌, ap, sym}
 use Rattle.indexmap.proofs.MapLemmas.{OnOk-map}
 use Rattle.nll_types.specs.Structs.{region_in}
-use Rattle.nll_types.proofs.DropLemmas.{adds_as, adds_nothing}
+use Rattle.nll_types.proofs.DropLemmas.{adds_as}
 use Rattle.nll_types.proofs.collecting.collect_source.Goals as goal
 
 pub returns-in-Region : goal.returns-in-Region

@@ -1,6 +1,6 @@
 use Rattle.std.proofs.Common.{◌∙◌, ap, sym}
 use Rattle.std.proofs.lemmas.Result.{IfOk-weaker}
-use Rattle.nll_types.specs.Types.{reference, tuple, named}
+use Rattle.nll_types.specs.Types.{reference, tuple}
 use Rattle.nll_types.specs.Views.{tree, row_of}
 use Rattle.nll_types.proofs.FailLemmas.{failed}
 use Rattle.nll_types.proofs.ViewLemmas.{tree_reference, tree_tuple, tree_named}
