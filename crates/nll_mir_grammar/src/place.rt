@@ -11,6 +11,7 @@ use crate::words::{after_word, variable_at};
 use nll_sets::Memory;
 use nll_text::{Token, number_of};
 use nll_types::{Operand, Place, Projection};
+use smallvec::SmallVec;
 use std::alloc::Global;
 
 // The projection at the front.
@@ -28,27 +29,26 @@ fn projection_at<'t, 'a>(tokens: &'t [Token<'a>]) -> Option<(Projection, &'t [To
     }
 }
 
-// Puts a projection behind the others. The first asks for room for three, which the smallest block
-// of memory has.
-fn push_projection(projections: &mut Vec<Projection>, projection: Projection) -> Result<(), Memory>
+// Puts a projection behind the others.
+fn push_projection(
+    projections: &mut SmallVec<Projection, 3>,
+    projection: Projection,
+) -> Result<(), Memory>
     ensures { OnOk result (projections.new.items ≡ projections.old.items ++ projection ∷ []) }
 {
-    if projections.is_empty() {
-        projections.reserve_exact(3)?;
-    }
     projections.push(projection)?;
     Ok(())
 }
 
-// The projections at the front, as many as there are.
+// The projections at the front, as many as there are. Up to three need no memory of their own.
 fn projections_at<'t, 'a>(
     alloc: Global,
     tokens: &'t [Token<'a>],
-) -> Result<(Vec<Projection>, &'t [Token<'a>]), Memory>
+) -> Result<(SmallVec<Projection, 3>, &'t [Token<'a>]), Memory>
     ensures { IfOk result
         (λ p. Begins (many parts.projections) (views tokens.now) p.0.items (views p.1.now)) }
 {
-    let mut projections = Vec::new(alloc);
+    let mut projections = SmallVec::new(alloc);
     let mut at = 0;
     while let Some((projection, behind)) = projection_at(&tokens[at..]) {
         push_projection(&mut projections, projection)?;

@@ -3,6 +3,7 @@ use super::comparing::compare;
 use nll_sets::Memory;
 use nll_statements::{copy_operand, copy_operands, copy_place};
 use nll_types::{Operand, Place, Projection};
+use smallvec::SmallVec;
 use std::alloc::{AllocError, Global};
 
 // Writes a place.
@@ -36,7 +37,7 @@ fn write_operands(out: &mut String, operands: &[Operand]) -> Result<(), AllocErr
 
 // The place `_3.*.1`.
 fn part_behind(alloc: Global) -> Result<Place, Memory> {
-    let projections = Vec::from_slice(alloc, &[Projection::Deref, Projection::Field(1)])?;
+    let projections = SmallVec::from_slice(alloc, &[Projection::Deref, Projection::Field(1)])?;
     let place = Place::new(alloc, 3, projections)?;
     Ok(place)
 }

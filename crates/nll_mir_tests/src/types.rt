@@ -12,6 +12,7 @@ use nll_problem::RegionId;
 use nll_sets::Memory;
 use nll_types::{Place, Projection, Ty, place_type};
 use nll_worked_texts::text_of;
+use smallvec::SmallVec;
 use std::alloc::{AllocError, Global};
 
 // A body whose variables have references, a tuple and a struct.
@@ -114,7 +115,7 @@ fn told_of_place(
     variable: u32,
     projections: &[Projection],
 ) -> Result<String, Memory> {
-    let projections = Vec::from_slice(alloc, projections)?;
+    let projections = SmallVec::from_slice(alloc, projections)?;
     let place = Place::new(alloc, variable, projections)?;
     let told = told_of_body(alloc, Some(&place));
     drop(place);

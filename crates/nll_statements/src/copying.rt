@@ -6,13 +6,14 @@ ghost use Rattle.nll_types.specs.Operands.{operand_of};
 
 use nll_sets::Memory;
 use nll_types::{Operand, Place};
+use smallvec::SmallVec;
 use std::alloc::Global;
 
 /// The same place once more.
 pub fn copy_place(alloc: Global, place: &Place) -> Result<Place, Memory>
     ensures { IfOk result (λ p. path_of p ≡ path_of place.now) }
 {
-    let projections = Vec::from_slice(alloc, place.projections())?;
+    let projections = SmallVec::from_slice(alloc, place.projections())?;
     let copy = Place::new(alloc, place.variable(), projections)?;
     Ok(copy)
 }

@@ -9,6 +9,7 @@ use nll_types::{
     Node, Place, Projection, Structs, Ty, TypeTable, copy, field_type, is_well_formed, place_type,
     put_in,
 };
+use smallvec::SmallVec;
 use std::alloc::{AllocError, Global};
 
 // The structs of the tests:
@@ -118,7 +119,7 @@ fn write_place(
     projections: &[Projection],
 ) -> Result<(), BuildError> {
     let variable = types.len().saturating_sub(1).min(100) as u32;
-    let projections = Vec::from_slice(alloc, projections)?;
+    let projections = SmallVec::from_slice(alloc, projections)?;
     let place = Place::new(alloc, variable, projections)?;
     match place_type(alloc, structs, types, &place)? {
         Some(ty) => write_type(out, &ty)?,

@@ -189,15 +189,14 @@ module _ (base later : List Struct) (s : ℕ) (qs : List ℕ) (us : TypeTrees) (
       (λ c. let i = has_any (put_in_all rs ts us) r c in let p = type_at_put_back rs ts us i.0 i.1 i.2 in
       inr (i.0, p.0, p.1, inl (inl h, subst (λ z. HasRegion z r) p.2 i.3)))
 
-  pub wanted_named : (a b c e : List Source)
-      → AddsSources all (λ rs ts r. IsTrue written × IsPutRegion qs rs ts r) a b
-      → AddsSources all (λ rs ts r. IsTrue dropped × IsSourceRegion sources qs rs ts r) b c
+  pub wanted_named : (a c e : List Source)
+      → AddsSources all (λ rs ts r. (IsTrue written × IsPutRegion qs rs ts r) ⊎ (IsTrue dropped × IsSourceRegion sources qs rs ts r)) a c
       → AddsSources all (IsWantedOfOne all (WantsWritten sources written dropped) (WantsDropped sources dropped) us) c e
       → AddsSources all (IsWantedOf all (IsTrue written) (IsTrue dropped) (named s qs us)) a e
-  wanted_named a b c e x y z = adds_as all _ _ a e
+  wanted_named a c e x z = adds_as all _ _ a e
       (λ rs ts r. ⊎_elim (⊎_elim (λ h. inl (h.0, inl (contains_map (region_in rs) qs h.1.0 h.1.1 r h.1.2 h.1.3))) (to_region rs ts r)) (to_argument rs ts r))
       (λ rs ts r. ⊎_elim (λ h. from_written rs ts r h.0 h.1) (λ h. from_source rs ts r h.0 ((known rs ts r).0 h.1)))
-      (adds_then all _ _ a c e (adds_then all _ _ a b c x y) z)
+      (adds_then all _ _ a c e x z)
 
 -- the same is wanted, by other facts
 pub wanted_flags : (structs : List Struct) (w w' d d' : Type 0) (t : TypeTree) (a b : List Source) → w ↔ w' → d ↔ d' → AddsSources structs (IsWantedOf structs w d t) a b → AddsSources structs (IsWantedOf structs w' d' t) a b

@@ -1,10 +1,10 @@
 -- Types that keep to what is declared, looked at one by one.
 use Rattle.std.proofs.Common.{◌≡◌, ℕ, zero, suc, ◌+◌, ◌<◌, List, [], ◌∷◌, length, sym, ap, ◌∙◌, subst, refl, arith, ⊎_elim}
-use Rattle.std.specs.Prelude.{slice_get, Some, All, IsTrue, ◌==◌, ◌↔◌}
+use Rattle.std.specs.Prelude.{slice_get, Some, All, IsTrue, ◌==◌, ◌↔◌, Bool}
 use Rattle.std.proofs.lemmas.Bool.{cases_lt, eqb-true, eq-eqb}
 use Rattle.std.proofs.lemmas.Option.{slice_get_within}
 use Rattle.std.proofs.lemmas.List.{length-map}
-use Rattle.nll_types.specs.Types.{named}
+use Rattle.nll_types.specs.Types.{TypeTree, named}
 use Rattle.nll_types.specs.Structs.{Struct, no_struct, struct_at, IsWellFormed, AreWellFormed}
 use Rattle.nll_types.specs.Views.{tree, trees}
 use Rattle.nll_types.specs.Declarations.{declared, structs_of}
@@ -69,3 +69,7 @@ pub named_good : (ds : List Declaration) (n p s : ℕ) (rs : List ℕ) (ts : Lis
 named_good ds n p s rs ts t below good =
     let l = t.0 in
     (omega (arith, length-map ds declared), t.1, count_trees ts ∙ t.2, below, good)
+
+-- what is told of a tree is told of each type that has it
+pub told : (structs : List Struct) (n p : ℕ) (t u : TypeTree) (b : Bool) → t ≡ u → IsTrue b ↔ IsWellFormed structs n p u → IsTrue b ↔ IsWellFormed structs n p t
+told structs n p t u b e h = (λ yes. subst (IsWellFormed structs n p) (sym e) (h.0 yes), λ w. h.1 (subst (IsWellFormed structs n p) e w))

@@ -5,6 +5,7 @@ pub mod ViewLemmas
 pub mod PuttingLemmas
 pub mod WellFormedLemmas
 pub mod DeclareLemmas
+mod FailLemmas
 pub mod FoundLemmas
 pub mod ShapeLemmas
 pub mod TableLemmas

@@ -21,6 +21,12 @@ argument_past known [] i h = refl
 argument_past known (x ∷ is) zero h = absurd (omega arith)
 argument_past known (x ∷ is) (suc i) h = argument_past known is i (omega arith)
 
+pub extends_same : (a : List Node) → Extends a a
+extends_same a = record {
+  longer = omega arith;
+  kept = λ i l. refl;
+}
+
 pub extends_then : (a b c : List Node) → Extends a b → Extends b c → Extends a c
 extends_then a b c x y = record {
   longer = (let p = x.longer in let q = y.longer in omega arith);

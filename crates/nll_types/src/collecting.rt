@@ -30,8 +30,7 @@ fn collect_parameter(
         out.old.keys out.new.keys) }
 {
     add_where(written, out, Source::AnyOf(number))?;
-    add_where(dropped, out, Source::DropOf(number))?;
-    Ok(())
+    add_where(dropped, out, Source::DropOf(number))
 }
 
 // Adds the regions, where they are wanted.
@@ -64,10 +63,10 @@ fn collect_source(
 {
     match source {
         Source::Region(number) => {
-            add(out, Source::Region(region_in(regions, *number)))?;
-            Ok(())
+            let put = region_in(regions, *number);
+            add(out, Source::Region(put))
         }
-        _ => Ok(()),
+        Source::AnyOf(_) | Source::DropOf(_) => Ok(()),
     }
 }
 
@@ -89,6 +88,23 @@ fn collect_sources(
         collect_source(source, regions, out)?;
     }
     Ok(())
+}
+
+// Adds what the region arguments of a struct bring, and what the regions of its sources become.
+fn collect_use(
+    sources: &[Source],
+    regions: &[RegionId],
+    written: bool,
+    dropped: bool,
+    out: &mut IndexSet<Source>,
+) -> Result<(), Memory>
+    ensures { OnOk result ((all : List Struct) → AddsSources all
+        (λ rs ts r. (IsTrue written × IsPutRegion regions.now rs ts r)
+        ⊎ (IsTrue dropped × IsSourceRegion sources.now regions.now rs ts r))
+        out.old.keys out.new.keys) }
+{
+    collect_regions(regions, written, out)?;
+    collect_sources(sources, regions, dropped, out)
 }
 
 // Whether the regions of an argument are wanted.
@@ -133,27 +149,24 @@ pub(crate) fn collect(
 {
     match ty {
         Ty::Int => Ok(()),
-        Ty::Parameter(number) => {
-            collect_parameter(*number, written, dropped, out)?;
-            Ok(())
-        }
+        Ty::Parameter(number) => collect_parameter(*number, written, dropped, out),
         Ty::Reference(region, _, target) => {
             add_where(written, out, Source::Region(*region))?;
-            collect(structs, target, written, false, out)?;
-            Ok(())
+            collect(structs, target, written, false, out)
         }
-        Ty::Tuple(parts) => {
-            collect_parts(structs, parts.as_slice(), written, dropped, out)?;
-            Ok(())
-        }
+        Ty::Tuple(parts) => collect_parts(structs, parts.as_slice(), written, dropped, out),
         Ty::Named(number, regions, types) => {
             let Some(sources) = structs.sources(*number) else {
                 return Ok(());
             };
-            collect_regions(regions.as_slice(), written, out)?;
-            collect_sources(sources.as_slice(), regions.as_slice(), dropped, out)?;
-            collect_arguments(structs, sources, types.as_slice(), written, dropped, out)?;
-            Ok(())
+            collect_use(
+                sources.as_slice(),
+                regions.as_slice(),
+                written,
+                dropped,
+                out,
+            )?;
+            collect_arguments(structs, sources, types.as_slice(), written, dropped, out)
         }
     }
 }

@@ -63,8 +63,7 @@ fn collect_own(declaration: &Declaration, out: &mut IndexSet<Source>) -> Result<
         return Ok(());
     }
     collect_kept_regions(declaration.regions.as_slice(), out)?;
-    collect_kept_types(declaration.types.as_slice(), out)?;
-    Ok(())
+    collect_kept_types(declaration.types.as_slice(), out)
 }
 
 // Adds where the drop regions of the struct come from: its own drop, and its fields.
@@ -80,8 +79,7 @@ fn collect_declaration(
         (length structs.now) out.new.keys) }
 {
     collect_own(declaration, out)?;
-    collect_parts(structs, declaration.fields.as_slice(), false, true, out)?;
-    Ok(())
+    collect_parts(structs, declaration.fields.as_slice(), false, true, out)
 }
 
 /// Where the drop regions of the next struct come from.

@@ -75,8 +75,7 @@ impl Structs {
         ensures each { IfOk result (λ v. (r : ℕ) → Contains v.items r ↔ HasRegion (tree ty.now) r) }
         ensures once { IfOk result (λ v. AllPairs (λ q r. q ≢ r) v.items) }
     {
-        let found = find(alloc, self, ty, true, false)?;
-        Ok(found)
+        find(alloc, self, ty, true, false)
     }
 
     /// The drop regions of the type of a variable, each once.
@@ -90,7 +89,6 @@ impl Structs {
             ↔ IsDropRegion (structs_of self.now) (tree ty.now) r) }
         ensures once { IfOk result (λ v. AllPairs (λ q r. q ≢ r) v.items) }
     {
-        let found = find(alloc, self, ty, false, true)?;
-        Ok(found)
+        find(alloc, self, ty, false, true)
     }
 }

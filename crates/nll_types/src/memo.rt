@@ -10,6 +10,7 @@ ghost use Rattle.nll_types.specs.Table.{Extends, shape_in};
 ghost use Rattle.nll_types.specs.declared.place.Projection.TheVariants.{Field as field};
 ghost use Rattle.nll_types.specs.contracts.memo.FieldUsePartialEq.TheImpl as derived;
 
+use crate::node::Node;
 use crate::projecting::part;
 use crate::shapes::Shapes;
 use crate::structs::Structs;
@@ -32,8 +33,8 @@ fn remembered(fields: &IndexMap<FieldUse, usize>, sought: FieldUse) -> Option<us
     fields.get(&sought).copied()
 }
 
-/// The part of a tuple or the field of a struct, made at most once for each shape and place.
-pub(crate) fn part_once(
+// The field of a struct, made at most once for each shape and place.
+fn field_once(
     alloc: Global,
     structs: &Structs,
     shapes: &mut Shapes,
@@ -62,5 +63,29 @@ pub(crate) fn part_once(
             Ok(Some(made))
         }
         None => Ok(None),
+    }
+}
+
+/// The part of a tuple or the field of a struct: a field is made at most once for each shape and
+/// place, and a part needs no look-up.
+pub(crate) fn part_once(
+    alloc: Global,
+    structs: &Structs,
+    shapes: &mut Shapes,
+    fields: &mut IndexMap<FieldUse, usize>,
+    number: usize,
+    place: usize,
+) -> Result<Option<usize>, Memory>
+    requires within { number < length shapes.old }
+    requires memo { AreRemembered (structs_of structs.now) shapes.old fields.old.entries }
+    ensures memo { AreRemembered (structs_of structs.now) shapes.new fields.new.entries }
+    ensures extends { Extends shapes.old shapes.new }
+    ensures within { IfOk result (λ o. IfSome o (λ i. i < length shapes.new)) }
+    ensures at { IfOk result (λ o. option_map (shape_in shapes.new) o
+        ≡ behind_shape (structs_of structs.now) (field place) (shape_in shapes.old number)) }
+{
+    match shapes.node(number) {
+        Node::Named(_, _, _) => field_once(alloc, structs, shapes, fields, number, place),
+        _ => part(alloc, structs, shapes, number, place),
     }
 }

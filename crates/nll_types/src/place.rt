@@ -4,6 +4,7 @@ ghost use Rattle.std.specs.Prelude.{◌≡◌, IfOk};
 ghost use Rattle.nll_types.specs.Places.{path_of};
 
 use nll_sets::Memory;
+use smallvec::SmallVec;
 use std::alloc::Global;
 use std::slice;
 
@@ -16,11 +17,18 @@ pub enum Projection {
     Field(u32),
 }
 
+impl Default for Projection {
+    fn default() -> Projection {
+        Projection::Deref
+    }
+}
+
 /// A variable, and what is taken of it, one projection after another.
 ///
 /// # Shape
 /// A body has some million places, most of them with one projection or none: these ask for no
-/// memory of their own, and a list stands in a box, so that each place is small.
+/// memory of their own. More stand in a box, so that each place is small, and up to three of them
+/// in the box itself.
 #[derive(Drop)]
 pub enum Place {
     /// The whole variable.
@@ -28,12 +36,16 @@ pub enum Place {
     /// What one projection takes of the variable.
     Part(u32, Projection),
     /// What projections take of the variable, one after another.
-    Parts(u32, Box<Vec<Projection>>),
+    Parts(u32, Box<SmallVec<Projection, 3>>),
 }
 
 impl Place {
     /// What projections take of a variable.
-    pub fn new(alloc: Global, variable: u32, projections: Vec<Projection>) -> Result<Place, Memory>
+    pub fn new(
+        alloc: Global,
+        variable: u32,
+        projections: SmallVec<Projection, 3>,
+    ) -> Result<Place, Memory>
         ensures { IfOk result (λ p. path_of p
             ≡ record { variable = variable; projections = projections.items }) }
     {

@@ -1,6 +1,7 @@
 //! The types of places.
 
-ghost use Rattle.std.specs.Prelude.{◌≡◌, IfOk, MatchOption, None, Some, option_map, map, drop};
+ghost use Rattle.std.specs.Prelude.{◌≡◌, ◌≤◌, IfOk, MatchOption, None, Some, option_map, map};
+ghost use Rattle.std.specs.Prelude.{drop, length};
 ghost use Rattle.nll_types.specs.Structs as spec;
 ghost use Rattle.nll_types.specs.Declarations.{structs_of};
 ghost use Rattle.nll_types.specs.Places.{type_of, path_of, behind_all, LeadsOn};
@@ -57,8 +58,7 @@ fn advance(
     match projection {
         Projection::Deref => match ty {
             Ty::Reference(_, _, target) => {
-                let reached = advance(alloc, structs, target, projections, from + 1)?;
-                Ok(reached)
+                advance(alloc, structs, target, projections, from + 1)
             }
             Ty::Int | Ty::Parameter(_) | Ty::Tuple(_) | Ty::Named(_, _, _) => Ok(None),
         },
@@ -68,8 +68,7 @@ fn advance(
                 if place >= parts.len() {
                     return Ok(None);
                 }
-                let reached = advance(alloc, structs, &parts[place], projections, from + 1)?;
-                Ok(reached)
+                advance(alloc, structs, &parts[place], projections, from + 1)
             }
             Ty::Named(number, regions, types) => {
                 let (regions, types) = (regions.as_slice(), types.as_slice());
@@ -84,18 +83,20 @@ fn advance(
     }
 }
 
-/// The type behind projections, where there is one.
-fn type_behind(
+// The type behind the projections that are left, where there is one.
+fn type_from(
     alloc: Global,
     structs: &Structs,
-    ty: &Ty,
+    from: Ty,
     projections: &[Projection],
+    first: usize,
 ) -> Result<Option<Ty>, Memory>
+    requires { first ≤ length projections.now }
     ensures { IfOk result (λ o. option_map tree o
-        ≡ behind_all (structs_of structs.now) projections.now (tree ty.now)) }
+        ≡ behind_all (structs_of structs.now) (drop first projections.now) (tree from)) }
 {
-    let mut current = copy(alloc, ty)?;
-    let mut taken = 0;
+    let mut current = from;
+    let mut taken = first;
     while taken < projections.len() {
         match advance(alloc, structs, &current, projections, taken)? {
             Some((next, reached)) => {
@@ -106,6 +107,22 @@ fn type_behind(
         }
     }
     Ok(Some(current))
+}
+
+// The type behind projections, where there is one.
+fn type_behind(
+    alloc: Global,
+    structs: &Structs,
+    ty: &Ty,
+    projections: &[Projection],
+) -> Result<Option<Ty>, Memory>
+    ensures { IfOk result (λ o. option_map tree o
+        ≡ behind_all (structs_of structs.now) projections.now (tree ty.now)) }
+{
+    match advance(alloc, structs, ty, projections, 0)? {
+        Some((reached, taken)) => type_from(alloc, structs, reached, projections, taken),
+        None => Ok(None),
+    }
 }
 
 /// The type of a place over variables of these types, where it has one.
@@ -125,6 +142,5 @@ pub fn place_type(
     if variable >= variables.len() {
         return Ok(None);
     }
-    let found = type_behind(alloc, structs, &variables[variable], place.projections())?;
-    Ok(found)
+    type_behind(alloc, structs, &variables[variable], place.projections())
 }

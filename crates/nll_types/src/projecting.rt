@@ -40,6 +40,27 @@ fn field_of(
     }
 }
 
+// The same, with the arguments handed over.
+fn field_with(
+    alloc: Global,
+    structs: &Structs,
+    shapes: &mut Shapes,
+    number: usize,
+    arguments: Vec<usize>,
+    place: usize,
+) -> Result<Option<usize>, Memory>
+    ensures extends { Extends shapes.old shapes.new }
+    ensures within { IfOk result (λ o. IfSome o (λ i. i < length shapes.new)) }
+    ensures at { IfOk result (λ o. AreBelow (length shapes.old) arguments.items
+        → option_map (shape_in shapes.new) o
+        ≡ option_map (put_in_shape (all_at (shapes_in shapes.old) arguments.items))
+        (shape_at (shapes_of (struct_at (structs_of structs.now) number).fields) place)) }
+{
+    let made = field_of(alloc, structs, shapes, number, arguments.as_slice(), place);
+    drop(arguments);
+    made
+}
+
 /// The shape that a reference points to.
 pub(crate) fn target(shapes: &Shapes, number: usize) -> Option<usize>
     requires { number < length shapes.now }
@@ -49,7 +70,7 @@ pub(crate) fn target(shapes: &Shapes, number: usize) -> Option<usize>
 {
     match shapes.node(number) {
         Node::Reference(_, target) => Some(*target),
-        _ => None,
+        Node::Int | Node::Parameter(_) | Node::Tuple(_) | Node::Named(_, _, _) => None,
     }
 }
 
@@ -79,8 +100,7 @@ pub(crate) fn part(
         Node::Named(named, _, arguments) => {
             let named = *named;
             let arguments = Vec::from_slice(alloc, arguments.as_slice())?;
-            let made = field_of(alloc, structs, shapes, named, arguments.as_slice(), place)?;
-            Ok(made)
+            field_with(alloc, structs, shapes, named, arguments, place)
         }
         _ => Ok(None),
     }

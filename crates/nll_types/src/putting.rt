@@ -44,8 +44,7 @@ fn argument(alloc: Global, types: &[Ty], number: usize) -> Result<Ty, Memory>
     if number >= types.len() {
         return Ok(Ty::Int);
     }
-    let found = copy(alloc, &types[number])?;
-    Ok(found)
+    copy(alloc, &types[number])
 }
 
 // A struct with what its region arguments become, and type arguments.
@@ -72,10 +71,7 @@ pub fn put_in(alloc: Global, ty: &Ty, regions: &[RegionId], types: &[Ty]) -> Res
 {
     match ty {
         Ty::Int => Ok(Ty::Int),
-        Ty::Parameter(number) => {
-            let put = argument(alloc, types, *number)?;
-            Ok(put)
-        }
+        Ty::Parameter(number) => argument(alloc, types, *number),
         Ty::Reference(region, mutable, target) => {
             let target = put_in(alloc, target, regions, types)?;
             reference(alloc, region_in(regions, *region), *mutable, target)

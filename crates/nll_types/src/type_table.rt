@@ -87,8 +87,7 @@ impl TypeTable {
         ensures shapes { self.new.shapes ≡ self.old.shapes }
     {
         self.fields.clear();
-        self.structs.declare(alloc, declaration)?;
-        Ok(())
+        self.structs.declare(alloc, declaration)
     }
 
     /// The number of the shape that a node makes of earlier ones.
@@ -100,8 +99,7 @@ impl TypeTable {
         ensures at { IfOk result (λ i. shape_in self.new.shapes i
             ≡ shape_over (shapes_in self.old.shapes) node) }
     {
-        let number = self.shapes.add(node)?;
-        Ok(number)
+        self.shapes.add(node)
     }
 
     /// The number of the shape of a type with the shapes of these arguments put in.
@@ -114,8 +112,7 @@ impl TypeTable {
             ≡ put_in_shape (all_at (shapes_in self.old.shapes) arguments.now)
             (shape_of (tree ty.now))) }
     {
-        let number = shape(alloc, &mut self.shapes, ty, arguments)?;
-        Ok(number)
+        shape(alloc, &mut self.shapes, ty, arguments)
     }
 
     /// The shape of a part of a tuple or of a field of a struct, where there is one.
@@ -137,15 +134,14 @@ impl TypeTable {
             (shape_in self.old.shapes number)) }
     {
         let structs = &self.structs;
-        let made = part_once(
+        part_once(
             alloc,
             structs,
             &mut self.shapes,
             &mut self.fields,
             number,
             place,
-        )?;
-        Ok(made)
+        )
     }
 
     /// The shape behind one projection, where there is one.
@@ -168,10 +164,7 @@ impl TypeTable {
     {
         match projection {
             Projection::Deref => Ok(target(&self.shapes, number)),
-            Projection::Field(place) => {
-                let made = self.part(alloc, number, place as usize)?;
-                Ok(made)
-            }
+            Projection::Field(place) => self.part(alloc, number, place as usize),
         }
     }
 

@@ -1,37 +1,60 @@
 use Rattle.std.proofs.Common.{◌∙◌, ap, refl, length, arith, ◌<◌}
 use Rattle.std.proofs.lemmas.Option.{slice_get_read}
+use Rattle.indexmap.proofs.MapLemmas.{OnOk-map}
+use Rattle.nll_types.proofs.FailLemmas.{failed}
 use Rattle.nll_types.specs.Types.{type_at}
 use Rattle.nll_types.specs.Views.{tree, trees}
 use Rattle.nll_types.specs.Declarations.{structs_of}
 use Rattle.nll_types.proofs.ViewLemmas.{type_at_item, type_within, tree_int, tree_parameter, tree_reference, tree_tuple, tree_named}
 use Rattle.nll_types.proofs.WellFormedLemmas.{well_formed_at}
-use Rattle.nll_types.proofs.DropLemmas.{adds_nothing, below_more, below_all, wanted_int, wanted_reference, wanted_tuple, wanted_named, wanted_flags}
+use Rattle.nll_types.proofs.DropLemmas.{adds_nothing, below_none, below_more, below_all, wanted_int, wanted_reference, wanted_tuple, wanted_named, wanted_flags}
 use Rattle.nll_types.proofs.collecting.+collecting.Goals as goal
 
 pub collect-returns-in-Int : goal.collect-returns-in-Int
 collect-returns-in-Int t c = λ later n p. rw (ap tree c.in-Int.is ∙ tree_int) (λ w. adds_nothing _ _ _ (wanted_int _ _ _))
 
-pub collect-returns-in_ok-collect_parameter-in-Parameter : goal.collect-returns-in_ok-collect_parameter-in-Parameter
-collect-returns-in_ok-collect_parameter-in-Parameter t c = λ later n p. rw (ap tree c.in-Parameter.is ∙ tree_parameter _) (λ w. c.in_ok-collect_parameter-in-Parameter.ensures _)
+pub collect-returns-in-Parameter : goal.collect-returns-in-Parameter
+collect-returns-in-Parameter t c = OnOk-map c.collect_parameter.result _ _ (λ e. λ later n p.
+    rw (ap tree c.in-Parameter.is ∙ tree_parameter _) (λ w. e _)) c.collect_parameter.ensures
 
-pub collect-returns-in_ok-collect-in-Reference : goal.collect-returns-in_ok-collect-in-Reference
-collect-returns-in_ok-collect-in-Reference t c = λ later n p.
-    let inner = rw c.deref.ensures at c.in_ok-collect-in-Reference.ensures in
-    rw (ap tree c.in-Reference.is ∙ tree_reference _ _ _) (λ w. wanted_reference _ _ _ _ _ _ _ _ _ (c.in_ok-add_where-in-Reference.ensures _) (inner later n p w.1))
+pub collect-returns-in_ok-add_where-in-Reference : goal.collect-returns-in_ok-add_where-in-Reference
+collect-returns-in_ok-add_where-in-Reference t c =
+    let inner = rw c.deref.ensures at c.collect.ensures in
+    OnOk-map c.collect.result _ _ (λ e. λ later n p.
+    rw (ap tree c.in-Reference.is ∙ tree_reference _ _ _) (λ w. wanted_reference _ _ _ _ _ _ _ _ _ (c.in_ok-add_where-in-Reference.ensures _) (e later n p w.1))) inner
 
-pub collect-returns-in_ok-collect_parts-in-Tuple : goal.collect-returns-in_ok-collect_parts-in-Tuple
-collect-returns-in_ok-collect_parts-in-Tuple t c = λ later n p.
-    let inner = rw c.as_slice.ensures.value at c.in_ok-collect_parts-in-Tuple.ensures in
-    rw (ap tree c.in-Tuple.is ∙ tree_tuple _) (λ w. wanted_tuple _ _ _ _ _ _ (inner later n p w))
+pub collect-returns-in-Tuple : goal.collect-returns-in-Tuple
+collect-returns-in-Tuple t c =
+    let inner = rw c.as_slice.ensures.value at c.collect_parts.ensures in
+    OnOk-map c.collect_parts.result _ _ (λ e. λ later n p.
+    rw (ap tree c.in-Tuple.is ∙ tree_tuple _) (λ w. wanted_tuple _ _ _ _ _ _ (e later n p w))) inner
 
-pub collect-returns-in_ok-collect_arguments-in-Named : goal.collect-returns-in_ok-collect_arguments-in-Named
-collect-returns-in_ok-collect_arguments-in-Named t c = λ later n p.
-    let first = rw c.as_slice-in-Named.ensures.value at c.in_ok-collect_regions-in-Named.ensures in
-    let second = rw (c.as_slice-in-Named-2.ensures.keys, c.as_slice-in-Named-3.ensures.value) at c.in_ok-collect_sources-in-Named.ensures in
-    let third = rw c.as_slice-in-Named-4.ensures.value at c.in_ok-collect_arguments-in-Named.ensures in
+pub collect-returns-in_ok-collect_use-in-Named : goal.collect-returns-in_ok-collect_use-in-Named
+collect-returns-in_ok-collect_use-in-Named t c =
+    let first = rw (c.as_slice-in-Named.ensures.keys, c.as_slice-in-Named-2.ensures.value) at c.in_ok-collect_use-in-Named.ensures in
+    let third = rw c.as_slice-in-Named-3.ensures.value at c.collect_arguments.ensures in
+    OnOk-map c.collect_arguments.result _ _ (λ e. λ later n p.
     rw (ap tree c.in-Named.is ∙ tree_named _ _ _) (λ w.
     wanted_named (structs_of c.args.structs.now) later c.in-Named.number c.in-Named.regions.items (trees c.in-Named.types.items) c.in-Some.sources.now.keys c.args.written c.args.dropped
-    c.in-Some.ensures w.1 _ _ _ _ (first _) (second _) (third later n p w.4))
+    c.in-Some.ensures w.1 _ _ _ (first _) (e later n p w.4))) third
+
+pub collect-returns-in_err-add_where-in-Reference : goal.collect-returns-in_err-add_where-in-Reference
+collect-returns-in_err-add_where-in-Reference t c = failed c.from_residual.result _ _ c.from_residual.ensures.1
+
+pub collect-returns-in_err-collect_use-in-Named : goal.collect-returns-in_err-collect_use-in-Named
+collect-returns-in_err-collect_use-in-Named t c = failed c.from_residual-in_err-collect_use-in-Named.result _ _ c.from_residual-in_err-collect_use-in-Named.ensures.1
+
+pub collect_parts-returns-in_err-collect : goal.collect_parts-returns-in_err-collect
+collect_parts-returns-in_err-collect t c = failed c.from_residual.result _ _ c.from_residual.ensures.1
+
+pub collect_arguments-returns-in_err-collect : goal.collect_arguments-returns-in_err-collect
+collect_arguments-returns-in_err-collect t c = failed c.from_residual.result _ _ c.from_residual.ensures.1
+
+pub collect_parts-loop-part-init : goal.collect_parts-loop-part-init
+collect_parts-loop-part-init t c = λ later n p w. below_none _ _ _ _
+
+pub collect_arguments-loop-place-init : goal.collect_arguments-loop-place-init
+collect_arguments-loop-place-init t c = λ later n p w. below_none _ _ _ _
 
 pub collect_parts-loop-part-preserved : goal.collect_parts-loop-part-preserved
 collect_parts-loop-part-preserved t c = λ later n p w.

@@ -1,3 +1,4 @@
+use Rattle.indexmap.proofs.MapLemmas.{OnOk-map}
 use Rattle.nll_types.proofs.DropLemmas.{adds_nothing, adds_as, adds_then}
 use Rattle.nll_types.proofs.declaring.collect_own.Goals as goal
 
@@ -5,7 +6,7 @@ pub returns-then-not-declaration : goal.returns-then-not-declaration
 returns-then-not-declaration c = λ all. adds_nothing all _ _ (λ rs ts r h. (let f = c.if-not-declaration.true in let t = h.0 in cc))
 
 pub returns : goal.returns
-returns c = λ all.
+returns c =
     let first = rw c.as_slice.ensures.value at c.in_ok-collect_kept_regions.ensures in
-    let second = rw c.as_slice-2.ensures.value at c.in_ok-collect_kept_types.ensures in
-    adds_as all _ _ _ _ (λ rs ts r h. (c.if-not-declaration.false, h)) (λ rs ts r h. h.1) (adds_then all _ _ _ _ _ (first all) (second all))
+    let second = rw c.as_slice-2.ensures.value at c.collect_kept_types.ensures in
+    OnOk-map c.collect_kept_types.result _ _ (λ next. λ all. adds_as all _ _ _ _ (λ rs ts r h. (c.if-not-declaration.false, h)) (λ rs ts r h. h.1) (adds_then all _ _ _ _ _ (first all) (next all))) second

@@ -1,6 +1,7 @@
 use Rattle.std.proofs.Common.{◌<◌, ◌≤◌, ◌∙◌, ap, sym, refl, length, arith, ⊎_elim}
 use Rattle.std.specs.Prelude.{option_map}
 use Rattle.std.proofs.lemmas.Option.{slice_get_read, slice_get_past}
+use Rattle.std.proofs.lemmas.Result.{IfOk-weaker}
 use Rattle.nll_types.specs.Places.{behind}
 use Rattle.nll_types.specs.Views.{tree}
 use Rattle.nll_types.specs.Declarations.{structs_of}
@@ -17,12 +18,12 @@ returns-then-place-len t c =
     step_none structs c.args.projections.now c.args.from Deref (Field c.in-Field.place) _ c.if-from-projections.false c.in-Field.is
     (ap (behind structs (Field c.in-Field.place)) (ap tree c.in-Tuple.is ∙ tree_tuple _) ∙ type_at_trees parts c.in-Field.place ∙ ap (option_map tree) (slice_get_past parts c.in-Field.place past))
 
-pub returns-in_ok-reached-in-Reference : goal.returns-in_ok-reached-in-Reference
-returns-in_ok-reached-in-Reference t c =
+pub returns-in-Reference : goal.returns-in-Reference
+returns-in-Reference t c =
     let structs = structs_of c.args.structs.now in
-    let inner = rw c.deref.ensures at c.in_ok-reached-in-Reference.ensures in
-    step_on structs c.args.projections.now c.args.from Deref Deref _ _ c.in_ok-reached-in-Reference.reached c.if-from-projections.false c.in-Deref.is
-    (ap (behind structs Deref) (ap tree c.in-Reference.is ∙ tree_reference _ _ _)) inner
+    let inner = rw c.deref.ensures at c.advance.ensures in
+    IfOk-weaker c.advance.result _ _ (λ o r. step_on structs c.args.projections.now c.args.from Deref Deref _ _ o c.if-from-projections.false c.in-Deref.is
+    (ap (behind structs Deref) (ap tree c.in-Reference.is ∙ tree_reference _ _ _)) r) inner
 
 pub returns-in-Int : goal.returns-in-Int
 returns-in-Int t c =
@@ -33,14 +34,14 @@ returns-in-Int t c =
     (⊎_elim (λ e. ap (behind structs Deref) (ap tree e.1 ∙ tree_tuple _))
     (λ e. ap (behind structs Deref) (ap tree e.3 ∙ tree_named _ _ _)))) c.in-Int.is)
 
-pub returns-in_ok-reached-in-Tuple : goal.returns-in_ok-reached-in-Tuple
-returns-in_ok-reached-in-Tuple t c =
+pub returns-else-place-len : goal.returns-else-place-len
+returns-else-place-len t c =
     let structs = structs_of c.args.structs.now in
     let parts = c.in-Tuple.parts.items in
     let within : c.in-Field.place < length parts = omega arith in
-    step_on structs c.args.projections.now c.args.from Deref (Field c.in-Field.place) _ _ c.in_ok-reached-in-Tuple.reached c.if-from-projections.false c.in-Field.is
-    (ap (behind structs (Field c.in-Field.place)) (ap tree c.in-Tuple.is ∙ tree_tuple _) ∙ type_at_item parts c.in-Field.place c.index.result.now (slice_get_read parts _ c.in-Field.place c.index.result.now refl within c.index.ensures))
-    c.in_ok-reached-in-Tuple.ensures
+    IfOk-weaker c.advance-in-Tuple.result _ _ (λ o r. step_on structs c.args.projections.now c.args.from Deref (Field c.in-Field.place) _ _ o c.if-from-projections.false c.in-Field.is
+    (ap (behind structs (Field c.in-Field.place)) (ap tree c.in-Tuple.is ∙ tree_tuple _) ∙ type_at_item parts c.in-Field.place c.index.result.now (slice_get_read parts _ c.in-Field.place c.index.result.now refl within c.index.ensures)) r)
+    c.advance-in-Tuple.ensures
 
 pub returns-in-Some : goal.returns-in-Some
 returns-in-Some t c =

@@ -1,4 +1,5 @@
 use Rattle.std.proofs.Common.{◌<◌, length, ◌∙◌, ap, arith}
+use Rattle.std.proofs.lemmas.Result.{IfOk-weaker}
 use Rattle.nll_types.specs.Views.{tree}
 use Rattle.nll_types.proofs.ViewLemmas.{tree_int}
 use Rattle.nll_types.proofs.PuttingLemmas.{argument_past, argument_view}
@@ -10,4 +11,5 @@ returns-then-number-types c = tree_int ∙ argument_past c.args.types.now c.args
 pub returns : goal.returns
 returns c =
     let within : c.args.number < length c.args.types.now = omega arith in
-    c.in_ok-found.ensures ∙ ap tree c.index-types-number.is ∙ argument_view c.args.types.now c.args.number c.index-types-number.result within
+    IfOk-weaker c.copy.result _ _
+    (λ u e. e ∙ ap tree c.index-types-number.is ∙ argument_view c.args.types.now c.args.number c.index-types-number.result within) c.copy.ensures

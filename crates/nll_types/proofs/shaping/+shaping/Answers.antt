@@ -1,5 +1,6 @@
 use Rattle.std.proofs.Common.{◌≤◌, ◌≡◌, ℕ, List, arith, length, ap, sym, ◌∙◌}
 use Rattle.std.proofs.lemmas.Result.{IfOk-weaker}
+use Rattle.nll_types.proofs.FailLemmas.{failed}
 use Rattle.nll_types.specs.Shapes.{shape_of, put_in_shape, reference_shape, tuple_shape, named_shape}
 use Rattle.nll_types.specs.Table.{shapes_in, all_at}
 use Rattle.nll_types.specs.Types.{TypeTree}
@@ -79,3 +80,60 @@ shape-returns-in_ok-parts-in-Tuple-clause-within t c = c.add-in-Tuple.ensures.wi
 
 pub shape-returns-in_ok-types-in-Named-clause-within : goal.shape-returns-in_ok-types-in-Named-clause-within
 shape-returns-in_ok-types-in-Named-clause-within t c = c.add-in-Named.ensures.within
+
+pub shape-returns-in_err-target-in-Reference-clause-within : goal.shape-returns-in_err-target-in-Reference-clause-within
+shape-returns-in_err-target-in-Reference-clause-within t c = failed c.from_residual.result _ _ c.from_residual.ensures.1
+
+pub shape-returns-in_err-target-in-Reference-clause-at : goal.shape-returns-in_err-target-in-Reference-clause-at
+shape-returns-in_err-target-in-Reference-clause-at t c = failed c.from_residual.result _ _ c.from_residual.ensures.1
+
+pub shape-returns-in_err-target-in-Reference-clause-extends : goal.shape-returns-in_err-target-in-Reference-clause-extends
+shape-returns-in_err-target-in-Reference-clause-extends t c = c.shape.ensures.extends
+
+pub shape-returns-in_err-parts-in-Tuple-clause-within : goal.shape-returns-in_err-parts-in-Tuple-clause-within
+shape-returns-in_err-parts-in-Tuple-clause-within t c = failed c.from_residual-in_err-parts-in-Tuple.result _ _ c.from_residual-in_err-parts-in-Tuple.ensures.1
+
+pub shape-returns-in_err-parts-in-Tuple-clause-at : goal.shape-returns-in_err-parts-in-Tuple-clause-at
+shape-returns-in_err-parts-in-Tuple-clause-at t c = failed c.from_residual-in_err-parts-in-Tuple.result _ _ c.from_residual-in_err-parts-in-Tuple.ensures.1
+
+pub shape-returns-in_err-parts-in-Tuple-clause-extends : goal.shape-returns-in_err-parts-in-Tuple-clause-extends
+shape-returns-in_err-parts-in-Tuple-clause-extends t c = c.shape_all.ensures.extends
+
+pub shape-returns-in_err-types-in-Named-clause-within : goal.shape-returns-in_err-types-in-Named-clause-within
+shape-returns-in_err-types-in-Named-clause-within t c = failed c.from_residual-in_err-types-in-Named.result _ _ c.from_residual-in_err-types-in-Named.ensures.1
+
+pub shape-returns-in_err-types-in-Named-clause-at : goal.shape-returns-in_err-types-in-Named-clause-at
+shape-returns-in_err-types-in-Named-clause-at t c = failed c.from_residual-in_err-types-in-Named.result _ _ c.from_residual-in_err-types-in-Named.ensures.1
+
+pub shape-returns-in_err-types-in-Named-clause-extends : goal.shape-returns-in_err-types-in-Named-clause-extends
+shape-returns-in_err-types-in-Named-clause-extends t c = c.shape_all-in-Named.ensures.extends
+
+pub shape_all-returns-in_err-made-clause-within : goal.shape_all-returns-in_err-made-clause-within
+shape_all-returns-in_err-made-clause-within t c = failed c.from_residual.result _ _ c.from_residual.ensures.1
+
+pub shape_all-returns-in_err-made-clause-at : goal.shape_all-returns-in_err-made-clause-at
+shape_all-returns-in_err-made-clause-at t c = failed c.from_residual.result _ _ c.from_residual.ensures.1
+
+pub shape_all-returns-in_err-number-clause-within : goal.shape_all-returns-in_err-number-clause-within
+shape_all-returns-in_err-number-clause-within t c = failed c.from_residual-in_err-number.result _ _ c.from_residual-in_err-number.ensures.1
+
+pub shape_all-returns-in_err-number-clause-at : goal.shape_all-returns-in_err-number-clause-at
+shape_all-returns-in_err-number-clause-at t c = failed c.from_residual-in_err-number.result _ _ c.from_residual-in_err-number.ensures.1
+
+pub shape_all-returns-in_err-number-clause-extends : goal.shape_all-returns-in_err-number-clause-extends
+shape_all-returns-in_err-number-clause-extends t c = extends_then _ _ _ c.loop-part.invariant.extends c.shape.ensures.extends
+
+pub shape_all-returns-in_err-push-clause-within : goal.shape_all-returns-in_err-push-clause-within
+shape_all-returns-in_err-push-clause-within t c = failed c.from_residual-in_err-push.result _ _ c.from_residual-in_err-push.ensures.1
+
+pub shape_all-returns-in_err-push-clause-at : goal.shape_all-returns-in_err-push-clause-at
+shape_all-returns-in_err-push-clause-at t c = failed c.from_residual-in_err-push.result _ _ c.from_residual-in_err-push.ensures.1
+
+pub shape_all-returns-in_err-push-clause-extends : goal.shape_all-returns-in_err-push-clause-extends
+shape_all-returns-in_err-push-clause-extends t c = extends_then _ _ _ c.loop-part.invariant.extends c.shape.ensures.extends
+
+pub shape_all-returns-clause-within : goal.shape_all-returns-clause-within
+shape_all-returns-clause-within t c = c.loop-part.invariant.within
+
+pub shape_all-returns-clause-extends : goal.shape_all-returns-clause-extends
+shape_all-returns-clause-extends t c = c.loop-part.invariant.extends

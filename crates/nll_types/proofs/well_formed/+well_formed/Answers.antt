@@ -1,9 +1,12 @@
-use Rattle.std.proofs.Common.{◌≡◌, ◌∙◌, ap, refl, length, arith, rules}
-use Rattle.std.specs.Prelude.{vec_len}
+use Rattle.std.proofs.Common.{◌≡◌, ◌∙◌, ap, refl, subst, List, length, arith}
+use Rattle.std.specs.Prelude.{IsTrue, ◌↔◌}
 use Rattle.std.proofs.lemmas.Option.{slice_get_read}
-use Rattle.nll_types.specs.Views.{tree}
-use Rattle.nll_types.proofs.ViewLemmas.{tree_named}
-use Rattle.nll_types.proofs.KeepingLemmas.{good_all, good_one, good_more, named_takes, named_good}
+use Rattle.nll_types.specs.Structs.{IsWellFormed, AreWellFormed}
+use Rattle.nll_types.specs.Declarations.{structs_of}
+use Rattle.nll_types.specs.Views.{tree, trees}
+use Rattle.nll_types.specs.declared.ty.Ty.{Ty}
+use Rattle.nll_types.proofs.ViewLemmas.{tree_int, tree_reference, tree_tuple, tree_named}
+use Rattle.nll_types.proofs.KeepingLemmas.{good_all, good_one, good_more, named_takes, named_good, Takes, told}
 use Rattle.nll_types.proofs.well_formed.+well_formed.Goals as goal
 
 pub are_well_formed-returns-then-not-is_well_formed : goal.are_well_formed-returns-then-not-is_well_formed
@@ -28,24 +31,59 @@ are_well_formed-returns t c =
 
 pub is_well_formed-returns-then-not-takes : goal.is_well_formed-returns-then-not-takes
 is_well_formed-returns-then-not-takes t c =
-    let own : vec_len c.in-Named.own ≡ length c.in-Named.own.items = search rules in
-    let types : vec_len c.in-Named.types ≡ length c.in-Named.types.items = search rules in
-    let takes = rw (c.len.ensures, c.len-in-Named.ensures, own, types) at c.takes.ensures in (
+    let own : c.len.result ≡ length c.in-Named.own.items = cc in
+    let types : c.len-in-Named.result ≡ length c.in-Named.types.items = cc in
+    let takes = subst (λ k. IsTrue c.takes.result ↔ Takes c.args.structs.now c.in-Named.number (length c.in-Named.own.items) k) types
+    (subst (λ k. IsTrue c.takes.result ↔ Takes c.args.structs.now c.in-Named.number k c.len-in-Named.result) own c.takes.ensures) in
+    told _ _ _ _ _ _ (ap tree c.in-Named.is ∙ tree_named _ _ _) (
       λ h. absurd cc,
       λ w.
-          let named = rw (ap tree c.in-Named.is ∙ tree_named _ _ _) at w in
-          let yes = takes.1 (named_takes c.args.structs.now _ _ c.in-Named.number c.in-Named.own.items c.in-Named.types.items named) in
+          let yes = takes.1 (named_takes c.args.structs.now _ _ c.in-Named.number c.in-Named.own.items c.in-Named.types.items w) in
           absurd (let f = c.if-not-takes.true in cc),
+    )
+
+pub is_well_formed-returns-then-not-are_below : goal.is_well_formed-returns-then-not-are_below
+is_well_formed-returns-then-not-are_below t c =
+    let below = rw c.as_slice-in-Named.ensures.value at c.are_below.ensures in
+    told _ _ _ _ _ _ (ap tree c.in-Named.is ∙ tree_named _ _ _) (
+      λ h. absurd cc,
+      λ w.
+          let yes = below.1 w.3 in
+          absurd (let f = c.if-not-are_below.true in cc),
     )
 
 pub is_well_formed-returns-else-not-are_below : goal.is_well_formed-returns-else-not-are_below
 is_well_formed-returns-else-not-are_below t c =
-    let own : vec_len c.in-Named.own ≡ length c.in-Named.own.items = search rules in
-    let types : vec_len c.in-Named.types ≡ length c.in-Named.types.items = search rules in
-    let takes = rw (c.len.ensures, c.len-in-Named.ensures, own, types) at c.takes.ensures in
+    let own : c.len.result ≡ length c.in-Named.own.items = cc in
+    let types : c.len-in-Named.result ≡ length c.in-Named.types.items = cc in
+    let takes = subst (λ k. IsTrue c.takes.result ↔ Takes c.args.structs.now c.in-Named.number (length c.in-Named.own.items) k) types
+    (subst (λ k. IsTrue c.takes.result ↔ Takes c.args.structs.now c.in-Named.number k c.len-in-Named.result) own c.takes.ensures) in
     let yes = takes.0 (let f = c.if-not-takes.false in cc) in
     let below = rw c.as_slice-in-Named.ensures.value at c.are_below.ensures in
     let all = below.0 (let f = c.if-not-are_below.false in cc) in
-    let good = rw c.as_slice-in-Named-2.ensures.value at c.are_well_formed-good-in-Named.ensures in
-    rw (ap tree c.in-Named.is ∙ tree_named _ _ _)
+    let good = subst (λ (z : List Ty). IsTrue c.are_well_formed-good-in-Named.result ↔ AreWellFormed (structs_of c.args.structs.now) c.args.regions c.args.parameters (trees z))
+    c.as_slice-in-Named-2.ensures.value c.are_well_formed-good-in-Named.ensures in
+    told _ _ _ _ _ _ (ap tree c.in-Named.is ∙ tree_named _ _ _)
     (λ h. named_good c.args.structs.now _ _ c.in-Named.number c.in-Named.own.items c.in-Named.types.items yes all (good.0 h), λ w. good.1 w.4)
+
+pub is_well_formed-returns-in-Int : goal.is_well_formed-returns-in-Int
+is_well_formed-returns-in-Int t c = told _ _ _ _ _ _ (ap tree c.in-Int.is ∙ tree_int) (λ h. tt, λ w. refl)
+
+pub is_well_formed-returns-then-region-regions : goal.is_well_formed-returns-then-region-regions
+is_well_formed-returns-then-region-regions t c =
+    told _ _ _ _ _ _ (ap tree c.in-Reference.is ∙ tree_reference _ _ _) (
+      λ h. absurd cc,
+      λ w. (let within = w.0 in absurd (omega arith)),
+    )
+
+pub is_well_formed-returns-else-region-regions : goal.is_well_formed-returns-else-region-regions
+is_well_formed-returns-else-region-regions t c =
+    let good = subst (λ (z : Ty). IsTrue c.is_well_formed-good.result ↔ IsWellFormed (structs_of c.args.structs.now) c.args.regions c.args.parameters (tree z))
+    c.deref.ensures c.is_well_formed-good.ensures in
+    told _ _ _ _ _ _ (ap tree c.in-Reference.is ∙ tree_reference _ _ _) (λ h. (omega arith, good.0 h), λ w. good.1 w.1)
+
+pub is_well_formed-returns-in-Tuple : goal.is_well_formed-returns-in-Tuple
+is_well_formed-returns-in-Tuple t c =
+    let good = subst (λ (z : List Ty). IsTrue c.are_well_formed-good.result ↔ AreWellFormed (structs_of c.args.structs.now) c.args.regions c.args.parameters (trees z))
+    c.as_slice.ensures.value c.are_well_formed-good.ensures in
+    told _ _ _ _ _ _ (ap tree c.in-Tuple.is ∙ tree_tuple _) good

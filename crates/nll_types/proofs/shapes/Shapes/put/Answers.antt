@@ -1,4 +1,5 @@
 use Rattle.std.proofs.Common.{◌≡◌, ◌++◌, ◌∷◌, []}
+use Rattle.nll_types.proofs.FailLemmas.{failed}
 use Rattle.nll_types.proofs.TableLemmas.{kept_push, extends_push}
 use Rattle.nll_types.proofs.shapes.Shapes.put.Goals as goal
 
@@ -14,3 +15,15 @@ invariant_of-self-then-new c =
 
 pub returns-then-new-clause-extends : goal.returns-then-new-clause-extends
 returns-then-new-clause-extends c = rw (← c.self.view_is, keys c) (extends_push _ c.args.node)
+
+pub returns-in_err-reserve-clause-within : goal.returns-in_err-reserve-clause-within
+returns-in_err-reserve-clause-within c = failed c.from_residual.result _ _ c.from_residual.ensures.1
+
+pub returns-in_err-reserve-clause-at : goal.returns-in_err-reserve-clause-at
+returns-in_err-reserve-clause-at c = failed c.from_residual.result _ _ c.from_residual.ensures.1
+
+pub returns-in_err-place-clause-within : goal.returns-in_err-place-clause-within
+returns-in_err-place-clause-within c = failed c.from_residual-in_err-place.result _ _ c.from_residual-in_err-place.ensures.1
+
+pub returns-in_err-place-clause-at : goal.returns-in_err-place-clause-at
+returns-in_err-place-clause-at c = failed c.from_residual-in_err-place.result _ _ c.from_residual-in_err-place.ensures.1

@@ -3,6 +3,3 @@ use Rattle.nll_types.proofs.type_table.TypeTable.add.Goals as goal
 
 pub invariant_of-self : goal.invariant_of-self
 invariant_of-self c = remembered_stay _ _ _ _ c.self.invariant c.add.ensures.extends
-
-pub invariant_of-self-2 : goal.invariant_of-self-2
-invariant_of-self-2 c = remembered_stay _ _ _ _ c.self.invariant c.add.ensures.extends

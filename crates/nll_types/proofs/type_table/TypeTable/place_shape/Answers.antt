@@ -2,6 +2,8 @@ use Rattle.std.proofs.Common.{◌≤◌, ◌∙◌, ap, length, arith}
 use Rattle.nll_types.specs.Shapes.{is_small_shape}
 use Rattle.nll_types.specs.Table.{shape_in}
 use Rattle.nll_types.specs.Tables.{Tables}
+use Rattle.nll_types.proofs.FailLemmas.{failed}
+use Rattle.nll_types.proofs.ShapingLemmas.{extends_then}
 use Rattle.nll_types.proofs.WayLemmas.{way_ends, way_at, way_small}
 use Rattle.nll_types.proofs.type_table.TypeTable.place_shape.Goals as goal
 
@@ -22,3 +24,39 @@ returns-clause-small c = λ t e.
     let past : length c.args.projections.now ≤ c.loop-projection.projection-index = omega arith in
     let told = c.is_small-here-2.ensures ∙ ap (λ (z : Tables). is_small_shape (shape_in z.shapes c.loop-projection.number)) c.self-2.view_is in
     rw told (way_small _ _ _ c.args.projections.now c.loop-projection.projection-index c.args.from c.loop-projection.number c.loop-projection.small t past c.loop-projection.invariant.1 e)
+
+pub returns-in_err-next-clause-within : goal.returns-in_err-next-clause-within
+returns-in_err-next-clause-within c = failed c.from_residual.result _ _ c.from_residual.ensures.1
+
+pub returns-in_err-next-clause-at : goal.returns-in_err-next-clause-at
+returns-in_err-next-clause-at c = failed c.from_residual.result _ _ c.from_residual.ensures.1
+
+pub returns-in_err-next-clause-small : goal.returns-in_err-next-clause-small
+returns-in_err-next-clause-small c = failed c.from_residual.result _ _ c.from_residual.ensures.1
+
+pub returns-in-None-clause-within : goal.returns-in-None-clause-within
+returns-in-None-clause-within c = tt
+
+pub returns-in-None-clause-small : goal.returns-in-None-clause-small
+returns-in-None-clause-small c = tt
+
+pub returns-in_err-next-clause-extends : goal.returns-in_err-next-clause-extends
+returns-in_err-next-clause-extends c = extends_then _ _ _ c.loop-projection.invariant.1.extends c.behind.ensures.extends
+
+pub returns-in_err-next-clause-structs : goal.returns-in_err-next-clause-structs
+returns-in_err-next-clause-structs c = c.behind.ensures.structs ∙ c.loop-projection.invariant.0
+
+pub returns-in-None-clause-extends : goal.returns-in-None-clause-extends
+returns-in-None-clause-extends c = extends_then _ _ _ c.loop-projection.invariant.1.extends c.behind.ensures.extends
+
+pub returns-in-None-clause-structs : goal.returns-in-None-clause-structs
+returns-in-None-clause-structs c = c.behind.ensures.structs ∙ c.loop-projection.invariant.0
+
+pub returns-clause-extends : goal.returns-clause-extends
+returns-clause-extends c = c.loop-projection.invariant.1.extends
+
+pub returns-clause-within : goal.returns-clause-within
+returns-clause-within c = c.loop-projection.invariant.1.within
+
+pub returns-clause-structs : goal.returns-clause-structs
+returns-clause-structs c = c.loop-projection.invariant.0
