@@ -1,9 +1,9 @@
 -- Steps that the code takes: tokens, nodes and frames together.
-use Rattle.std.proofs.Common.{◌≡◌, ℕ, ◌+◌, ◌-◌, ◌<◌, ◌≤◌, Bool, List, [], ◌∷◌, ◌++◌, length, drop, refl, sym, ap, ◌∙◌, subst, arith}
+use Rattle.std.proofs.Common.{◌≡◌, ℕ, ◌+◌, ◌-◌, ◌*◌, ◌<◌, ◌≤◌, Bool, List, [], ◌∷◌, ◌++◌, length, drop, refl, sym, ap, ◌∙◌, subst, arith}
 use Rattle.std.specs.Borrow.{Bor}
 use Rattle.std.specs.Prelude.{Option, Some, None, MatchOption}
 use Rattle.std.specs.Global.{Vec}
-use Rattle.std.proofs.lemmas.List.{length-append}
+use Rattle.std.proofs.lemmas.List.{length-append, length-drop, drop-drop}
 use Rattle.nll_text.specs.Tokens.{Token, region, views}
 use Rattle.nll_text.specs.declared.token.Token.{Token as InLine}
 use Rattle.nll_type_grammar.specs.WrittenTypes.{Name, WrittenType, Arguments, int, reference, none, more, no_argument, region_argument, type_argument}
@@ -276,3 +276,23 @@ first_steps ns os t ts e f = rw (e, f) (record { there = λ whole rest f. f; bac
 
 pub at_end : (s : State) (ns : List TypeNode) (os : List Open) (ts at_ts : List Token) → s ≡ Have → os ≡ [] → Steps Want [] int ts s (frames_of ns os) (written ns) at_ts → Steps Want [] int ts Have [] (written ns) at_ts
 at_end s ns os ts at_ts e k same = subst (λ z. Steps Want [] int ts z [] (written ns) at_ts) e (subst (λ (z : List Open). Steps Want [] int ts s (frames_of ns z) (written ns) at_ts) k same)
+
+-- one step more, at the rest of the tokens
+pub steps_further : (s s' : State) (tokens rest : List InLine) (at n : ℕ) (ns ns' : List TypeNode) (os os' : List Open) → Steps Want [] int (views tokens) s (frames_of ns os) (written ns) (views (drop at tokens)) → rest ≡ drop at tokens → GoesFurther s ns os rest s' ns' os' n → Steps Want [] int (views tokens) s' (frames_of ns' os') (written ns') (views (drop (at + n) tokens))
+steps_further s s' tokens rest at n ns ns' os os' before e step =
+    let same : Steps s (frames_of ns os) (written ns) (views (drop at tokens)) s' (frames_of ns' os') (written ns') (views (drop n (drop at tokens))) =
+    subst (λ (z : List InLine). Steps s (frames_of ns os) (written ns) (views z) s' (frames_of ns' os') (written ns') (views (drop n z))) e step.same in
+    steps_then _ _ _ _ _ _ _ _ _ _ _ _ before (subst (λ (z : List InLine). Steps s (frames_of ns os) (written ns) (views (drop at tokens)) s' (frames_of ns' os') (written ns') (views z)) (drop-drop n at tokens) same)
+
+pub within_further : (s s' : State) (tokens rest : List InLine) (at n : ℕ) (ns ns' : List TypeNode) (os os' : List Open) → at ≤ length tokens → rest ≡ drop at tokens → GoesFurther s ns os rest s' ns' os' n → at + n ≤ length tokens
+within_further s s' tokens rest at n ns ns' os os' within e step =
+    let l : length rest ≡ length tokens - at = ap length e ∙ length-drop at tokens in
+    let few = step.within in
+    omega arith
+
+pub falls_further : (s s' : State) (tokens rest : List InLine) (at n : ℕ) (ns ns' : List TypeNode) (os os' : List Open) → at ≤ length tokens → rest ≡ drop at tokens → GoesFurther s ns os rest s' ns' os' n → 4 * (length tokens - (at + n)) + length os' + pending s' < 4 * (length tokens - at) + length os + pending s
+falls_further s s' tokens rest at n ns ns' os os' within e step =
+    let l : length rest ≡ length tokens - at = ap length e ∙ length-drop at tokens in
+    let few = step.within in
+    let falls = step.falls in
+    omega arith
