@@ -12,6 +12,7 @@ use Rattle.nll_type_grammar.specs.OpenTypes.{Frame, behind, parts, arguments, jo
 use Rattle.nll_type_grammar.specs.declared.opens.State.{State}
 use Rattle.nll_type_grammar.specs.declared.opens.State.TheVariants.{Want, WantArgument, Have, Inside}
 use Rattle.nll_type_grammar.specs.declared.fronts.Front.{Front}
+use Rattle.nll_type_grammar.specs.declared.fronts.Front.TheVariants as fronts
 use Rattle.nll_type_grammar.specs.declared.opens.Open.{Open}
 use Rattle.nll_type_grammar.specs.declared.opens.Open.TheVariants as opens
 use Rattle.nll_type_grammar.specs.declared.type_text.TypeNode.{TypeNode}
@@ -19,7 +20,7 @@ use Rattle.nll_type_grammar.specs.declared.type_text.TypeNode.TheVariants as nod
 use Rattle.nll_type_grammar.specs.declared.type_text.Argument.{Argument}
 use Rattle.nll_type_grammar.specs.declared.type_text.Argument.TheVariants as argument
 use Rattle.nll_type_grammar.proofs.NodeLemmas.{to_node, to_frame, read_push_node, read_push_open, read_pop, frames_push_open, all_at_push, type_at_push, region_at_push, below_push, among_push_type, among_push_region}
-use Rattle.nll_type_grammar.proofs.StepLemmas.{step_behind, step_part, step_type_argument, step_region, step_no_region, stuck_region}
+use Rattle.nll_type_grammar.proofs.StepLemmas.{step_behind, step_part, step_type_argument, step_region, step_no_region, stuck_region, front_int, front_unit, front_tuple, front_reference, front_generic, front_name}
 
 length_views : (tokens : List InLine) → length (views tokens) ≡ length tokens
 length_views [] = refl
@@ -197,6 +198,26 @@ begun_frame front ns os os' o s s' r below other few step h =
       few = omega arith;
       some = λ have. absurd (other have);
     })
+
+-- each beginning
+
+pub begun_int : (front : Front) (ns ns' : List TypeNode) (os : List Open) (s : State) → front ≡ fronts.Int → AreRead ns os → (s ≡ Have) × (ns' ≡ ns ++ nodes.Int ∷ []) → IsBegun front ns os s ns' os
+begun_int front ns ns' os s is r h = begun_node front ns ns' nodes.Int os s r tt (λ ts rest b. front_int _ _ ts rest (subst (λ z. Begins z ts rest) is b)) h
+
+pub begun_unit : (front : Front) (ns ns' : List TypeNode) (os : List Open) (v : Vec ℕ) (s : State) → front ≡ fronts.Unit → v.items ≡ [] → AreRead ns os → (s ≡ Have) × (ns' ≡ ns ++ nodes.Tuple v ∷ []) → IsBegun front ns os s ns' os
+begun_unit front ns ns' os v s is e r h = begun_node front ns ns' (nodes.Tuple v) os s r (rw e tt) (λ ts rest b. rw e (front_unit _ _ ts rest (subst (λ z. Begins z ts rest) is b))) h
+
+pub begun_name : (front : Front) (ns ns' : List TypeNode) (os : List Open) (n : Bor (List ℕ)) (v : Vec Argument) (s : State) → front ≡ fronts.Name n → v.items ≡ [] → AreRead ns os → (s ≡ Have) × (ns' ≡ ns ++ nodes.Named n v ∷ []) → IsBegun front ns os s ns' os
+begun_name front ns ns' os n v s is e r h = begun_node front ns ns' (nodes.Named n v) os s r (rw e tt) (λ ts rest b. rw e (front_name n _ _ ts rest (subst (λ z. Begins z ts rest) is b))) h
+
+pub begun_tuple : (front : Front) (ns : List TypeNode) (os os' : List Open) (v : Vec ℕ) (s : State) → front ≡ fronts.Tuple → v.items ≡ [] → AreRead ns os → (s ≡ Want) × (os' ≡ os ++ opens.Tuple v ∷ []) → IsBegun front ns os s ns os'
+begun_tuple front ns os os' v s is e r h = begun_frame front ns os os' (opens.Tuple v) s Want r (rw e tt) (λ x. cc) (omega arith) (λ ts rest b. rw e (front_tuple _ _ _ ts rest (subst (λ z. Begins z ts rest) is b))) h
+
+pub begun_reference : (front : Front) (ns : List TypeNode) (os os' : List Open) (q : Bor (List ℕ)) (m : Bool) (s : State) → front ≡ fronts.Reference q m → AreRead ns os → (s ≡ Want) × (os' ≡ os ++ opens.Behind q m ∷ []) → IsBegun front ns os s ns os'
+begun_reference front ns os os' q m s is r h = begun_frame front ns os os' (opens.Behind q m) s Want r tt (λ x. cc) (omega arith) (λ ts rest b. front_reference q _ _ _ _ ts rest (subst (λ z. Begins z ts rest) is b)) h
+
+pub begun_generic : (front : Front) (ns : List TypeNode) (os os' : List Open) (n : Bor (List ℕ)) (v : Vec Argument) (s : State) → front ≡ fronts.Generic n → v.items ≡ [] → AreRead ns os → (s ≡ WantArgument) × (os' ≡ os ++ opens.Arguments n v ∷ []) → IsBegun front ns os s ns os'
+begun_generic front ns os os' n v s is e r h = begun_frame front ns os os' (opens.Arguments n v) s WantArgument r (rw e tt) (λ x. cc) (omega arith) (λ ts rest b. rw e (front_generic n _ _ _ ts rest (subst (λ z. Begins z ts rest) is b))) h
 
 pub further_begin : (front : Front) (n : ℕ) (tokens : List InLine) (ns ns' : List TypeNode) (os os' : List Open) (s' : State) → BeginsWithin front n tokens → IsBegun front ns os s' ns' os' → GoesFurther Want ns os tokens s' ns' os' n
 further_begin front n tokens ns ns' os os' s' b h =
