@@ -475,6 +475,11 @@ parentheses_found g ts inner mid rest xs e b f = record {
   follows = tt;
 }
 
+-- what stands behind the values is the closing sign, or none
+pub parentheses_end : {A R : Type 0} (g : Grammar A) → IsListable g (sign 41) → (ts inner mid : List Token) (xs : List A) (after : R → List Token) (r : Option R) → ts ≡ sign 40 ∷ inner → IsNotNext (sign 41) inner → Begins (commas g) inner xs mid → MatchOption r (IsNotNext (sign 41) mid) (λ p. mid ≡ sign 41 ∷ after p) → MatchOption r (HasNone (parentheses g) ts) (λ p. Begins (parentheses g) ts xs (after p))
+parentheses_end g h ts inner mid xs after None e other b end = parentheses_open g h ts inner mid xs e other b end
+parentheses_end g h ts inner mid xs after (Some p) e other b end = parentheses_found g ts inner mid (after p) xs e b end
+
 -- ---- a value by its kind
 
 pub kinds_one : {K : Type 0} (P : K → Type 0) (g : (k : K) → Grammar (P k)) → ((k : K) → IsOne (g k))

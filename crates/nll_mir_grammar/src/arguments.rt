@@ -105,13 +105,10 @@ fn enclosed_arguments<'t, 'a>(
     if let Some(rest) = after_sign(inner, b')') {
         return Ok(Some(rest));
     }
-    let Some(behind) = list_arguments(alloc, inner, arguments)? else {
-        return Ok(None);
-    };
-    let Some(rest) = after_sign(behind, b')') else {
-        return Ok(None);
-    };
-    Ok(Some(rest))
+    match list_arguments(alloc, inner, arguments)? {
+        Some(behind) => Ok(after_sign(behind, b')')),
+        None => Ok(None),
+    }
 }
 
 /// The arguments between `(` and `)`.

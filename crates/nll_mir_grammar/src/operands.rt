@@ -114,13 +114,10 @@ fn enclosed_operands<'t, 'a>(
     if let Some(rest) = after_sign(inner, b')') {
         return Ok(Some(rest));
     }
-    let Some(behind) = list_operands(alloc, inner, operands)? else {
-        return Ok(None);
-    };
-    let Some(rest) = after_sign(behind, b')') else {
-        return Ok(None);
-    };
-    Ok(Some(rest))
+    match list_operands(alloc, inner, operands)? {
+        Some(behind) => Ok(after_sign(behind, b')')),
+        None => Ok(None),
+    }
 }
 
 /// The operands between `(` and `)`.
