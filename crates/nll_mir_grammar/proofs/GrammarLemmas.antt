@@ -1,5 +1,6 @@
 -- Grammars that are made of others.
 use Rattle.std.proofs.Common.{◌≡◌, ℕ, ◌<◌, ◌≤◌, ◌+◌, ◌-◌, drop, false, eqb, List, [], ◌∷◌, ◌++◌, length, map, refl, sym, ap, ◌∙◌, subst, append_assoc, arith}
+use Rattle.std.specs.Borrow.{Bor}
 use Rattle.std.specs.List.{AllByRecursion, flat_map}
 use Rattle.std.specs.Prelude.{Option, Some, None, Result, Ok, Err, IfOk, MatchOption}
 use Rattle.std.proofs.lemmas.Bool.{eq-eqb, false≢true}
@@ -9,7 +10,7 @@ use Rattle.std.proofs.lemmas.Grind.{flat_map-append}
 use Rattle.nll_text.specs.Tokens.{Token, sign, view, views}
 use Rattle.nll_text.specs.declared.token.Token.{Token as InLine}
 use Rattle.nll_mir_grammar.specs.MirForms.{parted}
-use Rattle.nll_mir_grammar.specs.Grammars.{both, Grammar, Begins, HasNone, IsOne, IsNotNext, behind, empty, pair, many, commas, parentheses, by_kind, MayFollowLast}
+use Rattle.nll_mir_grammar.specs.Grammars.{Puts, both, Grammar, Begins, HasNone, IsOne, IsNotNext, behind, empty, pair, many, commas, parentheses, by_kind, MayFollowLast}
 
 -- ---- tokens
 
@@ -353,6 +354,40 @@ lists_on g tokens rest xs a at h b =
       to = record { within = omega arith; listed = subst (λ l. HasListed g (views tokens) (xs ++ a ∷ []) l) (sym e) all };
     }
 
+-- ---- values that are put into a list
+
+pub put_behind : {A V R E : Type 0} (g : Grammar A) (t : Token) (value : V → A) (after : R → List Token) (ts rest : List Token) (old new : List V) (r : Result (Option R) E) → ts ≡ t ∷ rest → IfOk r (λ o. Puts g value after rest old new o) → IfOk r (λ o. Puts (behind t g) value after ts old new o)
+put_behind g t value after ts rest old new (Ok None) e h = (behind_none g t ts rest e h.0, h.1)
+put_behind g t value after ts rest old new (Ok (Some p)) e h = (h.0, h.1, behind_found g t ts rest h.0 (after p) e h.2)
+put_behind g t value after ts rest old new (Err x) e h = tt
+
+-- a value that was read, and put behind the others
+pub put_found : {A V R : Type 0} (g : Grammar A) (value : V → A) (after : R → List Token) (ts : List Token) (old new : List V) (v : V) (rest : R) → new ≡ old ++ v ∷ [] → Begins g ts (value v) (after rest) → Puts g value after ts old new (Some rest)
+put_found g value after ts old new v rest e b = (value v, ap (map value) e ∙ map-append value old (v ∷ []), b)
+
+-- The first of values that are parted by commas was put into the list.
+pub record PutsFirst {A : Type 0} (g : Grammar A) (tokens behind : List InLine) (xs : List A) : Type 0 where
+  pub fits : length behind ≤ length tokens
+  pub to : ListsTo g tokens xs (length tokens - length behind)
+
+pub put_first : {A V : Type 0} (g : Grammar A) (value : V → A) (tokens : List InLine) (left : Bor (List InLine)) (old new : List V) → old ≡ [] → Puts g value (λ r. views r.now) (views tokens) old new (Some left) → PutsFirst g tokens left.now (map value new)
+put_first g value tokens left old new e p =
+    let f = lists_from g tokens left.now p.0 p.2 in
+    let same = p.1 ∙ ap (λ l. map value l ++ p.0 ∷ []) e in
+    record { fits = f.fits; to = subst (λ xs. ListsTo g tokens xs (length tokens - length left.now)) (sym same) f.to }
+
+-- The next one was put behind the others.
+pub put_next : {A V : Type 0} (g : Grammar A) (value : V → A) (tokens rest : List InLine) (left : Bor (List InLine)) (old new : List V) (at : ℕ) → ListsTo g tokens (map value old) at → rest ≡ drop at tokens → Puts (behind (sign 44) g) value (λ r. views r.now) (views rest) old new (Some left) → ListsOn g tokens left.now (map value new) at
+put_next g value tokens rest left old new at h e p =
+    let b = subst (λ l. Begins (behind (sign 44) g) (views l) p.0 (views left.now)) e p.2 in
+    subst (λ xs. ListsOn g tokens left.now xs at) (sym p.1) (lists_on g tokens left.now (map value old) p.0 at h b)
+
+-- No further one was there.
+pub put_last : {A V : Type 0} (g : Grammar A) (value : V → A) (tokens rest : List InLine) (old new : List V) (at : ℕ) → ListsTo g tokens (map value old) at → rest ≡ drop at tokens → Puts {R = Bor (List InLine)} (behind (sign 44) g) value (λ r. views r.now) (views rest) old new None → Begins (commas g) (views tokens) (map value new) (views rest)
+put_last g value tokens rest old new at h e p =
+    subst (λ l. Begins (commas g) (views tokens) (map value l) (views rest)) (sym p.1)
+    (commas_found g (views tokens) (views rest) (map value old) (subst (λ l. HasListed g (views tokens) (map value old) (views l)) (sym e) h.listed) p.0)
+
 -- ---- values between two tokens
 
 -- values parted by commas, between two tokens
@@ -439,6 +474,11 @@ parentheses_found g ts inner mid rest xs e b f = record {
   allowed = b.allowed.1;
   follows = tt;
 }
+
+-- what stands behind the values is the closing sign, or none
+pub parentheses_end : {A R : Type 0} (g : Grammar A) → IsListable g (sign 41) → (ts inner mid : List Token) (xs : List A) (after : R → List Token) (r : Option R) → ts ≡ sign 40 ∷ inner → IsNotNext (sign 41) inner → Begins (commas g) inner xs mid → MatchOption r (IsNotNext (sign 41) mid) (λ p. mid ≡ sign 41 ∷ after p) → MatchOption r (HasNone (parentheses g) ts) (λ p. Begins (parentheses g) ts xs (after p))
+parentheses_end g h ts inner mid xs after None e other b end = parentheses_open g h ts inner mid xs e other b end
+parentheses_end g h ts inner mid xs after (Some p) e other b end = parentheses_found g ts inner mid (after p) xs e b end
 
 -- ---- a value by its kind
 

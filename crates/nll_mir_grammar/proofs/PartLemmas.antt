@@ -1,7 +1,7 @@
 -- The parts of a line: tokens begin with one of each at most.
 use Rattle.std.proofs.Common.{◌≡◌, ℕ, ◌<◌, ◌^◌, Bool, true, false, eqb, List, [], ◌∷◌, ◌++◌, length, refl, sym, ap, ◌∙◌, subst, append_assoc, arith, Some, None}
 use Rattle.std.specs.List.{AllByRecursion}
-use Rattle.std.specs.Prelude.{codes}
+use Rattle.std.specs.Prelude.{codes, Option, Result, Ok, Err, IfOk, MatchOption}
 use Rattle.std.specs.Str.{bytes_eq}
 use Rattle.std.specs.Fmt.{decimal}
 use Rattle.std.proofs.lemmas.Bool.{eq-eqb, false≢true}
@@ -352,6 +352,12 @@ no_bounds ts inner e none (p ∷ ps) r b = behind_none (commas bounds) (word (co
 pub bounds_found : (ts inner rest : List Token) (ws : List (Name × Name)) → ts ≡ word (codes "where") ∷ inner → Begins (commas bounds) inner ws rest → Begins bound_lists ts ws rest
 bounds_found ts inner rest [] e b = absurd (let h : 0 < 0 = b.allowed.0 in omega (arith, h))
 bounds_found ts inner rest (w ∷ ws) e b = record { joined = e ∙ ap (λ l. word (codes "where") ∷ l) b.joined; allowed = tt; follows = b.follows }
+
+-- bounds are read behind `where`
+pub read_bounds : {R E : Type 0} (ts inner : List Token) (ws : List (Name × Name)) (after : R → List Token) (r : Result (Option R) E) → ts ≡ word (codes "where") ∷ inner → IfOk r (λ o. MatchOption o (HasNone (commas bounds) inner) (λ p. Begins (commas bounds) inner ws (after p))) → IfOk r (λ o. MatchOption o (HasNone bound_lists ts) (λ p. Begins bound_lists ts ws (after p)))
+read_bounds ts inner ws after (Ok None) e h = no_bounds ts inner e h
+read_bounds ts inner ws after (Ok (Some p)) e h = bounds_found ts inner (after p) ws e h
+read_bounds ts inner ws after (Err x) e h = tt
 
 -- ---- the blocks of a switch
 

@@ -107,3 +107,11 @@ abbrev pub both :
 both a (Ok (Some (b, r))) = Ok (Some ((a, b), r))
 both a (Ok None) = Ok None
 both a (Err e) = Err e
+
+-- what was read at the front, where anything was, stands behind the other values of a list
+abbrev pub Puts :
+    {A V R : Type 0} → Grammar A → (V → A) → (R → List Token) → List Token → List V → List V
+    → Option R → Type 0
+Puts g value after ts old new None = HasNone g ts × (new ≡ old)
+Puts {A} g value after ts old new (Some rest) =
+    (a : A) × (map value new ≡ map value old ++ a ∷ []) × Begins g ts a (after rest)

@@ -3,7 +3,8 @@
 ghost use Rattle.std.specs.Prelude.{◌≡◌, [], IfOk, MatchOption, map};
 ghost use Rattle.nll_text.specs.Tokens as lex;
 ghost use Rattle.nll_text.specs.Tokens.{views};
-ghost use Rattle.nll_mir_grammar.specs.Grammars.{Begins, HasNone, behind, commas, parentheses};
+ghost use Rattle.nll_mir_grammar.specs.Grammars.{Begins, HasNone, Puts, behind, commas};
+ghost use Rattle.nll_mir_grammar.specs.Grammars.{parentheses};
 ghost use Rattle.nll_mir_grammar.specs.Lines.{argument_of};
 ghost use Rattle.nll_mir_grammar.specs.Parts as parts;
 
@@ -31,15 +32,35 @@ fn argument_at<'t, 'a>(alloc: Global, tokens: &'t [Token<'a>]) -> Read<'t, 'a, A
     with(operand, type_behind(alloc, behind))
 }
 
-// The argument behind a comma.
-fn next_argument<'t, 'a>(alloc: Global, tokens: &'t [Token<'a>]) -> Read<'t, 'a, Argument<'a>>
-    ensures { IfOk result
-        (λ o. MatchOption o (HasNone (behind (lex.sign 44) parts.arguments) (views tokens.now))
-        (λ p. Begins (behind (lex.sign 44) parts.arguments) (views tokens.now) (argument_of p.0)
-        (views p.1.now))) }
+// Puts the argument at the front behind the others.
+fn push_argument<'t, 'a>(
+    alloc: Global,
+    tokens: &'t [Token<'a>],
+    arguments: &mut Vec<Argument<'a>>,
+) -> Result<Option<&'t [Token<'a>]>, Memory>
+    ensures { IfOk result (λ o. Puts parts.arguments argument_of (λ r. views r.now) (views tokens.now)
+        arguments.old.items arguments.new.items o) }
+{
+    match argument_at(alloc, tokens)? {
+        Some((argument, rest)) => {
+            arguments.push(argument)?;
+            Ok(Some(rest))
+        }
+        None => Ok(None),
+    }
+}
+
+// Puts the argument behind a comma behind the others.
+fn next_argument<'t, 'a>(
+    alloc: Global,
+    tokens: &'t [Token<'a>],
+    arguments: &mut Vec<Argument<'a>>,
+) -> Result<Option<&'t [Token<'a>]>, Memory>
+    ensures { IfOk result (λ o. Puts (behind (lex.sign 44) parts.arguments) argument_of (λ r. views r.now)
+        (views tokens.now) arguments.old.items arguments.new.items o) }
 {
     match after_sign(tokens, b',') {
-        Some(behind) => argument_at(alloc, behind),
+        Some(behind) => push_argument(alloc, behind, arguments),
         None => Ok(None),
     }
 }
@@ -56,13 +77,11 @@ fn list_arguments<'t, 'a>(
         (λ rest. Begins (commas parts.arguments) (views tokens.now)
         (map argument_of arguments.new.items) (views rest.now))) }
 {
-    let Some((first, behind)) = argument_at(alloc, tokens)? else {
+    let Some(behind) = push_argument(alloc, tokens, arguments)? else {
         return Ok(None);
     };
     let mut at = tokens.len() - behind.len();
-    arguments.push(first)?;
-    while let Some((argument, behind)) = next_argument(alloc, &tokens[at..])? {
-        arguments.push(argument)?;
+    while let Some(behind) = next_argument(alloc, &tokens[at..], arguments)? {
         at = tokens.len() - behind.len();
     }
     Ok(Some(&tokens[at..]))
@@ -86,13 +105,10 @@ fn enclosed_arguments<'t, 'a>(
     if let Some(rest) = after_sign(inner, b')') {
         return Ok(Some(rest));
     }
-    let Some(behind) = list_arguments(alloc, inner, arguments)? else {
-        return Ok(None);
-    };
-    let Some(rest) = after_sign(behind, b')') else {
-        return Ok(None);
-    };
-    Ok(Some(rest))
+    match list_arguments(alloc, inner, arguments)? {
+        Some(behind) => Ok(after_sign(behind, b')')),
+        None => Ok(None),
+    }
 }
 
 /// The arguments between `(` and `)`.

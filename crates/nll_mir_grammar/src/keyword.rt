@@ -61,20 +61,20 @@ fn line_keyword(word: &[u8]) -> Option<Keyword>
 fn point_keyword(word: &[u8]) -> Option<Keyword>
     ensures { MatchOption result (IsNoPointKeyword word.now) (λ k. word.now ≡ keyword_name k) }
 {
-    if word == b"goto".as_slice() {
-        return Some(Keyword::Goto);
-    }
-    if word == b"switch".as_slice() {
-        return Some(Keyword::Switch);
-    }
-    if word == b"drop".as_slice() {
-        return Some(Keyword::Drop);
-    }
     if word == b"live".as_slice() {
         return Some(Keyword::Live);
     }
     if word == b"dead".as_slice() {
         return Some(Keyword::Dead);
+    }
+    if word == b"goto".as_slice() {
+        return Some(Keyword::Goto);
+    }
+    if word == b"drop".as_slice() {
+        return Some(Keyword::Drop);
+    }
+    if word == b"switch".as_slice() {
+        return Some(Keyword::Switch);
     }
     if word == b"read".as_slice() {
         return Some(Keyword::Read);
@@ -101,7 +101,8 @@ fn is_mark(word: &[u8]) -> bool
     }
 }
 
-/// The keyword that a word is, where it is one. None begins with `_`, as variables do.
+/// The keyword that a word is, where it is one. None begins with `_`, as variables do. Most lines of
+/// a long text are at points, so their keywords come first.
 pub fn keyword_of(word: &[u8]) -> Option<Keyword>
     ensures { MatchOption result ((k : keyword) → word.now ≡ keyword_name k → ⊥)
         (λ k. word.now ≡ keyword_name k) }
@@ -109,8 +110,8 @@ pub fn keyword_of(word: &[u8]) -> Option<Keyword>
     if is_mark(word) {
         return None;
     }
-    match line_keyword(word) {
+    match point_keyword(word) {
         Some(keyword) => Some(keyword),
-        None => point_keyword(word),
+        None => line_keyword(word),
     }
 }

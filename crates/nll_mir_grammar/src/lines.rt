@@ -33,9 +33,13 @@ pub fn outlives_line<'t, 'a>(tokens: &'t [Token<'a>]) -> Option<(Line<'a>, &'t [
     ensures { MatchOption result (HasNone (tails keyword.Outlives) (views tokens.now))
         (λ p. IsBehind keyword.Outlives (views tokens.now) (form_of p.0) (views p.1.now)) }
 {
-    let (longer, behind) = region_at(tokens)?;
-    let (shorter, rest) = region_at(behind)?;
-    Some((Line::Outlives(longer, shorter), rest))
+    match tokens {
+        [Token::Region(longer), Token::Region(shorter), rest @ ..] => Some((
+            Line::Outlives(longer, shorter),
+            rest,
+        )),
+        _ => None,
+    }
 }
 
 /// Behind `region`.

@@ -1,10 +1,11 @@
 //! Operands between `(` and `)`.
 
-ghost use Rattle.std.specs.Prelude.{◌≡◌, ◌≤◌, [], IfOk, MatchOption, map};
+ghost use Rattle.std.specs.Prelude.{◌≡◌, ◌≤◌, [], ◌∷◌, ◌++◌, IfOk, MatchOption, OnOk, map};
 ghost use Rattle.nll_text.specs.Tokens as lex;
 ghost use Rattle.nll_text.specs.Tokens.{views};
 ghost use Rattle.nll_types.specs.Operands.{operand_of};
-ghost use Rattle.nll_mir_grammar.specs.Grammars.{Begins, HasNone, behind, commas, parentheses};
+ghost use Rattle.nll_mir_grammar.specs.Grammars.{Begins, HasNone, Puts, behind, commas};
+ghost use Rattle.nll_mir_grammar.specs.Grammars.{parentheses};
 ghost use Rattle.nll_mir_grammar.specs.Parts as parts;
 
 use crate::pairs::Read;
@@ -15,19 +16,6 @@ use nll_text::Token;
 use nll_types::Operand;
 use std::alloc::Global;
 
-// The operand behind a comma.
-fn next_operand<'t, 'a>(alloc: Global, tokens: &'t [Token<'a>]) -> Read<'t, 'a, Operand>
-    ensures { IfOk result
-        (λ o. MatchOption o (HasNone (behind (lex.sign 44) parts.operands) (views tokens.now))
-        (λ p. Begins (behind (lex.sign 44) parts.operands) (views tokens.now) (operand_of p.0)
-        (views p.1.now))) }
-{
-    match after_sign(tokens, b',') {
-        Some(behind) => operand_at(alloc, behind),
-        None => Ok(None),
-    }
-}
-
 // For how many operands room is asked for at first, with these tokens behind the first one.
 fn first_room(behind: &[Token<'_>]) -> usize
     ensures { result ≤ 2 }
@@ -35,6 +23,54 @@ fn first_room(behind: &[Token<'_>]) -> usize
     match after_sign(behind, b',') {
         Some(_) => 2,
         None => 1,
+    }
+}
+
+// Puts an operand behind the others, with these tokens behind it. The first one asks for room.
+fn put_operand(
+    operands: &mut Vec<Operand>,
+    operand: Operand,
+    behind: &[Token<'_>],
+) -> Result<(), Memory>
+    ensures { OnOk result (operands.new.items ≡ operands.old.items ++ operand ∷ []) }
+{
+    if operands.is_empty() {
+        operands.reserve_exact(first_room(behind))?;
+    }
+    operands.push(operand)?;
+    Ok(())
+}
+
+// Puts the operand at the front behind the others.
+fn push_operand<'t, 'a>(
+    alloc: Global,
+    tokens: &'t [Token<'a>],
+    operands: &mut Vec<Operand>,
+) -> Result<Option<&'t [Token<'a>]>, Memory>
+    ensures { IfOk result (λ o. Puts parts.operands operand_of (λ r. views r.now) (views tokens.now)
+        operands.old.items operands.new.items o) }
+{
+    match operand_at(alloc, tokens)? {
+        Some((operand, rest)) => {
+            put_operand(operands, operand, rest)?;
+            Ok(Some(rest))
+        }
+        None => Ok(None),
+    }
+}
+
+// Puts the operand behind a comma behind the others.
+fn next_operand<'t, 'a>(
+    alloc: Global,
+    tokens: &'t [Token<'a>],
+    operands: &mut Vec<Operand>,
+) -> Result<Option<&'t [Token<'a>]>, Memory>
+    ensures { IfOk result (λ o. Puts (behind (lex.sign 44) parts.operands) operand_of (λ r. views r.now)
+        (views tokens.now) operands.old.items operands.new.items o) }
+{
+    match after_sign(tokens, b',') {
+        Some(behind) => push_operand(alloc, behind, operands),
+        None => Ok(None),
     }
 }
 
@@ -50,14 +86,11 @@ fn list_operands<'t, 'a>(
         (λ rest. Begins (commas parts.operands) (views tokens.now)
         (map operand_of operands.new.items) (views rest.now))) }
 {
-    let Some((first, behind)) = operand_at(alloc, tokens)? else {
+    let Some(behind) = push_operand(alloc, tokens, operands)? else {
         return Ok(None);
     };
     let mut at = tokens.len() - behind.len();
-    operands.reserve_exact(first_room(behind))?;
-    operands.push(first)?;
-    while let Some((operand, behind)) = next_operand(alloc, &tokens[at..])? {
-        operands.push(operand)?;
+    while let Some(behind) = next_operand(alloc, &tokens[at..], operands)? {
         at = tokens.len() - behind.len();
     }
     Ok(Some(&tokens[at..]))
@@ -81,13 +114,10 @@ fn enclosed_operands<'t, 'a>(
     if let Some(rest) = after_sign(inner, b')') {
         return Ok(Some(rest));
     }
-    let Some(behind) = list_operands(alloc, inner, operands)? else {
-        return Ok(None);
-    };
-    let Some(rest) = after_sign(behind, b')') else {
-        return Ok(None);
-    };
-    Ok(Some(rest))
+    match list_operands(alloc, inner, operands)? {
+        Some(behind) => Ok(after_sign(behind, b')')),
+        None => Ok(None),
+    }
 }
 
 /// The operands between `(` and `)`.

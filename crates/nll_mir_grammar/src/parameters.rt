@@ -3,8 +3,9 @@
 ghost use Rattle.std.specs.Prelude.{◌≡◌, [], IfOk, MatchOption, map};
 ghost use Rattle.nll_text.specs.Tokens as lex;
 ghost use Rattle.nll_text.specs.Tokens.{views};
-ghost use Rattle.nll_mir_grammar.specs.Grammars.{Begins, HasNone, behind, commas};
+ghost use Rattle.nll_mir_grammar.specs.Grammars.{Begins, HasNone, Puts, behind, commas};
 ghost use Rattle.nll_mir_grammar.specs.Lines.{parameter_of};
+ghost use Rattle.nll_mir_grammar.specs.MirForms.{dangling_mark};
 ghost use Rattle.nll_mir_grammar.specs.Parts as parts;
 
 use crate::line::ParameterText;
@@ -15,28 +16,24 @@ use nll_text::Token;
 use nll_types::{Parameter, Sign};
 use std::alloc::Global;
 
+// Whether `?` comes next, and what stands behind it or else here.
+fn dangle_mark_at<'t, 'a>(tokens: &'t [Token<'a>]) -> (bool, &'t [Token<'a>])
+    ensures { Begins (parts.marks dangling_mark (lex.sign 63)) (views tokens.now) result.0 (views result.1.now) }
+{
+    match after_sign(tokens, b'?') {
+        Some(rest) => (true, rest),
+        None => (false, tokens),
+    }
+}
+
 // The marks of a parameter at the front.
 fn marks_at<'t, 'a>(tokens: &'t [Token<'a>]) -> Option<(Parameter, &'t [Token<'a>])>
     ensures { MatchOption result (HasNone parts.parameter_marks (views tokens.now))
         (λ p. Begins parts.parameter_marks (views tokens.now) p.0 (views p.1.now)) }
 {
     let (sign, behind) = sign_at(tokens)?;
-    match after_sign(behind, b'?') {
-        Some(rest) => {
-            let parameter = Parameter {
-                sign,
-                may_dangle: true,
-            };
-            Some((parameter, rest))
-        }
-        None => {
-            let parameter = Parameter {
-                sign,
-                may_dangle: false,
-            };
-            Some((parameter, behind))
-        }
-    }
+    let (may_dangle, rest) = dangle_mark_at(behind);
+    Some((Parameter { sign, may_dangle }, rest))
 }
 
 // The sign of a parameter at the front.
@@ -65,16 +62,35 @@ fn parameter_at<'t, 'a>(tokens: &'t [Token<'a>]) -> Option<(ParameterText<'a>, &
     Some((ParameterText::Type(name, parameter), rest))
 }
 
-// The parameter behind a comma.
-fn next_parameter<'t, 'a>(tokens: &'t [Token<'a>]) -> Option<(ParameterText<'a>, &'t [Token<'a>])>
-    ensures { MatchOption result
-        (HasNone (behind (lex.sign 44) parts.parameters) (views tokens.now))
-        (λ p. Begins (behind (lex.sign 44) parts.parameters) (views tokens.now) (parameter_of p.0)
-        (views p.1.now)) }
+// Puts the parameter at the front behind the others.
+fn push_parameter<'t, 'a>(
+    tokens: &'t [Token<'a>],
+    parameters: &mut Vec<ParameterText<'a>>,
+) -> Result<Option<&'t [Token<'a>]>, Memory>
+    ensures { IfOk result (λ o. Puts parts.parameters parameter_of (λ r. views r.now) (views tokens.now)
+        parameters.old.items parameters.new.items o) }
 {
-    let behind = after_sign(tokens, b',')?;
-    let (parameter, rest) = parameter_at(behind)?;
-    Some((parameter, rest))
+    match parameter_at(tokens) {
+        Some((parameter, rest)) => {
+            parameters.push(parameter)?;
+            Ok(Some(rest))
+        }
+        None => Ok(None),
+    }
+}
+
+// Puts the parameter behind a comma behind the others.
+fn next_parameter<'t, 'a>(
+    tokens: &'t [Token<'a>],
+    parameters: &mut Vec<ParameterText<'a>>,
+) -> Result<Option<&'t [Token<'a>]>, Memory>
+    ensures { IfOk result (λ o. Puts (behind (lex.sign 44) parts.parameters) parameter_of (λ r. views r.now)
+        (views tokens.now) parameters.old.items parameters.new.items o) }
+{
+    match after_sign(tokens, b',') {
+        Some(behind) => push_parameter(behind, parameters),
+        None => Ok(None),
+    }
 }
 
 // Puts parameters parted by commas into the list, as many as there are.
@@ -88,13 +104,11 @@ fn list_parameters<'t, 'a>(
         (λ rest. Begins (commas parts.parameters) (views tokens.now)
         (map parameter_of parameters.new.items) (views rest.now))) }
 {
-    let Some((first, behind)) = parameter_at(tokens) else {
+    let Some(behind) = push_parameter(tokens, parameters)? else {
         return Ok(None);
     };
     let mut at = tokens.len() - behind.len();
-    parameters.push(first)?;
-    while let Some((parameter, behind)) = next_parameter(&tokens[at..]) {
-        parameters.push(parameter)?;
+    while let Some(behind) = next_parameter(&tokens[at..], parameters)? {
         at = tokens.len() - behind.len();
     }
     Ok(Some(&tokens[at..]))

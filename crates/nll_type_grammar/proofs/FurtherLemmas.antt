@@ -1,17 +1,20 @@
 -- Steps that the code takes: tokens, nodes and frames together.
-use Rattle.std.proofs.Common.{◌≡◌, ℕ, ◌+◌, ◌-◌, ◌<◌, ◌≤◌, Bool, List, [], ◌∷◌, ◌++◌, length, drop, refl, sym, ap, ◌∙◌, subst, arith}
+use Rattle.std.proofs.Common.{◌≡◌, ℕ, ◌+◌, ◌-◌, ◌*◌, ◌<◌, ◌≤◌, Bool, List, [], ◌∷◌, ◌++◌, length, drop, take, get_or, refl, sym, ap, ◌∙◌, subst, arith}
 use Rattle.std.specs.Borrow.{Bor}
-use Rattle.std.specs.Prelude.{Option, Some, None, MatchOption}
+use Rattle.std.specs.Prelude.{Option, Some, None, MatchOption, slice_get}
 use Rattle.std.specs.Global.{Vec}
-use Rattle.std.proofs.lemmas.List.{length-append}
-use Rattle.nll_text.specs.Tokens.{Token, region, views}
+use Rattle.std.proofs.lemmas.List.{length-append, length-drop, drop-drop, take_more}
+use Rattle.std.proofs.Math.Seq.{take-length}
+use Rattle.std.proofs.lemmas.Option.{slice_get_within, slice_get-get_or}
+use Rattle.nll_text.specs.Tokens.{Token, region, sign, views}
 use Rattle.nll_text.specs.declared.token.Token.{Token as InLine}
 use Rattle.nll_type_grammar.specs.WrittenTypes.{Name, WrittenType, Arguments, int, reference, none, more, no_argument, region_argument, type_argument}
 use Rattle.nll_type_grammar.specs.TypeTexts.{at, all_at, arguments_at, type_over, types_from, written, types_among, parts_of}
-use Rattle.nll_type_grammar.specs.OpenTypes.{Frame, behind, parts, arguments, joined, joined_arguments, Steps, IsStuck, frame_over, frames_of, numbers_of, AreBelow, AreRead, GoesFurther, pending, Begins, BeginsWithin, IsBegun, IsCompleted, HasMoreParts, HasMoreArguments}
+use Rattle.nll_type_grammar.specs.OpenTypes.{Frame, behind, parts, arguments, joined, joined_arguments, Steps, IsStuck, frame_over, frames_of, numbers_of, AreBelow, AreRead, GoesFurther, pending, Begins, BeginsWithin, IsBegun, IsCompleted, IsEnded, EndsWith, Becomes, IsClosed, HasMoreParts, HasMoreArguments}
 use Rattle.nll_type_grammar.specs.declared.opens.State.{State}
 use Rattle.nll_type_grammar.specs.declared.opens.State.TheVariants.{Want, WantArgument, Have, Inside}
 use Rattle.nll_type_grammar.specs.declared.fronts.Front.{Front}
+use Rattle.nll_type_grammar.specs.declared.fronts.Front.TheVariants as fronts
 use Rattle.nll_type_grammar.specs.declared.opens.Open.{Open}
 use Rattle.nll_type_grammar.specs.declared.opens.Open.TheVariants as opens
 use Rattle.nll_type_grammar.specs.declared.type_text.TypeNode.{TypeNode}
@@ -19,7 +22,7 @@ use Rattle.nll_type_grammar.specs.declared.type_text.TypeNode.TheVariants as nod
 use Rattle.nll_type_grammar.specs.declared.type_text.Argument.{Argument}
 use Rattle.nll_type_grammar.specs.declared.type_text.Argument.TheVariants as argument
 use Rattle.nll_type_grammar.proofs.NodeLemmas.{to_node, to_frame, read_push_node, read_push_open, read_pop, frames_push_open, all_at_push, type_at_push, region_at_push, below_push, among_push_type, among_push_region}
-use Rattle.nll_type_grammar.proofs.StepLemmas.{step_behind, step_part, step_type_argument, step_region, step_no_region, stuck_region}
+use Rattle.nll_type_grammar.proofs.StepLemmas.{step_behind, step_part, step_type_argument, step_region, step_no_region, stuck_region, step_comma_part, step_close_part, stuck_part, step_comma_argument, step_close_argument, stuck_argument, front_int, front_unit, front_tuple, front_reference, front_generic, front_name}
 
 length_views : (tokens : List InLine) → length (views tokens) ≡ length tokens
 length_views [] = refl
@@ -68,6 +71,94 @@ further_close tokens c ns ns' n os o r e same_parts is step =
       read = read_push_node ns ns' n os p.0 (subst (AreBelow (length ns)) (sym same_parts) p.1) e;
       some = λ _. (let l : length ns' ≡ length ns + 1 = ap length e ∙ length-append ns (n ∷ []) in omega arith);
     }
+
+-- ---- how the innermost thing that is open ends
+
+last_is : (os : List Open) (o : Open) → slice_get os (length os - 1) ≡ Some o → os ≡ take (length os - 1) os ++ o ∷ []
+last_is os o e =
+    let l = slice_get_within os (length os - 1) o e in
+    let k : (length os - 1) + 1 ≡ length os = omega (arith, l) in
+    let f : Some (get_or os (length os - 1) o) ≡ Some o = sym (slice_get-get_or os (length os - 1) o l) ∙ e in
+    let same : get_or os (length os - 1) o ≡ o = cc in
+    sym (take-length os) ∙ ap (λ (n : ℕ). take n os) (sym k) ∙ take_more os (length os - 1) o l ∙ ap (λ (z : Open). take (length os - 1) os ++ z ∷ []) same
+
+-- nothing is open, or a reference
+stuck_reference : (ns : List TypeNode) (os : List Open) (q : Bor (List ℕ)) (m : Bool) (t : WrittenType) (ts : List Token) → slice_get os (length os - 1) ≡ Some (opens.Behind q m) → IsStuck Inside (frames_of ns os) t ts
+stuck_reference ns os q m t ts e = stuck_frame Inside t ts ns (take (length os - 1) os) os (opens.Behind q m) (last_is os (opens.Behind q m) e) (λ whole rest f. f)
+
+stuck_nothing : (ns : List TypeNode) (os : List Open) (t : WrittenType) (ts : List Token) → slice_get os (length os - 1) ≡ None → IsStuck Inside (frames_of ns os) t ts
+stuck_nothing ns [] t ts e = λ whole rest f. f
+stuck_nothing ns (o ∷ os) t ts e = absurd (let l : length (o ∷ os) - 1 < length (o ∷ os) = omega arith in let f : Some (get_or (o ∷ os) (length (o ∷ os) - 1) o) ≡ None = sym (slice_get-get_or (o ∷ os) (length (o ∷ os) - 1) o l) ∙ e in cc)
+
+-- what the last thing in a list says
+last_in : (xs os : List Open) (p : Open) → Some p ≡ slice_get xs (length xs - 1) → xs ≡ os → slice_get os (length os - 1) ≡ Some p
+last_in xs os p e f = subst (λ (z : List Open). slice_get z (length z - 1) ≡ Some p) f (sym e)
+
+pub ends_tuple : (xs os : List Open) (p : Open) (v : Vec ℕ) → Some p ≡ slice_get xs (length xs - 1) → xs ≡ os → p ≡ opens.Tuple v → EndsWith os 41 Want
+ends_tuple xs os p v e f is = (p, last_in xs os p e f, subst (λ (z : Open). IsEnded z 41 Want) (sym is) (refl, refl))
+
+pub ends_name : (xs os : List Open) (p : Open) (q : Bor (List ℕ)) (v : Vec Argument) → Some p ≡ slice_get xs (length xs - 1) → xs ≡ os → p ≡ opens.Arguments q v → EndsWith os 62 WantArgument
+ends_name xs os p q v e f is = (p, last_in xs os p e f, subst (λ (z : Open). IsEnded z 62 WantArgument) (sym is) (refl, refl))
+
+pub ends_reference : (xs os : List Open) (p : Open) (q : Bor (List ℕ)) (m : Bool) → Some p ≡ slice_get xs (length xs - 1) → xs ≡ os → p ≡ opens.Behind q m → (ns : List TypeNode) (t : WrittenType) (ts : List Token) → IsStuck Inside (frames_of ns os) t ts
+ends_reference xs os p q m e f is ns t ts = stuck_reference ns os q m t ts (last_in xs os p e f ∙ ap Some is)
+
+pub ends_nothing : (xs os : List Open) → None ≡ slice_get xs (length xs - 1) → xs ≡ os → (ns : List TypeNode) (t : WrittenType) (ts : List Token) → IsStuck Inside (frames_of ns os) t ts
+ends_nothing xs os e f ns t ts = stuck_nothing ns os t ts (subst (λ (z : List Open). slice_get z (length z - 1) ≡ None) f (sym e))
+
+-- a comma
+pub further_comma : (tokens : List InLine) (ns : List TypeNode) (os : List Open) (c : ℕ) (s : State) → AreRead ns os → EndsWith os c s → views tokens ≡ sign 44 ∷ views (drop 1 tokens) → GoesFurther Inside ns os tokens s ns os 1
+further_comma tokens ns os c s r h is = by h.0 (last_is os h.0 h.1) h.2
+  where
+    by : (o : Open) → os ≡ take (length os - 1) os ++ o ∷ [] → IsEnded o c s → GoesFurther Inside ns os tokens s ns os 1
+    by (opens.Behind q m) e ends = absurd ends
+    by (opens.Tuple v) e ends = subst (λ (z : State). GoesFurther Inside ns os tokens z ns os 1) (sym ends.1)
+        (subst (λ (z : List Open). GoesFurther Inside ns z tokens Want ns os 1) (sym e)
+        (further_again Want tokens (sign 44) ns (take (length os - 1) os) os (opens.Tuple v) (λ x. cc) (omega arith) (subst (AreRead ns) e r) e is (λ fs t u after. step_comma_part fs _ t u after)))
+    by (opens.Arguments q v) e ends = subst (λ (z : State). GoesFurther Inside ns os tokens z ns os 1) (sym ends.1)
+        (subst (λ (z : List Open). GoesFurther Inside ns z tokens WantArgument ns os 1) (sym e)
+        (further_again WantArgument tokens (sign 44) ns (take (length os - 1) os) os (opens.Arguments q v) (λ x. cc) (omega arith) (subst (AreRead ns) e r) e is (λ fs t u after. step_comma_argument fs _ _ t u after)))
+
+-- neither a comma nor the closing sign
+pub stuck_inside : (ts : List Token) (ns : List TypeNode) (os : List Open) (c : ℕ) (s : State) (t : WrittenType) → EndsWith os c s → ((rest : List Token) → ts ≡ sign 44 ∷ rest → ⊥) → ((rest : List Token) → ts ≡ sign c ∷ rest → ⊥) → IsStuck Inside (frames_of ns os) t ts
+stuck_inside ts ns os c s t h comma close = by h.0 (last_is os h.0 h.1) h.2
+  where
+    by : (o : Open) → os ≡ take (length os - 1) os ++ o ∷ [] → IsEnded o c s → IsStuck Inside (frames_of ns os) t ts
+    by (opens.Behind q m) e ends = absurd ends
+    by (opens.Tuple v) e ends = stuck_frame Inside t ts ns (take (length os - 1) os) os (opens.Tuple v) e (stuck_part (frames_of ns (take (length os - 1) os)) (all_at (types_from [] ns) v.items) t ts comma (subst (λ (z : ℕ). (rest : List Token) → ts ≡ sign z ∷ rest → ⊥) ends.0 close))
+    by (opens.Arguments q v) e ends = stuck_frame Inside t ts ns (take (length os - 1) os) os (opens.Arguments q v) e (stuck_argument (frames_of ns (take (length os - 1) os)) q.now (arguments_at (types_from [] ns) v.items) t ts comma (subst (λ (z : ℕ). (rest : List Token) → ts ≡ sign z ∷ rest → ⊥) ends.0 close))
+
+-- the closing sign
+pub further_end : (tokens : List InLine) (ns ns' : List TypeNode) (os os' : List Open) (c : ℕ) (s s' : State) → AreRead ns os → EndsWith os c s → ((o : Open) (d : ℕ) (next : State) → slice_get os (length os - 1) ≡ Some o → IsEnded o d next → IsClosed o ns os s' ns' os') → views tokens ≡ sign c ∷ views (drop 1 tokens) → GoesFurther Inside ns os tokens s' ns' os' 1
+further_end tokens ns ns' os os' c s s' r h closes is = (let k = closes h.0 c s h.1 h.2 in by h.0 h.2 k.have k.inner k.put.0 k.put.1 k.put.2)
+  where
+    by : (o : Open) → IsEnded o c s → s' ≡ Have → os ≡ os' ++ o ∷ [] → (n : TypeNode) → ns' ≡ ns ++ n ∷ [] → Becomes o n → GoesFurther Inside ns os tokens s' ns' os' 1
+    by (opens.Behind q m) ends have e n put b = absurd ends
+    by (opens.Tuple v) ends have e n put b = subst (λ (z : State). GoesFurther Inside ns os tokens z ns' os' 1) (sym have)
+        (subst (λ (z : List Open). GoesFurther Inside ns z tokens Have ns' os' 1) (sym e)
+        (further_close tokens (sign 41) ns ns' (nodes.Tuple v) os' (opens.Tuple v) (subst (AreRead ns) e r) (put ∙ ap (λ (z : TypeNode). ns ++ z ∷ []) b) refl (is ∙ ap (λ (z : ℕ). sign z ∷ views (drop 1 tokens)) ends.0) (λ fs t after. step_close_part fs _ t after)))
+    by (opens.Arguments q v) ends have e n put b = subst (λ (z : State). GoesFurther Inside ns os tokens z ns' os' 1) (sym have)
+        (subst (λ (z : List Open). GoesFurther Inside ns z tokens Have ns' os' 1) (sym e)
+        (further_close tokens (sign 62) ns ns' (nodes.Named q v) os' (opens.Arguments q v) (subst (AreRead ns) e r) (put ∙ ap (λ (z : TypeNode). ns ++ z ∷ []) b) refl (is ∙ ap (λ (z : ℕ). sign z ∷ views (drop 1 tokens)) ends.0) (λ fs t after. step_close_argument fs _ _ t after)))
+
+-- the innermost thing was open, and is a node
+closed : (os os' : List Open) (p : Open) (n : TypeNode) (ns ns' : List TypeNode) (s : State) → os ≡ os' ++ p ∷ [] → slice_get os (length os - 1) ≡ Some p → Becomes p n → (s ≡ Have) × (ns' ≡ ns ++ n ∷ []) → (o : Open) (c : ℕ) (next : State) → slice_get os (length os - 1) ≡ Some o → IsEnded o c next → IsClosed o ns os s ns' os'
+closed os os' p n ns ns' s e get b h o c next f ends =
+    let q : Some p ≡ Some o = sym get ∙ f in
+    let same : p ≡ o = cc in
+    subst (λ (z : Open). IsClosed z ns os s ns' os') same (record { have = h.0; inner = e; put = (n, h.1, b) })
+
+pub closed_tuple : (os os' : List Open) (p : Open) (v : Vec ℕ) (ns ns' : List TypeNode) (s : State) → os ≡ os' ++ p ∷ [] → slice_get os (length os - 1) ≡ Some p → p ≡ opens.Tuple v → (s ≡ Have) × (ns' ≡ ns ++ nodes.Tuple v ∷ []) → (o : Open) (c : ℕ) (next : State) → slice_get os (length os - 1) ≡ Some o → IsEnded o c next → IsClosed o ns os s ns' os'
+closed_tuple os os' p v ns ns' s e get is h = closed os os' p (nodes.Tuple v) ns ns' s e get (subst (λ (z : Open). Becomes z (nodes.Tuple v)) (sym is) refl) h
+
+pub closed_name : (os os' : List Open) (p : Open) (q : Bor (List ℕ)) (v : Vec Argument) (ns ns' : List TypeNode) (s : State) → os ≡ os' ++ p ∷ [] → slice_get os (length os - 1) ≡ Some p → p ≡ opens.Arguments q v → (s ≡ Have) × (ns' ≡ ns ++ nodes.Named q v ∷ []) → (o : Open) (c : ℕ) (next : State) → slice_get os (length os - 1) ≡ Some o → IsEnded o c next → IsClosed o ns os s ns' os'
+closed_name os os' p q v ns ns' s e get is h = closed os os' p (nodes.Named q v) ns ns' s e get (subst (λ (z : Open). Becomes z (nodes.Named q v)) (sym is) refl) h
+
+pub no_parts : (os : List Open) (q : Bor (List ℕ)) (m : Bool) (p : Open) → slice_get os (length os - 1) ≡ Some p → p ≡ opens.Behind q m → (o : Open) (c : ℕ) (next : State) → slice_get os (length os - 1) ≡ Some o → IsEnded o c next → ⊥
+no_parts os q m p get is o c next f ends =
+    let r : Some p ≡ Some o = sym get ∙ f in
+    let same : p ≡ o = cc in
+    subst (λ (z : Open). IsEnded z c next) (sym same ∙ is) ends
 
 -- ---- a complete type
 
@@ -198,6 +289,26 @@ begun_frame front ns os os' o s s' r below other few step h =
       some = λ have. absurd (other have);
     })
 
+-- each beginning
+
+pub begun_int : (front : Front) (ns ns' : List TypeNode) (os : List Open) (s : State) → front ≡ fronts.Int → AreRead ns os → (s ≡ Have) × (ns' ≡ ns ++ nodes.Int ∷ []) → IsBegun front ns os s ns' os
+begun_int front ns ns' os s is r h = begun_node front ns ns' nodes.Int os s r tt (λ ts rest b. front_int _ _ ts rest (subst (λ z. Begins z ts rest) is b)) h
+
+pub begun_unit : (front : Front) (ns ns' : List TypeNode) (os : List Open) (v : Vec ℕ) (s : State) → front ≡ fronts.Unit → v.items ≡ [] → AreRead ns os → (s ≡ Have) × (ns' ≡ ns ++ nodes.Tuple v ∷ []) → IsBegun front ns os s ns' os
+begun_unit front ns ns' os v s is e r h = begun_node front ns ns' (nodes.Tuple v) os s r (rw e tt) (λ ts rest b. rw e (front_unit _ _ ts rest (subst (λ z. Begins z ts rest) is b))) h
+
+pub begun_name : (front : Front) (ns ns' : List TypeNode) (os : List Open) (n : Bor (List ℕ)) (v : Vec Argument) (s : State) → front ≡ fronts.Name n → v.items ≡ [] → AreRead ns os → (s ≡ Have) × (ns' ≡ ns ++ nodes.Named n v ∷ []) → IsBegun front ns os s ns' os
+begun_name front ns ns' os n v s is e r h = begun_node front ns ns' (nodes.Named n v) os s r (rw e tt) (λ ts rest b. rw e (front_name n _ _ ts rest (subst (λ z. Begins z ts rest) is b))) h
+
+pub begun_tuple : (front : Front) (ns : List TypeNode) (os os' : List Open) (v : Vec ℕ) (s : State) → front ≡ fronts.Tuple → v.items ≡ [] → AreRead ns os → (s ≡ Want) × (os' ≡ os ++ opens.Tuple v ∷ []) → IsBegun front ns os s ns os'
+begun_tuple front ns os os' v s is e r h = begun_frame front ns os os' (opens.Tuple v) s Want r (rw e tt) (λ x. cc) (omega arith) (λ ts rest b. rw e (front_tuple _ _ _ ts rest (subst (λ z. Begins z ts rest) is b))) h
+
+pub begun_reference : (front : Front) (ns : List TypeNode) (os os' : List Open) (q : Bor (List ℕ)) (m : Bool) (s : State) → front ≡ fronts.Reference q m → AreRead ns os → (s ≡ Want) × (os' ≡ os ++ opens.Behind q m ∷ []) → IsBegun front ns os s ns os'
+begun_reference front ns os os' q m s is r h = begun_frame front ns os os' (opens.Behind q m) s Want r tt (λ x. cc) (omega arith) (λ ts rest b. front_reference q _ _ _ _ ts rest (subst (λ z. Begins z ts rest) is b)) h
+
+pub begun_generic : (front : Front) (ns : List TypeNode) (os os' : List Open) (n : Bor (List ℕ)) (v : Vec Argument) (s : State) → front ≡ fronts.Generic n → v.items ≡ [] → AreRead ns os → (s ≡ WantArgument) × (os' ≡ os ++ opens.Arguments n v ∷ []) → IsBegun front ns os s ns os'
+begun_generic front ns os os' n v s is e r h = begun_frame front ns os os' (opens.Arguments n v) s WantArgument r (rw e tt) (λ x. cc) (omega arith) (λ ts rest b. rw e (front_generic n _ _ _ ts rest (subst (λ z. Begins z ts rest) is b))) h
+
 pub further_begin : (front : Front) (n : ℕ) (tokens : List InLine) (ns ns' : List TypeNode) (os os' : List Open) (s' : State) → BeginsWithin front n tokens → IsBegun front ns os s' ns' os' → GoesFurther Want ns os tokens s' ns' os' n
 further_begin front n tokens ns ns' os os' s' b h =
     let some = b.some in
@@ -276,3 +387,23 @@ first_steps ns os t ts e f = rw (e, f) (record { there = λ whole rest f. f; bac
 
 pub at_end : (s : State) (ns : List TypeNode) (os : List Open) (ts at_ts : List Token) → s ≡ Have → os ≡ [] → Steps Want [] int ts s (frames_of ns os) (written ns) at_ts → Steps Want [] int ts Have [] (written ns) at_ts
 at_end s ns os ts at_ts e k same = subst (λ z. Steps Want [] int ts z [] (written ns) at_ts) e (subst (λ (z : List Open). Steps Want [] int ts s (frames_of ns z) (written ns) at_ts) k same)
+
+-- one step more, at the rest of the tokens
+pub steps_further : (s s' : State) (tokens rest : List InLine) (at n : ℕ) (ns ns' : List TypeNode) (os os' : List Open) → Steps Want [] int (views tokens) s (frames_of ns os) (written ns) (views (drop at tokens)) → rest ≡ drop at tokens → GoesFurther s ns os rest s' ns' os' n → Steps Want [] int (views tokens) s' (frames_of ns' os') (written ns') (views (drop (at + n) tokens))
+steps_further s s' tokens rest at n ns ns' os os' before e step =
+    let same : Steps s (frames_of ns os) (written ns) (views (drop at tokens)) s' (frames_of ns' os') (written ns') (views (drop n (drop at tokens))) =
+    subst (λ (z : List InLine). Steps s (frames_of ns os) (written ns) (views z) s' (frames_of ns' os') (written ns') (views (drop n z))) e step.same in
+    steps_then _ _ _ _ _ _ _ _ _ _ _ _ before (subst (λ (z : List InLine). Steps s (frames_of ns os) (written ns) (views (drop at tokens)) s' (frames_of ns' os') (written ns') (views z)) (drop-drop n at tokens) same)
+
+pub within_further : (s s' : State) (tokens rest : List InLine) (at n : ℕ) (ns ns' : List TypeNode) (os os' : List Open) → at ≤ length tokens → rest ≡ drop at tokens → GoesFurther s ns os rest s' ns' os' n → at + n ≤ length tokens
+within_further s s' tokens rest at n ns ns' os os' within e step =
+    let l : length rest ≡ length tokens - at = ap length e ∙ length-drop at tokens in
+    let few = step.within in
+    omega arith
+
+pub falls_further : (s s' : State) (tokens rest : List InLine) (at n : ℕ) (ns ns' : List TypeNode) (os os' : List Open) → at ≤ length tokens → rest ≡ drop at tokens → GoesFurther s ns os rest s' ns' os' n → 4 * (length tokens - (at + n)) + length os' + pending s' < 4 * (length tokens - at) + length os + pending s
+falls_further s s' tokens rest at n ns ns' os os' within e step =
+    let l : length rest ≡ length tokens - at = ap length e ∙ length-drop at tokens in
+    let few = step.within in
+    let falls = step.falls in
+    omega arith

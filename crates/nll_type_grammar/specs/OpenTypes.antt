@@ -1,7 +1,7 @@
 -- A type that is read in part: what is begun and not yet complete, and what may come next.
 -- Source: project's choice.
 use Rattle.std.specs.Prelude.{◌≡◌, ◌⊎◌, ℕ, Bool, true, false, List, [], ◌∷◌, ◌++◌, ◌<◌, ◌≤◌, ◌+◌}
-use Rattle.std.specs.Prelude.{◌*◌, length, drop, reverse, map, codes, slice_index_or, All}
+use Rattle.std.specs.Prelude.{◌*◌, ◌-◌, Some, slice_get, length, drop, reverse, map, codes, slice_index_or, All}
 use Rattle.std.specs.Global.{Vec}
 use Rattle.std.specs.List.{AllByRecursion}
 use Rattle.std.specs.Borrow.{Bor}
@@ -216,6 +216,30 @@ pub record IsCompleted (ns : List TypeNode) (opened : List Open)
   pub read : AreRead ns' opened'
   pub few : length opened' + pending s' ≤ length opened
   pub some : 0 < length ns'
+
+-- it has parts, this sign closes it, and this may come behind a comma
+abbrev pub IsEnded : Open → ℕ → State → Type 0
+IsEnded (opens.Behind r m) c s = ⊥
+IsEnded (opens.Tuple is) c s = (c ≡ 41) × (s ≡ Want)
+IsEnded (opens.Arguments n args) c s = (c ≡ 62) × (s ≡ WantArgument)
+
+-- the same of the innermost thing that is open
+abbrev pub EndsWith : List Open → ℕ → State → Type 0
+EndsWith opened c s =
+    (o : Open) × (slice_get opened (length opened - 1) ≡ Some o) × IsEnded o c s
+
+-- the node that it becomes
+abbrev pub Becomes : Open → TypeNode → Type 0
+Becomes (opens.Behind r m) n = ⊥
+Becomes (opens.Tuple is) n = n ≡ nodes.Tuple is
+Becomes (opens.Arguments q args) n = n ≡ nodes.Named q args
+
+-- The innermost thing that was open is a node, behind the others.
+pub record IsClosed (o : Open) (ns : List TypeNode) (opened : List Open)
+    (s' : State) (ns' : List TypeNode) (opened' : List Open) : Type 0 where
+  pub have : s' ≡ Have
+  pub inner : opened ≡ opened' ++ o ∷ []
+  pub put : (n : TypeNode) × (ns' ≡ ns ++ n ∷ []) × Becomes o n
 
 -- A tuple is open, and has one part more than these.
 pub record HasMoreParts (opened : List Open) (parts : List ℕ) (part : ℕ)

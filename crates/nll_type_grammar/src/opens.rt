@@ -1,13 +1,17 @@
 //! What of a type is begun and not complete, and one step through a type.
 
-ghost use Rattle.std.specs.Prelude.{◌≡◌, ◌∷◌, [], ◌++◌, ◌<◌, List, length, MatchOption, IfOk};
+ghost use Rattle.std.specs.Prelude.{◌≡◌, ◌∷◌, [], ◌++◌, ◌<◌, ◌-◌, ℕ, List, length, MatchOption, IfOk};
+ghost use Rattle.std.specs.Prelude.{Some, slice_get};
 ghost use Rattle.nll_text.specs.Tokens as lex;
 ghost use Rattle.nll_text.specs.Tokens.{views};
 ghost use Rattle.nll_type_grammar.specs.TypeTexts.{written};
 ghost use Rattle.nll_type_grammar.specs.declared.type_text.TypeNode.{TypeNode as node};
 ghost use Rattle.nll_type_grammar.specs.OpenTypes.{IsStuck, AreRead, GoesFurther, IsBegun};
 ghost use Rattle.nll_type_grammar.specs.OpenTypes.{IsCompleted, HasMoreParts, HasMoreArguments};
-ghost use Rattle.nll_type_grammar.specs.OpenTypes.{frames_of};
+ghost use Rattle.nll_type_grammar.specs.OpenTypes.{frames_of, EndsWith, IsClosed, IsEnded};
+ghost use Rattle.nll_type_grammar.specs.WrittenTypes.{WrittenType};
+ghost use Rattle.nll_type_grammar.specs.declared.opens.Open.{Open as opening};
+ghost use Rattle.nll_type_grammar.specs.declared.opens.State.{State as stage};
 
 use crate::fronts::{Front, front_at, is_sign, region_at};
 use crate::type_text::{Argument, TypeNode};
@@ -194,60 +198,34 @@ fn complete<'a>(nodes: &mut Vec<TypeNode<'a>>, opened: &mut Opened<'a>) -> Resul
     }
 }
 
-// One step behind a part of a tuple.
-fn behind_part<'a>(
-    tokens: &[Token<'a>],
-    parts: Vec<usize>,
-    nodes: &mut Vec<TypeNode<'a>>,
-    opened: &mut Opened<'a>,
-) -> Result<Option<(State, usize)>, Memory>
-    requires { AreRead nodes.old.items (opened.old.items ++ Open.Tuple parts ∷ []) }
-    ensures { IfOk result (λ o. MatchOption o
-        (IsStuck State.Inside
-        (frames_of nodes.old.items (opened.old.items ++ Open.Tuple parts ∷ []))
-        (written nodes.old.items) (views tokens.now))
-        (λ p. GoesFurther State.Inside nodes.old.items
-        (opened.old.items ++ Open.Tuple parts ∷ []) tokens.now
-        p.0 nodes.new.items opened.new.items p.1)) }
+// How the innermost thing that is open ends, where it has parts: the sign that closes it, and what
+// may come behind a comma.
+fn ends_at(opened: &Opened<'_>) -> Option<(u8, State)>
+    ensures { MatchOption result
+        ((ns : List node) (t : WrittenType) (ts : List lex.Token) →
+        IsStuck State.Inside (frames_of ns opened.now.items) t ts)
+        (λ p. EndsWith opened.now.items p.0 p.1) }
 {
-    if is_sign(tokens, b',') {
-        opened.push(Open::Tuple(parts))?;
-        return Ok(Some((State::Want, 1)));
+    match opened.as_slice().last() {
+        Some(Open::Tuple(_)) => Some((b')', State::Want)),
+        Some(Open::Arguments(..)) => Some((b'>', State::WantArgument)),
+        Some(Open::Behind(..)) => None,
+        None => None,
     }
-    if is_sign(tokens, b')') {
-        nodes.push(TypeNode::Tuple(parts))?;
-        return Ok(Some((State::Have, 1)));
-    }
-    Ok(None)
 }
 
-// One step behind an argument of a name.
-fn behind_argument<'a>(
-    tokens: &[Token<'a>],
-    name: &'a [u8],
-    arguments: Vec<Argument<'a>>,
-    nodes: &mut Vec<TypeNode<'a>>,
-    opened: &mut Opened<'a>,
-) -> Result<Option<(State, usize)>, Memory>
-    requires { AreRead nodes.old.items (opened.old.items ++ Open.Arguments name arguments ∷ []) }
-    ensures { IfOk result (λ o. MatchOption o
-        (IsStuck State.Inside
-        (frames_of nodes.old.items
-        (opened.old.items ++ Open.Arguments name.entry arguments.entry ∷ []))
-        (written nodes.old.items) (views tokens.now))
-        (λ p. GoesFurther State.Inside nodes.old.items
-        (opened.old.items ++ Open.Arguments name.entry arguments.entry ∷ []) tokens.now
-        p.0 nodes.new.items opened.new.items p.1)) }
+// Completes the innermost thing that is open, where it has parts.
+fn close<'a>(nodes: &mut Vec<TypeNode<'a>>, opened: &mut Opened<'a>) -> Result<State, Memory>
+    ensures { IfOk result (λ s. (o : opening) (c : ℕ) (next : stage) →
+        slice_get opened.old.items (length opened.old.items - 1) ≡ Some o → IsEnded o c next →
+        IsClosed o nodes.old.items opened.old.items s nodes.new.items opened.new.items) }
 {
-    if is_sign(tokens, b',') {
-        opened.push(Open::Arguments(name, arguments))?;
-        return Ok(Some((State::WantArgument, 1)));
+    match opened.pop() {
+        Some(Open::Tuple(parts)) => put(nodes, TypeNode::Tuple(parts)),
+        Some(Open::Arguments(name, arguments)) => put(nodes, TypeNode::Named(name, arguments)),
+        Some(Open::Behind(..)) => Ok(State::Have),
+        None => Ok(State::Have),
     }
-    if is_sign(tokens, b'>') {
-        nodes.push(TypeNode::Named(name, arguments))?;
-        return Ok(Some((State::Have, 1)));
-    }
-    Ok(None)
 }
 
 // One step behind a part or an argument of the innermost thing that is open.
@@ -263,13 +241,17 @@ fn inside<'a>(
         (λ p. GoesFurther State.Inside nodes.old.items opened.old.items tokens.now
         p.0 nodes.new.items opened.new.items p.1)) }
 {
-    match opened.pop() {
-        Some(Open::Tuple(parts)) => behind_part(tokens, parts, nodes, opened),
-        Some(Open::Arguments(name, arguments)) => behind_argument(
-            tokens, name, arguments, nodes, opened,
-        ),
-        _ => Ok(None),
+    let Some((closing, next)) = ends_at(opened) else {
+        return Ok(None);
+    };
+    if is_sign(tokens, b',') {
+        return Ok(Some((next, 1)));
     }
+    if !is_sign(tokens, closing) {
+        return Ok(None);
+    }
+    let state = close(nodes, opened)?;
+    Ok(Some((state, 1)))
 }
 
 /// One step: what may come then, and how many tokens it takes.

@@ -1,37 +1,30 @@
 use Rattle.std.proofs.Common.{arith}
-use Rattle.std.proofs.lemmas.List.{take_rest, map-append}
+use Rattle.std.proofs.lemmas.List.{take_rest}
+use Rattle.nll_mir_grammar.specs.Lines.{argument_of}
 use Rattle.nll_mir_grammar.specs.Parts as parts
-use Rattle.nll_mir_grammar.proofs.GrammarLemmas.{commas_none, lists_from, lists_on}
+use Rattle.nll_mir_grammar.proofs.GrammarLemmas.{commas_none, put_first, put_next, put_last}
 use Rattle.nll_mir_grammar.proofs.PartLemmas.{arguments_listable}
 use Rattle.nll_mir_grammar.proofs.arguments.list_arguments.Goals as goal
 
 pub returns-in_default : goal.returns-in_default
-returns-in_default c = let none = rw c.in_default.is at c.in_ok-first.ensures in commas_none parts.arguments arguments_listable.comma _ none
+returns-in_default c = let none = rw c.in_default.is at c.in_ok-behind.ensures in commas_none parts.arguments arguments_listable.comma _ none.0
 
 pub overflow_sub-at : goal.overflow_sub-at
-overflow_sub-at c = let found = rw c.in-Some.is at c.in_ok-first.ensures in (lists_from parts.arguments _ _ _ found).fits
+overflow_sub-at c = (put_first parts.arguments argument_of c.args.tokens.now c.in-Some.behind _ _ c.requires (rw c.in-Some.is at c.in_ok-behind.ensures)).fits
 
-pub loop-argument-init : goal.loop-argument-init
-loop-argument-init c =
-    let found = rw c.in-Some.is at c.in_ok-first.ensures in
-    rw (c.in_ok-push.ensures.items, c.requires) (lists_from parts.arguments _ _ _ found).to
+pub loop-behind-init : goal.loop-behind-init
+loop-behind-init c = (put_first parts.arguments argument_of c.args.tokens.now c.in-Some.behind _ _ c.requires (rw c.in-Some.is at c.in_ok-behind.ensures)).to
 
 pub overflow_sub-at-in-Some-2 : goal.overflow_sub-at-in-Some-2
-overflow_sub-at-in-Some-2 c =
-    let found = rw c.in-Some-2.is at c.in_ok-argument.ensures in
-    let b = rw (take_rest c.args.tokens.now c.loop-argument.at) at found in
-    (lists_on parts.arguments c.args.tokens.now c.in-Some-2.behind.now _ _ c.loop-argument.at c.loop-argument.invariant b).fits
+overflow_sub-at-in-Some-2 c = (put_next parts.arguments argument_of c.args.tokens.now _ c.in-Some-2.behind _ _ c.loop-behind.at c.loop-behind.invariant (take_rest c.args.tokens.now c.loop-behind.at) (rw c.in-Some-2.is at c.in_ok-behind-2.ensures)).fits
 
-pub loop-argument-smaller : goal.loop-argument-smaller
-loop-argument-smaller c =
-    let found = rw c.in-Some-2.is at c.in_ok-argument.ensures in
-    let b = rw (take_rest c.args.tokens.now c.loop-argument.at) at found in
-    let h = lists_on parts.arguments c.args.tokens.now c.in-Some-2.behind.now _ _ c.loop-argument.at c.loop-argument.invariant b in
+pub loop-behind-smaller : goal.loop-behind-smaller
+loop-behind-smaller c =
+    let h = put_next parts.arguments argument_of c.args.tokens.now _ c.in-Some-2.behind _ _ c.loop-behind.at c.loop-behind.invariant (take_rest c.args.tokens.now c.loop-behind.at) (rw c.in-Some-2.is at c.in_ok-behind-2.ensures) in
     omega (arith, h.onward, h.fits)
 
-pub loop-argument-preserved : goal.loop-argument-preserved
-loop-argument-preserved c =
-    let found = rw c.in-Some-2.is at c.in_ok-argument.ensures in
-    let b = rw (take_rest c.args.tokens.now c.loop-argument.at) at found in
-    rw (c.in_ok-push-2.ensures.items, map-append)
-    (lists_on parts.arguments c.args.tokens.now c.in-Some-2.behind.now _ _ c.loop-argument.at c.loop-argument.invariant b).to
+pub loop-behind-preserved : goal.loop-behind-preserved
+loop-behind-preserved c = (put_next parts.arguments argument_of c.args.tokens.now _ c.in-Some-2.behind _ _ c.loop-behind.at c.loop-behind.invariant (take_rest c.args.tokens.now c.loop-behind.at) (rw c.in-Some-2.is at c.in_ok-behind-2.ensures)).to
+
+pub returns : goal.returns
+returns c = put_last parts.arguments argument_of c.args.tokens.now _ _ _ c.loop-behind.at c.loop-behind.invariant (take_rest c.args.tokens.now c.loop-behind.at) (rw c.in_default-2.is at c.in_ok-behind-2.ensures)

@@ -4,8 +4,8 @@ use Rattle.nll_mir_grammar.specs.Parts as parts
 use Rattle.nll_mir_grammar.proofs.GrammarLemmas.{ListsTo}
 use Rattle.nll_mir_grammar.proofs.arguments.list_arguments.Given as goal
 
-abbrev pub invariant-loop-argument : goal.invariant-loop-argument
-invariant-loop-argument l = ListsTo parts.arguments l.tokens (map argument_of l.arguments.items) l.at
+abbrev pub invariant-loop-behind : goal.invariant-loop-behind
+invariant-loop-behind l = ListsTo parts.arguments l.tokens (map argument_of l.arguments.items) l.at
 
-abbrev pub decreases-loop-argument : goal.decreases-loop-argument
-decreases-loop-argument l = length l.tokens - l.at
+abbrev pub decreases-loop-behind : goal.decreases-loop-behind
+decreases-loop-behind l = length l.tokens - l.at

@@ -1,37 +1,30 @@
 use Rattle.std.proofs.Common.{arith}
-use Rattle.std.proofs.lemmas.List.{take_rest, map-append}
+use Rattle.std.proofs.lemmas.List.{take_rest}
+use Rattle.nll_types.specs.Operands.{operand_of}
 use Rattle.nll_mir_grammar.specs.Parts as parts
-use Rattle.nll_mir_grammar.proofs.GrammarLemmas.{commas_none, lists_from, lists_on}
+use Rattle.nll_mir_grammar.proofs.GrammarLemmas.{commas_none, put_first, put_next, put_last}
 use Rattle.nll_mir_grammar.proofs.PartLemmas.{operands_listable}
 use Rattle.nll_mir_grammar.proofs.operands.list_operands.Goals as goal
 
 pub returns-in_default : goal.returns-in_default
-returns-in_default c = let none = rw c.in_default.is at c.in_ok-first.ensures in commas_none parts.operands operands_listable.comma _ none
+returns-in_default c = let none = rw c.in_default.is at c.in_ok-behind.ensures in commas_none parts.operands operands_listable.comma _ none.0
 
 pub overflow_sub-at : goal.overflow_sub-at
-overflow_sub-at c = let found = rw c.in-Some.is at c.in_ok-first.ensures in (lists_from parts.operands _ _ _ found).fits
+overflow_sub-at c = (put_first parts.operands operand_of c.args.tokens.now c.in-Some.behind _ _ c.requires (rw c.in-Some.is at c.in_ok-behind.ensures)).fits
 
-pub loop-operand-init : goal.loop-operand-init
-loop-operand-init c =
-    let found = rw c.in-Some.is at c.in_ok-first.ensures in
-    rw (c.in_ok-push.ensures.items, c.in_ok-reserve_exact.ensures.items, c.requires) (lists_from parts.operands _ _ _ found).to
+pub loop-behind-init : goal.loop-behind-init
+loop-behind-init c = (put_first parts.operands operand_of c.args.tokens.now c.in-Some.behind _ _ c.requires (rw c.in-Some.is at c.in_ok-behind.ensures)).to
 
 pub overflow_sub-at-in-Some-2 : goal.overflow_sub-at-in-Some-2
-overflow_sub-at-in-Some-2 c =
-    let found = rw c.in-Some-2.is at c.in_ok-operand.ensures in
-    let b = rw (take_rest c.args.tokens.now c.loop-operand.at) at found in
-    (lists_on parts.operands c.args.tokens.now c.in-Some-2.behind.now _ _ c.loop-operand.at c.loop-operand.invariant b).fits
+overflow_sub-at-in-Some-2 c = (put_next parts.operands operand_of c.args.tokens.now _ c.in-Some-2.behind _ _ c.loop-behind.at c.loop-behind.invariant (take_rest c.args.tokens.now c.loop-behind.at) (rw c.in-Some-2.is at c.in_ok-behind-2.ensures)).fits
 
-pub loop-operand-smaller : goal.loop-operand-smaller
-loop-operand-smaller c =
-    let found = rw c.in-Some-2.is at c.in_ok-operand.ensures in
-    let b = rw (take_rest c.args.tokens.now c.loop-operand.at) at found in
-    let h = lists_on parts.operands c.args.tokens.now c.in-Some-2.behind.now _ _ c.loop-operand.at c.loop-operand.invariant b in
+pub loop-behind-smaller : goal.loop-behind-smaller
+loop-behind-smaller c =
+    let h = put_next parts.operands operand_of c.args.tokens.now _ c.in-Some-2.behind _ _ c.loop-behind.at c.loop-behind.invariant (take_rest c.args.tokens.now c.loop-behind.at) (rw c.in-Some-2.is at c.in_ok-behind-2.ensures) in
     omega (arith, h.onward, h.fits)
 
-pub loop-operand-preserved : goal.loop-operand-preserved
-loop-operand-preserved c =
-    let found = rw c.in-Some-2.is at c.in_ok-operand.ensures in
-    let b = rw (take_rest c.args.tokens.now c.loop-operand.at) at found in
-    rw (c.in_ok-push-2.ensures.items, map-append)
-    (lists_on parts.operands c.args.tokens.now c.in-Some-2.behind.now _ _ c.loop-operand.at c.loop-operand.invariant b).to
+pub loop-behind-preserved : goal.loop-behind-preserved
+loop-behind-preserved c = (put_next parts.operands operand_of c.args.tokens.now _ c.in-Some-2.behind _ _ c.loop-behind.at c.loop-behind.invariant (take_rest c.args.tokens.now c.loop-behind.at) (rw c.in-Some-2.is at c.in_ok-behind-2.ensures)).to
+
+pub returns : goal.returns
+returns c = put_last parts.operands operand_of c.args.tokens.now _ _ _ c.loop-behind.at c.loop-behind.invariant (take_rest c.args.tokens.now c.loop-behind.at) (rw c.in_default-2.is at c.in_ok-behind-2.ensures)

@@ -4,8 +4,8 @@ use Rattle.nll_mir_grammar.specs.Parts as parts
 use Rattle.nll_mir_grammar.proofs.GrammarLemmas.{ListsTo}
 use Rattle.nll_mir_grammar.proofs.operands.list_operands.Given as goal
 
-abbrev pub invariant-loop-operand : goal.invariant-loop-operand
-invariant-loop-operand l = ListsTo parts.operands l.tokens (map operand_of l.operands.items) l.at
+abbrev pub invariant-loop-behind : goal.invariant-loop-behind
+invariant-loop-behind l = ListsTo parts.operands l.tokens (map operand_of l.operands.items) l.at
 
-abbrev pub decreases-loop-operand : goal.decreases-loop-operand
-decreases-loop-operand l = length l.tokens - l.at
+abbrev pub decreases-loop-behind : goal.decreases-loop-behind
+decreases-loop-behind l = length l.tokens - l.at

@@ -1,4 +1,4 @@
-use Rattle.std.proofs.Common.{◌≡◌, [], ap, refl, length, arith}
+use Rattle.std.proofs.Common.{◌≡◌, [], ap, length, arith}
 use Rattle.std.proofs.lemmas.Grind.{common_steps}
 use Rattle.std.proofs.lemmas.List.{nil_from_length}
 use Rattle.nll_type_grammar.specs.TypeTexts.{types_from}
