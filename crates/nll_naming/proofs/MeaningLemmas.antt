@@ -1,5 +1,7 @@
 -- The type that a node means, over the types that its parts mean.
 use Rattle.std.proofs.Common.{◌≡◌, ℕ, ◌<◌, true, false, List, [], ◌∷◌, length, get_or, map, refl, sym, ap, ◌∙◌, subst}
+use Rattle.std.proofs.Common.{◌+◌, ◌++◌, take}
+use Rattle.std.proofs.lemmas.List.{map_push, map_more}
 use Rattle.std.specs.Prelude.{if◌then◌else◌}
 use Rattle.nll_reading.specs.Names.{number_of}
 use Rattle.nll_types.specs.Table.{AreBelow}
@@ -45,3 +47,8 @@ meant_struct s ts n args e =
     ap (λ rs. types.named (number_of s.structs n) rs (all_meant s (all_at ts (types_among args)))) (regions_of_arguments s ts args)
     ∙ (ap (types.named (number_of s.structs n) (regions_meant s (arguments_at ts args))) (types_of_arguments s ts args)
     ∙ ap (λ b. if b then types.parameter (number_of s.parameters n) else types.named (number_of s.structs n) (regions_meant s (arguments_at ts args)) (types_meant s (arguments_at ts args))) (sym e))
+
+-- what is made of each of the first parts, and of one part more
+pub made_more : {X Y : Type 0} (f : X → Y) (g : ℕ → Y) (made longer : List X) (x : X) (is : List ℕ) (i : ℕ) → i < length is → longer ≡ made ++ x ∷ [] → map f made ≡ map g (take i is) → f x ≡ g (get_or is i 0) → map f longer ≡ map g (take (i + 1) is)
+made_more f g made longer x is i h e same here =
+    ap (map f) e ∙ (map_push f made x ∙ (ap (λ ys. ys ++ f x ∷ []) same ∙ (ap (λ y. map g (take i is) ++ y ∷ []) here ∙ sym (map_more g is i 0 h))))
