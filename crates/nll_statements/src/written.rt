@@ -33,8 +33,7 @@ impl<R, T> Statement<R, T> {
             written.push(variable)?;
         }
         push_place(self.target(), written)?;
-        self.reads(written)?;
-        Ok(())
+        self.reads(written)
     }
 }
 
