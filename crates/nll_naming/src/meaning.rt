@@ -1,9 +1,10 @@
 //! The type that a written type means, as a tree.
 
-ghost use Rattle.std.specs.Prelude.{◌≡◌, ◌<◌, ◌^◌, true, false, [], length, IfOk, MatchOption};
+ghost use Rattle.std.specs.Prelude.{◌≡◌, ◌<◌, ◌^◌, ◌++◌, ◌∷◌, [], length};
+ghost use Rattle.std.specs.Prelude.{true, false, IfOk, OnOk, MatchOption};
 ghost use Rattle.nll_reading.specs.Names.{number_of as number_among};
 ghost use Rattle.nll_types.specs.Table.{AreBelow};
-ghost use Rattle.nll_types.specs.Types.{reference, named};
+ghost use Rattle.nll_types.specs.Types.{TypeTree, TypeTrees, reference, tuple, named};
 ghost use Rattle.nll_types.specs.Views.{tree, trees};
 ghost use Rattle.nll_type_grammar.specs.TypeTexts as texts;
 ghost use Rattle.nll_type_grammar.specs.TypeTexts.{AreNodes, types_from, all_at};
@@ -32,6 +33,25 @@ fn region(names: &Names, name: &[u8]) -> RegionId
     }
 }
 
+// Puts the region behind the others, where an argument is one.
+fn push_region(
+    names: &Names,
+    argument: &Argument<'_>,
+    made: &mut Vec<RegionId>,
+) -> Result<(), Memory>
+    requires { length names.now < 2 ^ 32 }
+    ensures { OnOk result (made.new.items
+        ≡ made.old.items ++ region_numbers names.now (argument.now ∷ [])) }
+{
+    match argument {
+        Argument::Region(name) => {
+            made.push(region(names, name))?;
+            Ok(())
+        }
+        Argument::Type(_) => Ok(()),
+    }
+}
+
 // The regions among arguments.
 fn regions(
     alloc: Global,
@@ -43,19 +63,33 @@ fn regions(
 {
     let mut made = Vec::new(alloc);
     for argument in arguments {
-        if let Argument::Region(name) = *argument {
-            made.push(region(names, name))?;
-        }
+        push_region(names, argument, &mut made)?;
     }
     Ok(made)
 }
 
 // A reference to a type.
-fn reference_to(alloc: Global, region: RegionId, mutable: bool, target: Ty) -> Result<Ty, Memory>
-    ensures { IfOk result (λ t. tree t ≡ reference region mutable (tree target)) }
+fn reference_to(
+    alloc: Global,
+    region: RegionId,
+    mutable: bool,
+    target: Result<Ty, Memory>,
+) -> Result<Ty, Memory>
+    ensures { (t : TypeTree) → IfOk target (λ u. tree u ≡ t)
+        → IfOk result (λ v. tree v ≡ reference region mutable t) }
 {
+    let target = target?;
     let target = Box::new(alloc, target)?;
     Ok(Ty::Reference(region, mutable, target))
+}
+
+// A tuple of types.
+fn tuple_of(types: Result<Vec<Ty>, Memory>) -> Result<Ty, Memory>
+    ensures { (ts : TypeTrees) → IfOk types (λ v. trees v.items ≡ ts)
+        → IfOk result (λ t. tree t ≡ tuple ts) }
+{
+    let types = types?;
+    Ok(Ty::Tuple(types))
 }
 
 // The number of the type parameter that a name is, where it is one's.
@@ -74,13 +108,14 @@ fn struct_of(
     scope: &Scope<'_>,
     name: &[u8],
     arguments: &[Argument<'_>],
-    types: Vec<Ty>,
+    types: Result<Vec<Ty>, Memory>,
 ) -> Result<Ty, Memory>
     requires { HasRoom scope.now }
-    ensures { IfOk result (λ t. tree t
+    ensures { (ts : TypeTrees) → IfOk types (λ v. trees v.items ≡ ts) → IfOk result (λ t. tree t
         ≡ named (number_among (scope_of scope.now).structs name.now)
-        (region_numbers (scope_of scope.now).regions arguments.now) (trees types.items)) }
+        (region_numbers (scope_of scope.now).regions arguments.now) ts) }
 {
+    let types = types?;
     let (number, _) = find(scope.structs, name);
     let regions = regions(alloc, scope.regions, arguments)?;
     Ok(Ty::Named(number, regions, types))
@@ -104,17 +139,20 @@ fn node_meant(
         TypeNode::Int => Ok(Ty::Int),
         TypeNode::Reference(name, mutable, part) => {
             let region = region(scope.regions, name);
-            let target = node_meant(alloc, scope, nodes, *part)?;
-            reference_to(alloc, region, *mutable, target)
+            reference_to(
+                alloc,
+                region,
+                *mutable,
+                node_meant(alloc, scope, nodes, *part),
+            )
         }
         TypeNode::Tuple(parts) => {
-            let types = parts_meant(alloc, scope, nodes, number, parts.as_slice())?;
-            Ok(Ty::Tuple(types))
+            tuple_of(parts_meant(alloc, scope, nodes, number, parts.as_slice()))
         }
         TypeNode::Named(name, arguments) => match parameter(scope, name) {
             Some(parameter) => Ok(Ty::Parameter(parameter)),
             None => {
-                let types = types_meant(alloc, scope, nodes, number, arguments.as_slice())?;
+                let types = types_meant(alloc, scope, nodes, number, arguments.as_slice());
                 struct_of(alloc, scope, name, arguments.as_slice(), types)
             }
         },

@@ -1,10 +1,9 @@
 use Rattle.std.proofs.Common.{◌≡◌, ◌<◌, ◌≤◌, [], length, ap, sym, ◌∙◌, arith}
 use Rattle.std.proofs.Math.Seq.{take-length}
 use Rattle.std.proofs.lemmas.Result.{IfOk-weaker}
-use Rattle.nll_types.specs.Types.{parameter, reference, tuple}
-use Rattle.nll_reading.specs.Names.{number_of}
+use Rattle.nll_types.specs.Types.{parameter, reference}
 use Rattle.nll_types.specs.Views.{tree, row_of}
-use Rattle.nll_types.proofs.ViewLemmas.{tree_int, tree_parameter, tree_tuple}
+use Rattle.nll_types.proofs.ViewLemmas.{tree_int, tree_parameter}
 use Rattle.nll_type_grammar.specs.TypeTexts.{at, types_from}
 use Rattle.nll_type_grammar.specs.declared.type_text.TypeNode.TheVariants as nodes
 use Rattle.nll_naming.specs.Naming.{meant}
@@ -23,8 +22,8 @@ node_meant-parts_meant-requires t c =
     let below = parts_of_node c.args.nodes.now c.requires.sound c.args.number c.index-nodes-number.result (nodes.Tuple c.in-Tuple.parts) c.requires.within c.index-nodes-number.is c.in-Tuple.is in
     (omega arith, (c.requires.room, (c.requires.sound, (c.requires.within, rw c.as_slice.ensures.value below))))
 
-pub node_meant-types_meant-requires : goal.node_meant-types_meant-requires
-node_meant-types_meant-requires t c =
+pub node_meant-types_meant-types-requires : goal.node_meant-types_meant-types-requires
+node_meant-types_meant-types-requires t c =
     let below = parts_of_node c.args.nodes.now c.requires.sound c.args.number c.index-nodes-number.result (nodes.Named c.in-Named.name c.in-Named.arguments) c.requires.within c.index-nodes-number.is c.in-Named.is in
     (omega arith, (c.requires.room, (c.requires.sound, (c.requires.within, rw c.as_slice-in-None.ensures.value below))))
 
@@ -32,17 +31,15 @@ pub node_meant-returns-in-Int : goal.node_meant-returns-in-Int
 node_meant-returns-in-Int t c =
     tree_int ∙ sym (meant_of_node (scope_of c.args.scope.now) c.args.nodes.now c.requires.sound c.args.number c.index-nodes-number.result nodes.Int c.requires.within c.index-nodes-number.is c.in-Int.is)
 
-pub node_meant-returns-in_ok-target-in-Reference : goal.node_meant-returns-in_ok-target-in-Reference
-node_meant-returns-in_ok-target-in-Reference t c = IfOk-weaker c.reference_to.result _ _ (λ made told.
+pub node_meant-returns-in-Reference : goal.node_meant-returns-in-Reference
+node_meant-returns-in-Reference t c = IfOk-weaker c.reference_to.result _ _ (λ made told.
     told
-    ∙ (rw c.region-region.ensures (ap (reference (number_of c.args.scope.now.regions.now c.in-Reference.name.now) c.in-Reference.mutable) c.in_ok-target-in-Reference.ensures)
-    ∙ sym (meant_of_node (scope_of c.args.scope.now) c.args.nodes.now c.requires.sound c.args.number c.index-nodes-number.result (nodes.Reference c.in-Reference.name c.in-Reference.mutable c.in-Reference.part) c.requires.within c.index-nodes-number.is c.in-Reference.is))) c.reference_to.ensures
+    ∙ (ap (λ r. reference r c.in-Reference.mutable (meant (scope_of c.args.scope.now) (at (types_from [] c.args.nodes.now) c.in-Reference.part))) c.region-region.ensures
+    ∙ sym (meant_of_node (scope_of c.args.scope.now) c.args.nodes.now c.requires.sound c.args.number c.index-nodes-number.result (nodes.Reference c.in-Reference.name c.in-Reference.mutable c.in-Reference.part) c.requires.within c.index-nodes-number.is c.in-Reference.is))) (c.reference_to.ensures _ c.node_meant.ensures)
 
-pub node_meant-returns-in_ok-types-in-Tuple : goal.node_meant-returns-in_ok-types-in-Tuple
-node_meant-returns-in_ok-types-in-Tuple t c =
-    tree_tuple _
-    ∙ (ap tuple (rw c.as_slice.ensures.value at c.in_ok-types-in-Tuple.ensures)
-    ∙ sym (meant_of_node (scope_of c.args.scope.now) c.args.nodes.now c.requires.sound c.args.number c.index-nodes-number.result (nodes.Tuple c.in-Tuple.parts) c.requires.within c.index-nodes-number.is c.in-Tuple.is))
+pub node_meant-returns-in-Tuple : goal.node_meant-returns-in-Tuple
+node_meant-returns-in-Tuple t c = IfOk-weaker c.tuple_of.result _ _ (λ made told.
+    told ∙ sym (meant_of_node (scope_of c.args.scope.now) c.args.nodes.now c.requires.sound c.args.number c.index-nodes-number.result (nodes.Tuple c.in-Tuple.parts) c.requires.within c.index-nodes-number.is c.in-Tuple.is)) (c.tuple_of.ensures _ (rw c.as_slice.ensures.value at c.parts_meant.ensures))
 
 pub node_meant-returns-in-Some : goal.node_meant-returns-in-Some
 node_meant-returns-in-Some t c =
@@ -51,11 +48,11 @@ node_meant-returns-in-Some t c =
     ∙ (meant_parameter (scope_of c.args.scope.now) (types_from [] c.args.nodes.now) c.in-Named.name.now c.in-Named.arguments.items c.in-Some.ensures.0
     ∙ sym (meant_of_node (scope_of c.args.scope.now) c.args.nodes.now c.requires.sound c.args.number c.index-nodes-number.result (nodes.Named c.in-Named.name c.in-Named.arguments) c.requires.within c.index-nodes-number.is c.in-Named.is)))
 
-pub node_meant-returns-in_ok-types-in-None : goal.node_meant-returns-in_ok-types-in-None
-node_meant-returns-in_ok-types-in-None t c = IfOk-weaker c.struct_of.result _ _ (λ made told.
+pub node_meant-returns-in-None : goal.node_meant-returns-in-None
+node_meant-returns-in-None t c = IfOk-weaker c.struct_of.result _ _ (λ made told.
     (rw c.as_slice-in-None-2.ensures.value at told)
-    ∙ (rw (rw c.as_slice-in-None.ensures.value at c.in_ok-types-in-None.ensures) (meant_struct (scope_of c.args.scope.now) (types_from [] c.args.nodes.now) c.in-Named.name.now c.in-Named.arguments.items c.in-None.ensures)
-    ∙ sym (meant_of_node (scope_of c.args.scope.now) c.args.nodes.now c.requires.sound c.args.number c.index-nodes-number.result (nodes.Named c.in-Named.name c.in-Named.arguments) c.requires.within c.index-nodes-number.is c.in-Named.is))) c.struct_of.ensures
+    ∙ (meant_struct (scope_of c.args.scope.now) (types_from [] c.args.nodes.now) c.in-Named.name.now c.in-Named.arguments.items c.in-None.ensures
+    ∙ sym (meant_of_node (scope_of c.args.scope.now) c.args.nodes.now c.requires.sound c.args.number c.index-nodes-number.result (nodes.Named c.in-Named.name c.in-Named.arguments) c.requires.within c.index-nodes-number.is c.in-Named.is))) (c.struct_of.ensures _ (rw c.as_slice-in-None.ensures.value at c.types_meant-types.ensures))
 
 pub parts_meant-returns : goal.parts_meant-returns
 parts_meant-returns t c =
