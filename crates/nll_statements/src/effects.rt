@@ -131,11 +131,21 @@ fn whole_variable(place: &Place) -> Option<u32>
 }
 
 // Puts a number behind the others.
-fn push_number(number: u32, numbers: &mut Vec<u32>) -> Result<(), Memory>
+pub(crate) fn push_number(number: u32, numbers: &mut Vec<u32>) -> Result<(), Memory>
     ensures { OnOk result (numbers.new.items ≡ numbers.old.items ++ number ∷ []) }
 {
     numbers.push(number)?;
     Ok(())
+}
+
+// Puts a number behind the others, where there is one.
+pub(crate) fn push_some(number: Option<u32>, numbers: &mut Vec<u32>) -> Result<(), Memory>
+    ensures { OnOk result (numbers.new.items ≡ numbers.old.items ++ other_block number) }
+{
+    match number {
+        Some(number) => push_number(number, numbers),
+        None => Ok(()),
+    }
 }
 
 // Puts numbers behind the others.
@@ -196,8 +206,5 @@ fn push_exits(block: u32, unwind: Option<u32>, blocks: &mut Vec<u32>) -> Result<
     ensures { OnOk result (blocks.new.items ≡ blocks.old.items ++ block ∷ other_block unwind) }
 {
     push_number(block, blocks)?;
-    match unwind {
-        Some(other) => push_number(other, blocks),
-        None => Ok(()),
-    }
+    push_some(unwind, blocks)
 }
