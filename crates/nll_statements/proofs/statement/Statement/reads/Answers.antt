@@ -1,4 +1,4 @@
-use Rattle.std.proofs.Common.{◌≡◌, ◌++◌, map, ap, ◌∙◌}
+use Rattle.std.proofs.Common.{◌≡◌, ◌++◌, map, ap, ◌∙◌, rules}
 use Rattle.std.proofs.lemmas.Result.{on_ok_weaker}
 use Rattle.std.specs.List.{flat_map}
 use Rattle.nll_types.specs.Operands.{operand_of}
@@ -15,4 +15,4 @@ returns-in-Call g c =
     ∙ ap (λ ops. c.args.used.now.items ++ map (λ p. p.variable) (flat_map place_in ops)) (ap (map (λ a. operand_of a.0)) arguments ∙ operands_same c.in-Call.call.value.arguments.items)) c.push_arguments.ensures)
 
 pub returns-in-Return : goal.returns-in-Return
-returns-in-Return g c = rw c.in-Return.is c.push_number.ensures
+returns-in-Return g c = rw c.in-Return.is (search rules)
