@@ -2,7 +2,10 @@
 use Rattle.std.proofs.Common.{◌≡◌, ℕ, zero, suc, ◌+◌, ◌-◌, ◌<◌, ◌≤◌, Bool, true, false, ◌&&◌, List, [], ◌∷◌, ◌++◌, length, map, refl, sym, ap, ◌∙◌, arith, subst}
 use Rattle.std.proofs.Common.{⊎_elim}
 use Rattle.std.proofs.Math.Seq.{get_or-append_seam}
-use Rattle.std.proofs.lemmas.List.{get_or_append_left, length-append}
+use Rattle.std.proofs.Math.Numerals.{add-one}
+use Rattle.std.proofs.Math.Seq.{drop-cons}
+use Rattle.std.proofs.Common.{drop, get_or}
+use Rattle.std.proofs.lemmas.List.{drop_all, get_or_append_left, length-append}
 use Rattle.std.proofs.lemmas.Bool.{cases_lt, cases_Bool, eqb-true}
 use Rattle.std.specs.List.{list_all}
 use Rattle.std.specs.Prelude.{◌==◌, ◌||◌, if◌then◌else◌, slice_index_or}
@@ -26,9 +29,28 @@ use Rattle.nll_naming.specs.declared.judged.Judged.{Judged}
 rest_below : (n i : ℕ) (is : List ℕ) → AreBelow n (i ∷ is) → AreBelow n is
 rest_below n i is b = λ k l. b (suc k) (omega arith)
 
+and_true : (a : Bool) → a && true ≡ a
+and_true true = refl
+and_true false = refl
+
 and_first : (a b c : Bool) → (a && b) && c ≡ a && (b && c)
 and_first true b c = refl
 and_first false b c = refl
+
+pub and_same : (b x y a c : Bool) → b ≡ x && y → x ≡ a → y ≡ c → b ≡ a && c
+and_same b x y a c e f g = e ∙ (ap (λ z. z && y) f ∙ ap (λ z. a && z) g)
+
+-- what holds of each of a row, of which the first ones and the rest are told of apart
+pub all_start : (f : ℕ → Bool) (is : List ℕ) → true && list_all f (drop 0 is) ≡ list_all f is
+all_start f is = refl
+
+pub all_step : (f : ℕ → Bool) (b c : Bool) (is : List ℕ) (i : ℕ) → i < length is → c ≡ b && f (get_or is i 0) → b && list_all f (drop i is) ≡ list_all f is → c && list_all f (drop (i + 1) is) ≡ list_all f is
+all_step f b c is i h e told =
+    let rest : drop i is ≡ get_or is i 0 ∷ drop (i + 1) is = rw add-one (drop-cons is i 0 h) in
+    ap (λ z. z && list_all f (drop (i + 1) is)) e ∙ (and_first b (f (get_or is i 0)) _ ∙ (ap (λ xs. b && list_all f xs) (sym rest) ∙ told))
+
+pub all_told : (f : ℕ → Bool) (b : Bool) (is : List ℕ) (i : ℕ) → length is ≤ i → b && list_all f (drop i is) ≡ list_all f is → b ≡ list_all f is
+all_told f b is i h told = sym (and_true b) ∙ (ap (λ xs. b && list_all f xs) (sym (drop_all i is h)) ∙ told)
 
 and_middle : (a b c : Bool) → a && (b && c) ≡ b && (a && c)
 and_middle true b c = refl

@@ -1,5 +1,9 @@
 -- The type that a node means, over the types that its parts mean.
 use Rattle.std.proofs.Common.{◌≡◌, ℕ, ◌<◌, true, false, List, [], ◌∷◌, length, get_or, map, refl, sym, ap, ◌∙◌, subst}
+use Rattle.std.proofs.Common.{◌+◌, ◌++◌, suc, drop, take, append_assoc}
+use Rattle.std.proofs.Math.Numerals.{add-one}
+use Rattle.std.proofs.Math.Seq.{drop-cons}
+use Rattle.std.proofs.lemmas.List.{map_push, map_more}
 use Rattle.std.specs.Prelude.{if◌then◌else◌}
 use Rattle.nll_reading.specs.Names.{number_of}
 use Rattle.nll_types.specs.Table.{AreBelow}
@@ -45,3 +49,22 @@ meant_struct s ts n args e =
     ap (λ rs. types.named (number_of s.structs n) rs (all_meant s (all_at ts (types_among args)))) (regions_of_arguments s ts args)
     ∙ (ap (types.named (number_of s.structs n) (regions_meant s (arguments_at ts args))) (types_of_arguments s ts args)
     ∙ ap (λ b. if b then types.parameter (number_of s.parameters n) else types.named (number_of s.structs n) (regions_meant s (arguments_at ts args)) (types_meant s (arguments_at ts args))) (sym e))
+
+-- what is made of each of the first parts, and of one part more
+pub made_more : {X Y : Type 0} (f : X → Y) (g : ℕ → Y) (made longer : List X) (x : X) (is : List ℕ) (i : ℕ) → i < length is → longer ≡ made ++ x ∷ [] → map f made ≡ map g (take i is) → f x ≡ g (get_or is i 0) → map f longer ≡ map g (take (i + 1) is)
+made_more f g made longer x is i h e same here =
+    ap (map f) e ∙ (map_push f made x ∙ (ap (λ ys. ys ++ f x ∷ []) same ∙ (ap (λ y. map g (take i is) ++ y ∷ []) here ∙ sym (map_more g is i 0 h))))
+
+-- the regions of one argument, and of those behind it
+regions_first : (names : List Name) (a : Argument) (args : List Argument) → region_numbers names (a ∷ args) ≡ region_numbers names (a ∷ []) ++ region_numbers names args
+regions_first names (arguments.Region r) args = refl
+regions_first names (arguments.Type i) args = refl
+
+pub regions_more : (names : List Name) (made longer whole : List ℕ) (args : List Argument) (i : ℕ) (d : Argument) → i < length args → longer ≡ made ++ region_numbers names (get_or args i d ∷ [])
+    → made ++ region_numbers names (drop i args) ≡ whole → longer ++ region_numbers names (drop (i + 1) args) ≡ whole
+regions_more names made longer whole args i d l e told =
+    let rest : drop i args ≡ get_or args i d ∷ drop (i + 1) args = drop-cons args i d l ∙ ap (λ n. get_or args i d ∷ drop n args) (sym (add-one i)) in
+    ap (λ ns. ns ++ region_numbers names (drop (i + 1) args)) e
+    ∙ (append_assoc made _ _
+    ∙ (ap (λ ns. made ++ ns) (sym (regions_first names (get_or args i d) (drop (i + 1) args)))
+    ∙ (ap (λ as'. made ++ region_numbers names as') (sym rest) ∙ told)))

@@ -5,10 +5,11 @@ ghost use Rattle.std.specs.Prelude.{slice_index_or, IsTrue};
 ghost use Rattle.std.specs.List.{list_all};
 ghost use Rattle.nll_reading.specs.Names.{number_of as number_among};
 ghost use Rattle.nll_types.specs.Shapes.{reference_shape};
-ghost use Rattle.nll_types.specs.Table.{Extends, AreBelow, shape_in};
+ghost use Rattle.nll_types.specs.Table.{Extends, AreBelow, IsOver, shape_in};
+ghost use Rattle.nll_types.specs.Table.{shape_over, shapes_in};
 ghost use Rattle.nll_type_grammar.specs.WrittenTypes.{WrittenType, int, reference, tuple, named};
 ghost use Rattle.nll_type_grammar.specs.TypeTexts as texts;
-ghost use Rattle.nll_type_grammar.specs.TypeTexts.{all_at, arguments_at, parts_of};
+ghost use Rattle.nll_type_grammar.specs.TypeTexts.{AreNodes, all_at, arguments_at, parts_of};
 ghost use Rattle.nll_type_grammar.specs.TypeTexts.{type_over, written};
 ghost use Rattle.nll_naming.specs.Naming as naming;
 ghost use Rattle.nll_naming.specs.Naming.{is_among};
@@ -30,6 +31,9 @@ const NEAR: usize = 8;
 
 /// A list of the types among arguments, which are few.
 pub(crate) type FewTypes = SmallVec<usize, 4>;
+
+// What is judged of the nodes of a type, which are few.
+type FewJudged = SmallVec<Judged, 8>;
 
 // The number of a name, and whether it is among the names.
 pub(crate) fn find(names: &Names, name: &[u8]) -> (usize, bool)
@@ -108,30 +112,19 @@ fn are_of(arguments: &[Argument<'_>], kinds: &[bool]) -> bool
     true
 }
 
-// Whether all of these are known.
-fn all_known(done: &[Judged], parts: &[usize]) -> bool
+// Whether all of these are known, and whether all have the arguments that they take.
+fn all_judged(done: &[Judged], parts: &[usize]) -> (bool, bool)
     requires { AreBelow (length done.now) parts.now }
-    ensures { result ≡ list_all (λ k. (judged_at done.now k).known) parts.now }
+    ensures known { result.0 ≡ list_all (λ k. (judged_at done.now k).known) parts.now }
+    ensures fits { result.1 ≡ list_all (λ k. (judged_at done.now k).fits) parts.now }
 {
+    let mut known = true;
+    let mut fits = true;
     for part in parts {
-        if !done[*part].known {
-            return false;
-        }
+        known = both(known, done[*part].known);
+        fits = both(fits, done[*part].fits);
     }
-    true
-}
-
-// Whether all of these have the arguments that they take.
-fn all_fit(done: &[Judged], parts: &[usize]) -> bool
-    requires { AreBelow (length done.now) parts.now }
-    ensures { result ≡ list_all (λ k. (judged_at done.now k).fits) parts.now }
-{
-    for part in parts {
-        if !done[*part].fits {
-            return false;
-        }
-    }
-    true
+    (known, fits)
 }
 
 // The numbers of the shapes of these.
@@ -153,19 +146,18 @@ fn both(one: bool, other: bool) -> bool
     one && other
 }
 
-// Whether the names of all regions among arguments are known, and all types of them.
-fn arguments_known(
-    names: &Names,
-    arguments: &[Argument<'_>],
-    types: &[usize],
-    done: &[Judged],
-) -> bool
-    requires { AreBelow (length done.now) types.now }
-    ensures { result ≡ list_all (region_is_known names.now) arguments.now
-        && list_all (λ k. (judged_at done.now k).known) types.now }
+// What is judged of a type, where the node of its shape is this.
+fn judged_as(table: &mut TypeTable, node: Node, known: bool, fits: bool) -> Result<Judged, Memory>
+    requires { IsOver (length table.old.shapes) node }
+    ensures structs { table.new.structs ≡ table.old.structs }
+    ensures extends { Extends table.old.shapes table.new.shapes }
+    ensures judged { IfOk result (λ j. (j.known ≡ known) × (j.fits ≡ fits)
+        × (j.shape < length table.new.shapes)
+        × (shape_in table.new.shapes j.shape
+        ≡ shape_over (shapes_in table.old.shapes) node)) }
 {
-    let types = all_known(done, types);
-    both(regions_known(names, arguments), types)
+    let shape = table.add(node)?;
+    Ok(Judged { known, fits, shape })
 }
 
 // Judges a name with arguments, over what is judged of their types.
@@ -187,26 +179,44 @@ fn judge_named(
         (named name.now (arguments_at ts arguments.now)) j) }
 {
     let types = types_among(alloc, arguments)?;
-    let known = arguments_known(scope.regions, arguments, types.as_slice(), done);
-    let fits = all_fit(done, types.as_slice());
+    let judged = judge_over(alloc, scope, table, name, arguments, types.as_slice(), done);
+    drop(types);
+    judged
+}
+
+// Judges a name with arguments, of which these are the types.
+fn judge_over(
+    alloc: Global,
+    scope: &Scope<'_>,
+    table: &mut TypeTable,
+    name: &[u8],
+    arguments: &[Argument<'_>],
+    types: &[usize],
+    done: &[Judged],
+) -> Result<Judged, Memory>
+    requires types { types.now ≡ texts.types_among arguments.now }
+    requires parts { AreBelow (length done.now) (texts.types_among arguments.now) }
+    requires shapes { HaveShapes table.old.shapes done.now }
+    ensures structs { table.new.structs ≡ table.old.structs }
+    ensures extends { Extends table.old.shapes table.new.shapes }
+    ensures judged { IfOk result (λ j. (ts : List WrittenType)
+        → AreJudged (scope_of scope.now) table.old.shapes ts done.now
+        → IsJudged (scope_of scope.now) table.new.shapes
+        (named name.now (arguments_at ts arguments.now)) j) }
+{
+    let (all_known, all_fit) = all_judged(done, types);
+    let known = both(regions_known(scope.regions, arguments), all_known);
     let (number, is_parameter) = find(scope.parameters, name);
     if is_parameter {
-        let shape = table.add(Node::Parameter(number))?;
-        return Ok(Judged {
-            known,
-            fits: both(arguments.is_empty(), fits),
-            shape,
-        });
+        let fits = both(arguments.is_empty(), all_fit);
+        return judged_as(table, Node::Parameter(number), known, fits);
     }
-    let regions = arguments.len() - types.len();
-    let shapes = shapes_of(alloc, done, types.as_slice())?;
     let (number, is_struct) = find(scope.structs, name);
-    let shape = table.add(Node::Named(number, regions, shapes))?;
-    Ok(Judged {
-        known: both(is_struct, known),
-        fits: both(takes(scope, number, arguments), fits),
-        shape,
-    })
+    let known = both(is_struct, known);
+    let fits = both(takes(scope, number, arguments), all_fit);
+    let regions = arguments.len() - types.len();
+    let shapes = shapes_of(alloc, done, types)?;
+    judged_as(table, Node::Named(number, regions, shapes), known, fits)
 }
 
 // Whether a struct takes arguments of these kinds.
@@ -237,13 +247,9 @@ fn judge_tuple(
         → AreJudged (scope_of scope.now) table.old.shapes ts done.now
         → IsJudged (scope_of scope.now) table.new.shapes (tuple (all_at ts parts.now)) j) }
 {
+    let (known, fits) = all_judged(done, parts);
     let shapes = shapes_of(alloc, done, parts)?;
-    let shape = table.add(Node::Tuple(shapes))?;
-    Ok(Judged {
-        known: all_known(done, parts),
-        fits: all_fit(done, parts),
-        shape,
-    })
+    judged_as(table, Node::Tuple(shapes), known, fits)
 }
 
 // Whether a shape is that of a reference to the target.
@@ -312,12 +318,7 @@ fn judge_int(scope: &Scope<'_>, table: &mut TypeTable) -> Result<Judged, Memory>
     ensures extends { Extends table.old.shapes table.new.shapes }
     ensures judged { IfOk result (IsJudged (scope_of scope.now) table.new.shapes int) }
 {
-    let shape = table.add(Node::Int)?;
-    Ok(Judged {
-        known: true,
-        fits: true,
-        shape,
-    })
+    judged_as(table, Node::Int, true, true)
 }
 
 // Judges a node over what is judged of its parts.
@@ -356,6 +357,28 @@ fn judged_of(done: &[Judged], number: usize) -> Judged
     done[number]
 }
 
+// Judges nodes in order, each over what is judged of those before it, and tells of the last.
+fn judge_nodes(
+    alloc: Global,
+    scope: &Scope<'_>,
+    table: &mut TypeTable,
+    nodes: &[TypeNode<'_>],
+    done: &mut FewJudged,
+) -> Result<Judged, Memory>
+    requires sound { AreNodes nodes.now }
+    requires empty { done.old.items ≡ [] }
+    ensures structs { table.new.structs ≡ table.old.structs }
+    ensures extends { Extends table.old.shapes table.new.shapes }
+    ensures judged { IfOk result
+        (IsJudged (scope_of scope.now) table.new.shapes (written nodes.now)) }
+{
+    for node in nodes {
+        let judged = judge_node(alloc, scope, table, node, done.as_slice())?;
+        done.push(judged)?;
+    }
+    Ok(judged_of(done.as_slice(), nodes.len() - 1))
+}
+
 /// Judges a written type, and puts its shape into the table.
 ///
 /// # Cost
@@ -371,11 +394,8 @@ pub fn judge(
     ensures judged { IfOk result
         (IsJudged (scope_of scope.now) table.new.shapes (written text.now)) }
 {
-    let nodes = text.nodes();
-    let mut done: SmallVec<Judged, 8> = SmallVec::new(alloc);
-    for node in nodes {
-        let judged = judge_node(alloc, scope, table, node, done.as_slice())?;
-        done.push(judged)?;
-    }
-    Ok(judged_of(done.as_slice(), nodes.len() - 1))
+    let mut done = SmallVec::new(alloc);
+    let judged = judge_nodes(alloc, scope, table, text.nodes(), &mut done);
+    drop(done);
+    judged
 }

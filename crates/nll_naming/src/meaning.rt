@@ -1,15 +1,16 @@
 //! The type that a written type means, as a tree.
 
-ghost use Rattle.std.specs.Prelude.{◌≡◌, ◌<◌, ◌≤◌, ◌^◌, [], length, IfOk};
+ghost use Rattle.std.specs.Prelude.{◌≡◌, ◌<◌, ◌^◌, ◌++◌, ◌∷◌, [], length};
+ghost use Rattle.std.specs.Prelude.{true, false, IfOk, OnOk, MatchOption};
 ghost use Rattle.nll_reading.specs.Names.{number_of as number_among};
 ghost use Rattle.nll_types.specs.Table.{AreBelow};
-ghost use Rattle.nll_types.specs.Types.{reference, named};
+ghost use Rattle.nll_types.specs.Types.{TypeTree, TypeTrees, reference, tuple, named};
 ghost use Rattle.nll_types.specs.Views.{tree, trees};
 ghost use Rattle.nll_type_grammar.specs.TypeTexts as texts;
-ghost use Rattle.nll_type_grammar.specs.TypeTexts.{AreNodes, types_from, all_at, arguments_at};
+ghost use Rattle.nll_type_grammar.specs.TypeTexts.{AreNodes, types_from, all_at};
 ghost use Rattle.nll_type_grammar.specs.TypeTexts.{written};
 ghost use Rattle.nll_naming.specs.Naming as naming;
-ghost use Rattle.nll_naming.specs.Naming.{all_meant, regions_meant, types_meant};
+ghost use Rattle.nll_naming.specs.Naming.{is_among, all_meant};
 ghost use Rattle.nll_naming.specs.Judging.{scope_of, region_numbers, HasRoom};
 
 use crate::judging::{find, types_among};
@@ -23,22 +24,31 @@ use std::alloc::Global;
 
 // The number of a region.
 fn region(names: &Names, name: &[u8]) -> RegionId
-    ensures { length names.now < 2 ^ 32 → result ≡ number_among names.now name.now }
+    requires { length names.now < 2 ^ 32 }
+    ensures { result ≡ number_among names.now name.now }
 {
     match names.number_of(name) {
-        Some(number) => region_id(number),
-        None => region_id(names.len()),
+        Some(number) => RegionId(number as u32),
+        None => RegionId(names.len() as u32),
     }
 }
 
-// The region of a number.
-fn region_id(number: usize) -> RegionId
-    ensures { number < 2 ^ 32 → result ≡ number }
+// Puts the region behind the others, where an argument is one.
+fn push_region(
+    names: &Names,
+    argument: &Argument<'_>,
+    made: &mut Vec<RegionId>,
+) -> Result<(), Memory>
+    requires { length names.now < 2 ^ 32 }
+    ensures { OnOk result (made.new.items
+        ≡ made.old.items ++ region_numbers names.now (argument.now ∷ [])) }
 {
-    if number <= u32::MAX as usize {
-        RegionId(number as u32)
-    } else {
-        RegionId(u32::MAX)
+    match argument {
+        Argument::Region(name) => {
+            made.push(region(names, name))?;
+            Ok(())
+        }
+        Argument::Type(_) => Ok(()),
     }
 }
 
@@ -48,40 +58,66 @@ fn regions(
     names: &Names,
     arguments: &[Argument<'_>],
 ) -> Result<Vec<RegionId>, Memory>
-    ensures { IfOk result (λ v. length names.now < 2 ^ 32
-        → v.items ≡ region_numbers names.now arguments.now) }
+    requires { length names.now < 2 ^ 32 }
+    ensures { IfOk result (λ v. v.items ≡ region_numbers names.now arguments.now) }
 {
     let mut made = Vec::new(alloc);
     for argument in arguments {
-        if let Argument::Region(name) = *argument {
-            made.push(region(names, name))?;
-        }
+        push_region(names, argument, &mut made)?;
     }
     Ok(made)
 }
 
 // A reference to a type.
-fn reference_to(alloc: Global, region: RegionId, mutable: bool, target: Ty) -> Result<Ty, Memory>
-    ensures { IfOk result (λ t. tree t ≡ reference region mutable (tree target)) }
+fn reference_to(
+    alloc: Global,
+    region: RegionId,
+    mutable: bool,
+    target: Result<Ty, Memory>,
+) -> Result<Ty, Memory>
+    ensures { (t : TypeTree) → IfOk target (λ u. tree u ≡ t)
+        → IfOk result (λ v. tree v ≡ reference region mutable t) }
 {
+    let target = target?;
     let target = Box::new(alloc, target)?;
     Ok(Ty::Reference(region, mutable, target))
 }
 
+// A tuple of types.
+fn tuple_of(types: Result<Vec<Ty>, Memory>) -> Result<Ty, Memory>
+    ensures { (ts : TypeTrees) → IfOk types (λ v. trees v.items ≡ ts)
+        → IfOk result (λ t. tree t ≡ tuple ts) }
+{
+    let types = types?;
+    Ok(Ty::Tuple(types))
+}
+
+// The number of the type parameter that a name is, where it is one's.
+fn parameter(scope: &Scope<'_>, name: &[u8]) -> Option<usize>
+    ensures { MatchOption result (is_among (scope_of scope.now).parameters name.now ≡ false)
+        (λ k. (is_among (scope_of scope.now).parameters name.now ≡ true)
+        × (k ≡ number_among (scope_of scope.now).parameters name.now)) }
+{
+    let (number, is_parameter) = find(scope.parameters, name);
+    if is_parameter { Some(number) } else { None }
+}
+
 // A struct with these arguments, of which the types are known.
-fn struct_meant(
+fn struct_of(
     alloc: Global,
     scope: &Scope<'_>,
     name: &[u8],
     arguments: &[Argument<'_>],
-    types: Vec<Ty>,
+    types: Result<Vec<Ty>, Memory>,
 ) -> Result<Ty, Memory>
-    ensures { IfOk result (λ t. HasRoom scope.now → tree t
+    requires { HasRoom scope.now }
+    ensures { (ts : TypeTrees) → IfOk types (λ v. trees v.items ≡ ts) → IfOk result (λ t. tree t
         ≡ named (number_among (scope_of scope.now).structs name.now)
-        (region_numbers (scope_of scope.now).regions arguments.now) (trees types.items)) }
+        (region_numbers (scope_of scope.now).regions arguments.now) ts) }
 {
-    let regions = regions(alloc, scope.regions, arguments)?;
+    let types = types?;
     let (number, _) = find(scope.structs, name);
+    let regions = regions(alloc, scope.regions, arguments)?;
     Ok(Ty::Named(number, regions, types))
 }
 
@@ -93,73 +129,79 @@ fn node_meant(
     nodes: &[TypeNode<'_>],
     number: usize,
 ) -> Result<Ty, Memory>
-    ensures { IfOk result (λ t. HasRoom scope.now → AreNodes nodes.now → tree t
+    requires room { HasRoom scope.now }
+    requires sound { AreNodes nodes.now }
+    requires within { number < length nodes.now }
+    ensures { IfOk result (λ t. tree t
         ≡ naming.meant (scope_of scope.now) (texts.at (types_from [] nodes.now) number)) }
 {
-    if number >= nodes.len() {
-        return Ok(Ty::Int);
-    }
     match &nodes[number] {
         TypeNode::Int => Ok(Ty::Int),
         TypeNode::Reference(name, mutable, part) => {
-            let target = part_meant(alloc, scope, nodes, number, *part)?;
-            reference_to(alloc, region(scope.regions, name), *mutable, target)
+            let region = region(scope.regions, name);
+            reference_to(
+                alloc,
+                region,
+                *mutable,
+                node_meant(alloc, scope, nodes, *part),
+            )
         }
         TypeNode::Tuple(parts) => {
-            let parts = parts_meant(alloc, scope, nodes, number, parts.as_slice())?;
-            Ok(Ty::Tuple(parts))
+            tuple_of(parts_meant(alloc, scope, nodes, number, parts.as_slice()))
         }
-        TypeNode::Named(name, arguments) => {
-            let (parameter, is_parameter) = find(scope.parameters, name);
-            if is_parameter {
-                return Ok(Ty::Parameter(parameter));
+        TypeNode::Named(name, arguments) => match parameter(scope, name) {
+            Some(parameter) => Ok(Ty::Parameter(parameter)),
+            None => {
+                let types = types_meant(alloc, scope, nodes, number, arguments.as_slice());
+                struct_of(alloc, scope, name, arguments.as_slice(), types)
             }
-            let numbers = types_among(alloc, arguments.as_slice())?;
-            let told = parts_meant(alloc, scope, nodes, number, numbers.as_slice());
-            drop(numbers);
-            let types = told?;
-            struct_meant(alloc, scope, name, arguments.as_slice(), types)
-        }
+        },
     }
 }
 
-// The type of a part of a node.
-#[cycle(meaning)]
-fn part_meant(
-    alloc: Global,
-    scope: &Scope<'_>,
-    nodes: &[TypeNode<'_>],
-    whole: usize,
-    part: usize,
-) -> Result<Ty, Memory>
-    ensures { IfOk result (λ t. HasRoom scope.now → AreNodes nodes.now → part < whole → tree t
-        ≡ naming.meant (scope_of scope.now) (texts.at (types_from [] nodes.now) part)) }
-{
-    if part >= whole {
-        return Ok(Ty::Int);
-    }
-    node_meant(alloc, scope, nodes, part)
-}
-
-// The types of parts of a node.
+// The types of parts of the node of this number.
 #[cycle(meaning)]
 fn parts_meant(
     alloc: Global,
     scope: &Scope<'_>,
     nodes: &[TypeNode<'_>],
-    whole: usize,
+    number: usize,
     parts: &[usize],
 ) -> Result<Vec<Ty>, Memory>
-    ensures { IfOk result (λ v. HasRoom scope.now → AreNodes nodes.now → AreBelow whole parts.now
-        → trees v.items
+    requires room { HasRoom scope.now }
+    requires sound { AreNodes nodes.now }
+    requires within { number < length nodes.now }
+    requires below { AreBelow number parts.now }
+    ensures { IfOk result (λ v. trees v.items
         ≡ all_meant (scope_of scope.now) (all_at (types_from [] nodes.now) parts.now)) }
 {
     let mut made = Vec::with_capacity(alloc, parts.len())?;
     for part in parts {
-        let ty = part_meant(alloc, scope, nodes, whole, *part)?;
-        made.push(ty)?;
+        made.push(node_meant(alloc, scope, nodes, *part)?)?;
     }
     Ok(made)
+}
+
+// The types among arguments of the node of this number.
+#[cycle(meaning)]
+fn types_meant(
+    alloc: Global,
+    scope: &Scope<'_>,
+    nodes: &[TypeNode<'_>],
+    number: usize,
+    arguments: &[Argument<'_>],
+) -> Result<Vec<Ty>, Memory>
+    requires room { HasRoom scope.now }
+    requires sound { AreNodes nodes.now }
+    requires within { number < length nodes.now }
+    requires below { AreBelow number (texts.types_among arguments.now) }
+    ensures { IfOk result (λ v. trees v.items ≡ all_meant (scope_of scope.now)
+        (all_at (types_from [] nodes.now) (texts.types_among arguments.now))) }
+{
+    let parts = types_among(alloc, arguments)?;
+    let types = parts_meant(alloc, scope, nodes, number, parts.as_slice());
+    drop(parts);
+    types
 }
 
 /// The type that a written type means.

@@ -64,7 +64,28 @@ fn distinct(alloc: Global, numbers: &[u32]) -> Result<usize, Memory>
     if let [number, other] = numbers {
         return Ok(of_two(*number, *other));
     }
+    distinct_among(alloc, numbers)
+}
+
+// How many numbers these are, each counted once, found with a set of them.
+fn distinct_among(alloc: Global, numbers: &[u32]) -> Result<usize, Memory>
+    ensures distinct { IfOk result
+        (λ n. n ≡ length (insert_all (λ b c. b == c) [] numbers.now)) }
+    ensures few { IfOk result (λ n. n < 2 ^ 63) }
+{
     let mut known = IndexSet::new(alloc);
+    let count = insert_numbers(numbers, &mut known);
+    drop(known);
+    count
+}
+
+// Puts numbers into a set that has none, and tells how many it has then.
+fn insert_numbers(numbers: &[u32], known: &mut IndexSet<u32>) -> Result<usize, Memory>
+    requires { known.old.keys ≡ [] }
+    ensures distinct { IfOk result
+        (λ n. n ≡ length (insert_all (λ b c. b == c) [] numbers.now)) }
+    ensures few { IfOk result (λ n. n < 2 ^ 63) }
+{
     for number in numbers {
         known.insert(*number)?;
     }

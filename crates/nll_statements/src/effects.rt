@@ -82,8 +82,7 @@ impl<R, T> Statement<R, T> {
             (used.new.items ≡ used.old.items ++ variables_used (statement_of self.now)) }
     {
         self.reads(used)?;
-        push_projected(self.target(), used)?;
-        Ok(())
+        push_projected(self.target(), used)
     }
 
     // Puts the variables of the places that it reads or borrows behind the others.
@@ -93,17 +92,16 @@ impl<R, T> Statement<R, T> {
     {
         match self {
             Statement::Assign(_, operand) | Statement::Switch(operand, _) => {
-                push_operand(operand, used)?;
+                push_operand(operand, used)
             }
             Statement::Borrow(_, _, _, place) | Statement::Read(place) => {
-                used.push(place.variable())?;
+                push_number(place.variable(), used)
             }
-            Statement::Make(made) => push_operands(made.operands.as_slice(), used)?,
-            Statement::Call(call) => push_arguments(call.arguments.as_slice(), used)?,
-            Statement::Return => used.push(0)?,
-            _ => {}
+            Statement::Make(made) => push_operands(made.operands.as_slice(), used),
+            Statement::Call(call) => push_arguments(call.arguments.as_slice(), used),
+            Statement::Return => push_number(0, used),
+            _ => Ok(()),
         }
-        Ok(())
     }
 
     /// Puts the blocks to which it goes on behind the others.
@@ -112,13 +110,12 @@ impl<R, T> Statement<R, T> {
             (blocks.new.items ≡ blocks.old.items ++ spec.targets (statement_of self.now)) }
     {
         match self {
-            Statement::Goto(block) => blocks.push(*block)?,
-            Statement::Switch(_, targets) => blocks.extend_from_slice(targets.as_slice())?,
-            Statement::Drop(_, block, unwind) => push_exits(*block, *unwind, blocks)?,
-            Statement::Call(call) => push_exits(call.target, call.unwind, blocks)?,
-            _ => {}
+            Statement::Goto(block) => push_number(*block, blocks),
+            Statement::Switch(_, targets) => push_numbers(targets.as_slice(), blocks),
+            Statement::Drop(_, block, unwind) => push_exits(*block, *unwind, blocks),
+            Statement::Call(call) => push_exits(call.target, call.unwind, blocks),
+            _ => Ok(()),
         }
-        Ok(())
     }
 }
 
@@ -133,6 +130,32 @@ fn whole_variable(place: &Place) -> Option<u32>
     }
 }
 
+// Puts a number behind the others.
+pub(crate) fn push_number(number: u32, numbers: &mut Vec<u32>) -> Result<(), Memory>
+    ensures { OnOk result (numbers.new.items ≡ numbers.old.items ++ number ∷ []) }
+{
+    numbers.push(number)?;
+    Ok(())
+}
+
+// Puts a number behind the others, where there is one.
+pub(crate) fn push_some(number: Option<u32>, numbers: &mut Vec<u32>) -> Result<(), Memory>
+    ensures { OnOk result (numbers.new.items ≡ numbers.old.items ++ other_block number) }
+{
+    match number {
+        Some(number) => push_number(number, numbers),
+        None => Ok(()),
+    }
+}
+
+// Puts numbers behind the others.
+fn push_numbers(more: &[u32], numbers: &mut Vec<u32>) -> Result<(), Memory>
+    ensures { OnOk result (numbers.new.items ≡ numbers.old.items ++ more.now) }
+{
+    numbers.extend_from_slice(more)?;
+    Ok(())
+}
+
 // Puts the variable of an operand's place behind the others.
 fn push_operand(operand: &Operand, used: &mut Vec<u32>) -> Result<(), Memory>
     ensures { OnOk result (used.new.items
@@ -140,10 +163,7 @@ fn push_operand(operand: &Operand, used: &mut Vec<u32>) -> Result<(), Memory>
 {
     match operand {
         Operand::Const => Ok(()),
-        Operand::Copy(place) | Operand::Move(place) => {
-            used.push(place.variable())?;
-            Ok(())
-        }
+        Operand::Copy(place) | Operand::Move(place) => push_number(place.variable(), used),
     }
 }
 
@@ -175,21 +195,16 @@ fn push_projected(place: Option<&Place>, used: &mut Vec<u32>) -> Result<(), Memo
         (λ p. used.new.items ≡ used.old.items
         ++ map (λ q. q.variable) (filter is_projected (path_of p.now ∷ [])))) }
 {
-    if let Some(place) = place {
-        if !place.projections().is_empty() {
-            used.push(place.variable())?;
-        }
+    match place {
+        Some(place) if !place.projections().is_empty() => push_number(place.variable(), used),
+        _ => Ok(()),
     }
-    Ok(())
 }
 
 // Puts a block, and the other one where there is one, behind the others.
 fn push_exits(block: u32, unwind: Option<u32>, blocks: &mut Vec<u32>) -> Result<(), Memory>
     ensures { OnOk result (blocks.new.items ≡ blocks.old.items ++ block ∷ other_block unwind) }
 {
-    blocks.push(block)?;
-    if let Some(other) = unwind {
-        blocks.push(other)?;
-    }
-    Ok(())
+    push_number(block, blocks)?;
+    push_some(unwind, blocks)
 }

@@ -4,8 +4,10 @@ ghost use Rattle.std.specs.Prelude.{◌≡◌, ◌++◌, ◌∷◌, [], OnOk, Ma
 ghost use Rattle.nll_types.specs.Places.{path_of};
 ghost use Rattle.nll_statements.specs.Written as spec;
 ghost use Rattle.nll_statements.specs.Written.{variables_written};
+ghost use Rattle.nll_statements.specs.Effects.{other_block};
 ghost use Rattle.nll_statements.specs.Kept.{statement_of};
 
+use crate::effects::{push_number, push_some};
 use crate::statement::Statement;
 use nll_sets::Memory;
 use nll_types::Place;
@@ -13,8 +15,7 @@ use nll_types::Place;
 impl<R, T> Statement<R, T> {
     // The variable that stands by itself, and not in a place.
     fn variable_alone(&self) -> Option<u32>
-        ensures { MatchOption result (spec.variable_alone (statement_of self.now) ≡ [])
-            (λ x. spec.variable_alone (statement_of self.now) ≡ x ∷ []) }
+        ensures { other_block result ≡ spec.variable_alone (statement_of self.now) }
     {
         match self {
             Statement::Live(variable) | Statement::Dead(variable) => Some(*variable),
@@ -29,12 +30,9 @@ impl<R, T> Statement<R, T> {
         ensures { OnOk result (written.new.items
             ≡ written.old.items ++ variables_written (statement_of self.now)) }
     {
-        if let Some(variable) = self.variable_alone() {
-            written.push(variable)?;
-        }
+        push_some(self.variable_alone(), written)?;
         push_place(self.target(), written)?;
-        self.reads(written)?;
-        Ok(())
+        self.reads(written)
     }
 }
 
@@ -43,8 +41,8 @@ fn push_place(place: Option<&Place>, written: &mut Vec<u32>) -> Result<(), Memor
     ensures { OnOk result (MatchOption place.entry (written.new.items ≡ written.old.items)
         (λ p. written.new.items ≡ written.old.items ++ (path_of p.now).variable ∷ [])) }
 {
-    if let Some(place) = place {
-        written.push(place.variable())?;
+    match place {
+        Some(place) => push_number(place.variable(), written),
+        None => Ok(()),
     }
-    Ok(())
 }

@@ -157,3 +157,7 @@ assign_order false false = refl
 pub return_order : (place : Bool) → place ≡ ((true && (place && true)) && true)
 return_order true = refl
 return_order false = refl
+
+pub switch_order : (places : Bool) → (places && true) ≡ ((true && places) && true)
+switch_order true = refl
+switch_order false = refl

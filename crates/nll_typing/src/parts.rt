@@ -83,10 +83,7 @@ fn judge_part(
         (place_in (operand_of operand.now)) && is_small u) j) }
 {
     match table.part(alloc, shape, place)? {
-        Some(part) => {
-            let judged = judge_operand(alloc, table, variables, operand, part)?;
-            Ok(judged)
-        }
+        Some(part) => judge_operand(alloc, table, variables, operand, part),
         None => Ok(unfit()),
     }
 }

@@ -1,12 +1,13 @@
-use Rattle.std.proofs.Common.{map, refl}
+use Rattle.std.proofs.Common.{map, refl, ◌∙◌}
 use Rattle.std.specs.List.{list_all, flat_map}
 use Rattle.nll_types.specs.Declarations.{structs_of}
 use Rattle.nll_types.specs.Operands.{operand_of}
 use Rattle.nll_types.specs.Places.{path_of, small_prefixes}
 use Rattle.nll_types.specs.Shapes.{is_small}
 use Rattle.nll_statements.specs.Effects.{place_in}
+use Rattle.nll_types.proofs.ShapingLemmas.{extends_then}
 use Rattle.nll_typing.specs.Typing.{parts_of_type, parts_are_small}
-use Rattle.nll_typing.proofs.FoundLemmas.{shapes_later, shape_later}
+use Rattle.nll_typing.proofs.FoundLemmas.{below_later, shapes_later, shape_later}
 use Rattle.nll_typing.proofs.JudgedLemmas.{both_judged, judged_as, make_order}
 use Rattle.nll_typing.proofs.judging.judge_make.Goals as goal
 
@@ -17,3 +18,21 @@ returns-clause-judged c = λ types t h e.
     let structs = structs_of c.args.table.now.structs in
     let places = list_all (small_prefixes structs types) (flat_map place_in (map operand_of c.args.operands.now)) in
     judged_as refl (make_order places (parts_are_small (parts_of_type structs t)) (is_small t) (small_prefixes structs types (path_of c.args.place.now))) (both_judged _ _ _ _ _ _ _ parts result c.both.ensures.fits c.both.ensures.small)
+
+pub returns-clause-structs : goal.returns-clause-structs
+returns-clause-structs c = c.judge_result.ensures.structs ∙ c.judge_parts.ensures.structs
+
+pub returns-clause-extends : goal.returns-clause-extends
+returns-clause-extends c = extends_then _ _ _ c.judge_parts.ensures.extends c.judge_result.ensures.extends
+
+pub returns-in_err-result-clause-structs : goal.returns-in_err-result-clause-structs
+returns-in_err-result-clause-structs c = c.judge_result.ensures.structs ∙ c.judge_parts.ensures.structs
+
+pub returns-in_err-result-clause-extends : goal.returns-in_err-result-clause-extends
+returns-in_err-result-clause-extends c = extends_then _ _ _ c.judge_parts.ensures.extends c.judge_result.ensures.extends
+
+pub judge_result-requires-clause-variables : goal.judge_result-requires-clause-variables
+judge_result-requires-clause-variables c = below_later _ _ _ c.judge_parts.ensures.extends c.requires.variables
+
+pub judge_parts-requires-clause-variables : goal.judge_parts-requires-clause-variables
+judge_parts-requires-clause-variables c = c.requires.variables

@@ -1,4 +1,4 @@
-use Rattle.std.proofs.Common.{◌≡◌, ℕ, List, map, refl, subst}
+use Rattle.std.proofs.Common.{◌≡◌, ℕ, List, [], ◌∷◌, map, refl, subst}
 use Rattle.std.specs.List.{list_all}
 use Rattle.nll_types.specs.Declarations.{structs_of}
 use Rattle.nll_types.specs.Operands.{Operand, operand_of}
@@ -9,7 +9,8 @@ use Rattle.nll_statements.specs.Statements.{call}
 use Rattle.nll_typing.specs.Judging.{IsJudged}
 use Rattle.nll_typing.specs.Typing.{types_agree, types_are_small}
 use Rattle.nll_typing.proofs.CallLemmas.{arguments_mapped, written_mapped}
-use Rattle.nll_typing.proofs.JudgedLemmas.{assign_order, borrow_order, return_order, judged_as}
+use Rattle.nll_typing.proofs.JudgedLemmas.{assign_order, borrow_order, return_order, switch_order, judged_as}
+use Rattle.nll_typing.proofs.FoundLemmas.{shape_at}
 use Rattle.std.proofs.lemmas.Result.{IfOk-weaker}
 use Rattle.nll_typing.proofs.judging.judge_statement.Goals as goal
 
@@ -47,3 +48,78 @@ returns-in-Assign-clause-judged g c =
     rw c.in-Assign.is (IfOk-weaker c.judge_assign.result _ _ (λ j told. λ types f h e w.
     judged_as refl (assign_order (list_all (small_prefixes structs types) (place_in (operand_of c.in-Assign.operand))) (small_prefixes structs types (path_of c.in-Assign.place)))
     (told types e)) c.judge_assign.ensures.judged)
+
+pub returns-in-Assign-clause-structs : goal.returns-in-Assign-clause-structs
+returns-in-Assign-clause-structs g c = c.judge_assign.ensures.structs
+
+pub returns-in-Assign-clause-extends : goal.returns-in-Assign-clause-extends
+returns-in-Assign-clause-extends g c = c.judge_assign.ensures.extends
+
+pub returns-in-Borrow-clause-structs : goal.returns-in-Borrow-clause-structs
+returns-in-Borrow-clause-structs g c = c.judge_borrow.ensures.structs
+
+pub returns-in-Borrow-clause-extends : goal.returns-in-Borrow-clause-extends
+returns-in-Borrow-clause-extends g c = c.judge_borrow.ensures.extends
+
+pub returns-in-Make-clause-structs : goal.returns-in-Make-clause-structs
+returns-in-Make-clause-structs g c = c.judge_make.ensures.structs
+
+pub returns-in-Make-clause-extends : goal.returns-in-Make-clause-extends
+returns-in-Make-clause-extends g c = c.judge_make.ensures.extends
+
+pub returns-in-Read-clause-structs : goal.returns-in-Read-clause-structs
+returns-in-Read-clause-structs g c = c.judge_read.ensures.structs
+
+pub returns-in-Read-clause-extends : goal.returns-in-Read-clause-extends
+returns-in-Read-clause-extends g c = c.judge_read.ensures.extends
+
+pub returns-in-Switch-clause-structs : goal.returns-in-Switch-clause-structs
+returns-in-Switch-clause-structs g c = c.judge_switch.ensures.structs
+
+pub returns-in-Switch-clause-extends : goal.returns-in-Switch-clause-extends
+returns-in-Switch-clause-extends g c = c.judge_switch.ensures.extends
+
+pub returns-in-Call-clause-structs : goal.returns-in-Call-clause-structs
+returns-in-Call-clause-structs g c = c.judge_call.ensures.structs
+
+pub returns-in-Call-clause-extends : goal.returns-in-Call-clause-extends
+returns-in-Call-clause-extends g c = c.judge_call.ensures.extends
+
+pub judge_assign-requires : goal.judge_assign-requires
+judge_assign-requires g c = c.requires.variables
+
+pub judge_borrow-requires : goal.judge_borrow-requires
+judge_borrow-requires g c = c.requires.variables
+
+pub judge_read-requires : goal.judge_read-requires
+judge_read-requires g c = c.requires.variables
+
+pub judge_switch-requires : goal.judge_switch-requires
+judge_switch-requires g c = c.requires.variables
+
+pub judge_make-requires-clause-variables : goal.judge_make-requires-clause-variables
+judge_make-requires-clause-variables g c = c.requires.variables
+
+pub judge_call-requires-clause-variables : goal.judge_call-requires-clause-variables
+judge_call-requires-clause-variables g c = c.requires.variables
+
+pub judge_call-requires-clause-written : goal.judge_call-requires-clause-written
+judge_call-requires-clause-written g c = c.requires.written
+
+pub returns-in-Read-clause-judged : goal.returns-in-Read-clause-judged
+returns-in-Read-clause-judged g c =
+    rw c.in-Read.is (IfOk-weaker c.judge_read.result _ _ (λ j told. λ types f h e w. judged_as refl (return_order _) (told types e)) c.judge_read.ensures.judged)
+
+pub returns-in-Switch-clause-judged : goal.returns-in-Switch-clause-judged
+returns-in-Switch-clause-judged g c =
+    rw c.in-Switch.is (IfOk-weaker c.judge_switch.result _ _ (λ j told. λ types f h e w. judged_as refl (switch_order _) (told types e)) c.judge_switch.ensures.judged)
+
+pub returns-in-Make-clause-judged : goal.returns-in-Make-clause-judged
+returns-in-Make-clause-judged g c =
+    let made = c.in-Make.made.value in
+    let slice = c.as_slice-operands.ensures.value in
+    let first = c.deref.ensures in
+    let second = c.deref-in-Make.ensures in
+    let operands : c.as_slice-operands.result.now ≡ made.operands.items = cc in
+    rw c.in-Make.is (IfOk-weaker c.judge_make.result _ _ (λ j told. λ types f h e w.
+    told types (h made.ty) e (shape_at c.args.table.now.shapes c.args.written.now (h made.ty ∷ []) 0 (h made.ty) w refl)) (rw (operands, first) at c.judge_make.ensures.judged))

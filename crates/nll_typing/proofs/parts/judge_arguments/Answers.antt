@@ -2,7 +2,7 @@ use Rattle.std.proofs.Common.{◌<◌, ◌≤◌, ◌∙◌, length, arith}
 use Rattle.nll_types.specs.Declarations.{structs_of}
 use Rattle.nll_types.specs.Operands.{operand_of}
 use Rattle.nll_types.proofs.ShapingLemmas.{extends_then}
-use Rattle.nll_typing.proofs.FoundLemmas.{shapes_later, shape_at, shape_later}
+use Rattle.nll_typing.proofs.FoundLemmas.{below_later, shapes_later, shape_at, shape_later}
 use Rattle.nll_typing.proofs.PartLemmas.{type_of_argument, arguments_more, arguments_all}
 use Rattle.nll_typing.proofs.parts.judge_arguments.Goals as goal
 
@@ -26,3 +26,18 @@ pub returns-clause-judged : goal.returns-clause-judged
 returns-clause-judged g c = λ types others f h e.
     let past : length c.args.arguments.now ≤ c.loop-place.place = omega arith in
     arguments_all (structs_of c.args.table.now.structs) types (λ a. operand_of a.0) (λ a. f a.1) c.args.arguments.now c.loop-place.place c.loop-place.judged _ _ past (c.loop-place.invariant.2 types others f h e)
+
+pub returns-clause-structs : goal.returns-clause-structs
+returns-clause-structs g c = c.loop-place.invariant.0
+
+pub returns-clause-extends : goal.returns-clause-extends
+returns-clause-extends g c = c.loop-place.invariant.1
+
+pub judge_operand-requires-clause-variables : goal.judge_operand-requires-clause-variables
+judge_operand-requires-clause-variables g c = below_later _ _ _ c.loop-place.invariant.1 c.requires.variables
+
+pub returns-in_err-one-clause-structs : goal.returns-in_err-one-clause-structs
+returns-in_err-one-clause-structs g c = c.judge_operand.ensures.structs ∙ c.loop-place.invariant.0
+
+pub returns-in_err-one-clause-extends : goal.returns-in_err-one-clause-extends
+returns-in_err-one-clause-extends g c = extends_then _ _ _ c.loop-place.invariant.1 c.judge_operand.ensures.extends

@@ -8,7 +8,7 @@ use Rattle.nll_types.specs.Types.{TypeTrees}
 use Rattle.nll_statements.specs.Effects.{place_in}
 use Rattle.nll_types.proofs.ShapingLemmas.{extends_then}
 use Rattle.nll_typing.specs.Typing.{makes, operand_types, parts_are_small}
-use Rattle.nll_typing.proofs.FoundLemmas.{shapes_later, shape_later}
+use Rattle.nll_typing.proofs.FoundLemmas.{below_later, shapes_later, shape_later}
 use Rattle.nll_typing.proofs.JudgedLemmas.{judged_as}
 use Rattle.nll_typing.proofs.PartLemmas.{makes_none, parts_there, parts_counted, part_behind, parts_more, parts_all, row_next}
 use Rattle.nll_typing.proofs.parts.judge_parts.Goals as goal
@@ -45,3 +45,18 @@ returns-clause-judged c = λ types t h e.
     let judged = parts_all structs types ops parts.0 c.loop-place.place c.loop-place.judged _ _ past parts.2 (on.2 types t parts.0 h e parts.1) in
     judged_as (ap (makes (operand_types structs types (map operand_of ops))) (sym parts.1))
     (ap (λ (z : Option TypeTrees). list_all (small_prefixes structs types) (flat_map place_in (map operand_of ops)) && parts_are_small z) (sym parts.1)) judged
+
+pub returns-clause-structs : goal.returns-clause-structs
+returns-clause-structs c = c.loop-place.invariant.0
+
+pub returns-clause-extends : goal.returns-clause-extends
+returns-clause-extends c = c.loop-place.invariant.1
+
+pub judge_part-requires-clause-variables : goal.judge_part-requires-clause-variables
+judge_part-requires-clause-variables c = below_later _ _ _ c.loop-place.invariant.1 c.requires.variables
+
+pub returns-in_err-part-clause-structs : goal.returns-in_err-part-clause-structs
+returns-in_err-part-clause-structs c = c.judge_part.ensures.structs ∙ c.loop-place.invariant.0
+
+pub returns-in_err-part-clause-extends : goal.returns-in_err-part-clause-extends
+returns-in_err-part-clause-extends c = extends_then _ _ _ c.loop-place.invariant.1 c.judge_part.ensures.extends

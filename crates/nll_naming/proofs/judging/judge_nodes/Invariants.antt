@@ -2,7 +2,7 @@ use Rattle.std.proofs.Common.{◌≡◌, [], take}
 use Rattle.nll_types.specs.Table.{Extends}
 use Rattle.nll_type_grammar.specs.TypeTexts.{types_from}
 use Rattle.nll_naming.specs.Judging.{AreJudged, scope_of}
-use Rattle.nll_naming.proofs.judging.judge.Given as goal
+use Rattle.nll_naming.proofs.judging.judge_nodes.Given as goal
 
 abbrev pub invariant-loop-node : goal.invariant-loop-node
 invariant-loop-node l = record {
