@@ -1,6 +1,5 @@
 //! Bodies of worked texts: regions, points, edges, and what is used, defined and dropped.
-use super::comparing::compare;
-use super::reading::read_lines;
+use super::comparing::{ALONE, compare_rows};
 use nll_worked_texts::{CALLED, DROPPED, MOVED, REBORROW, RETURNED, TWO_BORROWS};
 
 // Texts, and the bodies that they mean.
@@ -41,9 +40,7 @@ const BODIES: &[(&str, &str)] = &[
 // The bodies of worked texts.
 #[test]
 fn bodies_are_read(rt: HostRuntime) {
-    for (text, want) in BODIES {
-        compare(&rt, text, read_lines(rt.alloc(), text), want);
-    }
+    compare_rows(&rt, rt.alloc(), ALONE, ALONE, BODIES);
 }
 
 // The text in which a struct is dropped, with other blanks, remarks and empty lines.
@@ -56,7 +53,7 @@ const SPACED: &str = "\tnll-mir \t 1\r|  | # the region of a W|region\t'w\r||\
 fn blanks_and_remarks_say_nothing(rt: HostRuntime) {
     let want = "universal 'static|region 'w|2 variables|\
         bb0/0 to 1|bb0/1 to 2 drops 1|bb1/0 returns uses 0|";
-    compare(&rt, "blanks", read_lines(rt.alloc(), SPACED), want);
+    compare_rows(&rt, rt.alloc(), ALONE, ALONE, &[(SPACED, want)]);
 }
 
 // A body in which two universal regions are known to outlive others, one of them by two lines.
@@ -68,5 +65,5 @@ const OUTLIVING: &str = "nll-mir 1|universal 'a|universal 'b|outlives 'b 'a|outl
 fn outlives_are_kept_once(rt: HostRuntime) {
     let want = "universal 'static|universal 'a|universal 'b|region 'c|\
         outlives 2 1|outlives 1 0|1 variables|bb0/0|";
-    compare(&rt, "outlives", read_lines(rt.alloc(), OUTLIVING), want);
+    compare_rows(&rt, rt.alloc(), ALONE, ALONE, &[(OUTLIVING, want)]);
 }

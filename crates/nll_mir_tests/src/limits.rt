@@ -2,7 +2,7 @@
 use super::comparing::compare;
 use super::reading::read_size;
 use super::repeating::{
-    Numbered, Repeated, read_numbered, read_repeated, read_repeated_in_parts, read_written,
+    Numbered, Repeated, compare_repeated, read_numbered, read_repeated_in_parts, read_written,
     write_numbered,
 };
 use nll_reading::MAX_TEXT;
@@ -54,16 +54,15 @@ const POINTS: Repeated = (
 // Points are numbered to 1,048,575.
 #[test]
 fn as_many_points_as_may_be(rt: HostRuntime) {
-    let told = read_repeated(rt.alloc(), POINTS, 1_048_575);
     let want = "1 regions, 1 variables|bb0/1048575 returns uses 0|";
-    compare(&rt, "1,048,576 points", told, want);
+    compare_repeated(&rt, rt.alloc(), &[(POINTS, 1_048_575, want)]);
 }
 
 // A point more is refused.
 #[test]
 fn a_point_too_many(rt: HostRuntime) {
-    let told = read_repeated(rt.alloc(), POINTS, 1_048_576);
-    compare(&rt, "a point more", told, "line 1048581: Limit(Points)");
+    let want = "line 1048581: Limit(Points)";
+    compare_repeated(&rt, rt.alloc(), &[(POINTS, 1_048_576, want)]);
 }
 
 // A large text that is freed while it is read says the same, and its fault is at the same line.
@@ -169,10 +168,7 @@ const BLANKS: Repeated = (
 // Long lines are read: a remark, a name, the targets of a `switch`, blanks.
 #[test]
 fn long_lines(rt: HostRuntime) {
-    for (parts, count, want) in LONG_LINES {
-        let told = read_repeated(rt.alloc(), *parts, *count);
-        compare(&rt, parts.1, told, want);
-    }
+    compare_repeated(&rt, rt.alloc(), LONG_LINES);
 }
 
 // What is told of a text of so many blanks.

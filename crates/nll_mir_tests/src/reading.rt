@@ -175,9 +175,21 @@ pub fn read(alloc: Global, text: &[u8]) -> Result<String, AllocError> {
     }
 }
 
-/// What a text of lines that end with `|` says, or its fault.
-pub fn read_lines(alloc: Global, lines: &str) -> Result<String, AllocError> {
-    let text = text_of(alloc, lines)?;
+/// The text of some lines, each of which ends with `|`, with others in front and behind.
+pub fn text_around(
+    alloc: Global,
+    (front, back): (&str, &str),
+    lines: &str,
+) -> Result<Vec<u8>, AllocError> {
+    let all = format!(in alloc; "{front}{lines}{back}")?;
+    let text = text_of(alloc, all.as_str());
+    drop(all);
+    text
+}
+
+/// What that text says, or its fault.
+pub fn read_around(alloc: Global, around: (&str, &str), lines: &str) -> Result<String, AllocError> {
+    let text = text_around(alloc, around, lines)?;
     let told = read(alloc, text.as_slice());
     drop(text);
     told

@@ -1,6 +1,6 @@
 //! MIR texts with a fault: the line, and the first kind of fault that it has.
-use super::comparing::compare;
-use super::reading::{read, read_lines};
+use super::comparing::{ALONE, compare, compare_rows};
+use super::reading::{read, read_around};
 use nll_worked_texts::DROPPED;
 use std::alloc::{AllocError, Global};
 
@@ -57,9 +57,7 @@ const ORDER: &[(&str, &str)] = &[
 // Faults of order, and of a text's ends.
 #[test]
 fn lines_out_of_order(rt: HostRuntime) {
-    for (text, want) in ORDER {
-        compare(&rt, text, read_lines(rt.alloc(), text), want);
-    }
+    compare_rows(&rt, rt.alloc(), ALONE, ALONE, ORDER);
 }
 
 // Declarations behind the header, and their faults.
@@ -139,20 +137,10 @@ const DECLARATIONS: &[(&str, &str)] = &[
     ("let _0: int|blocks 2|block bb0|stop|end|", "line 6: Range"),
 ];
 
-// What is told of a text of these lines behind the header.
-fn told_behind_header(alloc: Global, lines: &str) -> Result<String, AllocError> {
-    let text = format!(in alloc; "nll-mir 1|{lines}")?;
-    let told = read_lines(alloc, text.as_str());
-    drop(text);
-    told
-}
-
 // Faults of declarations.
 #[test]
 fn declarations_are_refused(rt: HostRuntime) {
-    for (lines, want) in DECLARATIONS {
-        compare(&rt, lines, told_behind_header(rt.alloc(), lines), want);
-    }
+    compare_rows(&rt, rt.alloc(), ("nll-mir 1|", ""), ALONE, DECLARATIONS);
 }
 
 // Statements and terminators at the first point of a body, and their faults. The body has the
@@ -215,27 +203,30 @@ const STATEMENTS: &[(&str, &str)] = &[
 ];
 
 // Statements and terminators that are taken at the first point of that body.
-const TAKEN: &[&str] = &[
-    "_0 = const",
-    "_1 = copy _4.0",
-    "_1 = &'q _0",
-    "_1 = &'static _2.*",
-    "_2 = &'r mut _5.0",
-    "_0 = copy _5.0",
-    "_3 = make (int, &'q int)(const, move _1)",
-    "_4 = make S<'q>(copy _1)",
-    "_5 = make D<int>(copy _0)",
-    "_3.0 = copy _2.*",
-    "_1 = copy _3.1",
+const TAKEN: &[(&str, &str)] = &[
+    ("_0 = const", "line 15: End"),
+    ("_1 = copy _4.0", "line 15: End"),
+    ("_1 = &'q _0", "line 15: End"),
+    ("_1 = &'static _2.*", "line 15: End"),
+    ("_2 = &'r mut _5.0", "line 15: End"),
+    ("_0 = copy _5.0", "line 15: End"),
+    ("_3 = make (int, &'q int)(const, move _1)", "line 15: End"),
+    ("_4 = make S<'q>(copy _1)", "line 15: End"),
+    ("_5 = make D<int>(copy _0)", "line 15: End"),
+    ("_3.0 = copy _2.*", "line 15: End"),
+    ("_1 = copy _3.1", "line 15: End"),
 ];
 
 // Terminators that are taken there.
-const ENDED: &[&str] = &[
-    "goto bb0",
-    "switch copy _3.0 bb0",
-    "drop _5 -> bb0",
-    "_1 = call g(const: int, copy _1: &'q int): &'static int where 'q: 'r, 'r: 'static -> bb0",
-    "_0 = call mut(): int -> bb0 unwind bb0",
+const ENDED: &[(&str, &str)] = &[
+    ("goto bb0", "line 14: End"),
+    ("switch copy _3.0 bb0", "line 14: End"),
+    ("drop _5 -> bb0", "line 14: End"),
+    (
+        "_1 = call g(const: int, copy _1: &'q int): &'static int where 'q: 'r, 'r: 'static -> bb0",
+        "line 14: End",
+    ),
+    ("_0 = call mut(): int -> bb0 unwind bb0", "line 14: End"),
 ];
 
 // The lines in front of that statement, each ending with `|`.
@@ -243,37 +234,22 @@ const DECLARED: &str = "nll-mir 1|region 'r|region 'q|struct S<'x +>(&'x int)|st
     let _0: int|let _1: &'r int|let _2: &'q mut int|let _3: (int, &'r int)|let _4: S<'r>|\
     let _5: D<int>|blocks 1|block bb0|";
 
-// What is told where this line stands at the first point and then these lines.
-fn told_of(alloc: Global, line: &str, rest: &str) -> Result<String, AllocError> {
-    let text = format!(in alloc; "{DECLARED}{line}|{rest}")?;
-    let told = read_lines(alloc, text.as_str());
-    drop(text);
-    told
-}
-
 // Faults of statements and terminators.
 #[test]
 fn statements_are_refused(rt: HostRuntime) {
-    for (line, want) in STATEMENTS {
-        compare(&rt, line, told_of(rt.alloc(), line, "stop|"), want);
-    }
+    compare_rows(&rt, rt.alloc(), (DECLARED, "|stop|"), ALONE, STATEMENTS);
 }
 
 // What is right is taken, so that the text only lacks its end.
 #[test]
 fn statements_are_taken(rt: HostRuntime) {
-    for line in TAKEN {
-        let told = told_of(rt.alloc(), line, "stop|");
-        compare(&rt, line, told, "line 15: End");
-    }
+    compare_rows(&rt, rt.alloc(), (DECLARED, "|stop|"), ALONE, TAKEN);
 }
 
 // The same of terminators.
 #[test]
 fn terminators_are_taken(rt: HostRuntime) {
-    for line in ENDED {
-        compare(&rt, line, told_of(rt.alloc(), line, ""), "line 14: End");
-    }
+    compare_rows(&rt, rt.alloc(), (DECLARED, "|"), ALONE, ENDED);
 }
 
 // The text in which a struct is dropped, with one line changed, and its fault.
@@ -299,7 +275,7 @@ fn changed(alloc: Global, from: &str, to: &str) -> Result<String, AllocError> {
 // What is told of that text.
 fn told_of_changed(alloc: Global, from: &str, to: &str) -> Result<String, AllocError> {
     let text = changed(alloc, from, to)?;
-    let told = read_lines(alloc, text.as_str());
+    let told = read_around(alloc, ALONE, text.as_str());
     drop(text);
     told
 }
@@ -346,9 +322,7 @@ const CUT: &[(&str, &str)] = &[
 // A text that is cut off lacks its end, unless what is left is wrong.
 #[test]
 fn cut_off(rt: HostRuntime) {
-    for (text, want) in CUT {
-        compare(&rt, text, read_lines(rt.alloc(), text), want);
-    }
+    compare_rows(&rt, rt.alloc(), ALONE, ALONE, CUT);
 }
 
 // Bytes that are no text are told before the header, and in a skipped line.

@@ -1,6 +1,8 @@
 //! Texts in which something stands very often.
+use super::comparing::compare;
 use super::reading::{read_size, read_size_in_parts};
 use std::alloc::{AllocError, Global};
+use std::process::Abort;
 
 /// What stands in front, what stands often, and what stands behind.
 pub type Repeated = (&'static str, &'static str, &'static str);
@@ -86,4 +88,11 @@ pub fn read_written(
     let told = read_size(alloc, text.as_bytes());
     drop(text);
     written.and(told)
+}
+
+/// Ends the test unless this is told of each text in which something stands so often.
+pub fn compare_repeated(rt: &impl Abort, alloc: Global, rows: &[(Repeated, u32, &str)]) {
+    for (parts, count, want) in rows {
+        compare(rt, parts.0, read_repeated(alloc, *parts, *count), want);
+    }
 }

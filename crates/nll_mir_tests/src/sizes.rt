@@ -1,6 +1,6 @@
 //! Types at the limit of their nodes and past it, however they are written.
 use super::comparing::compare;
-use super::repeating::{Repeated, read_repeated, read_written};
+use super::repeating::{Repeated, compare_repeated, read_written};
 use std::alloc::{AllocError, Global};
 
 // Tuples of an `int` and more, where a type may be written, how many more, and what is told. A
@@ -44,14 +44,7 @@ const RESULT: Repeated = (
 // Large types are taken, and larger ones refused.
 #[test]
 fn large_tuples(rt: HostRuntime) {
-    for (parts, count, want) in TUPLES {
-        compare(
-            &rt,
-            parts.0,
-            read_repeated(rt.alloc(), *parts, *count),
-            want,
-        );
-    }
+    compare_repeated(&rt, rt.alloc(), TUPLES);
 }
 
 // References to one another and to an `int`.
@@ -64,17 +57,20 @@ const DEEP: Repeated = (
 // The deepest type has 4,095 references.
 #[test]
 fn deep_types(rt: HostRuntime) {
-    let told = read_repeated(rt.alloc(), DEEP, 4_095);
-    compare(&rt, "4,096 nodes", told, "2 regions, 2 variables|bb0/0|");
+    let want = "2 regions, 2 variables|bb0/0|";
+    compare_repeated(&rt, rt.alloc(), &[(DEEP, 4_095, want)]);
 }
+
+// Types that are too deep: the first has 4,097 nodes.
+const TOO_DEEP: &[(Repeated, u32, &str)] = &[
+    (DEEP, 4_096, "line 4: TypeSize"),
+    (DEEP, 262_144, "line 4: TypeSize"),
+];
 
 // A type that is too large is refused, however deep it is: the last one is a line of a mebibyte.
 #[test]
 fn too_deep_types(rt: HostRuntime) {
-    let told = read_repeated(rt.alloc(), DEEP, 4_096);
-    compare(&rt, "4,097 nodes", told, "line 4: TypeSize");
-    let told = read_repeated(rt.alloc(), DEEP, 262_144);
-    compare(&rt, "262,145 nodes", told, "line 4: TypeSize");
+    compare_repeated(&rt, rt.alloc(), TOO_DEEP);
 }
 
 // Projections of a variable whose type is the last of structs that double one another. So many

@@ -2,13 +2,12 @@
 //! which variables are written in it, and how many edges leave its point.
 ghost use Rattle.std.specs.Prelude.{◌<◌, length};
 
-use super::comparing::compare;
-use super::reading::read_lines;
+use super::comparing::{compare, compare_rows};
+use super::reading::text_around;
 use nll_body::{Body, Stmt};
 use nll_mir_text::read_mir;
 use nll_sets::Memory;
-use nll_worked_texts::text_of;
-use std::alloc::{AllocError, Global};
+use std::alloc::Global;
 
 // The lines in front of the first point of a body, and how it is told.
 const DECLARED: &str = "nll-mir 1|region 'r|struct S(int)|let _0: int|let _1: int|\
@@ -52,43 +51,19 @@ const TERMINATORS: &[(&str, &str)] = &[
     ("stop", ""),
 ];
 
-// What is told behind the first point's name of a body where this line stands there and then these
-// lines, which is followed by what is told of the other points.
-fn told_of(alloc: Global, line: &str, rest: &str, others: &str) -> Result<String, AllocError> {
-    let text = format!(in alloc; "{DECLARED}{line}|{rest}block bb1|stop|end|")?;
-    let told = read_lines(alloc, text.as_str());
-    drop(text);
-    between(alloc, told, others)
-}
-
-// What is told of a body without what is told first and last.
-fn between(
-    alloc: Global,
-    told: Result<String, AllocError>,
-    others: &str,
-) -> Result<String, AllocError> {
-    let told = told?;
-    let behind = told.as_str().strip_prefix(TOLD).unwrap_or("not so: ");
-    let line = behind.strip_suffix(others).unwrap_or("not so");
-    String::from_str(alloc, line)
-}
-
 // What each form of statement does.
 #[test]
 fn statements_use_and_define(rt: HostRuntime) {
-    for (statement, want) in STATEMENTS {
-        let told = told_of(rt.alloc(), statement, "stop|", "|bb0/1|bb1/0|");
-        compare(&rt, statement, told, want);
-    }
+    let lines = (DECLARED, "|stop|block bb1|stop|end|");
+    let around = (TOLD, "|bb0/1|bb1/0|");
+    compare_rows(&rt, rt.alloc(), lines, around, STATEMENTS);
 }
 
 // What each form of terminator does.
 #[test]
 fn terminators_go_on(rt: HostRuntime) {
-    for (terminator, want) in TERMINATORS {
-        let told = told_of(rt.alloc(), terminator, "", "|bb1/0|");
-        compare(&rt, terminator, told, want);
-    }
+    let lines = (DECLARED, "|block bb1|stop|end|");
+    compare_rows(&rt, rt.alloc(), lines, (TOLD, "|bb1/0|"), TERMINATORS);
 }
 
 // The variables that are written in each line, and how many edges leave its point.
@@ -116,15 +91,26 @@ const WRITTEN: &[(&str, &str)] = &[
     ("stop|", "[] 0"),
 ];
 
-// The variables that are written in a statement, and how many edges leave its point.
-fn written_told(alloc: Global, statement: &Stmt) -> Result<String, Memory> {
-    let mut written = Vec::new(alloc);
-    let told = statement.variables(&mut written);
+// Writes the variables that are written in a statement, and how many edges leave its point. The
+// list is for its own use.
+fn write_written(
+    alloc: Global,
+    out: &mut String,
+    statement: &Stmt,
+    written: &mut Vec<u32>,
+) -> Result<(), Memory> {
+    statement.variables(written)?;
     let edges = statement.edges(alloc)?;
-    let text = format!(in alloc; "{:?} {edges}", written.as_slice());
+    write!(out, "{:?} {edges}", written.as_slice())?;
+    Ok(())
+}
+
+// The same as text.
+fn written_told(alloc: Global, statement: &Stmt) -> Result<String, Memory> {
+    let (mut out, mut written) = (String::new(alloc), Vec::new(alloc));
+    let told = write_written(alloc, &mut out, statement, &mut written);
     drop(written);
-    told?;
-    Ok(text?)
+    told.and(Ok(out))
 }
 
 // The same of the first point of a body.
@@ -149,10 +135,7 @@ fn first_of(alloc: Global, text: &[u8]) -> Result<String, Memory> {
 
 // The same of a body where these lines stand in the first block.
 fn first_line(alloc: Global, lines: &str) -> Result<String, Memory> {
-    let lines = format!(in alloc; "{DECLARED}{lines}block bb1|stop|end|")?;
-    let text = text_of(alloc, lines.as_str());
-    drop(lines);
-    let text = text?;
+    let text = text_around(alloc, (DECLARED, "block bb1|stop|end|"), lines)?;
     let told = first_of(alloc, text.as_slice());
     drop(text);
     told
