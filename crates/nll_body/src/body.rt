@@ -192,9 +192,7 @@ impl Body {
             → (r : ℕ) → Contains v.items r ↔ HasRegion t r) }
         ensures once { IfOk result (λ v. AllPairs (λ q r. q ≢ r) v.items) }
     {
-        let ty = self.var_type(variable);
-        let regions = self.structs.regions(alloc, ty)?;
-        Ok(regions)
+        self.structs.regions(alloc, self.var_type(variable))
     }
 
     /// The drop regions of the type of a variable, each once.
@@ -210,9 +208,7 @@ impl Body {
             → (r : ℕ) → Contains v.items r ↔ IsDropRegion self.now.structs t r) }
         ensures once { IfOk result (λ v. AllPairs (λ q r. q ≢ r) v.items) }
     {
-        let ty = self.var_type(variable);
-        let regions = self.structs.drop_regions(alloc, ty)?;
-        Ok(regions)
+        self.structs.drop_regions(alloc, self.var_type(variable))
     }
 
     /// The type of a place that has one.
@@ -243,8 +239,7 @@ impl Body {
         ensures { OnOk result ((i : standing ℕ TypeTree) → StandsAt self.now point i
             → used.new.items ≡ used.old.items ++ variables_used i) }
     {
-        self.points[point as usize].uses(used)?;
-        Ok(())
+        self.points[point as usize].uses(used)
     }
 
     /// The variable that is defined at a point.

@@ -28,8 +28,7 @@ fn add_edge(graph: &mut GraphBuilder, from: u32, to: u32) -> Result<(), BuildErr
     ensures others { graph.new ≡ record graph.old { edges = graph.new.edges } }
     ensures err { IfErr result (λ e. e ≡ BuildError.Memory) }
 {
-    graph.next(from, to)?;
-    Ok(())
+    graph.next(from, to)
 }
 
 // Adds the edges from a point to the first points of these blocks.
@@ -82,14 +81,12 @@ fn add_edges(
         (AddsEdges starts.now point (meant statement.now) graph.old graph.new) }
     ensures err { IfErr result (λ e. e ≡ BuildError.Memory) }
 {
-    if statement.is_terminator() {
-        blocks.clear();
-        statement.targets(blocks)?;
-        add_targets(graph, point, starts, blocks.as_slice())?;
-        return Ok(());
+    if !statement.is_terminator() {
+        return add_edge(graph, point, point + 1);
     }
-    add_edge(graph, point, point + 1)?;
-    Ok(())
+    blocks.clear();
+    statement.targets(blocks)?;
+    add_targets(graph, point, starts, blocks.as_slice())
 }
 
 // Adds what stands at a point.
@@ -112,10 +109,10 @@ fn add_point(
     ensures err { IfErr result (λ e. e ≡ BuildError.Memory) }
 {
     add_edges(graph, point, statement, starts, blocks)?;
-    if is_return(statement) {
-        graph.ret(point)?;
+    if !is_return(statement) {
+        return Ok(());
     }
-    Ok(())
+    graph.ret(point)
 }
 
 // Adds what stands at each of the points to a graph that has nothing but so many points.

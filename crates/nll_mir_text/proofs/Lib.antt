@@ -5,6 +5,7 @@ pub mod FormLemmas
 pub mod GoodFieldLemmas
 pub mod GrownLemmas
 pub mod LawLemmas
+pub mod MarkLemmas
 pub mod NeitherLemmas
 pub mod OwnLemmas
 pub mod PointLemmas
@@ -14,3 +15,4 @@ pub mod SoundLemmas
 pub mod StatingLemmas
 pub mod StructLemmas
 pub mod TextLemmas
+pub mod VariableLemmas

@@ -1,6 +1,6 @@
 //! The fields of a struct: judging them, and making their types.
 
-ghost use Rattle.std.specs.Prelude.{◌≡◌, ◌<◌, ◌^◌, length, map, IfOk};
+ghost use Rattle.std.specs.Prelude.{◌≡◌, ◌<◌, ◌^◌, ◌++◌, true, false, length, map, IfOk, OnOk};
 ghost use Rattle.std.specs.List.{list_all};
 ghost use Rattle.nll_types.specs.Shapes.{is_small_shape, tuple_shape, shapes_of};
 ghost use Rattle.nll_types.specs.Table.{AreBelow, Extends, shape_in};
@@ -12,12 +12,12 @@ ghost use Rattle.nll_mir_grammar.specs.Tuples.{IsTuple, parts};
 ghost use Rattle.nll_naming.specs.Naming.{all_meant};
 ghost use Rattle.nll_mir_text.specs.MirSaid.{regions_in, types_in};
 ghost use Rattle.nll_typing.specs.Typing as typing;
-ghost use Rattle.nll_mir_text.specs.Declaring.{AreJudged, own_scope};
+ghost use Rattle.nll_mir_text.specs.Declaring.{AreJudged, marks_in, own_scope};
 
 use crate::own_names::OwnNames;
-use crate::parameters::{region_parameters, type_parameters};
+use crate::parameters::push_marks;
 use crate::tables::StructNames;
-use nll_mir_grammar::StructText;
+use nll_mir_grammar::{ParameterText, StructText};
 use nll_naming::{Scope, judge, meant};
 use nll_sets::Memory;
 use nll_type_grammar::TypeText;
@@ -120,6 +120,51 @@ pub fn fields_meant(
     Ok(parts_of(alloc, ty))
 }
 
+// What is declared by parameters, with these types of fields.
+fn declared_with(
+    alloc: Global,
+    parameters: &[ParameterText<'_>],
+    has_drop: bool,
+    fields: Vec<Ty>,
+) -> Result<Declaration, Memory>
+    ensures regions { IfOk result (λ d.
+        d.regions.items ≡ marks_in true (map parameter_of parameters.now)) }
+    ensures types { IfOk result (λ d.
+        d.types.items ≡ marks_in false (map parameter_of parameters.now)) }
+    ensures has_drop { IfOk result (λ d. d.has_drop ≡ has_drop) }
+    ensures fields { IfOk result (λ d. d.fields ≡ fields) }
+{
+    let mut declaration = Declaration {
+        regions: Vec::new(alloc),
+        types: Vec::new(alloc),
+        has_drop,
+        fields,
+    };
+    match push_all_marks(parameters, &mut declaration) {
+        Ok(()) => Ok(declaration),
+        Err(memory) => {
+            drop(declaration);
+            Err(memory)
+        }
+    }
+}
+
+// Puts what is marked of parameters behind what is there.
+fn push_all_marks(
+    parameters: &[ParameterText<'_>],
+    declaration: &mut Declaration,
+) -> Result<(), Memory>
+    ensures regions { OnOk result (declaration.new.regions.items
+        ≡ declaration.old.regions.items ++ marks_in true (map parameter_of parameters.now)) }
+    ensures types { OnOk result (declaration.new.types.items
+        ≡ declaration.old.types.items ++ marks_in false (map parameter_of parameters.now)) }
+    ensures has_drop { declaration.new.has_drop ≡ declaration.old.has_drop }
+    ensures fields { declaration.new.fields ≡ declaration.old.fields }
+{
+    push_marks(parameters, true, &mut declaration.regions)?;
+    push_marks(parameters, false, &mut declaration.types)
+}
+
 /// What a struct line declares.
 pub fn declaration(
     alloc: Global,
@@ -138,14 +183,6 @@ pub fn declaration(
     ensures fields { IfOk result (λ d. trees d.fields.items
         ≡ all_meant (own_scope own.now structs.now) (parts (written text.now.fields))) }
 {
-    let parameters = text.parameters.as_slice();
-    let regions = region_parameters(alloc, parameters)?;
-    let types = type_parameters(alloc, parameters)?;
     let fields = fields_meant(alloc, own, structs, text.fields.as_type())?;
-    Ok(Declaration {
-        regions,
-        types,
-        has_drop: text.has_drop,
-        fields,
-    })
+    declared_with(alloc, text.parameters.as_slice(), text.has_drop, fields)
 }

@@ -2,7 +2,7 @@
 
 ghost use Rattle.std.specs.Prelude.{◌≡◌, ◌∷◌, [], map, IfOk, OnOk};
 ghost use Rattle.nll_types.specs.Table.{Extends};
-ghost use Rattle.nll_statements.specs.Kept.{statement_of};
+ghost use Rattle.nll_statements.specs.Kept.{call_of, statement_of};
 ghost use Rattle.nll_statements.specs.Statements.{types_written};
 ghost use Rattle.nll_mir_text.specs.MirReading.{scope_in};
 ghost use Rattle.nll_mir_text.specs.Stating.{AreOfTypes, AddsTypes};
@@ -10,7 +10,7 @@ ghost use Rattle.nll_mir_text.specs.Stating.{AreOfTypes, AddsTypes};
 use crate::judging::judge_type;
 use crate::tables::{Regions, StructNames};
 use nll_sets::Memory;
-use nll_statements::Statement;
+use nll_statements::{Call, Statement};
 use nll_type_grammar::TypeText;
 use nll_types::{Operand, TypeTable};
 use smallvec::SmallVec;
@@ -71,6 +71,27 @@ fn judge_arguments(
     Ok(())
 }
 
+// Judges the types in a call beside others.
+fn judge_call(
+    alloc: Global,
+    regions: &Regions,
+    structs: &StructNames,
+    table: &mut TypeTable,
+    call: &Call<&[u8], TypeText<'_>>,
+    judged: &mut JudgedTypes,
+) -> Result<(), Memory>
+    requires { structs.now.none ≡ [] }
+    ensures structs { table.new.structs ≡ table.old.structs }
+    ensures extends { Extends table.old.shapes table.new.shapes }
+    ensures judged { OnOk result (AddsTypes (scope_in regions.now structs.now)
+        (types_written (call_of call.now))
+        table.old.shapes judged.old table.new.shapes judged.new) }
+{
+    let arguments = call.arguments.as_slice();
+    judge_arguments(alloc, regions, structs, table, arguments, judged)?;
+    judge_further(alloc, regions, structs, table, &call.result, judged)
+}
+
 // Judges the types in a statement beside others.
 fn judge_written(
     alloc: Global,
@@ -88,17 +109,10 @@ fn judge_written(
         table.old.shapes judged.old table.new.shapes judged.new) }
 {
     match statement {
-        Statement::Make(made) => {
-            judge_further(alloc, regions, structs, table, &made.ty, judged)?;
-        }
-        Statement::Call(call) => {
-            let arguments = call.arguments.as_slice();
-            judge_arguments(alloc, regions, structs, table, arguments, judged)?;
-            judge_further(alloc, regions, structs, table, &call.result, judged)?;
-        }
-        _ => {}
+        Statement::Make(made) => judge_further(alloc, regions, structs, table, &made.ty, judged),
+        Statement::Call(call) => judge_call(alloc, regions, structs, table, call, judged),
+        _ => Ok(()),
     }
-    Ok(())
 }
 
 /// Judges the types that are written in a statement, and puts their shapes into the table.

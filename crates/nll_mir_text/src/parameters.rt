@@ -1,47 +1,45 @@
 //! The parameters of a struct.
 
-ghost use Rattle.std.specs.Prelude.{◌≡◌, map, IfOk};
+ghost use Rattle.std.specs.Prelude.{◌≡◌, ◌++◌, map, IfOk, OnOk};
 ghost use Rattle.nll_mir_grammar.specs.Lines.{parameter_of};
 ghost use Rattle.nll_mir_text.specs.MirSaid as specs;
-ghost use Rattle.nll_mir_text.specs.MirSaid.{regions_in, types_in};
+ghost use Rattle.nll_mir_text.specs.Declaring.{mark_in, marks_in};
 
 use nll_mir_grammar::ParameterText;
 use nll_sets::Memory;
 use nll_types::Parameter;
 use std::alloc::Global;
 
-/// The region parameters.
-pub fn region_parameters(
-    alloc: Global,
-    parameters: &[ParameterText<'_>],
-) -> Result<Vec<Parameter>, Memory>
-    ensures { IfOk result (λ v.
-        v.items ≡ map (λ p. p.1) (regions_in (map parameter_of parameters.now))) }
+// Puts what is marked of a parameter behind the others, where it is a region, or where it is a type.
+fn push_mark(
+    parameter: &ParameterText<'_>,
+    regions: bool,
+    found: &mut Vec<Parameter>,
+) -> Result<(), Memory>
+    ensures { OnOk result (found.new.items
+        ≡ found.old.items ++ mark_in regions (parameter_of parameter.now)) }
 {
-    let mut found = Vec::new(alloc);
-    for parameter in parameters {
-        if let ParameterText::Region(_, marks) = *parameter {
-            found.push(marks)?;
-        }
+    match parameter {
+        ParameterText::Region(_, marks) if regions => found.push(*marks)?,
+        ParameterText::Type(_, marks) if !regions => found.push(*marks)?,
+        _ => {}
     }
-    Ok(found)
+    Ok(())
 }
 
-/// The type parameters.
-pub fn type_parameters(
-    alloc: Global,
+/// Puts what is marked of the region parameters, or of the type parameters, behind the others.
+pub fn push_marks(
     parameters: &[ParameterText<'_>],
-) -> Result<Vec<Parameter>, Memory>
-    ensures { IfOk result (λ v.
-        v.items ≡ map (λ p. p.1) (types_in (map parameter_of parameters.now))) }
+    regions: bool,
+    found: &mut Vec<Parameter>,
+) -> Result<(), Memory>
+    ensures { OnOk result (found.new.items
+        ≡ found.old.items ++ marks_in regions (map parameter_of parameters.now)) }
 {
-    let mut found = Vec::new(alloc);
     for parameter in parameters {
-        if let ParameterText::Type(_, marks) = *parameter {
-            found.push(marks)?;
-        }
+        push_mark(parameter, regions, found)?;
     }
-    Ok(found)
+    Ok(())
 }
 
 // Whether a parameter is a region.
@@ -54,14 +52,23 @@ fn is_region(parameter: &ParameterText<'_>) -> bool
     }
 }
 
+// Puts behind the others for each parameter whether it is a region.
+fn push_kinds(parameters: &[ParameterText<'_>], kinds: &mut Vec<bool>) -> Result<(), Memory>
+    ensures { OnOk result (kinds.new.items
+        ≡ kinds.old.items ++ map specs.is_region (map parameter_of parameters.now)) }
+{
+    for parameter in parameters {
+        kinds.push(is_region(parameter))?;
+    }
+    Ok(())
+}
+
 /// For each parameter whether it is a region.
 pub fn kinds(alloc: Global, parameters: &[ParameterText<'_>]) -> Result<Vec<bool>, Memory>
     ensures { IfOk result (λ v.
         v.items ≡ map specs.is_region (map parameter_of parameters.now)) }
 {
     let mut kinds = Vec::with_capacity(alloc, parameters.len())?;
-    for parameter in parameters {
-        kinds.push(is_region(parameter))?;
-    }
+    push_kinds(parameters, &mut kinds)?;
     Ok(kinds)
 }

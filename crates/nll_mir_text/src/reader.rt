@@ -5,6 +5,7 @@ ghost use Rattle.std.specs.Prelude.{false};
 ghost use Rattle.std.specs.Prelude.{IsTrue, IfOk, IfErr, OnOk, OnErr};
 ghost use Rattle.nll_problem.specs.Limits.{most_bytes, most_regions};
 ghost use Rattle.nll_reading.specs.Names.{number_of};
+ghost use Rattle.nll_types.specs.Declarations.{structs_of};
 ghost use Rattle.nll_type_grammar.specs.TypeTexts.{written};
 ghost use Rattle.nll_mir_grammar.specs.MirForms as forms;
 ghost use Rattle.nll_mir_grammar.specs.Lines.{form_of, parameter_of};
@@ -40,7 +41,7 @@ use nll_sets::Memory;
 use nll_statements::Statement;
 use nll_text::{ScanError, Scanned, Token, scan_line};
 use nll_type_grammar::TypeText;
-use nll_types::TypeTable;
+use nll_types::{Structs, Ty, TypeTable};
 use std::alloc::Global;
 
 /// What the lines read so far say.
@@ -94,6 +95,21 @@ fn no_points(alloc: Global) -> Points
         edges: 0,
         owes: false,
     }
+}
+
+// The names of the regions alone.
+fn names_of(regions: Regions) -> Names
+    ensures { result ≡ regions.names }
+{
+    regions.names
+}
+
+// The structs and the types of the variables.
+fn declarations(variables: Variables) -> (Structs, Vec<Ty>)
+    ensures structs { structs_of result.0 ≡ structs_of variables.table.structs }
+    ensures types { result.1 ≡ variables.types }
+{
+    (variables.table.into_structs(), variables.types)
 }
 
 impl Reader {
@@ -573,16 +589,20 @@ impl Reader {
     {
         let Reader {
             regions,
+            structs,
             variables,
             points,
             ..
         } = self;
+        drop(structs);
+        let universals = regions.universals as u32;
+        let (structs, variables) = declarations(variables);
         BodyParts {
-            names: regions.names,
-            universals: regions.universals as u32,
+            names: names_of(regions),
+            universals,
             outlives,
-            structs: variables.table.into_structs(),
-            variables: variables.types,
+            structs,
+            variables,
             starts: points.starts,
             points: points.statements,
         }

@@ -22,3 +22,12 @@ assembled-requires-clause-graph c =
     graph_shown (body_of c.args.parts) c.in-Ok.graph
     (subst (λ n. HasPoints c.args.parts.starts.items c.args.parts.universals (map meant c.args.parts.points.items) n c.in-Ok.graph) (sym (length-map c.args.parts.points.items meant))
     (rw (c.as_slice-starts.ensures.value, c.as_slice.ensures.value) at c.in-Ok.ensures.ok))
+
+pub graph_of-told-requires-clause-room : goal.graph_of-told-requires-clause-room
+graph_of-told-requires-clause-room c = rw c.as_slice.ensures.value c.requires.edge_limit
+
+pub assembled-requires-clause-sound : goal.assembled-requires-clause-sound
+assembled-requires-clause-sound c = c.requires
+
+pub returns-in-Ok-clause-ok : goal.returns-in-Ok-clause-ok
+returns-in-Ok-clause-ok c = c.assembled.ensures

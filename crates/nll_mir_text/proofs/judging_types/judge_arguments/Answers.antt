@@ -1,0 +1,21 @@
+use Rattle.std.proofs.Common.{◌∙◌, sym, subst}
+use Rattle.nll_types.proofs.ShapingLemmas.{extends_then}
+use Rattle.nll_mir_text.specs.MirReading.{scope_in}
+use Rattle.nll_mir_text.specs.Stating.{AddsTypes}
+use Rattle.nll_mir_text.proofs.MarkLemmas.{map_item}
+use Rattle.nll_mir_text.proofs.StatingLemmas.{adds_then}
+use Rattle.nll_mir_text.proofs.judging_types.judge_arguments.Goals as goal
+
+pub loop-argument-preserved : goal.loop-argument-preserved
+loop-argument-preserved c =
+    let l = c.loop-argument in
+    let i = l.invariant in
+    let e = c.in_ok-judge_further.ensures in
+    let s = scope_in c.args.regions.now c.args.structs.now in
+    record {
+      structs = e.structs ∙ i.structs;
+      extends = extends_then _ _ _ i.extends e.extends;
+      judged = subst (λ ts. AddsTypes s ts c.args.table.now.shapes c.args.judged.now c.judge_further.new.table.shapes c.judge_further.new.judged)
+          (sym (map_item (λ a. a.1) c.args.arguments.now l.argument-index _ c.loop-argument-test.true c.argument-item.is))
+          (adds_then s _ _ _ _ _ _ _ _ i.judged e.judged);
+    }

@@ -1,7 +1,0 @@
-use Rattle.std.proofs.Common.{◌≡◌, map, take}
-use Rattle.nll_mir_grammar.specs.Lines.{parameter_of}
-use Rattle.nll_mir_text.specs.MirSaid.{is_region}
-use Rattle.nll_mir_text.proofs.parameters.kinds.Given as goal
-
-abbrev pub invariant-loop-parameter : goal.invariant-loop-parameter
-invariant-loop-parameter l = l.kinds.items ≡ map is_region (map parameter_of (take l.parameter-index l.parameters))
