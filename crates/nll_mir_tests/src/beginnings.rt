@@ -1,4 +1,5 @@
 //! Each beginning of worked texts is judged by its last line.
+use super::comparing::expect_none;
 use super::reading::fault_of;
 use nll_reading::{TextError, TextKind};
 use nll_worked_texts::{CALLED, DROPPED, MOVED, REBORROW, RETURNED, TWO_BORROWS, text_of};
@@ -63,6 +64,6 @@ const WORKED: &[&str] = &[TWO_BORROWS, REBORROW, DROPPED, MOVED, RETURNED, CALLE
 fn beginnings_are_judged(rt: HostRuntime) {
     for lines in WORKED {
         let found = misjudged_lines(rt.alloc(), lines);
-        assert!(&rt; found == Ok(None), "{lines}: {found:?}");
+        expect_none(&rt, lines, found);
     }
 }

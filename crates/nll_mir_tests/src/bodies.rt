@@ -1,6 +1,6 @@
 //! Bodies of worked texts: regions, points, edges, and what is used, defined and dropped.
 use super::comparing::compare;
-use super::reading::read_lines;
+use super::reading::{Asked, read_lines};
 use nll_worked_texts::{CALLED, DROPPED, MOVED, REBORROW, RETURNED, TWO_BORROWS};
 
 // Texts, and the bodies that they mean.
@@ -42,7 +42,7 @@ const BODIES: &[(&str, &str)] = &[
 #[test]
 fn bodies_are_read(rt: HostRuntime) {
     for (text, want) in BODIES {
-        compare(&rt, text, read_lines(rt.alloc(), text), want);
+        compare(&rt, text, read_lines(rt.alloc(), text, Asked::All), want);
     }
 }
 
@@ -56,7 +56,8 @@ const SPACED: &str = "\tnll-mir \t 1\r|  | # the region of a W|region\t'w\r||\
 fn blanks_and_remarks_say_nothing(rt: HostRuntime) {
     let want = "universal 'static|region 'w|2 variables|\
         bb0/0 to 1|bb0/1 to 2 drops 1|bb1/0 returns uses 0|";
-    compare(&rt, "blanks", read_lines(rt.alloc(), SPACED), want);
+    let told = read_lines(rt.alloc(), SPACED, Asked::All);
+    compare(&rt, "blanks", told, want);
 }
 
 // A body in which two universal regions are known to outlive others, one of them by two lines.
@@ -68,5 +69,6 @@ const OUTLIVING: &str = "nll-mir 1|universal 'a|universal 'b|outlives 'b 'a|outl
 fn outlives_are_kept_once(rt: HostRuntime) {
     let want = "universal 'static|universal 'a|universal 'b|region 'c|\
         outlives 2 1|outlives 1 0|1 variables|bb0/0|";
-    compare(&rt, "outlives", read_lines(rt.alloc(), OUTLIVING), want);
+    let told = read_lines(rt.alloc(), OUTLIVING, Asked::All);
+    compare(&rt, "outlives", told, want);
 }

@@ -1,4 +1,5 @@
 //! Worked texts with one byte set to another one, which stands in no token.
+use super::comparing::expect_none;
 use super::reading::fault_of;
 use nll_reading::{TextError, TextKind};
 use nll_worked_texts::{CALLED, DROPPED, TWO_BORROWS, text_of};
@@ -63,6 +64,6 @@ const WORKED: &[&str] = &[TWO_BORROWS, DROPPED, CALLED];
 fn changed_bytes_are_told(rt: HostRuntime) {
     for lines in WORKED {
         let found = misjudged_bytes(rt.alloc(), lines);
-        assert!(&rt; found == Ok(None), "{lines}: {found:?}");
+        expect_none(&rt, lines, found);
     }
 }

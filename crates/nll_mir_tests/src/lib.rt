@@ -17,11 +17,15 @@ mod copies;
 #[cfg(test)]
 mod limits;
 #[cfg(test)]
+mod numbers;
+#[cfg(test)]
 mod reading;
 #[cfg(test)]
 mod refused;
 #[cfg(test)]
 mod repeating;
+#[cfg(test)]
+mod rows;
 #[cfg(test)]
 mod sizes;
 #[cfg(test)]

@@ -1,6 +1,7 @@
 //! Texts at the limits of the format, and past them.
 use super::comparing::compare;
-use super::reading::read_size;
+use super::numbers::write_number;
+use super::reading::{Asked, read};
 use super::repeating::{
     Numbered, Repeated, read_numbered, read_repeated, read_repeated_in_parts, read_written,
     write_numbered,
@@ -93,7 +94,7 @@ fn many_blocks(rt: HostRuntime) {
 
 // Writes a block that goes on to 2,048 blocks.
 fn write_switch(out: &mut String, block: u32) -> Result<(), AllocError> {
-    write!(out, "block bb{block}\nswitch const")?;
+    write_number(out, "block bb", u64::from(block), "\nswitch const")?;
     write_numbered(out, (" bb", ""), 2_048)?;
     out.push('\n')
 }
@@ -110,7 +111,9 @@ fn write_switches(out: &mut String) -> Result<(), AllocError> {
 fn write_edges(out: &mut String, last: &str) -> Result<(), AllocError> {
     out.push_str("nll-mir 1\nlet _0: int\nblocks 2049\n")?;
     write_switches(out)?;
-    write!(out, "block bb2048\n{last}\nend\n")
+    out.push_str("block bb2048\n")?;
+    out.push_str(last)?;
+    out.push_str("\nend\n")
 }
 
 // What is told of such a text.
@@ -178,7 +181,7 @@ fn long_lines(rt: HostRuntime) {
 // What is told of a text of so many blanks.
 fn told_of_blanks(alloc: Global, bytes: usize) -> Result<String, AllocError> {
     let text = Vec::from_elem(alloc, b' ', bytes)?;
-    let told = read_size(alloc, text.as_slice());
+    let told = read(alloc, text.as_slice(), Asked::Size);
     drop(text);
     told
 }

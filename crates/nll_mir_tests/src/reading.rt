@@ -1,12 +1,30 @@
 //! What a MIR text says, or its fault, as text.
 ghost use Rattle.std.specs.Prelude.{◌<◌, length};
 
-use nll_body::Body;
+use super::numbers::{write_number, write_numbers};
+use super::types::{write_places, write_variables};
+use nll_body::{Body, Stmt};
 use nll_mir_text::{read_mir, read_mir_parts};
 use nll_problem::{Graph, RegionId};
 use nll_reading::{Labels, PointName, TextError};
+use nll_sets::Memory;
 use nll_worked_texts::text_of;
 use std::alloc::{AllocError, Global};
+
+/// What is asked of a body.
+#[derive(Clone, Copy)]
+pub enum Asked {
+    /// What it says.
+    All,
+    /// How much it has, and what its last point does.
+    Size,
+    /// How many edges leave its first point, and the variables that are written in its line.
+    First,
+    /// The regions of each variable's type.
+    Variables,
+    /// The regions of the types of the places that `types` has.
+    Places,
+}
 
 // ---- writing
 
@@ -38,35 +56,30 @@ fn write_regions(out: &mut String, body: &Body) -> Result<(), AllocError> {
 // Writes which universal region is known to outlive which.
 fn write_outlives(out: &mut String, pairs: &[(u32, u32)]) -> Result<(), AllocError> {
     for (longer, shorter) in pairs {
-        write!(out, "outlives {longer} {shorter}|")?;
+        write_number(out, "outlives ", u64::from(*longer), " ")?;
+        write_number(out, "", u64::from(*shorter), "|")?;
     }
     Ok(())
+}
+
+// Writes the name of a place in a block.
+fn write_place(out: &mut String, block: u32, place: u32) -> Result<(), AllocError> {
+    write_number(out, "bb", u64::from(block), "/")?;
+    write_number(out, "", u64::from(place), "")
 }
 
 // Writes the name of a point.
 fn write_point(out: &mut String, labels: &Labels, point: u32) -> Result<(), AllocError> {
     match labels.point(point) {
-        PointName::Number(number) => write!(out, "{number}"),
-        PointName::Block(block, place) => write!(out, "bb{block}/{place}"),
+        PointName::Number(number) => write_number(out, "", u64::from(number), ""),
+        PointName::Block(block, place) => write_place(out, block, place),
     }
-}
-
-// Writes numbers behind a word, where there are any.
-fn write_numbers(out: &mut String, word: &str, numbers: &[u32]) -> Result<(), AllocError> {
-    if numbers.is_empty() {
-        return Ok(());
-    }
-    out.push_str(word)?;
-    for number in numbers {
-        write!(out, " {number}")?;
-    }
-    Ok(())
 }
 
 // Writes a number behind a word, where there is one.
-fn write_number(out: &mut String, word: &str, number: Option<u32>) -> Result<(), AllocError> {
+fn write_found(out: &mut String, word: &str, number: Option<u32>) -> Result<(), AllocError> {
     match number {
-        Some(number) => write!(out, "{word} {number}"),
+        Some(number) => write_number(out, word, u64::from(number), ""),
         None => Ok(()),
     }
 }
@@ -102,8 +115,8 @@ fn write_effects(alloc: Global, out: &mut String, body: &Body, point: u32) -> Re
     requires { point < length body.now.points }
 {
     write_uses(alloc, out, body, point)?;
-    write_number(out, " defines", body.defines(point))?;
-    write_number(out, " drops", body.drops(point))?;
+    write_found(out, " defines ", body.defines(point))?;
+    write_found(out, " drops ", body.drops(point))?;
     out.push('|')
 }
 
@@ -128,33 +141,77 @@ fn write_lines(alloc: Global, out: &mut String, body: &Body) -> Result<(), Alloc
 fn write_body(alloc: Global, out: &mut String, body: &Body) -> Result<(), AllocError> {
     write_regions(out, body)?;
     write_outlives(out, body.outlives())?;
-    write!(out, "{} variables|", body.variables())?;
+    write_number(out, "", body.variables() as u64, " variables|")?;
     write_lines(alloc, out, body)
 }
 
 // Writes how much a body has, and what its last point does.
 fn write_size(alloc: Global, out: &mut String, body: &Body) -> Result<(), AllocError> {
-    let (regions, variables) = (body.regions(), body.variables());
-    write!(out, "{regions} regions, {variables} variables|")?;
+    write_number(out, "", body.regions() as u64, " regions, ")?;
+    write_number(out, "", body.variables() as u64, " variables|")?;
     match body.points().checked_sub(1) {
         Some(last) => write_line(alloc, out, body, last),
         None => out.push_str("no point"),
     }
 }
 
-// ---- of texts
-
-// What a body says.
-fn told(alloc: Global, body: &Body) -> Result<String, AllocError> {
-    let mut out = String::new(alloc);
-    let written = write_body(alloc, &mut out, body);
-    written.and(Ok(out))
+// Writes the variables that are written in a statement.
+fn write_written(alloc: Global, out: &mut String, statement: &Stmt) -> Result<(), Memory> {
+    let mut written = Vec::new(alloc);
+    let told = statement.variables(&mut written);
+    let done = write_numbers(out, " written", written.as_slice());
+    drop(written);
+    done?;
+    told
 }
 
-// How much a body has, and what its last point does.
-fn size_told(alloc: Global, body: &Body) -> Result<String, AllocError> {
+// Writes how many edges leave the point of a statement, and the variables that are written in it.
+fn write_statement(alloc: Global, out: &mut String, statement: &Stmt) -> Result<(), Memory> {
+    let edges = statement.edges(alloc)?;
+    write_number(out, "", edges as u64, "")?;
+    write_written(alloc, out, statement)
+}
+
+// The same of the first point of a body.
+fn write_first(alloc: Global, out: &mut String, body: &Body) -> Result<(), Memory> {
+    if body.points() == 0 {
+        return Ok(());
+    }
+    write_statement(alloc, out, body.line_at(0))
+}
+
+// Writes what is asked of a body about lines or types.
+fn write_part(alloc: Global, out: &mut String, body: &Body, asked: Asked) -> Result<(), Memory> {
+    match asked {
+        Asked::Variables => write_variables(alloc, out, body),
+        Asked::Places => write_places(alloc, out, body),
+        _ => write_first(alloc, out, body),
+    }
+}
+
+// Writes what is asked of a body.
+fn write_asked(
+    alloc: Global,
+    out: &mut String,
+    body: &Body,
+    asked: Asked,
+) -> Result<(), AllocError> {
+    match asked {
+        Asked::All => write_body(alloc, out, body),
+        Asked::Size => write_size(alloc, out, body),
+        _ => match write_part(alloc, out, body, asked) {
+            Ok(()) => Ok(()),
+            Err(_) => out.push_str(" memory"),
+        },
+    }
+}
+
+// ---- of texts
+
+// What a body says of what is asked.
+fn told(alloc: Global, body: &Body, asked: Asked) -> Result<String, AllocError> {
     let mut out = String::new(alloc);
-    let written = write_size(alloc, &mut out, body);
+    let written = write_asked(alloc, &mut out, body, asked);
     written.and(Ok(out))
 }
 
@@ -163,11 +220,15 @@ fn fault_told(alloc: Global, fault: TextError) -> Result<String, AllocError> {
     format!(in alloc; "line {}: {:?}", fault.line, fault.kind)
 }
 
-/// What a text says, or its fault.
-pub fn read(alloc: Global, text: &[u8]) -> Result<String, AllocError> {
-    match read_mir(alloc, text) {
+// What the body that was read says, or the text's fault.
+fn told_of_read(
+    alloc: Global,
+    read: Result<Body, TextError>,
+    asked: Asked,
+) -> Result<String, AllocError> {
+    match read {
         Ok(body) => {
-            let told = told(alloc, &body);
+            let told = told(alloc, &body, asked);
             drop(body);
             told
         }
@@ -175,34 +236,23 @@ pub fn read(alloc: Global, text: &[u8]) -> Result<String, AllocError> {
     }
 }
 
+/// What a text says, or its fault.
+pub fn read(alloc: Global, text: &[u8], asked: Asked) -> Result<String, AllocError> {
+    told_of_read(alloc, read_mir(alloc, text), asked)
+}
+
 /// What a text of lines that end with `|` says, or its fault.
-pub fn read_lines(alloc: Global, lines: &str) -> Result<String, AllocError> {
+pub fn read_lines(alloc: Global, lines: &str, asked: Asked) -> Result<String, AllocError> {
     let text = text_of(alloc, lines)?;
-    let told = read(alloc, text.as_slice());
+    let told = read(alloc, text.as_slice(), asked);
     drop(text);
     told
 }
 
-// How much the body that was read has, and what its last point does; or the text's fault.
-fn size_read(alloc: Global, read: Result<Body, TextError>) -> Result<String, AllocError> {
-    match read {
-        Ok(body) => {
-            let told = size_told(alloc, &body);
-            drop(body);
-            told
-        }
-        Err(fault) => fault_told(alloc, fault),
-    }
-}
-
-/// How much a text's body has, and what its last point does; or the text's fault.
-pub fn read_size(alloc: Global, text: &[u8]) -> Result<String, AllocError> {
-    size_read(alloc, read_mir(alloc, text))
-}
-
-/// The same of a text that is freed while it is read.
+/// How much the body of a text that is freed while it is read has, and what its last point does;
+/// or the text's fault.
 pub fn read_size_in_parts(alloc: Global, text: Vec<u8>) -> Result<String, AllocError> {
-    size_read(alloc, read_mir_parts(alloc, text))
+    told_of_read(alloc, read_mir_parts(alloc, text), Asked::Size)
 }
 
 /// The fault of a text, where it has one.

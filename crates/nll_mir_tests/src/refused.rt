@@ -1,364 +1,274 @@
 //! MIR texts with a fault: the line, and the first kind of fault that it has.
 use super::comparing::compare;
-use super::reading::{read, read_lines};
-use nll_worked_texts::DROPPED;
-use std::alloc::{AllocError, Global};
+use super::reading::{Asked, read};
+use super::rows::compare_rows;
 
 // Texts whose lines end with `|`, and their faults.
-const ORDER: &[(&str, &str)] = &[
-    ("", "line 1: Header"),
-    ("nll-facts 1|", "line 1: Header"),
-    ("nll-mir 2|", "line 1: Header"),
-    ("nll-mir 1", "line 1: End"),
-    ("nll-mir 1|# a comment||", "line 3: End"),
-    ("nll-mir 1|end|", "line 2: Syntax"),
-    ("nll-mir 1|blocks 1|", "line 2: Syntax"),
-    ("nll-mir 1|block bb0|", "line 2: Syntax"),
-    ("nll-mir 1|nop|", "line 2: Syntax"),
-    ("nll-mir 1|region 'a|universal 'b|", "line 3: Syntax"),
-    (
-        "nll-mir 1|region 'a|outlives 'static 'static|",
-        "line 3: Syntax",
-    ),
-    ("nll-mir 1|let _0: int|struct S()|", "line 3: Syntax"),
-    ("nll-mir 1|let _0: int|blocks 1|blocks 1|", "line 4: Syntax"),
-    (
-        "nll-mir 1|let _0: int|blocks 1|let _1: int|",
-        "line 4: Syntax",
-    ),
-    ("nll-mir 1|let _0: int|blocks 1|nop|", "line 4: Syntax"),
-    ("nll-mir 1|let _0: int|blocks 1|end|", "line 4: Range"),
-    (
-        "nll-mir 1|let _0: int|blocks 1|block bb0|end|",
-        "line 5: Syntax",
-    ),
-    (
-        "nll-mir 1|let _0: int|blocks 1|block bb0|block bb1|",
-        "line 5: Syntax",
-    ),
-    (
-        "nll-mir 1|let _0: int|blocks 1|block bb0|stop|nop|",
-        "line 6: Syntax",
-    ),
-    (
-        "nll-mir 1|let _0: int|blocks 1|block bb0|stop|stop|",
-        "line 6: Syntax",
-    ),
-    (
-        "nll-mir 1|let _0: int|blocks 1|block bb0|stop|end|end|",
-        "line 7: Syntax",
-    ),
-    (
-        "nll-mir 1|let _0: int|blocks 1|block bb0|stop|",
-        "line 5: End",
-    ),
-];
+const ORDER: &str = "
+ ~ line 1: Header
+nll-facts 1| ~ line 1: Header
+nll-mir 2| ~ line 1: Header
+nll-mir 1 ~ line 1: End
+nll-mir 1|# a comment|| ~ line 3: End
+nll-mir 1|end| ~ line 2: Syntax
+nll-mir 1|blocks 1| ~ line 2: Syntax
+nll-mir 1|block bb0| ~ line 2: Syntax
+nll-mir 1|nop| ~ line 2: Syntax
+nll-mir 1|region 'a|universal 'b| ~ line 3: Syntax
+nll-mir 1|region 'a|outlives 'static 'static| ~ line 3: Syntax
+nll-mir 1|let _0: int|struct S()| ~ line 3: Syntax
+nll-mir 1|let _0: int|blocks 1|blocks 1| ~ line 4: Syntax
+nll-mir 1|let _0: int|blocks 1|let _1: int| ~ line 4: Syntax
+nll-mir 1|let _0: int|blocks 1|nop| ~ line 4: Syntax
+nll-mir 1|let _0: int|blocks 1|end| ~ line 4: Range
+nll-mir 1|let _0: int|blocks 1|block bb0|end| ~ line 5: Syntax
+nll-mir 1|let _0: int|blocks 1|block bb0|block bb1| ~ line 5: Syntax
+nll-mir 1|let _0: int|blocks 1|block bb0|stop|nop| ~ line 6: Syntax
+nll-mir 1|let _0: int|blocks 1|block bb0|stop|stop| ~ line 6: Syntax
+nll-mir 1|let _0: int|blocks 1|block bb0|stop|end|end| ~ line 7: Syntax
+nll-mir 1|let _0: int|blocks 1|block bb0|stop| ~ line 5: End
+";
 
 // Faults of order, and of a text's ends.
 #[test]
 fn lines_out_of_order(rt: HostRuntime) {
-    for (text, want) in ORDER {
-        compare(&rt, text, read_lines(rt.alloc(), text), want);
-    }
+    let around = (("", ""), ("", ""));
+    compare_rows(&rt, rt.alloc(), Asked::All, around, ORDER);
 }
 
 // Declarations behind the header, and their faults.
-const DECLARATIONS: &[(&str, &str)] = &[
-    ("universal 'static|", "line 2: Duplicate"),
-    ("universal 'a|universal 'a|", "line 3: Duplicate"),
-    ("universal 'a|region 'a|", "line 3: Duplicate"),
-    ("region 'a|region 'a|", "line 3: Duplicate"),
-    ("universal 'a|outlives 'a 'b|", "line 3: Unknown"),
-    ("outlives 'static 'a|", "line 2: Unknown"),
-    // The regions of a struct's fields are 'static and its own.
-    ("region 'a|struct S(&'a int)|", "line 3: Unknown"),
-    ("struct S(&'static int)|", "line 2: End"),
-    ("struct S<'a +>(&'a int)|", "line 2: End"),
-    ("region 'a|struct S<'a +>(&'a int)|", "line 3: End"),
-    ("struct S<'static +>(int)|", "line 2: Duplicate"),
-    ("struct S<'a +, 'a =>(int)|", "line 2: Duplicate"),
-    ("struct S<T +, T =>(int)|", "line 2: Duplicate"),
-    ("struct S<S +>(int)|", "line 2: Duplicate"),
-    ("struct S()|struct S()|", "line 3: Duplicate"),
-    ("struct T()|struct S<T +>(int)|", "line 3: Duplicate"),
-    // An unknown name is told before a name that is declared twice.
-    ("struct S<T +, T =>(U)|", "line 2: Unknown"),
-    ("struct S<'a +, 'a =>(&'b int)|", "line 2: Unknown"),
-    ("struct S<T +, T =>(T)|", "line 2: Duplicate"),
-    // A struct isn't known in its own fields.
-    ("struct S(S)|", "line 2: Unknown"),
-    ("struct S(T)|struct T()|", "line 2: Unknown"),
-    ("struct T()|struct S(T)|", "line 3: End"),
-    // Arguments are as many as the parameters, and of their kinds.
-    ("struct T<'a +>()|struct S(T)|", "line 3: Shape"),
-    ("struct T<'a +>()|struct S(T<int>)|", "line 3: Shape"),
-    (
-        "struct T<'a +, U =>()|struct S(T<int, 'static>)|",
-        "line 3: Shape",
-    ),
-    (
-        "struct T<'a +, U =>()|struct S(T<'static>)|",
-        "line 3: Shape",
-    ),
-    (
-        "struct T<'a +, U =>()|struct S(T<'static, int>)|",
-        "line 3: End",
-    ),
-    ("struct S<T +>(T<int>)|", "line 2: Shape"),
-    // A name that is declared twice is told before arguments that don't fit.
-    (
-        "struct T<'a +>()|struct S<U +, U +>(T)|",
-        "line 3: Duplicate",
-    ),
-    ("struct t()|", "line 2: Syntax"),
-    ("struct S<>()|", "line 2: Syntax"),
-    ("struct S<T>()|", "line 2: Syntax"),
-    ("struct S<T -> ()|", "line 2: Syntax"),
-    ("struct S|", "line 2: Syntax"),
-    ("let _1: int|", "line 2: Range"),
-    ("let _0: int|let _2: int|", "line 3: Range"),
-    ("let _0: int|let _0: int|", "line 3: Range"),
-    ("let _0: T|", "line 2: Unknown"),
-    ("let _1: T|", "line 2: Unknown"),
-    ("let _0: &'a int|", "line 2: Unknown"),
-    ("struct S<'a +>()|let _1: S|", "line 3: Range"),
-    ("struct S<'a +>()|let _0: S|", "line 3: Shape"),
-    ("let _0: fn|", "line 2: Syntax"),
-    ("let _0: int|blocks 0|", "line 3: Range"),
-    ("let _0: int|blocks 1048577|", "line 3: Limit(Points)"),
-    ("let _0: int|blocks 01|", "line 3: Syntax"),
-    ("let _0: int|blocks 2|block bb1|", "line 4: Range"),
-    (
-        "let _0: int|blocks 2|block bb0|stop|block bb0|",
-        "line 6: Range",
-    ),
-    (
-        "let _0: int|blocks 1|block bb0|stop|block bb1|",
-        "line 6: Range",
-    ),
-    ("let _0: int|blocks 2|block bb0|stop|end|", "line 6: Range"),
-];
-
-// What is told of a text of these lines behind the header.
-fn told_behind_header(alloc: Global, lines: &str) -> Result<String, AllocError> {
-    let text = format!(in alloc; "nll-mir 1|{lines}")?;
-    let told = read_lines(alloc, text.as_str());
-    drop(text);
-    told
-}
+const DECLARATIONS: &str = "
+universal 'static| ~ line 2: Duplicate
+universal 'a|universal 'a| ~ line 3: Duplicate
+universal 'a|region 'a| ~ line 3: Duplicate
+region 'a|region 'a| ~ line 3: Duplicate
+universal 'a|outlives 'a 'b| ~ line 3: Unknown
+outlives 'static 'a| ~ line 2: Unknown
+// The regions of a struct's fields are 'static and its own.
+region 'a|struct S(&'a int)| ~ line 3: Unknown
+struct S(&'static int)| ~ line 2: End
+struct S<'a +>(&'a int)| ~ line 2: End
+region 'a|struct S<'a +>(&'a int)| ~ line 3: End
+struct S<'static +>(int)| ~ line 2: Duplicate
+struct S<'a +, 'a =>(int)| ~ line 2: Duplicate
+struct S<T +, T =>(int)| ~ line 2: Duplicate
+struct S<S +>(int)| ~ line 2: Duplicate
+struct S()|struct S()| ~ line 3: Duplicate
+struct T()|struct S<T +>(int)| ~ line 3: Duplicate
+// An unknown name is told before a name that is declared twice.
+struct S<T +, T =>(U)| ~ line 2: Unknown
+struct S<'a +, 'a =>(&'b int)| ~ line 2: Unknown
+struct S<T +, T =>(T)| ~ line 2: Duplicate
+// A struct isn't known in its own fields.
+struct S(S)| ~ line 2: Unknown
+struct S(T)|struct T()| ~ line 2: Unknown
+struct T()|struct S(T)| ~ line 3: End
+// Arguments are as many as the parameters, and of their kinds.
+struct T<'a +>()|struct S(T)| ~ line 3: Shape
+struct T<'a +>()|struct S(T<int>)| ~ line 3: Shape
+struct T<'a +, U =>()|struct S(T<int, 'static>)| ~ line 3: Shape
+struct T<'a +, U =>()|struct S(T<'static>)| ~ line 3: Shape
+struct T<'a +, U =>()|struct S(T<'static, int>)| ~ line 3: End
+struct S<T +>(T<int>)| ~ line 2: Shape
+// A name that is declared twice is told before arguments that don't fit.
+struct T<'a +>()|struct S<U +, U +>(T)| ~ line 3: Duplicate
+struct t()| ~ line 2: Syntax
+struct S<>()| ~ line 2: Syntax
+struct S<T>()| ~ line 2: Syntax
+struct S<T -> ()| ~ line 2: Syntax
+struct S| ~ line 2: Syntax
+let _1: int| ~ line 2: Range
+let _0: int|let _2: int| ~ line 3: Range
+let _0: int|let _0: int| ~ line 3: Range
+let _0: T| ~ line 2: Unknown
+let _1: T| ~ line 2: Unknown
+let _0: &'a int| ~ line 2: Unknown
+struct S<'a +>()|let _1: S| ~ line 3: Range
+struct S<'a +>()|let _0: S| ~ line 3: Shape
+let _0: fn| ~ line 2: Syntax
+let _0: int|blocks 0| ~ line 3: Range
+let _0: int|blocks 1048577| ~ line 3: Limit(Points)
+let _0: int|blocks 01| ~ line 3: Syntax
+let _0: int|blocks 2|block bb1| ~ line 4: Range
+let _0: int|blocks 2|block bb0|stop|block bb0| ~ line 6: Range
+let _0: int|blocks 1|block bb0|stop|block bb1| ~ line 6: Range
+let _0: int|blocks 2|block bb0|stop|end| ~ line 6: Range
+";
 
 // Faults of declarations.
 #[test]
 fn declarations_are_refused(rt: HostRuntime) {
-    for (lines, want) in DECLARATIONS {
-        compare(&rt, lines, told_behind_header(rt.alloc(), lines), want);
-    }
+    let around = (("nll-mir 1|", ""), ("", ""));
+    compare_rows(&rt, rt.alloc(), Asked::All, around, DECLARATIONS);
 }
 
 // Statements and terminators at the first point of a body, and their faults. The body has the
 // variables `_0: int`, `_1: &'r int`, `_2: &'q mut int`, `_3: (int, &'r int)`, `_4: S<'r>` with
 // one field `&'x int`, `_5: D<int>` with a field of its type parameter, and one block.
-const STATEMENTS: &[(&str, &str)] = &[
-    ("_6 = const", "line 14: Unknown"),
-    ("live _6", "line 14: Unknown"),
-    ("dead _6", "line 14: Unknown"),
-    ("drop _6 -> bb0", "line 14: Unknown"),
-    ("read _6.*", "line 14: Unknown"),
-    ("_0 = copy _6", "line 14: Unknown"),
-    ("_1 = &'z _0", "line 14: Unknown"),
-    ("_1 = make U(const)", "line 14: Unknown"),
-    ("_0 = call f(): int where 'z: 'r -> bb0", "line 14: Unknown"),
-    (
-        "_0 = call f(const: &'z int): int -> bb0",
-        "line 14: Unknown",
-    ),
-    ("_0 = call f(): U -> bb0", "line 14: Unknown"),
-    // A region of a struct's own is unknown in a body.
-    ("_1 = &'x _0", "line 14: Unknown"),
-    ("goto bb1", "line 14: Range"),
-    ("switch const bb0 bb1", "line 14: Range"),
-    ("drop _0 -> bb0 unwind bb1", "line 14: Range"),
-    ("_0 = call f(): int -> bb1", "line 14: Range"),
-    // The kinds are judged over the whole line.
-    ("_0 = call f(copy _1: int): int -> bb1", "line 14: Range"),
-    ("drop _6 -> bb1", "line 14: Unknown"),
-    ("read _0.*", "line 14: Shape"),
-    ("read _0.0", "line 14: Shape"),
-    ("read _1.0", "line 14: Shape"),
-    ("read _3.*", "line 14: Shape"),
-    ("read _3.2", "line 14: Shape"),
-    ("read _4.1", "line 14: Shape"),
-    ("read _4.*", "line 14: Shape"),
-    ("_0 = copy _1", "line 14: Shape"),
-    ("_1 = const", "line 14: Shape"),
-    ("_1 = copy _2", "line 14: Shape"),
-    ("_1 = &'r mut _0", "line 14: Shape"),
-    ("_2 = &'r _0", "line 14: Shape"),
-    ("_1 = &'r _1", "line 14: Shape"),
-    ("_3 = make (int, int)(const, const)", "line 14: Shape"),
-    ("_3 = make (int, &'r int)(const)", "line 14: Shape"),
-    (
-        "_3 = make (int, &'r int)(const, copy _1, const)",
-        "line 14: Shape",
-    ),
-    ("_0 = make int()", "line 14: Shape"),
-    ("_4 = make S(copy _1)", "line 14: Shape"),
-    ("_4 = make S<'r>(const)", "line 14: Shape"),
-    ("_5 = make D<int>(copy _1)", "line 14: Shape"),
-    ("switch copy _1 bb0", "line 14: Shape"),
-    ("_0 = call f(copy _1: int): int -> bb0", "line 14: Shape"),
-    ("_0 = call f(): &'r int -> bb0", "line 14: Shape"),
-    ("goto bb", "line 14: Syntax"),
-    ("switch const", "line 14: Syntax"),
-    ("_0 = call (): int -> bb0", "line 14: Syntax"),
-    ("_0 = fn", "line 14: Syntax"),
-];
+const STATEMENTS: &str = "
+_6 = const ~ line 14: Unknown
+live _6 ~ line 14: Unknown
+dead _6 ~ line 14: Unknown
+drop _6 -> bb0 ~ line 14: Unknown
+read _6.* ~ line 14: Unknown
+_0 = copy _6 ~ line 14: Unknown
+_1 = &'z _0 ~ line 14: Unknown
+_1 = make U(const) ~ line 14: Unknown
+_0 = call f(): int where 'z: 'r -> bb0 ~ line 14: Unknown
+_0 = call f(const: &'z int): int -> bb0 ~ line 14: Unknown
+_0 = call f(): U -> bb0 ~ line 14: Unknown
+// A region of a struct's own is unknown in a body.
+_1 = &'x _0 ~ line 14: Unknown
+goto bb1 ~ line 14: Range
+switch const bb0 bb1 ~ line 14: Range
+drop _0 -> bb0 unwind bb1 ~ line 14: Range
+_0 = call f(): int -> bb1 ~ line 14: Range
+// The kinds are judged over the whole line.
+_0 = call f(copy _1: int): int -> bb1 ~ line 14: Range
+drop _6 -> bb1 ~ line 14: Unknown
+read _0.* ~ line 14: Shape
+read _0.0 ~ line 14: Shape
+read _1.0 ~ line 14: Shape
+read _3.* ~ line 14: Shape
+read _3.2 ~ line 14: Shape
+read _4.1 ~ line 14: Shape
+read _4.* ~ line 14: Shape
+_0 = copy _1 ~ line 14: Shape
+_1 = const ~ line 14: Shape
+_1 = copy _2 ~ line 14: Shape
+_1 = &'r mut _0 ~ line 14: Shape
+_2 = &'r _0 ~ line 14: Shape
+_1 = &'r _1 ~ line 14: Shape
+_3 = make (int, int)(const, const) ~ line 14: Shape
+_3 = make (int, &'r int)(const) ~ line 14: Shape
+_3 = make (int, &'r int)(const, copy _1, const) ~ line 14: Shape
+_0 = make int() ~ line 14: Shape
+_4 = make S(copy _1) ~ line 14: Shape
+_4 = make S<'r>(const) ~ line 14: Shape
+_5 = make D<int>(copy _1) ~ line 14: Shape
+switch copy _1 bb0 ~ line 14: Shape
+_0 = call f(copy _1: int): int -> bb0 ~ line 14: Shape
+_0 = call f(): &'r int -> bb0 ~ line 14: Shape
+goto bb ~ line 14: Syntax
+switch const ~ line 14: Syntax
+_0 = call (): int -> bb0 ~ line 14: Syntax
+_0 = fn ~ line 14: Syntax
+";
 
 // Statements and terminators that are taken at the first point of that body.
-const TAKEN: &[&str] = &[
-    "_0 = const",
-    "_1 = copy _4.0",
-    "_1 = &'q _0",
-    "_1 = &'static _2.*",
-    "_2 = &'r mut _5.0",
-    "_0 = copy _5.0",
-    "_3 = make (int, &'q int)(const, move _1)",
-    "_4 = make S<'q>(copy _1)",
-    "_5 = make D<int>(copy _0)",
-    "_3.0 = copy _2.*",
-    "_1 = copy _3.1",
-];
+const TAKEN: &str = "
+_0 = const ~ line 15: End
+_1 = copy _4.0 ~ line 15: End
+_1 = &'q _0 ~ line 15: End
+_1 = &'static _2.* ~ line 15: End
+_2 = &'r mut _5.0 ~ line 15: End
+_0 = copy _5.0 ~ line 15: End
+_3 = make (int, &'q int)(const, move _1) ~ line 15: End
+_4 = make S<'q>(copy _1) ~ line 15: End
+_5 = make D<int>(copy _0) ~ line 15: End
+_3.0 = copy _2.* ~ line 15: End
+_1 = copy _3.1 ~ line 15: End
+";
 
 // Terminators that are taken there.
-const ENDED: &[&str] = &[
-    "goto bb0",
-    "switch copy _3.0 bb0",
-    "drop _5 -> bb0",
-    "_1 = call g(const: int, copy _1: &'q int): &'static int where 'q: 'r, 'r: 'static -> bb0",
-    "_0 = call mut(): int -> bb0 unwind bb0",
-];
+const ENDED: &str = "
+goto bb0 ~ line 14: End
+switch copy _3.0 bb0 ~ line 14: End
+drop _5 -> bb0 ~ line 14: End
+_1 = call g(const: int, copy _1: &'q int): &'static int where 'q: 'r, 'r: 'static -> bb0 ~ lin\
+e 14: End
+_0 = call mut(): int -> bb0 unwind bb0 ~ line 14: End
+";
 
 // The lines in front of that statement, each ending with `|`.
 const DECLARED: &str = "nll-mir 1|region 'r|region 'q|struct S<'x +>(&'x int)|struct D<T =>(T)|\
     let _0: int|let _1: &'r int|let _2: &'q mut int|let _3: (int, &'r int)|let _4: S<'r>|\
     let _5: D<int>|blocks 1|block bb0|";
 
-// What is told where this line stands at the first point and then these lines.
-fn told_of(alloc: Global, line: &str, rest: &str) -> Result<String, AllocError> {
-    let text = format!(in alloc; "{DECLARED}{line}|{rest}")?;
-    let told = read_lines(alloc, text.as_str());
-    drop(text);
-    told
-}
-
 // Faults of statements and terminators.
 #[test]
 fn statements_are_refused(rt: HostRuntime) {
-    for (line, want) in STATEMENTS {
-        compare(&rt, line, told_of(rt.alloc(), line, "stop|"), want);
-    }
+    let around = ((DECLARED, "|stop|"), ("", ""));
+    compare_rows(&rt, rt.alloc(), Asked::All, around, STATEMENTS);
 }
 
 // What is right is taken, so that the text only lacks its end.
 #[test]
 fn statements_are_taken(rt: HostRuntime) {
-    for line in TAKEN {
-        let told = told_of(rt.alloc(), line, "stop|");
-        compare(&rt, line, told, "line 15: End");
-    }
+    let around = ((DECLARED, "|stop|"), ("", ""));
+    compare_rows(&rt, rt.alloc(), Asked::All, around, TAKEN);
 }
 
 // The same of terminators.
 #[test]
 fn terminators_are_taken(rt: HostRuntime) {
-    for line in ENDED {
-        compare(&rt, line, told_of(rt.alloc(), line, ""), "line 14: End");
-    }
+    let around = ((DECLARED, "|"), ("", ""));
+    compare_rows(&rt, rt.alloc(), Asked::All, around, ENDED);
 }
 
 // The text in which a struct is dropped, with one line changed, and its fault.
-const CHANGED: &[(&str, &str, &str)] = &[
-    ("let _1: W<'w>|", "let _1: W|", "line 5: Shape"),
-    ("drop _1 -> bb1|", "drop _1 -> bb|", "line 9: Syntax"),
-    ("region 'w|", "region 'x|", "line 5: Unknown"),
-    ("let _0: int|", "let _1: int|", "line 4: Range"),
-    ("blocks 2|", "blocks 3|", "line 12: Range"),
-    ("blocks 2|", "blocks 1|", "line 9: Range"),
-    ("drop _1 -> bb1|", "drop _2 -> bb1|", "line 9: Unknown"),
-    ("block bb1|", "block bb2|", "line 10: Range"),
-];
-
-// The text with the first place of some bytes as others.
-fn changed(alloc: Global, from: &str, to: &str) -> Result<String, AllocError> {
-    match DROPPED.split_once(from) {
-        Some((front, back)) => format!(in alloc; "{front}{to}{back}"),
-        None => Ok(String::new(alloc)),
-    }
-}
-
-// What is told of that text.
-fn told_of_changed(alloc: Global, from: &str, to: &str) -> Result<String, AllocError> {
-    let text = changed(alloc, from, to)?;
-    let told = read_lines(alloc, text.as_str());
-    drop(text);
-    told
-}
+const CHANGED: &str = "
+nll-mir 1|region 'w|struct W<'x +> drop (&'x int)|let _0: int|let _1: W|blocks 2|block bb0|nop|\
+drop _1 -> bb1|block bb1|return|end| ~ line 5: Shape
+nll-mir 1|region 'w|struct W<'x +> drop (&'x int)|let _0: int|let _1: W<'w>|blocks 2|block bb0|\
+nop|drop _1 -> bb|block bb1|return|end| ~ line 9: Syntax
+nll-mir 1|region 'x|struct W<'x +> drop (&'x int)|let _0: int|let _1: W<'w>|blocks 2|block bb0|\
+nop|drop _1 -> bb1|block bb1|return|end| ~ line 5: Unknown
+nll-mir 1|region 'w|struct W<'x +> drop (&'x int)|let _1: int|let _1: W<'w>|blocks 2|block bb0|\
+nop|drop _1 -> bb1|block bb1|return|end| ~ line 4: Range
+nll-mir 1|region 'w|struct W<'x +> drop (&'x int)|let _0: int|let _1: W<'w>|blocks 3|block bb0|\
+nop|drop _1 -> bb1|block bb1|return|end| ~ line 12: Range
+nll-mir 1|region 'w|struct W<'x +> drop (&'x int)|let _0: int|let _1: W<'w>|blocks 1|block bb0|\
+nop|drop _1 -> bb1|block bb1|return|end| ~ line 9: Range
+nll-mir 1|region 'w|struct W<'x +> drop (&'x int)|let _0: int|let _1: W<'w>|blocks 2|block bb0|\
+nop|drop _2 -> bb1|block bb1|return|end| ~ line 9: Unknown
+nll-mir 1|region 'w|struct W<'x +> drop (&'x int)|let _0: int|let _1: W<'w>|blocks 2|block bb0|\
+nop|drop _1 -> bb1|block bb2|return|end| ~ line 10: Range
+";
 
 // Faults of that text with one line changed.
 #[test]
 fn one_line_changed(rt: HostRuntime) {
-    for (from, to, want) in CHANGED {
-        compare(&rt, to, told_of_changed(rt.alloc(), from, to), want);
-    }
+    let around = (("", ""), ("", ""));
+    compare_rows(&rt, rt.alloc(), Asked::All, around, CHANGED);
 }
 
 // The same text, cut off: behind a `let` line without arguments, behind the `nop` line, and behind
 // `drop _1 -> bb1`.
-const CUT: &[(&str, &str)] = &[
-    (
-        "nll-mir 1|region 'w|struct W<'x +> drop (&'x int)|let _0: int|let _1: W|",
-        "line 5: Shape",
-    ),
-    (
-        "nll-mir 1|region 'w|struct W<'x +> drop (&'x int)|let _0: int|let _1: W<'w>|blocks 2|\
-        block bb0|nop|",
-        "line 8: End",
-    ),
-    (
-        "nll-mir 1|region 'w|struct W<'x +> drop (&'x int)|let _0: int|let _1: W<'w>|blocks 2|\
-        block bb0|nop|drop _1 -> bb|",
-        "line 9: Syntax",
-    ),
-    (
-        "nll-mir 1|region 'w|struct W<'x +> drop (&'x int)|let _0: int|let _1: W<'w>|blocks 2|\
-        block bb0|nop|drop _1 -> bb1|",
-        "line 9: End",
-    ),
-    // The last line needs no line feed.
-    (
-        "nll-mir 1|region 'w|struct W<'x +> drop (&'x int)|let _0: int|let _1: W<'w>|blocks 2|\
-        block bb0|nop|drop _1 -> bb1|block bb1|return|end",
-        "universal 'static|region 'w|2 variables|\
-        bb0/0 to 1|bb0/1 to 2 drops 1|bb1/0 returns uses 0|",
-    ),
-];
+const CUT: &str = "
+nll-mir 1|region 'w|struct W<'x +> drop (&'x int)|let _0: int|let _1: W| ~ line 5: Shape
+nll-mir 1|region 'w|struct W<'x +> drop (&'x int)|let _0: int|let _1: W<'w>|blocks 2|block bb0|\
+nop| ~ line 8: End
+nll-mir 1|region 'w|struct W<'x +> drop (&'x int)|let _0: int|let _1: W<'w>|blocks 2|block bb0|\
+nop|drop _1 -> bb| ~ line 9: Syntax
+nll-mir 1|region 'w|struct W<'x +> drop (&'x int)|let _0: int|let _1: W<'w>|blocks 2|block bb0|\
+nop|drop _1 -> bb1| ~ line 9: End
+// The last line needs no line feed.
+nll-mir 1|region 'w|struct W<'x +> drop (&'x int)|let _0: int|let _1: W<'w>|blocks 2|block bb0|\
+nop|drop _1 -> bb1|block bb1|return|end ~ universal 'static|region 'w|2 variables|bb0/0 to 1|\
+bb0/1 to 2 drops 1|bb1/0 returns uses 0|
+";
 
 // A text that is cut off lacks its end, unless what is left is wrong.
 #[test]
 fn cut_off(rt: HostRuntime) {
-    for (text, want) in CUT {
-        compare(&rt, text, read_lines(rt.alloc(), text), want);
-    }
+    let around = (("", ""), ("", ""));
+    compare_rows(&rt, rt.alloc(), Asked::All, around, CUT);
 }
 
 // Bytes that are no text are told before the header, and in a skipped line.
 #[test]
 fn no_text(rt: HostRuntime) {
-    compare(&rt, "header", read(rt.alloc(), b"\xFF"), "line 1: NotUtf8");
+    compare(
+        &rt,
+        "header",
+        read(rt.alloc(), b"\xFF", Asked::All),
+        "line 1: NotUtf8",
+    );
     compare(
         &rt,
         "comment",
-        read(rt.alloc(), b"nll-mir 1\n# \xFF\n"),
+        read(rt.alloc(), b"nll-mir 1\n# \xFF\n", Asked::All),
         "line 2: NotUtf8",
     );
 }

@@ -1,5 +1,6 @@
 //! Texts in which something stands very often.
-use super::reading::{read_size, read_size_in_parts};
+use super::numbers::write_number;
+use super::reading::{Asked, read, read_size_in_parts};
 use std::alloc::{AllocError, Global};
 
 /// What stands in front, what stands often, and what stands behind.
@@ -24,7 +25,7 @@ pub fn write_numbered(
     count: u32,
 ) -> Result<(), AllocError> {
     for number in 0..count {
-        write!(out, "{before}{number}{behind}")?;
+        write_number(out, before, u64::from(number), behind)?;
     }
     Ok(())
 }
@@ -83,7 +84,7 @@ pub fn read_written(
     written: Result<(), AllocError>,
     text: String,
 ) -> Result<String, AllocError> {
-    let told = read_size(alloc, text.as_bytes());
+    let told = read(alloc, text.as_bytes(), Asked::Size);
     drop(text);
     written.and(told)
 }

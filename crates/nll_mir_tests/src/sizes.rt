@@ -1,5 +1,6 @@
 //! Types at the limit of their nodes and past it, however they are written.
 use super::comparing::compare;
+use super::numbers::write_number;
 use super::repeating::{Repeated, read_repeated, read_written};
 use std::alloc::{AllocError, Global};
 
@@ -91,8 +92,8 @@ const DOUBLED: &[(&str, &str)] = &[
 fn write_structs(out: &mut String, more: u32) -> Result<(), AllocError> {
     out.push_str("nll-mir 1\nregion 'r\nstruct S0<T +>(T)\n")?;
     for before in 0..more {
-        let number = before + 1;
-        write!(out, "struct S{number}<T +>(S{before}<(T, T)>)\n")?;
+        write_number(out, "struct S", u64::from(before) + 1, "<T +>(S")?;
+        write_number(out, "", u64::from(before), "<(T, T)>)\n")?;
     }
     Ok(())
 }
@@ -101,7 +102,9 @@ fn write_structs(out: &mut String, more: u32) -> Result<(), AllocError> {
 fn write_doubling(out: &mut String, projections: &str) -> Result<(), AllocError> {
     write_structs(out, 999)?;
     out.push_str("let _0: int\nlet _1: S999<&'r int>\nblocks 1\nblock bb0\n")?;
-    write!(out, "read _1{projections}\nstop\nend\n")
+    out.push_str("read _1")?;
+    out.push_str(projections)?;
+    out.push_str("\nstop\nend\n")
 }
 
 // What is told of such a text.

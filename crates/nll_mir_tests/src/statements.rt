@@ -1,169 +1,88 @@
 //! Statements and terminators of bodies: what each form uses, defines and drops, where it goes on,
 //! which variables are written in it, and how many edges leave its point.
-ghost use Rattle.std.specs.Prelude.{◌<◌, length};
+use super::reading::Asked;
+use super::rows::compare_rows;
 
-use super::comparing::compare;
-use super::reading::read_lines;
-use nll_body::{Body, Stmt};
-use nll_mir_text::read_mir;
-use nll_sets::Memory;
-use nll_worked_texts::text_of;
-use std::alloc::{AllocError, Global};
-
-// The lines in front of the first point of a body, and how it is told.
+// The lines in front of the first point of a body, and what is told in front of that point.
 const DECLARED: &str = "nll-mir 1|region 'r|struct S(int)|let _0: int|let _1: int|\
     let _2: &'r int|let _3: (int, int)|let _4: S|blocks 2|block bb0|";
 
-const TOLD: &str = "universal 'static|region 'r|5 variables|bb0/0";
+const TOLD: &str = "universal 'static|region 'r|5 variables|";
 
 // What each form of statement uses, defines and drops. Each stands before a `stop`.
-const STATEMENTS: &[(&str, &str)] = &[
-    ("_1 = const", " to 1 defines 1"),
-    ("_1 = copy _0", " to 1 uses 0 defines 1"),
-    ("_1 = move _3.1", " to 1 uses 3 defines 1"),
-    ("_3.0 = copy _1", " to 1 uses 1 3"),
-    ("_2 = &'r _1", " to 1 uses 1 defines 2"),
-    ("_2.* = move _1", " to 1 uses 1 2"),
-    (
-        "_3 = make (int, int)(copy _1, const)",
-        " to 1 uses 1 defines 3",
-    ),
-    ("_4 = make S(copy _1)", " to 1 uses 1 defines 4"),
-    ("read _4.0", " to 1 uses 4"),
-    ("live _4", " to 1 defines 4"),
-    ("dead _4", " to 1 defines 4"),
-    ("nop", " to 1"),
-];
+const STATEMENTS: &str = "
+_1 = const ~ bb0/0 to 1 defines 1
+_1 = copy _0 ~ bb0/0 to 1 uses 0 defines 1
+_1 = move _3.1 ~ bb0/0 to 1 uses 3 defines 1
+_3.0 = copy _1 ~ bb0/0 to 1 uses 1 3
+_2 = &'r _1 ~ bb0/0 to 1 uses 1 defines 2
+_2.* = move _1 ~ bb0/0 to 1 uses 1 2
+_3 = make (int, int)(copy _1, const) ~ bb0/0 to 1 uses 1 defines 3
+_4 = make S(copy _1) ~ bb0/0 to 1 uses 1 defines 4
+read _4.0 ~ bb0/0 to 1 uses 4
+live _4 ~ bb0/0 to 1 defines 4
+dead _4 ~ bb0/0 to 1 defines 4
+nop ~ bb0/0 to 1
+";
 
 // The same of terminators. The body has one block more, at point 1.
-const TERMINATORS: &[(&str, &str)] = &[
-    ("goto bb1", " to 1"),
-    ("goto bb0", " to 0"),
-    ("switch copy _1 bb1 bb0 bb1", " to 1 0 uses 1"),
-    ("switch const bb1", " to 1"),
-    ("drop _4 -> bb1", " to 1 drops 4"),
-    ("drop _4 -> bb1 unwind bb0", " to 1 0 drops 4"),
-    ("_1 = call f(): int -> bb1", " to 1 defines 1"),
-    (
-        "_4.0 = call f(copy _1: int, move _3.0: int): int where 'r: 'r -> bb1 unwind bb0",
-        " to 1 0 uses 1 3 4",
-    ),
-    ("return", " returns uses 0"),
-    ("stop", ""),
-];
-
-// What is told behind the first point's name of a body where this line stands there and then these
-// lines, which is followed by what is told of the other points.
-fn told_of(alloc: Global, line: &str, rest: &str, others: &str) -> Result<String, AllocError> {
-    let text = format!(in alloc; "{DECLARED}{line}|{rest}block bb1|stop|end|")?;
-    let told = read_lines(alloc, text.as_str());
-    drop(text);
-    between(alloc, told, others)
-}
-
-// What is told of a body without what is told first and last.
-fn between(
-    alloc: Global,
-    told: Result<String, AllocError>,
-    others: &str,
-) -> Result<String, AllocError> {
-    let told = told?;
-    let behind = told.as_str().strip_prefix(TOLD).unwrap_or("not so: ");
-    let line = behind.strip_suffix(others).unwrap_or("not so");
-    String::from_str(alloc, line)
-}
+const TERMINATORS: &str = "
+goto bb1 ~ bb0/0 to 1
+goto bb0 ~ bb0/0 to 0
+switch copy _1 bb1 bb0 bb1 ~ bb0/0 to 1 0 uses 1
+switch const bb1 ~ bb0/0 to 1
+drop _4 -> bb1 ~ bb0/0 to 1 drops 4
+drop _4 -> bb1 unwind bb0 ~ bb0/0 to 1 0 drops 4
+_1 = call f(): int -> bb1 ~ bb0/0 to 1 defines 1
+_4.0 = call f(copy _1: int, move _3.0: int): int where 'r: 'r -> bb1 unwind bb0 ~ bb0/0 to 1 \
+0 uses 1 3 4
+return ~ bb0/0 returns uses 0
+stop ~ bb0/0
+";
 
 // What each form of statement does.
 #[test]
 fn statements_use_and_define(rt: HostRuntime) {
-    for (statement, want) in STATEMENTS {
-        let told = told_of(rt.alloc(), statement, "stop|", "|bb0/1|bb1/0|");
-        compare(&rt, statement, told, want);
-    }
+    let around = (
+        (DECLARED, "|stop|block bb1|stop|end|"),
+        (TOLD, "|bb0/1|bb1/0|"),
+    );
+    compare_rows(&rt, rt.alloc(), Asked::All, around, STATEMENTS);
 }
 
 // What each form of terminator does.
 #[test]
 fn terminators_go_on(rt: HostRuntime) {
-    for (terminator, want) in TERMINATORS {
-        let told = told_of(rt.alloc(), terminator, "", "|bb1/0|");
-        compare(&rt, terminator, told, want);
-    }
+    let around = ((DECLARED, "|block bb1|stop|end|"), (TOLD, "|bb1/0|"));
+    compare_rows(&rt, rt.alloc(), Asked::All, around, TERMINATORS);
 }
 
-// The variables that are written in each line, and how many edges leave its point.
-const WRITTEN: &[(&str, &str)] = &[
-    ("_1 = const|stop|", "[1] 1"),
-    ("_1 = move _3.1|stop|", "[1, 3] 1"),
-    ("_3.0 = copy _1|stop|", "[3, 1] 1"),
-    ("_2 = &'r _1|stop|", "[2, 1] 1"),
-    ("_3 = make (int, int)(copy _1, const)|stop|", "[3, 1] 1"),
-    ("read _4.0|stop|", "[4] 1"),
-    ("live _4|stop|", "[4] 1"),
-    ("dead _4|stop|", "[4] 1"),
-    ("nop|stop|", "[] 1"),
-    ("goto bb0|", "[] 1"),
-    ("switch copy _1 bb1 bb0 bb1|", "[1] 2"),
-    ("switch const bb1|", "[] 1"),
-    ("drop _4 -> bb1|", "[4] 1"),
-    ("drop _4 -> bb1 unwind bb0|", "[4] 2"),
-    ("drop _4 -> bb1 unwind bb1|", "[4] 1"),
-    (
-        "_4.0 = call f(copy _1: int, move _3.0: int): int -> bb1 unwind bb0|",
-        "[4, 1, 3] 2",
-    ),
-    ("return|", "[0] 0"),
-    ("stop|", "[] 0"),
-];
-
-// The variables that are written in a statement, and how many edges leave its point.
-fn written_told(alloc: Global, statement: &Stmt) -> Result<String, Memory> {
-    let mut written = Vec::new(alloc);
-    let told = statement.variables(&mut written);
-    let edges = statement.edges(alloc)?;
-    let text = format!(in alloc; "{:?} {edges}", written.as_slice());
-    drop(written);
-    told?;
-    Ok(text?)
-}
-
-// The same of the first point of a body.
-fn first_told(alloc: Global, body: &Body) -> Result<String, Memory> {
-    if body.points() == 0 {
-        return Ok(String::new(alloc));
-    }
-    written_told(alloc, body.line_at(0))
-}
-
-// The same of a text's body.
-fn first_of(alloc: Global, text: &[u8]) -> Result<String, Memory> {
-    match read_mir(alloc, text) {
-        Ok(body) => {
-            let told = first_told(alloc, &body);
-            drop(body);
-            told
-        }
-        Err(_) => Ok(String::from_str(alloc, "refused")?),
-    }
-}
-
-// The same of a body where these lines stand in the first block.
-fn first_line(alloc: Global, lines: &str) -> Result<String, Memory> {
-    let lines = format!(in alloc; "{DECLARED}{lines}block bb1|stop|end|")?;
-    let text = text_of(alloc, lines.as_str());
-    drop(lines);
-    let text = text?;
-    let told = first_of(alloc, text.as_slice());
-    drop(text);
-    told
-}
+// How many edges leave the point of each line, and the variables that are written in it.
+const WRITTEN: &str = "
+_1 = const|stop| ~ 1 written 1
+_1 = move _3.1|stop| ~ 1 written 1 3
+_3.0 = copy _1|stop| ~ 1 written 3 1
+_2 = &'r _1|stop| ~ 1 written 2 1
+_3 = make (int, int)(copy _1, const)|stop| ~ 1 written 3 1
+read _4.0|stop| ~ 1 written 4
+live _4|stop| ~ 1 written 4
+dead _4|stop| ~ 1 written 4
+nop|stop| ~ 1
+goto bb0| ~ 1
+switch copy _1 bb1 bb0 bb1| ~ 2 written 1
+switch const bb1| ~ 1
+drop _4 -> bb1| ~ 1 written 4
+drop _4 -> bb1 unwind bb0| ~ 2 written 4
+drop _4 -> bb1 unwind bb1| ~ 1 written 4
+_4.0 = call f(copy _1: int, move _3.0: int): int -> bb1 unwind bb0| ~ 2 written 4 1 3
+return| ~ 0 written 0
+stop| ~ 0
+";
 
 // Each variable is written as often as a place of it stands in the line, and each block to which
 // it goes on is one edge.
 #[test]
 fn lines_have_variables_and_edges(rt: HostRuntime) {
-    for (lines, want) in WRITTEN {
-        let told = first_line(rt.alloc(), lines);
-        compare(&rt, lines, told, want);
-    }
+    let around = ((DECLARED, "block bb1|stop|end|"), ("", ""));
+    compare_rows(&rt, rt.alloc(), Asked::First, around, WRITTEN);
 }

@@ -6,12 +6,11 @@ ghost use Rattle.nll_types.specs.Types.{TypeTree};
 ghost use Rattle.nll_types.specs.Views.{tree};
 
 use super::comparing::compare;
+use super::reading::{Asked, read_lines};
 use nll_body::Body;
-use nll_mir_text::read_mir;
 use nll_problem::RegionId;
 use nll_sets::Memory;
 use nll_types::{Place, Projection, Ty, place_type};
-use nll_worked_texts::text_of;
 use smallvec::SmallVec;
 use std::alloc::{AllocError, Global};
 
@@ -48,8 +47,8 @@ fn write_variable(alloc: Global, out: &mut String, body: &Body, variable: u32) -
     write_type(alloc, out, body, body.var_type(variable))
 }
 
-// Writes the regions of each variable's type.
-fn write_variables(alloc: Global, out: &mut String, body: &Body) -> Result<(), Memory> {
+/// Writes the regions of each variable's type.
+pub fn write_variables(alloc: Global, out: &mut String, body: &Body) -> Result<(), Memory> {
     for variable in 0..body.variables() {
         write_variable(alloc, out, body, variable as u32)?;
     }
@@ -79,59 +78,35 @@ fn write_place(alloc: Global, out: &mut String, body: &Body, place: &Place) -> R
     }
 }
 
-// What is told of a body: of a place in it, or of all its variables.
-fn told(alloc: Global, body: &Body, place: Option<&Place>) -> Result<String, Memory> {
-    let mut out = String::new(alloc);
-    let written = match place {
-        Some(place) => write_place(alloc, &mut out, body, place),
-        None => write_variables(alloc, &mut out, body),
-    };
-    written.and(Ok(out))
-}
-
-// The same of a text's body.
-fn told_of_text(alloc: Global, text: &[u8], place: Option<&Place>) -> Result<String, Memory> {
-    match read_mir(alloc, text) {
-        Ok(body) => {
-            let told = told(alloc, &body, place);
-            drop(body);
-            told
-        }
-        Err(_) => Ok(String::from_str(alloc, "refused")?),
-    }
-}
-
-// The same of the body above.
-fn told_of_body(alloc: Global, place: Option<&Place>) -> Result<String, Memory> {
-    let text = text_of(alloc, BODY)?;
-    let told = told_of_text(alloc, text.as_slice(), place);
-    drop(text);
-    told
-}
-
-// The same of a place that is written so.
-fn told_of_place(
+// Writes the regions of the type of a place in a variable.
+fn write_one(
     alloc: Global,
-    variable: u32,
-    projections: &[Projection],
-) -> Result<String, Memory> {
+    out: &mut String,
+    body: &Body,
+    (variable, projections): (u32, &[Projection]),
+) -> Result<(), Memory> {
     let projections = SmallVec::from_slice(alloc, projections)?;
     let place = Place::new(alloc, variable, projections)?;
-    let told = told_of_body(alloc, Some(&place));
+    let written = write_place(alloc, out, body, &place);
     drop(place);
-    told
+    written
+}
+
+/// Writes the regions of the types of the places below, each behind a bar.
+pub fn write_places(alloc: Global, out: &mut String, body: &Body) -> Result<(), Memory> {
+    for place in PLACES {
+        out.push('|')?;
+        write_one(alloc, out, body, *place)?;
+    }
+    Ok(())
 }
 
 // The regions of each variable's type: of the second those of a reference to a reference, of the
 // third that of a struct in a tuple.
 #[test]
 fn variables_have_types(rt: HostRuntime) {
-    compare(
-        &rt,
-        "variables",
-        told_of_body(rt.alloc(), None),
-        "|| 1 2| 3",
-    );
+    let told = read_lines(rt.alloc(), BODY, Asked::Variables);
+    compare(&rt, "variables", told, "|| 1 2| 3");
 }
 
 const DEREF: Projection = Projection::Deref;
@@ -140,28 +115,28 @@ const FIRST: Projection = Projection::Field(0);
 
 const SECOND: Projection = Projection::Field(1);
 
-// Places, and the regions of their types.
-const PLACES: &[(&str, u32, &[Projection], &str)] = &[
-    ("_0", 0, &[], ""),
-    ("_1", 1, &[], " 1 2"),
-    ("_1.*", 1, &[DEREF], " 2"),
-    ("_1.*.*", 1, &[DEREF, DEREF], ""),
-    ("_2", 2, &[], " 3"),
-    ("_2.0", 2, &[FIRST], ""),
-    ("_2.1", 2, &[SECOND], " 3"),
-    ("_2.1.0", 2, &[SECOND, FIRST], " 3"),
-    ("_2.1.0.*", 2, &[SECOND, FIRST, DEREF], ""),
-    // There is no such place.
-    ("_1.0", 1, &[FIRST], " none"),
-    ("_2.1.1", 2, &[SECOND, SECOND], " none"),
-    ("_3", 3, &[], " none"),
+// Places: `_0`, `_1`, `_1.*`, `_1.*.*`, `_2`, `_2.0`, `_2.1`, `_2.1.0` and `_2.1.0.*`; and `_1.0`,
+// `_2.1.1` and `_3`, which there are not.
+const PLACES: &[(u32, &[Projection])] = &[
+    (0, &[]),
+    (1, &[]),
+    (1, &[DEREF]),
+    (1, &[DEREF, DEREF]),
+    (2, &[]),
+    (2, &[FIRST]),
+    (2, &[SECOND]),
+    (2, &[SECOND, FIRST]),
+    (2, &[SECOND, FIRST, DEREF]),
+    (1, &[FIRST]),
+    (2, &[SECOND, SECOND]),
+    (3, &[]),
 ];
 
-// The type of a place in a variable is that of what is taken of it.
+// The type of a place in a variable is that of what is taken of it. What is told has the regions
+// of each place's type.
 #[test]
 fn places_have_types(rt: HostRuntime) {
-    for (place, variable, projections, want) in PLACES {
-        let told = told_of_place(rt.alloc(), *variable, projections);
-        compare(&rt, place, told, want);
-    }
+    let told = read_lines(rt.alloc(), BODY, Asked::Places);
+    let want = "|| 1 2| 2|| 3|| 3| 3|| none| none| none";
+    compare(&rt, "places", told, want);
 }
