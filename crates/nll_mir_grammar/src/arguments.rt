@@ -38,8 +38,8 @@ fn push_argument<'t, 'a>(
     tokens: &'t [Token<'a>],
     arguments: &mut Vec<Argument<'a>>,
 ) -> Result<Option<&'t [Token<'a>]>, Memory>
-    ensures { IfOk result (λ o. Puts parts.arguments argument_of (λ r. views r.now) (views tokens.now)
-        arguments.old.items arguments.new.items o) }
+    ensures { IfOk result (λ o. Puts parts.arguments argument_of (λ r. views r.now)
+        (views tokens.now) arguments.old.items arguments.new.items o) }
 {
     match argument_at(alloc, tokens)? {
         Some((argument, rest)) => {
@@ -56,8 +56,8 @@ fn next_argument<'t, 'a>(
     tokens: &'t [Token<'a>],
     arguments: &mut Vec<Argument<'a>>,
 ) -> Result<Option<&'t [Token<'a>]>, Memory>
-    ensures { IfOk result (λ o. Puts (behind (lex.sign 44) parts.arguments) argument_of (λ r. views r.now)
-        (views tokens.now) arguments.old.items arguments.new.items o) }
+    ensures { IfOk result (λ o. Puts (behind (lex.sign 44) parts.arguments) argument_of
+        (λ r. views r.now) (views tokens.now) arguments.old.items arguments.new.items o) }
 {
     match after_sign(tokens, b',') {
         Some(behind) => push_argument(alloc, behind, arguments),

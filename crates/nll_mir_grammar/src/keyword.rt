@@ -101,8 +101,8 @@ fn is_mark(word: &[u8]) -> bool
     }
 }
 
-/// The keyword that a word is, where it is one. None begins with `_`, as variables do. Most lines of
-/// a long text are at points, so their keywords come first.
+/// The keyword that a word is, where it is one. None begins with `_`, as variables do. Most lines
+/// of a long text are at points, so their keywords come first.
 pub fn keyword_of(word: &[u8]) -> Option<Keyword>
     ensures { MatchOption result ((k : keyword) → word.now ≡ keyword_name k → ⊥)
         (λ k. word.now ≡ keyword_name k) }

@@ -65,8 +65,8 @@ fn next_operand<'t, 'a>(
     tokens: &'t [Token<'a>],
     operands: &mut Vec<Operand>,
 ) -> Result<Option<&'t [Token<'a>]>, Memory>
-    ensures { IfOk result (λ o. Puts (behind (lex.sign 44) parts.operands) operand_of (λ r. views r.now)
-        (views tokens.now) operands.old.items operands.new.items o) }
+    ensures { IfOk result (λ o. Puts (behind (lex.sign 44) parts.operands) operand_of
+        (λ r. views r.now) (views tokens.now) operands.old.items operands.new.items o) }
 {
     match after_sign(tokens, b',') {
         Some(behind) => push_operand(alloc, behind, operands),

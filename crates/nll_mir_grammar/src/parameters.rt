@@ -18,7 +18,8 @@ use std::alloc::Global;
 
 // Whether `?` comes next, and what stands behind it or else here.
 fn dangle_mark_at<'t, 'a>(tokens: &'t [Token<'a>]) -> (bool, &'t [Token<'a>])
-    ensures { Begins (parts.marks dangling_mark (lex.sign 63)) (views tokens.now) result.0 (views result.1.now) }
+    ensures { Begins (parts.marks dangling_mark (lex.sign 63)) (views tokens.now) result.0
+        (views result.1.now) }
 {
     match after_sign(tokens, b'?') {
         Some(rest) => (true, rest),
@@ -67,8 +68,8 @@ fn push_parameter<'t, 'a>(
     tokens: &'t [Token<'a>],
     parameters: &mut Vec<ParameterText<'a>>,
 ) -> Result<Option<&'t [Token<'a>]>, Memory>
-    ensures { IfOk result (λ o. Puts parts.parameters parameter_of (λ r. views r.now) (views tokens.now)
-        parameters.old.items parameters.new.items o) }
+    ensures { IfOk result (λ o. Puts parts.parameters parameter_of (λ r. views r.now)
+        (views tokens.now) parameters.old.items parameters.new.items o) }
 {
     match parameter_at(tokens) {
         Some((parameter, rest)) => {
@@ -84,8 +85,8 @@ fn next_parameter<'t, 'a>(
     tokens: &'t [Token<'a>],
     parameters: &mut Vec<ParameterText<'a>>,
 ) -> Result<Option<&'t [Token<'a>]>, Memory>
-    ensures { IfOk result (λ o. Puts (behind (lex.sign 44) parts.parameters) parameter_of (λ r. views r.now)
-        (views tokens.now) parameters.old.items parameters.new.items o) }
+    ensures { IfOk result (λ o. Puts (behind (lex.sign 44) parts.parameters) parameter_of
+        (λ r. views r.now) (views tokens.now) parameters.old.items parameters.new.items o) }
 {
     match after_sign(tokens, b',') {
         Some(behind) => push_parameter(behind, parameters),

@@ -10,7 +10,7 @@ use nll_sets::Memory;
 use nll_types::Parameter;
 use std::alloc::Global;
 
-// Puts what is marked of a parameter behind the others, where it is a region, or where it is a type.
+// Puts what is marked of a parameter behind the others, where it is a region or where it is a type.
 fn push_mark(
     parameter: &ParameterText<'_>,
     regions: bool,
