@@ -34,6 +34,10 @@ mod mir_lines;
 #[cfg(test)]
 mod naming;
 #[cfg(test)]
+mod numbers;
+#[cfg(test)]
+mod rows;
+#[cfg(test)]
 mod sets;
 #[cfg(test)]
 mod solving;

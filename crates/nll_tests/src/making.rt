@@ -53,23 +53,39 @@ fn regions_of(alloc: Global, numbers: &[u32]) -> Result<Vec<RegionId>, BuildErro
     Ok(regions)
 }
 
+// Puts a type at the end.
+fn push(types: &mut Vec<Ty>, ty: Ty) -> Result<(), BuildError> {
+    Ok(types.push(ty)?)
+}
+
+// Puts a tuple of the last types in their place.
+fn add_tuple(types: &mut Vec<Ty>, count: usize) -> Result<(), BuildError> {
+    let parts = take_last(types, count)?;
+    push(types, Ty::Tuple(parts))
+}
+
+// Puts a struct with the last types for its arguments in their place.
+fn add_named(
+    alloc: Global,
+    types: &mut Vec<Ty>,
+    number: usize,
+    regions: &[u32],
+    count: usize,
+) -> Result<(), BuildError> {
+    let arguments = take_last(types, count)?;
+    let regions = regions_of(alloc, regions)?;
+    push(types, Ty::Named(number, regions, arguments))
+}
+
 // Puts the type that a step makes at the end.
 fn add(alloc: Global, types: &mut Vec<Ty>, step: Step) -> Result<(), BuildError> {
     match step {
-        Step::Int => types.push(Ty::Int)?,
-        Step::Parameter(number) => types.push(Ty::Parameter(number))?,
-        Step::Reference(region, mutable) => add_reference(alloc, types, region, mutable)?,
-        Step::Tuple(count) => {
-            let parts = take_last(types, count)?;
-            types.push(Ty::Tuple(parts))?;
-        }
-        Step::Named(number, regions, count) => {
-            let regions = regions_of(alloc, regions)?;
-            let arguments = take_last(types, count)?;
-            types.push(Ty::Named(number, regions, arguments))?;
-        }
+        Step::Int => push(types, Ty::Int),
+        Step::Parameter(number) => push(types, Ty::Parameter(number)),
+        Step::Reference(region, mutable) => add_reference(alloc, types, region, mutable),
+        Step::Tuple(count) => add_tuple(types, count),
+        Step::Named(number, regions, count) => add_named(alloc, types, number, regions, count),
     }
-    Ok(())
 }
 
 /// Puts the types that steps make at the end.

@@ -4,7 +4,9 @@ ghost use Rattle.std.specs.Prelude.{◌<◌, length, IfOk};
 use super::comparing::compare;
 use super::making::Step::{Int, Named, Parameter, Reference, Tuple};
 use super::making::{Step, Written, declare, declare_all, nested, types_of};
+use super::numbers::write_number;
 use nll_core::{BuildError, RegionId};
+use nll_sets::Memory;
 use nll_types::{
     Node, Place, Projection, Structs, Ty, TypeTable, copy, field_type, is_well_formed, place_type,
     put_in,
@@ -40,9 +42,15 @@ const STRUCTS: &[Written<'static>] = &[
 // Writes regions.
 fn write_regions(out: &mut String, regions: &[RegionId]) -> Result<(), AllocError> {
     for region in regions {
-        write!(out, " {}", region.0)?;
+        write_number(out, " ", u64::from(region.0), "")?;
     }
     Ok(())
+}
+
+// Writes a struct and its regions.
+fn write_head(out: &mut String, number: usize, regions: &[RegionId]) -> Result<(), AllocError> {
+    write_number(out, "S", number as u64, "<")?;
+    write_regions(out, regions)
 }
 
 // Writes some types, one after another.
@@ -60,10 +68,10 @@ fn write_types(out: &mut String, types: &[Ty]) -> Result<(), AllocError> {
 pub fn write_type(out: &mut String, ty: &Ty) -> Result<(), AllocError> {
     match ty {
         Ty::Int => out.push_str("int"),
-        Ty::Parameter(number) => write!(out, "P{number}"),
+        Ty::Parameter(number) => write_number(out, "P", *number as u64, ""),
         Ty::Reference(region, mutable, target) => {
-            write!(out, "&{}", region.0)?;
-            out.push_str(if *mutable { " mut " } else { " " })?;
+            let word = if *mutable { " mut " } else { " " };
+            write_number(out, "&", u64::from(region.0), word)?;
             write_type(out, target)
         }
         Ty::Tuple(parts) => {
@@ -72,8 +80,7 @@ pub fn write_type(out: &mut String, ty: &Ty) -> Result<(), AllocError> {
             out.push_str(" )")
         }
         Ty::Named(number, regions, types) => {
-            write!(out, "S{number}<")?;
-            write_regions(out, regions.as_slice())?;
+            write_head(out, *number, regions.as_slice())?;
             write_types(out, types.as_slice())?;
             out.push_str(" >")
         }
@@ -84,29 +91,50 @@ pub fn write_type(out: &mut String, ty: &Ty) -> Result<(), AllocError> {
 fn write_which(out: &mut String, regions: &[RegionId]) -> Result<(), AllocError> {
     for number in 0..10 {
         if regions.contains(&RegionId(number)) {
-            write!(out, " {number}")?;
+            write_number(out, " ", u64::from(number), "")?;
         }
     }
     Ok(())
 }
 
+// Writes which of the first ten regions a list has that was found.
+fn write_found(out: &mut String, found: Result<Vec<RegionId>, Memory>) -> Result<(), Memory> {
+    let regions = found?;
+    let written = write_which(out, regions.as_slice());
+    drop(regions);
+    Ok(written?)
+}
+
 // Writes the regions of a type that keeps to what is declared, and its drop regions.
-fn write_live(
+fn write_live(alloc: Global, out: &mut String, structs: &Structs, ty: &Ty) -> Result<(), Memory> {
+    if !is_well_formed(structs, ty, 10, 0) {
+        return Ok(out.push_str(" ill")?);
+    }
+    write_found(out, structs.regions(alloc, ty))?;
+    out.push_str(" drop")?;
+    write_found(out, structs.drop_regions(alloc, ty))
+}
+
+// Writes a type that was found, or that there is none.
+fn write_option(out: &mut String, found: Option<&Ty>) -> Result<(), AllocError> {
+    match found {
+        Some(ty) => write_type(out, ty),
+        None => out.push_str("none"),
+    }
+}
+
+// Writes the type of a place.
+fn write_place_type(
     alloc: Global,
     out: &mut String,
     structs: &Structs,
-    ty: &Ty,
-) -> Result<(), BuildError> {
-    if !is_well_formed(structs, ty, 10, 0) {
-        out.push_str(" ill")?;
-        return Ok(());
-    }
-    let regions = structs.regions(alloc, ty)?;
-    write_which(out, regions.as_slice())?;
-    out.push_str(" drop")?;
-    let regions = structs.drop_regions(alloc, ty)?;
-    write_which(out, regions.as_slice())?;
-    Ok(())
+    types: &[Ty],
+    place: &Place,
+) -> Result<(), Memory> {
+    let found = place_type(alloc, structs, types, place)?;
+    let written = write_option(out, found.as_ref());
+    drop(found);
+    Ok(written?)
 }
 
 // Writes the type of a place in the last of some variables.
@@ -116,15 +144,33 @@ fn write_place(
     structs: &Structs,
     types: &[Ty],
     projections: &[Projection],
-) -> Result<(), BuildError> {
+) -> Result<(), Memory> {
     let variable = types.len().saturating_sub(1).min(100) as u32;
     let projections = Vec::from_slice(alloc, projections)?;
     let place = Place::new(alloc, variable, projections)?;
-    match place_type(alloc, structs, types, &place)? {
-        Some(ty) => write_type(out, &ty)?,
-        None => out.push_str("none")?,
-    }
-    Ok(())
+    let written = write_place_type(alloc, out, structs, types, &place);
+    drop(place);
+    written
+}
+
+// Writes a word, and whether something is so.
+fn write_whether(out: &mut String, word: &str, is_so: bool) -> Result<(), AllocError> {
+    out.push_str(word)?;
+    out.push_str(if is_so { "true" } else { "false" })
+}
+
+// Writes the nodes of a shape, its parts, and whether each type on the way is small.
+fn write_sized(
+    out: &mut String,
+    table: &TypeTable,
+    found: usize,
+    small: bool,
+) -> Result<(), AllocError>
+    requires { found < length table.now.shapes }
+{
+    let (size, parts) = (table.shapes().size(found), table.parts(found));
+    write!(out, " size {size} parts {parts:?}")?;
+    write_whether(out, " small ", small)
 }
 
 // Writes the shape of a place in a variable of a type: its nodes, its parts, and whether each type
@@ -135,16 +181,28 @@ fn write_shape(
     table: &mut TypeTable,
     ty: &Ty,
     projections: &[Projection],
-) -> Result<(), BuildError> {
+) -> Result<(), Memory> {
     let number = table.shape(alloc, ty, &[])?;
     match table.place_shape(alloc, number, projections)? {
-        Some((found, small)) => {
-            let (size, parts) = (table.shapes().size(found), table.parts(found));
-            write!(out, " size {size} parts {parts:?} small {small}")?;
-        }
-        None => out.push_str(" no shape")?,
+        Some((found, small)) => Ok(write_sized(out, table, found, small)?),
+        None => Ok(out.push_str(" no shape")?),
     }
-    Ok(())
+}
+
+// Writes what is told of a type and of a place in a variable of it, the last of some.
+fn write_told(
+    alloc: Global,
+    out: &mut String,
+    table: &mut TypeTable,
+    types: &[Ty],
+    projections: &[Projection],
+) -> Result<(), Memory> {
+    let Some(ty) = types.last() else {
+        return Ok(());
+    };
+    write_place(alloc, out, table.structs(), types, projections)?;
+    write_shape(alloc, out, table, ty, projections)?;
+    write_live(alloc, out, table.structs(), ty)
 }
 
 // What is told of the last of some types and of a place in it.
@@ -155,13 +213,8 @@ fn told_of(
     projections: &[Projection],
 ) -> Result<String, BuildError> {
     let mut out = String::new(alloc);
-    let Some(ty) = types.last() else {
-        return Ok(out);
-    };
-    write_place(alloc, &mut out, table.structs(), types, projections)?;
-    write_shape(alloc, &mut out, table, ty, projections)?;
-    write_live(alloc, &mut out, table.structs(), ty)?;
-    Ok(out)
+    let written = write_told(alloc, &mut out, table, types, projections);
+    Ok(written.and(Ok(out))?)
 }
 
 // What is told over a table of the last type that steps make.
@@ -280,35 +333,57 @@ fn write_field(
     out: &mut String,
     structs: &Structs,
     types: &[Ty],
-) -> Result<(), BuildError> {
-    match field_type(alloc, structs, 4, &[RegionId(6)], types, 0)? {
-        Some(ty) => write_type(out, &ty)?,
-        None => out.push_str("none")?,
-    }
-    Ok(())
+) -> Result<(), Memory> {
+    let found = field_type(alloc, structs, 4, &[RegionId(6)], types, 0)?;
+    let written = write_option(out, found.as_ref());
+    drop(found);
+    Ok(written?)
+}
+
+// Writes whether two shapes are one.
+fn write_same(
+    out: &mut String,
+    word: &str,
+    table: &TypeTable,
+    one: usize,
+    other: usize,
+) -> Result<(), AllocError>
+    requires one { one < length table.now.shapes }
+    requires other { other < length table.now.shapes }
+{
+    write_whether(out, word, table.shapes().is_same(one, other))
 }
 
 // Writes what nodes that are added make: a reference to an `int`, and the `int` once more.
-fn write_added(out: &mut String, table: &mut TypeTable) -> Result<(), BuildError> {
+fn write_added(out: &mut String, table: &mut TypeTable) -> Result<(), Memory> {
     let int = table.add(Node::Int)?;
     let reference = table.add(Node::Reference(true, int))?;
     let again = table.add(Node::Int)?;
-    let shapes = table.shapes();
-    let (same, other) = (shapes.is_same(int, again), shapes.is_same(reference, again));
-    write!(out, " same {same} other {other}")?;
+    write_same(out, " same ", table, int, again)?;
+    write_same(out, " other ", table, reference, again)?;
     Ok(())
+}
+
+// Writes a field of a struct with an `int` for its argument.
+fn write_int_field(alloc: Global, out: &mut String, structs: &Structs) -> Result<(), BuildError> {
+    let types = types_of(alloc, &[Int])?;
+    let written = write_field(alloc, out, structs, types.as_slice());
+    drop(types);
+    Ok(written?)
+}
+
+// Writes what is told of a field, and of nodes.
+fn write_both(alloc: Global, out: &mut String, table: &mut TypeTable) -> Result<(), BuildError> {
+    declare_all(alloc, table, STRUCTS)?;
+    write_int_field(alloc, out, table.structs())?;
+    Ok(write_added(out, table)?)
 }
 
 // What is told of a field, and of nodes.
 fn added_over(alloc: Global, table: &mut TypeTable) -> Result<String, BuildError> {
     let mut out = String::new(alloc);
-    declare_all(alloc, table, STRUCTS)?;
-    let types = types_of(alloc, &[Int])?;
-    let written = write_field(alloc, &mut out, table.structs(), types.as_slice());
-    drop(types);
-    written?;
-    write_added(&mut out, table)?;
-    Ok(out)
+    let written = write_both(alloc, &mut out, table);
+    written.and(Ok(out))
 }
 
 // What is told of a field, and of nodes.
@@ -331,14 +406,14 @@ fn fields_and_nodes_are_told(rt: HostRuntime) {
 }
 
 // Whether two types have one shape.
-fn is_same(alloc: Global, table: &mut TypeTable, ty: &Ty, other: &Ty) -> Result<bool, BuildError> {
+fn is_same(alloc: Global, table: &mut TypeTable, ty: &Ty, other: &Ty) -> Result<bool, Memory> {
     let number = table.shape(alloc, ty, &[])?;
     let other = table.shape(alloc, other, &[])?;
     Ok(table.shapes().is_same(number, other))
 }
 
 // Whether the copy of a type has its shape.
-fn is_copied(alloc: Global, table: &mut TypeTable, ty: &Ty) -> Result<bool, BuildError> {
+fn is_copied(alloc: Global, table: &mut TypeTable, ty: &Ty) -> Result<bool, Memory> {
     let copied = copy(alloc, ty)?;
     let same = is_same(alloc, table, ty, &copied);
     drop(copied);
@@ -346,11 +421,17 @@ fn is_copied(alloc: Global, table: &mut TypeTable, ty: &Ty) -> Result<bool, Buil
 }
 
 // Whether a type in which no parameter stands has its shape with arguments put in.
-fn is_put(alloc: Global, table: &mut TypeTable, ty: &Ty) -> Result<bool, BuildError> {
+fn is_put(alloc: Global, table: &mut TypeTable, ty: &Ty) -> Result<bool, Memory> {
     let put = put_in(alloc, ty, &[RegionId(2)], &[])?;
     let same = is_same(alloc, table, ty, &put);
     drop(put);
     same
+}
+
+// Writes a size, and whether it is small.
+fn write_small(out: &mut String, size: usize, small: bool) -> Result<(), AllocError> {
+    write_number(out, "size ", size as u64, "")?;
+    write_whether(out, " small ", small)
 }
 
 // Writes the size of a type, and whether its copy and the type with arguments put in have its
@@ -360,22 +441,33 @@ fn write_deep(
     out: &mut String,
     table: &mut TypeTable,
     ty: &Ty,
-) -> Result<(), BuildError> {
+) -> Result<(), Memory> {
     let number = table.shape(alloc, ty, &[])?;
     let (size, small) = (table.shapes().size(number), table.shapes().is_small(number));
-    let copied = is_copied(alloc, table, ty)?;
-    let put = is_put(alloc, table, ty)?;
-    write!(out, "size {size} small {small} copy {copied} put {put}")?;
+    write_small(out, size, small)?;
+    write_whether(out, " copy ", is_copied(alloc, table, ty)?)?;
+    write_whether(out, " put ", is_put(alloc, table, ty)?)?;
+    Ok(())
+}
+
+// Writes what is told of types over a table.
+fn write_all_deep(
+    alloc: Global,
+    out: &mut String,
+    table: &mut TypeTable,
+    types: &[Ty],
+) -> Result<(), Memory> {
+    for ty in types {
+        write_deep(alloc, out, table, ty)?;
+    }
     Ok(())
 }
 
 // What is told of types over a table.
 fn deep_over(alloc: Global, table: &mut TypeTable, types: &[Ty]) -> Result<String, BuildError> {
     let mut out = String::new(alloc);
-    for ty in types {
-        write_deep(alloc, &mut out, table, ty)?;
-    }
-    Ok(out)
+    let written = write_all_deep(alloc, &mut out, table, types);
+    Ok(written.and(Ok(out))?)
 }
 
 // What is told of an `int` behind so many references.
@@ -407,13 +499,18 @@ fn deep_types_are_told(rt: HostRuntime) {
     );
 }
 
+// Declares a struct that has for its field the one of this number of a pair of its own parameter.
+fn declare_next(alloc: Global, table: &mut TypeTable, number: usize) -> Result<(), BuildError> {
+    let steps = [Parameter(0), Parameter(0), Tuple(2), Named(number, &[], 1)];
+    declare(alloc, table, &(&[], &[false], false, &steps))
+}
+
 // Declares a struct with a drop of its own and so many further ones, each of which has for its
 // field the one before it of a pair of its own parameter.
 fn declare_doubling(alloc: Global, table: &mut TypeTable, more: usize) -> Result<(), BuildError> {
     declare(alloc, table, &(&[], &[false], true, &[Parameter(0)]))?;
     for number in 0..more {
-        let steps = [Parameter(0), Parameter(0), Tuple(2), Named(number, &[], 1)];
-        declare(alloc, table, &(&[], &[false], false, &steps))?;
+        declare_next(alloc, table, number)?;
     }
     Ok(())
 }
@@ -438,6 +535,27 @@ fn behind_first(
     Ok(number)
 }
 
+// Writes a size, and how many shapes there are.
+fn write_count(out: &mut String, size: usize, count: usize) -> Result<(), AllocError> {
+    write_number(out, "size ", size as u64, " of ")?;
+    write_number(out, "", count as u64, " shapes,")
+}
+
+// Writes what is told behind so many first fields of a type.
+fn write_doubled(
+    alloc: Global,
+    out: &mut String,
+    table: &mut TypeTable,
+    ty: &Ty,
+    times: usize,
+) -> Result<(), BuildError> {
+    let from = table.shape(alloc, ty, &[])?;
+    let last = behind_first(alloc, table, from, times)?;
+    let (size, count) = (table.shapes().size(last), table.shapes().len());
+    write_count(out, size, count)?;
+    Ok(write_live(alloc, out, table.structs(), ty)?)
+}
+
 // What is told behind so many first fields of a type.
 fn doubled(
     alloc: Global,
@@ -446,12 +564,8 @@ fn doubled(
     times: usize,
 ) -> Result<String, BuildError> {
     let mut out = String::new(alloc);
-    let from = table.shape(alloc, ty, &[])?;
-    let last = behind_first(alloc, table, from, times)?;
-    let (size, count) = (table.shapes().size(last), table.shapes().len());
-    write!(out, "size {size} of {count} shapes,")?;
-    write_live(alloc, &mut out, table.structs(), ty)?;
-    Ok(out)
+    let written = write_doubled(alloc, &mut out, table, ty, times);
+    written.and(Ok(out))
 }
 
 // What is told of the last of so many structs that double.
