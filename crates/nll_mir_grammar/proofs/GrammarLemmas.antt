@@ -1,14 +1,11 @@
 -- Grammars that are made of others.
-use Rattle.std.proofs.Common.{◌≡◌, ℕ, ◌<◌, ◌≤◌, ◌+◌, ◌-◌, drop, false, eqb, List, [], ◌∷◌, ◌++◌, length, map, refl, sym, ap, ◌∙◌, subst, append_assoc, arith}
-use Rattle.std.specs.Borrow.{Bor}
+use Rattle.std.proofs.Common.{◌≡◌, ℕ, ◌<◌, ◌+◌, false, eqb, List, [], ◌∷◌, ◌++◌, length, map, refl, sym, ap, ◌∙◌, subst, append_assoc, arith}
 use Rattle.std.specs.List.{AllByRecursion, flat_map}
 use Rattle.std.specs.Prelude.{Option, Some, None, Result, Ok, Err, IfOk, MatchOption}
 use Rattle.std.proofs.lemmas.Bool.{eq-eqb, false≢true}
-use Rattle.std.proofs.lemmas.List.{length-append, map-append, length-drop, length-map}
-use Rattle.std.specs.List.{drop-map}
+use Rattle.std.proofs.lemmas.List.{length-append, map-append}
 use Rattle.std.proofs.lemmas.Grind.{flat_map-append}
-use Rattle.nll_text.specs.Tokens.{Token, sign, view, views}
-use Rattle.nll_text.specs.declared.token.Token.{Token as InLine}
+use Rattle.nll_text.specs.Tokens.{Token, sign}
 use Rattle.nll_mir_grammar.specs.MirForms.{parted}
 use Rattle.nll_mir_grammar.specs.Grammars.{Puts, both, Grammar, Begins, HasNone, IsOne, IsNotNext, behind, empty, pair, many, commas, parentheses, by_kind, MayFollowLast}
 
@@ -149,55 +146,17 @@ many_one g loose one ts (a ∷ xs) (b ∷ bs) r s x y =
     let e = same.0 in let f = next.0 in
     (cc, next.1)
 
--- ---- where tokens go on
-
--- what stands behind tokens that were read
-pub drop_to : (tokens behind : List InLine) (front : List Token) (at : ℕ) → views tokens ≡ front ++ views behind → at ≡ length tokens - length behind → views (drop at tokens) ≡ views behind
-drop_to tokens behind front at e same =
-    let n : length tokens ≡ length front + length behind = sym (length-map tokens view) ∙ (ap length e ∙ (length-append front (views behind) ∙ ap (λ k. length front + k) (length-map behind view))) in
-    let m : at ≡ length front = omega arith in
-    sym (drop-map view at tokens) ∙ (ap (drop at) e ∙ (ap (λ k. drop k (front ++ views behind)) m ∙ drop_front front (views behind)))
-  where
-    drop_front : (front rest : List Token) → drop (length front) (front ++ rest) ≡ rest
-    drop_front [] rest = refl
-    drop_front (t ∷ front) rest = drop_front front rest
-
--- how many tokens are behind
-pub length_behind : (tokens behind : List InLine) (front : List Token) → views tokens ≡ front ++ views behind → length tokens ≡ length front + length behind
-length_behind tokens behind front e = sym (length-map tokens view) ∙ (ap length e ∙ (length-append front (views behind) ∙ ap (λ k. length front + k) (length-map behind view)))
+-- ---- how many tokens are left
 
 -- each value has tokens
 abbrev pub IsSolid : {A : Type 0} → Grammar A → Type 0
 IsSolid {A} g = (a : A) → 0 < length (g.spells a)
 
--- Values were read up to this token.
-pub record ReadsTo {A : Type 0} (g : Grammar A) (tokens : List InLine) (xs : List A) (at : ℕ) : Type 0 where
-  pub within : at ≤ length tokens
-  pub read : HasRead g (views tokens) xs (views (drop at tokens))
-
-pub reads_from : {A : Type 0} (g : Grammar A) (tokens : List InLine) → ReadsTo g tokens [] 0
-reads_from g tokens = record { within = omega arith; read = nothing_read g (views tokens) }
-
--- One more value was read.
-pub record ReadsOn {A : Type 0} (g : Grammar A) (tokens behind : List InLine) (xs : List A) (at : ℕ) : Type 0 where
-  pub onward : at < length tokens - length behind
-  pub fits : length behind ≤ length tokens
-  pub to : ReadsTo g tokens xs (length tokens - length behind)
-
-pub reads_on : {A : Type 0} (g : Grammar A) → IsSolid g → (tokens behind : List InLine) (xs : List A) (a : A) (at : ℕ) → ReadsTo g tokens xs at → Begins g (views (drop at tokens)) a (views behind) → ReadsOn g tokens behind (xs ++ a ∷ []) at
-reads_on g solid tokens behind xs a at h b =
-    let all : HasRead g (views tokens) (xs ++ a ∷ []) (views behind) = read_more g (views tokens) (views (drop at tokens)) (views behind) xs a h.read b in
-    let n : length (drop at tokens) ≡ length (g.spells a) + length behind = length_behind (drop at tokens) behind (g.spells a) b.joined in
-    let m : length (drop at tokens) ≡ length tokens - at = length-drop at tokens in
-    let some : 0 < length (g.spells a) = solid a in
-    let inside : at ≤ length tokens = h.within in
-    let fits : length behind ≤ length tokens = omega arith in
-    let e : views (drop (length tokens - length behind) tokens) ≡ views behind = drop_to tokens behind _ _ all.joined refl in
-    record {
-      onward = omega arith;
-      fits = fits;
-      to = record { within = omega arith; read = subst (λ l. HasRead g (views tokens) (xs ++ a ∷ []) l) (sym e) all };
-    }
+-- behind a value that has tokens there are fewer
+pub fewer_left : {A : Type 0} (g : Grammar A) (ts rest : List Token) (a : A) → 0 < length (g.spells a) → Begins g ts a rest → length rest < length ts
+fewer_left g ts rest a some b =
+    let n : length ts ≡ length (g.spells a) + length rest = ap length b.joined ∙ length-append (g.spells a) rest in
+    omega (arith, n, some)
 
 -- ---- values parted by commas
 
@@ -315,45 +274,6 @@ pub commas_found : {A : Type 0} (g : Grammar A) (ts rest : List Token) (xs : Lis
 commas_found g ts rest [] h none = absurd (let e : 0 < 0 = h.some in omega (arith, e))
 commas_found g ts rest (a ∷ xs) h none = record { joined = h.joined; allowed = (h.some, h.allowed); follows = (h.last, none) }
 
--- Values parted by commas were read up to this token.
-pub record ListsTo {A : Type 0} (g : Grammar A) (tokens : List InLine) (xs : List A) (at : ℕ) : Type 0 where
-  pub within : at ≤ length tokens
-  pub listed : HasListed g (views tokens) xs (views (drop at tokens))
-
--- The first of them was read.
-pub record ListsFrom {A : Type 0} (g : Grammar A) (tokens behind : List InLine) (a : A) : Type 0 where
-  pub fits : length behind ≤ length tokens
-  pub to : ListsTo g tokens (a ∷ []) (length tokens - length behind)
-
-pub lists_from : {A : Type 0} (g : Grammar A) (tokens behind : List InLine) (a : A) → Begins g (views tokens) a (views behind) → ListsFrom g tokens behind a
-lists_from g tokens behind a b =
-    let n : length tokens ≡ length (g.spells a) + length behind = length_behind tokens behind (g.spells a) b.joined in
-    let e : views (drop (length tokens - length behind) tokens) ≡ views behind = drop_to tokens behind _ _ b.joined refl in
-    record {
-      fits = omega arith;
-      to = record { within = omega arith; listed = subst (λ l. HasListed g (views tokens) (a ∷ []) l) (sym e) (first_listed g (views tokens) (views behind) a b) };
-    }
-
--- One more of them was read.
-pub record ListsOn {A : Type 0} (g : Grammar A) (tokens behind : List InLine) (xs : List A) (at : ℕ) : Type 0 where
-  pub onward : at < length tokens - length behind
-  pub fits : length behind ≤ length tokens
-  pub to : ListsTo g tokens xs (length tokens - length behind)
-
-pub lists_on : {A : Type 0} (g : Grammar A) (tokens rest : List InLine) (xs : List A) (a : A) (at : ℕ) → ListsTo g tokens xs at → Begins (behind (sign 44) g) (views (drop at tokens)) a (views rest) → ListsOn g tokens rest (xs ++ a ∷ []) at
-lists_on g tokens rest xs a at h b =
-    let all : HasListed g (views tokens) (xs ++ a ∷ []) (views rest) = listed_more g (views tokens) (views (drop at tokens)) (views rest) xs a h.listed b in
-    let n : length (drop at tokens) ≡ length (sign 44 ∷ g.spells a) + length rest = length_behind (drop at tokens) rest (sign 44 ∷ g.spells a) b.joined in
-    let m : length (drop at tokens) ≡ length tokens - at = length-drop at tokens in
-    let inside : at ≤ length tokens = h.within in
-    let fits : length rest ≤ length tokens = omega arith in
-    let e : views (drop (length tokens - length rest) tokens) ≡ views rest = drop_to tokens rest _ _ all.joined refl in
-    record {
-      onward = omega arith;
-      fits = fits;
-      to = record { within = omega arith; listed = subst (λ l. HasListed g (views tokens) (xs ++ a ∷ []) l) (sym e) all };
-    }
-
 -- ---- values that are put into a list
 
 pub put_behind : {A V R E : Type 0} (g : Grammar A) (t : Token) (value : V → A) (after : R → List Token) (ts rest : List Token) (old new : List V) (r : Result (Option R) E) → ts ≡ t ∷ rest → IfOk r (λ o. Puts g value after rest old new o) → IfOk r (λ o. Puts (behind t g) value after ts old new o)
@@ -366,27 +286,22 @@ pub put_found : {A V R : Type 0} (g : Grammar A) (value : V → A) (after : R �
 put_found g value after ts old new v rest e b = (value v, ap (map value) e ∙ map-append value old (v ∷ []), b)
 
 -- The first of values that are parted by commas was put into the list.
-pub record PutsFirst {A : Type 0} (g : Grammar A) (tokens behind : List InLine) (xs : List A) : Type 0 where
-  pub fits : length behind ≤ length tokens
-  pub to : ListsTo g tokens xs (length tokens - length behind)
-
-pub put_first : {A V : Type 0} (g : Grammar A) (value : V → A) (tokens : List InLine) (left : Bor (List InLine)) (old new : List V) → old ≡ [] → Puts g value (λ r. views r.now) (views tokens) old new (Some left) → PutsFirst g tokens left.now (map value new)
-put_first g value tokens left old new e p =
-    let f = lists_from g tokens left.now p.0 p.2 in
+pub put_first : {A V R : Type 0} (g : Grammar A) (value : V → A) (after : R → List Token) (ts : List Token) (old new : List V) (r : R) → old ≡ [] → Puts g value after ts old new (Some r) → HasListed g ts (map value new) (after r)
+put_first g value after ts old new r e p =
     let same = p.1 ∙ ap (λ l. map value l ++ p.0 ∷ []) e in
-    record { fits = f.fits; to = subst (λ xs. ListsTo g tokens xs (length tokens - length left.now)) (sym same) f.to }
+    subst (λ xs. HasListed g ts xs (after r)) (sym same) (first_listed g ts (after r) p.0 p.2)
 
 -- The next one was put behind the others.
-pub put_next : {A V : Type 0} (g : Grammar A) (value : V → A) (tokens rest : List InLine) (left : Bor (List InLine)) (old new : List V) (at : ℕ) → ListsTo g tokens (map value old) at → rest ≡ drop at tokens → Puts (behind (sign 44) g) value (λ r. views r.now) (views rest) old new (Some left) → ListsOn g tokens left.now (map value new) at
-put_next g value tokens rest left old new at h e p =
-    let b = subst (λ l. Begins (behind (sign 44) g) (views l) p.0 (views left.now)) e p.2 in
-    subst (λ xs. ListsOn g tokens left.now xs at) (sym p.1) (lists_on g tokens left.now (map value old) p.0 at h b)
+pub put_next : {A V R : Type 0} (g : Grammar A) (value : V → A) (after : R → List Token) (ts mid : List Token) (old new : List V) (r : R) → HasListed g ts (map value old) mid → Puts (behind (sign 44) g) value after mid old new (Some r) → HasListed g ts (map value new) (after r)
+put_next g value after ts mid old new r h p = subst (λ xs. HasListed g ts xs (after r)) (sym p.1) (listed_more g ts mid (after r) (map value old) p.0 h p.2)
+
+-- Fewer tokens are left behind it.
+pub put_fewer : {A V R : Type 0} (g : Grammar A) (value : V → A) (after : R → List Token) (ts : List Token) (old new : List V) (r : R) → Puts (behind (sign 44) g) value after ts old new (Some r) → length (after r) < length ts
+put_fewer g value after ts old new r p = fewer_left (behind (sign 44) g) ts (after r) p.0 (omega arith) p.2
 
 -- No further one was there.
-pub put_last : {A V : Type 0} (g : Grammar A) (value : V → A) (tokens rest : List InLine) (old new : List V) (at : ℕ) → ListsTo g tokens (map value old) at → rest ≡ drop at tokens → Puts {R = Bor (List InLine)} (behind (sign 44) g) value (λ r. views r.now) (views rest) old new None → Begins (commas g) (views tokens) (map value new) (views rest)
-put_last g value tokens rest old new at h e p =
-    subst (λ l. Begins (commas g) (views tokens) (map value l) (views rest)) (sym p.1)
-    (commas_found g (views tokens) (views rest) (map value old) (subst (λ l. HasListed g (views tokens) (map value old) (views l)) (sym e) h.listed) p.0)
+pub put_last : {A V R : Type 0} (g : Grammar A) (value : V → A) (after : R → List Token) (ts mid : List Token) (old new : List V) → HasListed g ts (map value old) mid → Puts {R = R} (behind (sign 44) g) value after mid old new None → Begins (commas g) ts (map value new) mid
+put_last g value after ts mid old new h p = subst (λ l. Begins (commas g) ts (map value l) mid) (sym p.1) (commas_found g ts mid (map value old) h p.0)
 
 -- ---- values between two tokens
 

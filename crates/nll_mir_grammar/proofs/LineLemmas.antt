@@ -1,12 +1,9 @@
 -- Lines and their parts.
-use Rattle.std.proofs.Common.{◌≡◌, ◌==◌, true, false, length, ℕ, Bool, List, [], ◌∷◌, map, refl, sym, ap, ◌∙◌, subst, Option, Some, None}
+use Rattle.std.proofs.Common.{◌≡◌, ℕ, Bool, List, [], ◌∷◌, map, refl, sym, ap, ◌∙◌, subst, Option, Some, None}
 use Rattle.std.specs.List.{AllByRecursion}
 use Rattle.std.specs.Prelude.{codes}
 use Rattle.std.specs.Prelude.{Result, Ok, Err, IfOk, MatchOption}
-use Rattle.nll_text.specs.Tokens.{Token, word, sign, view, views}
-use Rattle.nll_text.specs.declared.token.Token.{Token as InLine}
-use Rattle.std.proofs.lemmas.Bool.{eqb-true, false≢true}
-use Rattle.std.proofs.lemmas.List.{nil_from_length}
+use Rattle.nll_text.specs.Tokens.{Token, word, sign}
 use Rattle.nll_types.specs.Places.{PlacePath}
 use Rattle.nll_types.specs.Operands.{Operand, constant, copied, moved}
 use Rattle.nll_type_grammar.specs.WrittenTypes.{Name, WrittenType, HasNames, IsFree}
@@ -332,12 +329,3 @@ pub one_form_lem : (ts : List Token) (f g : Form) → IsSpelled ts f → IsSpell
 one_form_lem ts f g s u =
     let same = lines_one ts _ _ [] [] (to_line ts f s) (to_line ts g u) in
     sym (from_parts s.callee f) ∙ (ap form_from same.0 ∙ from_parts u.callee g)
-
--- ---- no tokens left
-
-pub more_left : (rest : List InLine) → (length rest == 0) ≡ false → views rest ≡ [] → ⊥
-more_left [] h e = false≢true (sym h)
-more_left (t ∷ rest) h e = let f : view t ∷ views rest ≡ [] = e in cc
-
-pub none_left : (rest : List InLine) → (length rest == 0) ≡ true → views rest ≡ []
-none_left rest h = ap views (nil_from_length rest (eqb-true _ _ h))

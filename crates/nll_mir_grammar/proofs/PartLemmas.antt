@@ -1,5 +1,5 @@
 -- The parts of a line: tokens begin with one of each at most.
-use Rattle.std.proofs.Common.{◌≡◌, ℕ, ◌<◌, ◌^◌, Bool, true, false, eqb, List, [], ◌∷◌, ◌++◌, length, refl, sym, ap, ◌∙◌, subst, append_assoc, arith, Some, None}
+use Rattle.std.proofs.Common.{◌≡◌, ℕ, ◌<◌, ◌≤◌, ◌^◌, Bool, true, false, eqb, List, [], ◌∷◌, ◌++◌, length, refl, sym, ap, ◌∙◌, subst, append_assoc, arith, Some, None}
 use Rattle.std.specs.List.{AllByRecursion}
 use Rattle.std.specs.Prelude.{codes, Option, Result, Ok, Err, IfOk, MatchOption}
 use Rattle.std.specs.Str.{bytes_eq}
@@ -8,6 +8,7 @@ use Rattle.std.proofs.lemmas.Bool.{eq-eqb, false≢true}
 use Rattle.std.proofs.lemmas.Fmt.{decimal_injective}
 use Rattle.std.proofs.lemmas.List.Concat.{flat_map_single}
 use Rattle.nll_text.specs.Tokens.{Token, word, region, sign, arrow}
+use Rattle.nll_text.specs.declared.token.Token.{Token as InLine}
 use Rattle.nll_types.specs.Places.{PlacePath}
 use Rattle.nll_types.specs.Operands.{Operand, constant, copied, moved}
 use Rattle.nll_types.specs.declared.place.Projection.{Projection}
@@ -19,9 +20,10 @@ use Rattle.nll_type_grammar.specs.WrittenTypes.{Name, WrittenType, WrittenTypes,
 use Rattle.nll_type_grammar.specs.Reading.{HasNoType, IsTypeIn}
 use Rattle.nll_mir_grammar.specs.Tuples.{parts, IsTuple}
 use Rattle.nll_mir_grammar.specs.MirForms.{WrittenParameter, region_parameter, type_parameter, spelled_place, spelled_operand, dangling_mark, sign_token, block_word}
-use Rattle.nll_mir_grammar.specs.Grammars.{Grammar, Begins, HasNone, IsOne, IsNotNext, behind, empty, pair, many, commas}
+use Rattle.nll_mir_grammar.specs.Grammars.{Grammar, Begins, HasNone, IsOne, IsNotNext, behind, empty, from, pair, many, commas}
 use Rattle.nll_mir_grammar.specs.Parts.{regions, any_words, names, prefixed, variables, block_names, projections, places, operands, types, tuples, arguments, marks, parameter_marks, parameters, parameter_lists, bounds, bound_lists, block_lists, exits, MayFollowMark}
-use Rattle.nll_mir_grammar.proofs.GrammarLemmas.{pair_found, IsSolid, inside_one, tail_same, head_same, signs_apart, signs_differ, behind_one, behind_none, Joins, pair_one, many_one, IsLoose, commas_one, IsBefore, IsListable, enclosed}
+use Rattle.nll_mir_grammar.proofs.GrammarLemmas.{pair_found, IsSolid, fewer_left, inside_one, tail_same, head_same, signs_apart, signs_differ, behind_one, behind_none, Joins, pair_one, many_one, IsLoose, commas_one, IsBefore, IsListable, enclosed}
+use Rattle.nll_mir_grammar.proofs.TokenLemmas.{nothing_past}
 use Rattle.nll_type_grammar.proofs.OneTree.{one_tree}
 
 -- the first byte of a word, or 0
@@ -188,6 +190,20 @@ blocks_solid b = omega arith
 
 pub type_found : (ts : List Token) (t : WrittenType) (rest : List Token) → IsTypeIn ts t rest → Begins types ts t rest
 type_found ts t rest h = record { joined = h.found.joined; allowed = h.found.names; follows = h.found.free }
+
+pub types_solid : IsSolid types
+types_solid int = omega arith
+types_solid (reference r m t) = omega arith
+types_solid (tuple ts) = omega arith
+types_solid (named n args) = omega arith
+
+-- no type stands behind the last token
+pub no_type_past : (tokens : List InLine) (at : ℕ) → length tokens ≤ at → HasNone types (from at tokens)
+no_type_past tokens at past t rest b =
+    let e : from at tokens ≡ [] = nothing_past tokens at past in
+    let n : length rest < length (from at tokens) = fewer_left types (from at tokens) rest t (types_solid t) b in
+    let m : length (from at tokens) ≡ 0 = ap length e in
+    absurd (omega (arith, n, m))
 
 pub no_type : (ts : List Token) → HasNoType ts → HasNone types ts
 no_type ts none t rest b = none t rest (record { joined = b.joined; names = b.allowed; free = b.follows })

@@ -2,8 +2,7 @@
 
 ghost use Rattle.std.specs.Prelude.{◌≡◌, [], IfOk, MatchOption, map};
 ghost use Rattle.nll_text.specs.Tokens as lex;
-ghost use Rattle.nll_text.specs.Tokens.{views};
-ghost use Rattle.nll_mir_grammar.specs.Grammars.{Begins, HasNone, Puts, behind, commas};
+ghost use Rattle.nll_mir_grammar.specs.Grammars.{Begins, HasNone, Puts, behind, commas, from};
 ghost use Rattle.nll_mir_grammar.specs.Grammars.{parentheses};
 ghost use Rattle.nll_mir_grammar.specs.Lines.{argument_of};
 ghost use Rattle.nll_mir_grammar.specs.Parts as parts;
@@ -22,26 +21,28 @@ use std::alloc::Global;
 pub type Argument<'a> = (Operand, TypeText<'a>);
 
 // The argument at the front.
-fn argument_at<'t, 'a>(alloc: Global, tokens: &'t [Token<'a>]) -> Read<'t, 'a, Argument<'a>>
-    ensures { IfOk result (λ o. MatchOption o (HasNone parts.arguments (views tokens.now))
-        (λ p. Begins parts.arguments (views tokens.now) (argument_of p.0) (views p.1.now))) }
+fn argument_at<'a>(alloc: Global, tokens: &[Token<'a>], at: usize) -> Read<Argument<'a>>
+    ensures { IfOk result (λ o. MatchOption o (HasNone parts.arguments (from at tokens.now))
+        (λ p. Begins parts.arguments (from at tokens.now) (argument_of p.0)
+        (from p.1 tokens.now))) }
 {
-    let Some((operand, behind)) = operand_at(alloc, tokens)? else {
+    let Some((operand, behind)) = operand_at(alloc, tokens, at)? else {
         return Ok(None);
     };
-    with(operand, type_behind(alloc, behind))
+    with(operand, type_behind(alloc, tokens, behind))
 }
 
 // Puts the argument at the front behind the others.
-fn push_argument<'t, 'a>(
+fn push_argument<'a>(
     alloc: Global,
-    tokens: &'t [Token<'a>],
+    tokens: &[Token<'a>],
+    at: usize,
     arguments: &mut Vec<Argument<'a>>,
-) -> Result<Option<&'t [Token<'a>]>, Memory>
-    ensures { IfOk result (λ o. Puts parts.arguments argument_of (λ r. views r.now)
-        (views tokens.now) arguments.old.items arguments.new.items o) }
+) -> Result<Option<usize>, Memory>
+    ensures { IfOk result (λ o. Puts parts.arguments argument_of (λ r. from r tokens.now)
+        (from at tokens.now) arguments.old.items arguments.new.items o) }
 {
-    match argument_at(alloc, tokens)? {
+    match argument_at(alloc, tokens, at)? {
         Some((argument, rest)) => {
             arguments.push(argument)?;
             Ok(Some(rest))
@@ -51,78 +52,78 @@ fn push_argument<'t, 'a>(
 }
 
 // Puts the argument behind a comma behind the others.
-fn next_argument<'t, 'a>(
+fn next_argument<'a>(
     alloc: Global,
-    tokens: &'t [Token<'a>],
+    tokens: &[Token<'a>],
+    at: usize,
     arguments: &mut Vec<Argument<'a>>,
-) -> Result<Option<&'t [Token<'a>]>, Memory>
+) -> Result<Option<usize>, Memory>
     ensures { IfOk result (λ o. Puts (behind (lex.sign 44) parts.arguments) argument_of
-        (λ r. views r.now) (views tokens.now) arguments.old.items arguments.new.items o) }
+        (λ r. from r tokens.now) (from at tokens.now) arguments.old.items arguments.new.items o) }
 {
-    match after_sign(tokens, b',') {
-        Some(behind) => push_argument(alloc, behind, arguments),
+    match after_sign(tokens, at, b',') {
+        Some(behind) => push_argument(alloc, tokens, behind, arguments),
         None => Ok(None),
     }
 }
 
 // Puts arguments parted by commas into the list, as many as there are.
-fn list_arguments<'t, 'a>(
+fn list_arguments<'a>(
     alloc: Global,
-    tokens: &'t [Token<'a>],
+    tokens: &[Token<'a>],
+    at: usize,
     arguments: &mut Vec<Argument<'a>>,
-) -> Result<Option<&'t [Token<'a>]>, Memory>
+) -> Result<Option<usize>, Memory>
     requires { arguments.old.items ≡ [] }
     ensures { IfOk result
-        (λ o. MatchOption o (HasNone (commas parts.arguments) (views tokens.now))
-        (λ rest. Begins (commas parts.arguments) (views tokens.now)
-        (map argument_of arguments.new.items) (views rest.now))) }
+        (λ o. MatchOption o (HasNone (commas parts.arguments) (from at tokens.now))
+        (λ rest. Begins (commas parts.arguments) (from at tokens.now)
+        (map argument_of arguments.new.items) (from rest tokens.now))) }
 {
-    let Some(behind) = push_argument(alloc, tokens, arguments)? else {
+    let Some(first) = push_argument(alloc, tokens, at, arguments)? else {
         return Ok(None);
     };
-    let mut at = tokens.len() - behind.len();
-    while let Some(behind) = next_argument(alloc, &tokens[at..], arguments)? {
-        at = tokens.len() - behind.len();
+    let mut rest = first;
+    while let Some(next) = next_argument(alloc, tokens, rest, arguments)? {
+        rest = next;
     }
-    Ok(Some(&tokens[at..]))
+    Ok(Some(rest))
 }
 
 // Puts the arguments between `(` and `)` into the list.
-fn enclosed_arguments<'t, 'a>(
+fn enclosed_arguments<'a>(
     alloc: Global,
-    tokens: &'t [Token<'a>],
+    tokens: &[Token<'a>],
+    at: usize,
     arguments: &mut Vec<Argument<'a>>,
-) -> Result<Option<&'t [Token<'a>]>, Memory>
+) -> Result<Option<usize>, Memory>
     requires { arguments.old.items ≡ [] }
     ensures { IfOk result
-        (λ o. MatchOption o (HasNone (parentheses parts.arguments) (views tokens.now))
-        (λ rest. Begins (parentheses parts.arguments) (views tokens.now)
-        (map argument_of arguments.new.items) (views rest.now))) }
+        (λ o. MatchOption o (HasNone (parentheses parts.arguments) (from at tokens.now))
+        (λ rest. Begins (parentheses parts.arguments) (from at tokens.now)
+        (map argument_of arguments.new.items) (from rest tokens.now))) }
 {
-    let Some(inner) = after_sign(tokens, b'(') else {
+    let Some(inner) = after_sign(tokens, at, b'(') else {
         return Ok(None);
     };
-    if let Some(rest) = after_sign(inner, b')') {
+    if let Some(rest) = after_sign(tokens, inner, b')') {
         return Ok(Some(rest));
     }
-    match list_arguments(alloc, inner, arguments)? {
-        Some(behind) => Ok(after_sign(behind, b')')),
+    match list_arguments(alloc, tokens, inner, arguments)? {
+        Some(behind) => Ok(after_sign(tokens, behind, b')')),
         None => Ok(None),
     }
 }
 
 /// The arguments between `(` and `)`.
-pub fn arguments_in<'t, 'a>(
-    alloc: Global,
-    tokens: &'t [Token<'a>],
-) -> Read<'t, 'a, Vec<Argument<'a>>>
+pub fn arguments_in<'a>(alloc: Global, tokens: &[Token<'a>], at: usize) -> Read<Vec<Argument<'a>>>
     ensures { IfOk result
-        (λ o. MatchOption o (HasNone (parentheses parts.arguments) (views tokens.now))
-        (λ p. Begins (parentheses parts.arguments) (views tokens.now) (map argument_of p.0.items)
-        (views p.1.now))) }
+        (λ o. MatchOption o (HasNone (parentheses parts.arguments) (from at tokens.now))
+        (λ p. Begins (parentheses parts.arguments) (from at tokens.now) (map argument_of p.0.items)
+        (from p.1 tokens.now))) }
 {
     let mut arguments = Vec::new(alloc);
-    match enclosed_arguments(alloc, tokens, &mut arguments) {
+    match enclosed_arguments(alloc, tokens, at, &mut arguments) {
         Ok(Some(rest)) => Ok(Some((arguments, rest))),
         Ok(None) => Ok(None),
         Err(memory) => Err(memory),

@@ -2,9 +2,8 @@
 
 ghost use Rattle.std.specs.Prelude.{◌≡◌, ◌∷◌, IfOk, List, MatchOption, None, codes};
 ghost use Rattle.nll_text.specs.Tokens as lex;
-ghost use Rattle.nll_text.specs.Tokens.{views};
 ghost use Rattle.nll_types.specs.Places.{path_of};
-ghost use Rattle.nll_mir_grammar.specs.Grammars.{HasNone, behind};
+ghost use Rattle.nll_mir_grammar.specs.Grammars.{HasNone, behind, from};
 ghost use Rattle.nll_mir_grammar.specs.Kinds.{IsLine, IsRightSide, line_grammars, rights};
 ghost use Rattle.nll_mir_grammar.specs.Lines.{form_of};
 ghost use Rattle.nll_mir_grammar.specs.Parts.{operands};
@@ -20,13 +19,13 @@ use nll_types::Place;
 use std::alloc::Global;
 
 // The borrow that goes to the place, behind its `&`.
-fn borrowed<'t, 'a>(alloc: Global, place: Place, tokens: &'t [Token<'a>]) -> Read<'t, 'a, Line<'a>>
+fn borrowed<'a>(alloc: Global, place: Place, tokens: &[Token<'a>], at: usize) -> Read<Line<'a>>
     ensures { IfOk result
-        (λ o. (ts : List lex.Token) → ts ≡ lex.sign 38 ∷ views tokens.now
+        (λ o. (ts : List lex.Token) → ts ≡ lex.sign 38 ∷ from at tokens.now
         → MatchOption o (HasNone rights ts)
-        (λ p. IsRightSide ts (path_of place) (form_of p.0) (views p.1.now))) }
+        (λ p. IsRightSide ts (path_of place) (form_of p.0) (from p.1 tokens.now))) }
 {
-    let Some((region, mutable, source, rest)) = borrow_at(alloc, tokens)? else {
+    let Some((region, mutable, source, rest)) = borrow_at(alloc, tokens, at)? else {
         return Ok(None);
     };
     let borrow = Statement::Borrow(place, region, mutable, source);
@@ -34,13 +33,13 @@ fn borrowed<'t, 'a>(alloc: Global, place: Place, tokens: &'t [Token<'a>]) -> Rea
 }
 
 // The value of a tuple or struct that goes to the place, behind `make`.
-fn made<'t, 'a>(alloc: Global, place: Place, tokens: &'t [Token<'a>]) -> Read<'t, 'a, Line<'a>>
+fn made<'a>(alloc: Global, place: Place, tokens: &[Token<'a>], at: usize) -> Read<Line<'a>>
     ensures { IfOk result
-        (λ o. (ts : List lex.Token) → ts ≡ lex.word (codes "make") ∷ views tokens.now
+        (λ o. (ts : List lex.Token) → ts ≡ lex.word (codes "make") ∷ from at tokens.now
         → MatchOption o (HasNone rights ts)
-        (λ p. IsRightSide ts (path_of place) (form_of p.0) (views p.1.now))) }
+        (λ p. IsRightSide ts (path_of place) (form_of p.0) (from p.1 tokens.now))) }
 {
-    let Some((made, rest)) = make_at(alloc, tokens)? else {
+    let Some((made, rest)) = make_at(alloc, tokens, at)? else {
         return Ok(None);
     };
     let (ty, operands) = made;
@@ -54,16 +53,16 @@ fn made<'t, 'a>(alloc: Global, place: Place, tokens: &'t [Token<'a>]) -> Read<'t
 }
 
 // The call whose result goes to the place, behind `call`.
-fn called<'t, 'a>(alloc: Global, place: Place, tokens: &'t [Token<'a>]) -> Read<'t, 'a, Line<'a>>
+fn called<'a>(alloc: Global, place: Place, tokens: &[Token<'a>], at: usize) -> Read<Line<'a>>
     ensures { IfOk result
-        (λ o. (ts : List lex.Token) → ts ≡ lex.word (codes "call") ∷ views tokens.now
+        (λ o. (ts : List lex.Token) → ts ≡ lex.word (codes "call") ∷ from at tokens.now
         → MatchOption o (HasNone rights ts)
-        (λ p. IsRightSide ts (path_of place) (form_of p.0) (views p.1.now))) }
+        (λ p. IsRightSide ts (path_of place) (form_of p.0) (from p.1 tokens.now))) }
 {
-    let Some((_, behind)) = word_at(tokens) else {
+    let Some((_, behind)) = word_at(tokens, at) else {
         return Ok(None);
     };
-    let Some((signature, rest)) = signature_at(alloc, behind)? else {
+    let Some((signature, rest)) = signature_at(alloc, tokens, behind)? else {
         return Ok(None);
     };
     let (arguments, answer) = signature;
@@ -82,66 +81,58 @@ fn called<'t, 'a>(alloc: Global, place: Place, tokens: &'t [Token<'a>]) -> Read<
 }
 
 // The operand that goes to the place.
-fn assigned<'t, 'a>(alloc: Global, place: Place, tokens: &'t [Token<'a>]) -> Read<'t, 'a, Line<'a>>
+fn assigned<'a>(alloc: Global, place: Place, tokens: &[Token<'a>], at: usize) -> Read<Line<'a>>
     ensures { IfOk result
-        (λ o. MatchOption o (HasNone operands (views tokens.now))
-        (λ p. IsRightSide (views tokens.now) (path_of place) (form_of p.0)
-        (views p.1.now))) }
+        (λ o. MatchOption o (HasNone operands (from at tokens.now))
+        (λ p. IsRightSide (from at tokens.now) (path_of place) (form_of p.0)
+        (from p.1 tokens.now))) }
 {
-    let Some((operand, rest)) = operand_at(alloc, tokens)? else {
+    let Some((operand, rest)) = operand_at(alloc, tokens, at)? else {
         return Ok(None);
     };
     Ok(Some((Line::At(Statement::Assign(place, operand)), rest)))
 }
 
 // What goes to the place: the right side of an assignment.
-fn right_side<'t, 'a>(
-    alloc: Global,
-    place: Place,
-    tokens: &'t [Token<'a>],
-) -> Read<'t, 'a, Line<'a>>
+fn right_side<'a>(alloc: Global, place: Place, tokens: &[Token<'a>], at: usize) -> Read<Line<'a>>
     ensures { IfOk result
-        (λ o. MatchOption o (HasNone rights (views tokens.now))
-        (λ p. IsRightSide (views tokens.now) (path_of place) (form_of p.0)
-        (views p.1.now))) }
+        (λ o. MatchOption o (HasNone rights (from at tokens.now))
+        (λ p. IsRightSide (from at tokens.now) (path_of place) (form_of p.0)
+        (from p.1 tokens.now))) }
 {
-    if let Some(behind) = after_sign(tokens, b'&') {
-        return borrowed(alloc, place, behind);
+    if let Some(behind) = after_sign(tokens, at, b'&') {
+        return borrowed(alloc, place, tokens, behind);
     }
-    if let Some(behind) = after_word(tokens, b"make") {
-        return made(alloc, place, behind);
+    if let Some(behind) = after_word(tokens, at, b"make") {
+        return made(alloc, place, tokens, behind);
     }
-    if let Some(behind) = after_word(tokens, b"call") {
-        return called(alloc, place, behind);
+    if let Some(behind) = after_word(tokens, at, b"call") {
+        return called(alloc, place, tokens, behind);
     }
-    assigned(alloc, place, tokens)
+    assigned(alloc, place, tokens, at)
 }
 
 // The `=` of an assignment to the place, and what goes there.
-fn right_behind<'t, 'a>(
-    alloc: Global,
-    place: Place,
-    tokens: &'t [Token<'a>],
-) -> Read<'t, 'a, Line<'a>>
+fn right_behind<'a>(alloc: Global, place: Place, tokens: &[Token<'a>], at: usize) -> Read<Line<'a>>
     ensures { IfOk result
-        (λ o. MatchOption o (HasNone (behind (lex.sign 61) rights) (views tokens.now))
-        (λ p. (after : List lex.Token) × (views tokens.now ≡ lex.sign 61 ∷ after)
-        × IsRightSide after (path_of place) (form_of p.0) (views p.1.now))) }
+        (λ o. MatchOption o (HasNone (behind (lex.sign 61) rights) (from at tokens.now))
+        (λ p. (after : List lex.Token) × (from at tokens.now ≡ lex.sign 61 ∷ after)
+        × IsRightSide after (path_of place) (form_of p.0) (from p.1 tokens.now))) }
 {
-    match after_sign(tokens, b'=') {
-        Some(behind) => right_side(alloc, place, behind),
+    match after_sign(tokens, at, b'=') {
+        Some(behind) => right_side(alloc, place, tokens, behind),
         None => Ok(None),
     }
 }
 
 /// The assignment at the front.
-pub fn assignment_at<'t, 'a>(alloc: Global, tokens: &'t [Token<'a>]) -> Read<'t, 'a, Line<'a>>
+pub fn assignment_at<'a>(alloc: Global, tokens: &[Token<'a>], at: usize) -> Read<Line<'a>>
     ensures { IfOk result
-        (λ o. MatchOption o (HasNone (line_grammars None) (views tokens.now))
-        (λ p. IsLine (views tokens.now) (form_of p.0) (views p.1.now))) }
+        (λ o. MatchOption o (HasNone (line_grammars None) (from at tokens.now))
+        (λ p. IsLine (from at tokens.now) (form_of p.0) (from p.1 tokens.now))) }
 {
-    let Some((place, behind)) = place_at(alloc, tokens)? else {
+    let Some((place, behind)) = place_at(alloc, tokens, at)? else {
         return Ok(None);
     };
-    right_behind(alloc, place, behind)
+    right_behind(alloc, place, tokens, behind)
 }

@@ -1,8 +1,7 @@
 //! The blocks of a switch.
 
 ghost use Rattle.std.specs.Prelude.{IfOk, MatchOption};
-ghost use Rattle.nll_text.specs.Tokens.{views};
-ghost use Rattle.nll_mir_grammar.specs.Grammars.{Begins, HasNone, many};
+ghost use Rattle.nll_mir_grammar.specs.Grammars.{Begins, HasNone, from, many};
 ghost use Rattle.nll_mir_grammar.specs.Parts as parts;
 
 use crate::words::block_at;
@@ -11,31 +10,34 @@ use nll_text::Token;
 use std::alloc::Global;
 
 // The blocks at the front, as many as there are.
-fn many_blocks_at<'t, 'a>(
+fn many_blocks_at(
     alloc: Global,
-    tokens: &'t [Token<'a>],
-) -> Result<(Vec<u32>, &'t [Token<'a>]), Memory>
+    tokens: &[Token<'_>],
+    at: usize,
+) -> Result<(Vec<u32>, usize), Memory>
     ensures { IfOk result
-        (λ p. Begins (many parts.block_names) (views tokens.now) p.0.items (views p.1.now)) }
+        (λ p. Begins (many parts.block_names) (from at tokens.now) p.0.items
+        (from p.1 tokens.now)) }
 {
     let mut targets = Vec::new(alloc);
-    let mut at = 0;
-    while let Some((block, behind)) = block_at(&tokens[at..]) {
+    let mut rest = at;
+    while let Some((block, behind)) = block_at(tokens, rest) {
         targets.push(block)?;
-        at = tokens.len() - behind.len();
+        rest = behind;
     }
-    Ok((targets, &tokens[at..]))
+    Ok((targets, rest))
 }
 
 /// The blocks at the front, at least one and as many as there are.
-pub fn blocks_at<'t, 'a>(
+pub fn blocks_at(
     alloc: Global,
-    tokens: &'t [Token<'a>],
-) -> Result<Option<(Vec<u32>, &'t [Token<'a>])>, Memory>
-    ensures { IfOk result (λ o. MatchOption o (HasNone parts.block_lists (views tokens.now))
-        (λ p. Begins parts.block_lists (views tokens.now) p.0.items (views p.1.now))) }
+    tokens: &[Token<'_>],
+    at: usize,
+) -> Result<Option<(Vec<u32>, usize)>, Memory>
+    ensures { IfOk result (λ o. MatchOption o (HasNone parts.block_lists (from at tokens.now))
+        (λ p. Begins parts.block_lists (from at tokens.now) p.0.items (from p.1 tokens.now))) }
 {
-    let (targets, rest) = many_blocks_at(alloc, tokens)?;
+    let (targets, rest) = many_blocks_at(alloc, tokens, at)?;
     if targets.is_empty() {
         return Ok(None);
     }

@@ -2,9 +2,8 @@
 
 ghost use Rattle.std.specs.Prelude.{◌≡◌, ◌≤◌, [], ◌∷◌, ◌++◌, IfOk, MatchOption, OnOk, map};
 ghost use Rattle.nll_text.specs.Tokens as lex;
-ghost use Rattle.nll_text.specs.Tokens.{views};
 ghost use Rattle.nll_types.specs.Operands.{operand_of};
-ghost use Rattle.nll_mir_grammar.specs.Grammars.{Begins, HasNone, Puts, behind, commas};
+ghost use Rattle.nll_mir_grammar.specs.Grammars.{Begins, HasNone, Puts, behind, commas, from};
 ghost use Rattle.nll_mir_grammar.specs.Grammars.{parentheses};
 ghost use Rattle.nll_mir_grammar.specs.Parts as parts;
 
@@ -16,43 +15,45 @@ use nll_text::Token;
 use nll_types::Operand;
 use std::alloc::Global;
 
-// For how many operands room is asked for at first, with these tokens behind the first one.
-fn first_room(behind: &[Token<'_>]) -> usize
+// For how many operands room is asked for at first, with what stands behind the first one.
+fn first_room(tokens: &[Token<'_>], at: usize) -> usize
     ensures { result ≤ 2 }
 {
-    match after_sign(behind, b',') {
+    match after_sign(tokens, at, b',') {
         Some(_) => 2,
         None => 1,
     }
 }
 
-// Puts an operand behind the others, with these tokens behind it. The first one asks for room.
+// Puts an operand behind the others. The first one asks for room, by what stands behind it.
 fn put_operand(
     operands: &mut Vec<Operand>,
     operand: Operand,
-    behind: &[Token<'_>],
+    tokens: &[Token<'_>],
+    at: usize,
 ) -> Result<(), Memory>
     ensures { OnOk result (operands.new.items ≡ operands.old.items ++ operand ∷ []) }
 {
     if operands.is_empty() {
-        operands.reserve_exact(first_room(behind))?;
+        operands.reserve_exact(first_room(tokens, at))?;
     }
     operands.push(operand)?;
     Ok(())
 }
 
 // Puts the operand at the front behind the others.
-fn push_operand<'t, 'a>(
+fn push_operand(
     alloc: Global,
-    tokens: &'t [Token<'a>],
+    tokens: &[Token<'_>],
+    at: usize,
     operands: &mut Vec<Operand>,
-) -> Result<Option<&'t [Token<'a>]>, Memory>
-    ensures { IfOk result (λ o. Puts parts.operands operand_of (λ r. views r.now) (views tokens.now)
-        operands.old.items operands.new.items o) }
+) -> Result<Option<usize>, Memory>
+    ensures { IfOk result (λ o. Puts parts.operands operand_of (λ r. from r tokens.now)
+        (from at tokens.now) operands.old.items operands.new.items o) }
 {
-    match operand_at(alloc, tokens)? {
+    match operand_at(alloc, tokens, at)? {
         Some((operand, rest)) => {
-            put_operand(operands, operand, rest)?;
+            put_operand(operands, operand, tokens, rest)?;
             Ok(Some(rest))
         }
         None => Ok(None),
@@ -60,75 +61,78 @@ fn push_operand<'t, 'a>(
 }
 
 // Puts the operand behind a comma behind the others.
-fn next_operand<'t, 'a>(
+fn next_operand(
     alloc: Global,
-    tokens: &'t [Token<'a>],
+    tokens: &[Token<'_>],
+    at: usize,
     operands: &mut Vec<Operand>,
-) -> Result<Option<&'t [Token<'a>]>, Memory>
+) -> Result<Option<usize>, Memory>
     ensures { IfOk result (λ o. Puts (behind (lex.sign 44) parts.operands) operand_of
-        (λ r. views r.now) (views tokens.now) operands.old.items operands.new.items o) }
+        (λ r. from r tokens.now) (from at tokens.now) operands.old.items operands.new.items o) }
 {
-    match after_sign(tokens, b',') {
-        Some(behind) => push_operand(alloc, behind, operands),
+    match after_sign(tokens, at, b',') {
+        Some(behind) => push_operand(alloc, tokens, behind, operands),
         None => Ok(None),
     }
 }
 
 // Puts operands parted by commas into the list, as many as there are.
-fn list_operands<'t, 'a>(
+fn list_operands(
     alloc: Global,
-    tokens: &'t [Token<'a>],
+    tokens: &[Token<'_>],
+    at: usize,
     operands: &mut Vec<Operand>,
-) -> Result<Option<&'t [Token<'a>]>, Memory>
+) -> Result<Option<usize>, Memory>
     requires { operands.old.items ≡ [] }
     ensures { IfOk result
-        (λ o. MatchOption o (HasNone (commas parts.operands) (views tokens.now))
-        (λ rest. Begins (commas parts.operands) (views tokens.now)
-        (map operand_of operands.new.items) (views rest.now))) }
+        (λ o. MatchOption o (HasNone (commas parts.operands) (from at tokens.now))
+        (λ rest. Begins (commas parts.operands) (from at tokens.now)
+        (map operand_of operands.new.items) (from rest tokens.now))) }
 {
-    let Some(behind) = push_operand(alloc, tokens, operands)? else {
+    let Some(first) = push_operand(alloc, tokens, at, operands)? else {
         return Ok(None);
     };
-    let mut at = tokens.len() - behind.len();
-    while let Some(behind) = next_operand(alloc, &tokens[at..], operands)? {
-        at = tokens.len() - behind.len();
+    let mut rest = first;
+    while let Some(next) = next_operand(alloc, tokens, rest, operands)? {
+        rest = next;
     }
-    Ok(Some(&tokens[at..]))
+    Ok(Some(rest))
 }
 
 // Puts the operands between `(` and `)` into the list.
-fn enclosed_operands<'t, 'a>(
+fn enclosed_operands(
     alloc: Global,
-    tokens: &'t [Token<'a>],
+    tokens: &[Token<'_>],
+    at: usize,
     operands: &mut Vec<Operand>,
-) -> Result<Option<&'t [Token<'a>]>, Memory>
+) -> Result<Option<usize>, Memory>
     requires { operands.old.items ≡ [] }
     ensures { IfOk result
-        (λ o. MatchOption o (HasNone (parentheses parts.operands) (views tokens.now))
-        (λ rest. Begins (parentheses parts.operands) (views tokens.now)
-        (map operand_of operands.new.items) (views rest.now))) }
+        (λ o. MatchOption o (HasNone (parentheses parts.operands) (from at tokens.now))
+        (λ rest. Begins (parentheses parts.operands) (from at tokens.now)
+        (map operand_of operands.new.items) (from rest tokens.now))) }
 {
-    let Some(inner) = after_sign(tokens, b'(') else {
+    let Some(inner) = after_sign(tokens, at, b'(') else {
         return Ok(None);
     };
-    if let Some(rest) = after_sign(inner, b')') {
+    if let Some(rest) = after_sign(tokens, inner, b')') {
         return Ok(Some(rest));
     }
-    match list_operands(alloc, inner, operands)? {
-        Some(behind) => Ok(after_sign(behind, b')')),
+    match list_operands(alloc, tokens, inner, operands)? {
+        Some(behind) => Ok(after_sign(tokens, behind, b')')),
         None => Ok(None),
     }
 }
 
 /// The operands between `(` and `)`.
-pub fn operands_in<'t, 'a>(alloc: Global, tokens: &'t [Token<'a>]) -> Read<'t, 'a, Vec<Operand>>
+pub fn operands_in(alloc: Global, tokens: &[Token<'_>], at: usize) -> Read<Vec<Operand>>
     ensures { IfOk result
-        (λ o. MatchOption o (HasNone (parentheses parts.operands) (views tokens.now))
-        (λ p. Begins (parentheses parts.operands) (views tokens.now) (map operand_of p.0.items)
-        (views p.1.now))) }
+        (λ o. MatchOption o (HasNone (parentheses parts.operands) (from at tokens.now))
+        (λ p. Begins (parentheses parts.operands) (from at tokens.now) (map operand_of p.0.items)
+        (from p.1 tokens.now))) }
 {
     let mut operands = Vec::new(alloc);
-    match enclosed_operands(alloc, tokens, &mut operands) {
+    match enclosed_operands(alloc, tokens, at, &mut operands) {
         Ok(Some(rest)) => Ok(Some((operands, rest))),
         Ok(None) => Ok(None),
         Err(memory) => Err(memory),

@@ -4,14 +4,14 @@ ghost use Rattle.std.specs.Prelude.{◌≡◌};
 ghost use Rattle.nll_mir_grammar.specs.Grammars.{both};
 
 use nll_sets::Memory;
-use nll_text::Token;
 
-/// What is read at the front of tokens, with the tokens behind it; or nothing, where none is there.
-pub type Read<'t, 'a, T> = Result<Option<(T, &'t [Token<'a>])>, Memory>;
+/// What is read from a token on, with the number of the token behind it; or nothing, where none is
+/// there.
+pub type Read<T> = Result<Option<(T, usize)>, Memory>;
 
 /// A value that was read, with what is read behind it.
-pub fn with<'t, 'a, A: Drop, B>(first: A, second: Read<'t, 'a, B>) -> Read<'t, 'a, (A, B)>
-    ensures { result ≡ both first second.entry }
+pub fn with<A: Drop, B>(first: A, second: Read<B>) -> Read<(A, B)>
+    ensures { result ≡ both first second }
 {
     match second {
         Ok(Some((second, rest))) => Ok(Some(((first, second), rest))),

@@ -1,31 +1,30 @@
 //! Places and operands.
 
 ghost use Rattle.std.specs.Prelude.{◌≡◌, ◌++◌, ◌∷◌, [], IfOk, MatchOption, OnOk};
-ghost use Rattle.nll_text.specs.Tokens.{views};
 ghost use Rattle.nll_types.specs.Places.{path_of};
 ghost use Rattle.nll_types.specs.Operands.{operand_of};
-ghost use Rattle.nll_mir_grammar.specs.Grammars.{Begins, HasNone, many};
+ghost use Rattle.nll_mir_grammar.specs.Grammars.{Begins, HasNone, from, many};
 ghost use Rattle.nll_mir_grammar.specs.Parts as parts;
 
-use crate::words::{after_word, variable_at};
+use crate::words::{after_sign, after_word, number_at, variable_at};
 use nll_sets::Memory;
-use nll_text::{Token, number_of};
+use nll_text::Token;
 use nll_types::{Operand, Place, Projection};
 use smallvec::SmallVec;
 use std::alloc::Global;
 
 // The projection at the front.
-fn projection_at<'t, 'a>(tokens: &'t [Token<'a>]) -> Option<(Projection, &'t [Token<'a>])>
-    ensures { MatchOption result (HasNone parts.projections (views tokens.now))
-        (λ p. Begins parts.projections (views tokens.now) p.0 (views p.1.now)) }
+fn projection_at(tokens: &[Token<'_>], at: usize) -> Option<(Projection, usize)>
+    ensures { MatchOption result (HasNone parts.projections (from at tokens.now))
+        (λ p. Begins parts.projections (from at tokens.now) p.0 (from p.1 tokens.now)) }
 {
-    match tokens {
-        [Token::Sign(b'.'), Token::Sign(b'*'), rest @ ..] => Some((Projection::Deref, rest)),
-        [Token::Sign(b'.'), Token::Word(word), rest @ ..] => {
-            let number = number_of(word)?;
+    let behind = after_sign(tokens, at, b'.')?;
+    match after_sign(tokens, behind, b'*') {
+        Some(rest) => Some((Projection::Deref, rest)),
+        None => {
+            let (number, rest) = number_at(tokens, behind)?;
             Some((Projection::Field(number), rest))
         }
-        _ => None,
     }
 }
 
@@ -41,93 +40,99 @@ fn push_projection(
 }
 
 // The projections at the front, as many as there are. Up to three need no memory of their own.
-fn projections_at<'t, 'a>(
+fn projections_at(
     alloc: Global,
-    tokens: &'t [Token<'a>],
-) -> Result<(SmallVec<Projection, 3>, &'t [Token<'a>]), Memory>
+    tokens: &[Token<'_>],
+    at: usize,
+) -> Result<(SmallVec<Projection, 3>, usize), Memory>
     ensures { IfOk result
-        (λ p. Begins (many parts.projections) (views tokens.now) p.0.items (views p.1.now)) }
+        (λ p. Begins (many parts.projections) (from at tokens.now) p.0.items
+        (from p.1 tokens.now)) }
 {
     let mut projections = SmallVec::new(alloc);
-    let mut at = 0;
-    while let Some((projection, behind)) = projection_at(&tokens[at..]) {
+    let mut rest = at;
+    while let Some((projection, behind)) = projection_at(tokens, rest) {
         push_projection(&mut projections, projection)?;
-        at = tokens.len() - behind.len();
+        rest = behind;
     }
-    Ok((projections, &tokens[at..]))
+    Ok((projections, rest))
 }
 
 // The place of the variable, of which is taken what stands at the front, in a list.
-fn listed_place<'t, 'a>(
+fn listed_place(
     alloc: Global,
     variable: u32,
-    tokens: &'t [Token<'a>],
-) -> Result<(Place, &'t [Token<'a>]), Memory>
+    tokens: &[Token<'_>],
+    at: usize,
+) -> Result<(Place, usize), Memory>
     ensures variable { IfOk result (λ p. (path_of p.0).variable ≡ variable) }
-    ensures taken { IfOk result (λ p. Begins (many parts.projections) (views tokens.now)
-        (path_of p.0).projections (views p.1.now)) }
+    ensures taken { IfOk result (λ p. Begins (many parts.projections) (from at tokens.now)
+        (path_of p.0).projections (from p.1 tokens.now)) }
 {
-    let (projections, rest) = projections_at(alloc, tokens)?;
+    let (projections, rest) = projections_at(alloc, tokens, at)?;
     let place = Place::new(alloc, variable, projections)?;
     Ok((place, rest))
 }
 
 // The place of the variable, of which is taken what stands at the front. Most places take nothing
 // or one projection, and these need no list.
-fn place_behind<'t, 'a>(
+fn place_behind(
     alloc: Global,
     variable: u32,
-    tokens: &'t [Token<'a>],
-) -> Result<(Place, &'t [Token<'a>]), Memory>
+    tokens: &[Token<'_>],
+    at: usize,
+) -> Result<(Place, usize), Memory>
     ensures variable { IfOk result (λ p. (path_of p.0).variable ≡ variable) }
-    ensures taken { IfOk result (λ p. Begins (many parts.projections) (views tokens.now)
-        (path_of p.0).projections (views p.1.now)) }
+    ensures taken { IfOk result (λ p. Begins (many parts.projections) (from at tokens.now)
+        (path_of p.0).projections (from p.1 tokens.now)) }
 {
-    let Some((projection, rest)) = projection_at(tokens) else {
-        return Ok((Place::Whole(variable), tokens));
+    let Some((projection, rest)) = projection_at(tokens, at) else {
+        return Ok((Place::Whole(variable), at));
     };
-    match projection_at(rest) {
-        Some(_) => listed_place(alloc, variable, tokens),
+    match projection_at(tokens, rest) {
+        Some(_) => listed_place(alloc, variable, tokens, at),
         None => Ok((Place::Part(variable, projection), rest)),
     }
 }
 
 /// The place at the front.
-pub fn place_at<'t, 'a>(
+pub fn place_at(
     alloc: Global,
-    tokens: &'t [Token<'a>],
-) -> Result<Option<(Place, &'t [Token<'a>])>, Memory>
-    ensures { IfOk result (λ o. MatchOption o (HasNone parts.places (views tokens.now))
-        (λ p. Begins parts.places (views tokens.now) (path_of p.0) (views p.1.now))) }
+    tokens: &[Token<'_>],
+    at: usize,
+) -> Result<Option<(Place, usize)>, Memory>
+    ensures { IfOk result (λ o. MatchOption o (HasNone parts.places (from at tokens.now))
+        (λ p. Begins parts.places (from at tokens.now) (path_of p.0) (from p.1 tokens.now))) }
 {
-    let Some((variable, behind)) = variable_at(tokens) else {
+    let Some((variable, behind)) = variable_at(tokens, at) else {
         return Ok(None);
     };
-    let (place, rest) = place_behind(alloc, variable, behind)?;
+    let (place, rest) = place_behind(alloc, variable, tokens, behind)?;
     Ok(Some((place, rest)))
 }
 
 /// The operand at the front.
-pub fn operand_at<'t, 'a>(
+pub fn operand_at(
     alloc: Global,
-    tokens: &'t [Token<'a>],
-) -> Result<Option<(Operand, &'t [Token<'a>])>, Memory>
-    ensures { IfOk result (λ o. MatchOption o (HasNone parts.operands (views tokens.now))
-        (λ p. Begins parts.operands (views tokens.now) (operand_of p.0) (views p.1.now))) }
+    tokens: &[Token<'_>],
+    at: usize,
+) -> Result<Option<(Operand, usize)>, Memory>
+    ensures { IfOk result (λ o. MatchOption o (HasNone parts.operands (from at tokens.now))
+        (λ p. Begins parts.operands (from at tokens.now) (operand_of p.0) (from p.1 tokens.now))) }
 {
-    if let Some(rest) = after_word(tokens, b"copy") {
-        let Some((place, rest)) = place_at(alloc, rest)? else {
+    if let Some(rest) = after_word(tokens, at, b"copy") {
+        let Some((place, rest)) = place_at(alloc, tokens, rest)? else {
             return Ok(None);
         };
         return Ok(Some((Operand::Copy(place), rest)));
     }
-    if let Some(rest) = after_word(tokens, b"move") {
-        let Some((place, rest)) = place_at(alloc, rest)? else {
+    if let Some(rest) = after_word(tokens, at, b"move") {
+        let Some((place, rest)) = place_at(alloc, tokens, rest)? else {
             return Ok(None);
         };
         return Ok(Some((Operand::Move(place), rest)));
     }
-    match after_word(tokens, b"const") {
+    match after_word(tokens, at, b"const") {
         Some(rest) => Ok(Some((Operand::Const, rest))),
         None => Ok(None),
     }

@@ -1,8 +1,7 @@
 //! Statements and terminators that begin with a word of their own, behind that word.
 
 ghost use Rattle.std.specs.Prelude.{IfOk, MatchOption};
-ghost use Rattle.nll_text.specs.Tokens.{views};
-ghost use Rattle.nll_mir_grammar.specs.Grammars.{HasNone};
+ghost use Rattle.nll_mir_grammar.specs.Grammars.{HasNone, from};
 ghost use Rattle.nll_mir_grammar.specs.Kinds.{IsBehind, tails};
 ghost use Rattle.nll_mir_grammar.specs.Lines.{form_of};
 ghost use Rattle.nll_mir_grammar.specs.declared.keyword.Keyword.TheVariants as keyword;
@@ -18,70 +17,72 @@ use nll_text::Token;
 use std::alloc::Global;
 
 /// Behind `live`.
-pub fn live_line<'t, 'a>(tokens: &'t [Token<'a>]) -> Option<(Line<'a>, &'t [Token<'a>])>
-    ensures { MatchOption result (HasNone (tails keyword.Live) (views tokens.now))
-        (λ p. IsBehind keyword.Live (views tokens.now) (form_of p.0) (views p.1.now)) }
+pub fn live_line<'a>(tokens: &[Token<'a>], at: usize) -> Option<(Line<'a>, usize)>
+    ensures { MatchOption result (HasNone (tails keyword.Live) (from at tokens.now))
+        (λ p. IsBehind keyword.Live (from at tokens.now) (form_of p.0) (from p.1 tokens.now)) }
 {
-    let (variable, rest) = variable_at(tokens)?;
+    let (variable, rest) = variable_at(tokens, at)?;
     Some((Line::At(Statement::Live(variable)), rest))
 }
 
 /// Behind `dead`.
-pub fn dead_line<'t, 'a>(tokens: &'t [Token<'a>]) -> Option<(Line<'a>, &'t [Token<'a>])>
-    ensures { MatchOption result (HasNone (tails keyword.Dead) (views tokens.now))
-        (λ p. IsBehind keyword.Dead (views tokens.now) (form_of p.0) (views p.1.now)) }
+pub fn dead_line<'a>(tokens: &[Token<'a>], at: usize) -> Option<(Line<'a>, usize)>
+    ensures { MatchOption result (HasNone (tails keyword.Dead) (from at tokens.now))
+        (λ p. IsBehind keyword.Dead (from at tokens.now) (form_of p.0) (from p.1 tokens.now)) }
 {
-    let (variable, rest) = variable_at(tokens)?;
+    let (variable, rest) = variable_at(tokens, at)?;
     Some((Line::At(Statement::Dead(variable)), rest))
 }
 
 /// Behind `goto`.
-pub fn goto_line<'t, 'a>(tokens: &'t [Token<'a>]) -> Option<(Line<'a>, &'t [Token<'a>])>
-    ensures { MatchOption result (HasNone (tails keyword.Goto) (views tokens.now))
-        (λ p. IsBehind keyword.Goto (views tokens.now) (form_of p.0) (views p.1.now)) }
+pub fn goto_line<'a>(tokens: &[Token<'a>], at: usize) -> Option<(Line<'a>, usize)>
+    ensures { MatchOption result (HasNone (tails keyword.Goto) (from at tokens.now))
+        (λ p. IsBehind keyword.Goto (from at tokens.now) (form_of p.0) (from p.1 tokens.now)) }
 {
-    let (block, rest) = block_at(tokens)?;
+    let (block, rest) = block_at(tokens, at)?;
     Some((Line::At(Statement::Goto(block)), rest))
 }
 
 /// Behind `drop`.
-pub fn drop_line<'t, 'a>(tokens: &'t [Token<'a>]) -> Option<(Line<'a>, &'t [Token<'a>])>
-    ensures { MatchOption result (HasNone (tails keyword.Drop) (views tokens.now))
-        (λ p. IsBehind keyword.Drop (views tokens.now) (form_of p.0) (views p.1.now)) }
+pub fn drop_line<'a>(tokens: &[Token<'a>], at: usize) -> Option<(Line<'a>, usize)>
+    ensures { MatchOption result (HasNone (tails keyword.Drop) (from at tokens.now))
+        (λ p. IsBehind keyword.Drop (from at tokens.now) (form_of p.0) (from p.1 tokens.now)) }
 {
-    let (variable, behind) = variable_at(tokens)?;
-    let ((target, unwind), rest) = exits_at(behind)?;
+    let (variable, behind) = variable_at(tokens, at)?;
+    let ((target, unwind), rest) = exits_at(tokens, behind)?;
     Some((Line::At(Statement::Drop(variable, target, unwind)), rest))
 }
 
 /// Behind `read`.
-pub fn read_line<'t, 'a>(
+pub fn read_line<'a>(
     alloc: Global,
-    tokens: &'t [Token<'a>],
-) -> Result<Option<(Line<'a>, &'t [Token<'a>])>, Memory>
+    tokens: &[Token<'a>],
+    at: usize,
+) -> Result<Option<(Line<'a>, usize)>, Memory>
     ensures { IfOk result
-        (λ o. MatchOption o (HasNone (tails keyword.Read) (views tokens.now))
-        (λ p. IsBehind keyword.Read (views tokens.now) (form_of p.0) (views p.1.now))) }
+        (λ o. MatchOption o (HasNone (tails keyword.Read) (from at tokens.now))
+        (λ p. IsBehind keyword.Read (from at tokens.now) (form_of p.0) (from p.1 tokens.now))) }
 {
-    let Some((place, rest)) = place_at(alloc, tokens)? else {
+    let Some((place, rest)) = place_at(alloc, tokens, at)? else {
         return Ok(None);
     };
     Ok(Some((Line::At(Statement::Read(place)), rest)))
 }
 
 /// Behind `switch`.
-pub fn switch_line<'t, 'a>(
+pub fn switch_line<'a>(
     alloc: Global,
-    tokens: &'t [Token<'a>],
-) -> Result<Option<(Line<'a>, &'t [Token<'a>])>, Memory>
+    tokens: &[Token<'a>],
+    at: usize,
+) -> Result<Option<(Line<'a>, usize)>, Memory>
     ensures { IfOk result
-        (λ o. MatchOption o (HasNone (tails keyword.Switch) (views tokens.now))
-        (λ p. IsBehind keyword.Switch (views tokens.now) (form_of p.0) (views p.1.now))) }
+        (λ o. MatchOption o (HasNone (tails keyword.Switch) (from at tokens.now))
+        (λ p. IsBehind keyword.Switch (from at tokens.now) (form_of p.0) (from p.1 tokens.now))) }
 {
-    let Some((operand, behind)) = operand_at(alloc, tokens)? else {
+    let Some((operand, behind)) = operand_at(alloc, tokens, at)? else {
         return Ok(None);
     };
-    let Some((blocks, rest)) = blocks_at(alloc, behind)? else {
+    let Some((blocks, rest)) = blocks_at(alloc, tokens, behind)? else {
         return Ok(None);
     };
     Ok(Some((Line::At(Statement::Switch(operand, blocks)), rest)))

@@ -3,7 +3,7 @@
 ghost use Rattle.std.specs.Prelude.{◌≡◌, ◌∷◌, IfOk, MatchOption};
 ghost use Rattle.nll_text.specs.Tokens as lex;
 ghost use Rattle.nll_text.specs.Tokens.{views};
-ghost use Rattle.nll_mir_grammar.specs.Grammars.{HasNone};
+ghost use Rattle.nll_mir_grammar.specs.Grammars.{HasNone, from};
 ghost use Rattle.nll_mir_grammar.specs.Kinds as kinds;
 ghost use Rattle.nll_mir_grammar.specs.Kinds.{HasNoKeyword, IsBehind, IsLine, keyword_name};
 ghost use Rattle.nll_mir_grammar.specs.Kinds.{tails};
@@ -25,54 +25,55 @@ use nll_text::Token;
 use std::alloc::Global;
 
 // The line that begins with the keyword, behind which are the tokens.
-fn line_behind<'t, 'a>(
+fn line_behind<'a>(
     alloc: Global,
     keyword: Keyword,
-    tokens: &'t [Token<'a>],
-) -> Read<'t, 'a, Line<'a>>
+    tokens: &[Token<'a>],
+    at: usize,
+) -> Read<Line<'a>>
     ensures { IfOk result
-        (λ o. MatchOption o (HasNone (tails keyword) (views tokens.now))
-        (λ p. IsBehind keyword (views tokens.now) (form_of p.0) (views p.1.now))) }
+        (λ o. MatchOption o (HasNone (tails keyword) (from at tokens.now))
+        (λ p. IsBehind keyword (from at tokens.now) (form_of p.0) (from p.1 tokens.now))) }
 {
     match keyword {
-        Keyword::Universal => Ok(universal_line(tokens)),
-        Keyword::Outlives => Ok(outlives_line(tokens)),
-        Keyword::Region => Ok(region_line(tokens)),
-        Keyword::Struct => struct_line(alloc, tokens),
-        Keyword::Let => let_line(alloc, tokens),
-        Keyword::Blocks => Ok(blocks_line(tokens)),
-        Keyword::Block => Ok(block_line(tokens)),
-        Keyword::Read => read_line(alloc, tokens),
-        Keyword::Live => Ok(live_line(tokens)),
-        Keyword::Dead => Ok(dead_line(tokens)),
-        Keyword::Nop => Ok(Some((Line::At(Statement::Nop), tokens))),
-        Keyword::Goto => Ok(goto_line(tokens)),
-        Keyword::Switch => switch_line(alloc, tokens),
-        Keyword::Drop => Ok(drop_line(tokens)),
-        Keyword::Return => Ok(Some((Line::At(Statement::Return), tokens))),
-        Keyword::Stop => Ok(Some((Line::At(Statement::Stop), tokens))),
-        Keyword::End => Ok(Some((Line::End, tokens))),
+        Keyword::Universal => Ok(universal_line(tokens, at)),
+        Keyword::Outlives => Ok(outlives_line(tokens, at)),
+        Keyword::Region => Ok(region_line(tokens, at)),
+        Keyword::Struct => struct_line(alloc, tokens, at),
+        Keyword::Let => let_line(alloc, tokens, at),
+        Keyword::Blocks => Ok(blocks_line(tokens, at)),
+        Keyword::Block => Ok(block_line(tokens, at)),
+        Keyword::Read => read_line(alloc, tokens, at),
+        Keyword::Live => Ok(live_line(tokens, at)),
+        Keyword::Dead => Ok(dead_line(tokens, at)),
+        Keyword::Nop => Ok(Some((Line::At(Statement::Nop), at))),
+        Keyword::Goto => Ok(goto_line(tokens, at)),
+        Keyword::Switch => switch_line(alloc, tokens, at),
+        Keyword::Drop => Ok(drop_line(tokens, at)),
+        Keyword::Return => Ok(Some((Line::At(Statement::Return), at))),
+        Keyword::Stop => Ok(Some((Line::At(Statement::Stop), at))),
+        Keyword::End => Ok(Some((Line::End, at))),
     }
 }
 
 // The keyword at the front, and what stands behind it.
-fn keyword_at<'t, 'a>(tokens: &'t [Token<'a>]) -> Option<(Keyword, &'t [Token<'a>])>
-    ensures { MatchOption result (HasNoKeyword (views tokens.now))
-        (λ p. views tokens.now ≡ lex.word (keyword_name p.0) ∷ views p.1.now) }
+fn keyword_at(tokens: &[Token<'_>], at: usize) -> Option<(Keyword, usize)>
+    ensures { MatchOption result (HasNoKeyword (from at tokens.now))
+        (λ p. from at tokens.now ≡ lex.word (keyword_name p.0) ∷ from p.1 tokens.now) }
 {
-    let (word, rest) = word_at(tokens)?;
+    let (word, rest) = word_at(tokens, at)?;
     let keyword = keyword_of(word)?;
     Some((keyword, rest))
 }
 
 // The line at the front.
-fn line_at<'t, 'a>(alloc: Global, tokens: &'t [Token<'a>]) -> Read<'t, 'a, Line<'a>>
-    ensures { IfOk result (λ o. MatchOption o (HasNone kinds.lines (views tokens.now))
-        (λ p. IsLine (views tokens.now) (form_of p.0) (views p.1.now))) }
+fn line_at<'a>(alloc: Global, tokens: &[Token<'a>], at: usize) -> Read<Line<'a>>
+    ensures { IfOk result (λ o. MatchOption o (HasNone kinds.lines (from at tokens.now))
+        (λ p. IsLine (from at tokens.now) (form_of p.0) (from p.1 tokens.now))) }
 {
-    match keyword_at(tokens) {
-        Some((keyword, rest)) => line_behind(alloc, keyword, rest),
-        None => assignment_at(alloc, tokens),
+    match keyword_at(tokens, at) {
+        Some((keyword, rest)) => line_behind(alloc, keyword, tokens, rest),
+        None => assignment_at(alloc, tokens, at),
     }
 }
 
@@ -85,10 +86,10 @@ pub fn line_of<'a>(alloc: Global, tokens: &[Token<'a>]) -> Result<Option<Line<'a
         (λ o. MatchOption o ((f : Form) → IsSpelled (views tokens.now) f → ⊥)
         (λ line. IsSpelled (views tokens.now) (form_of line))) }
 {
-    let Some((line, rest)) = line_at(alloc, tokens)? else {
+    let Some((line, rest)) = line_at(alloc, tokens, 0)? else {
         return Ok(None);
     };
-    if !rest.is_empty() {
+    if rest < tokens.len() {
         drop(line);
         return Ok(None);
     }

@@ -1,21 +1,30 @@
 //! Single tokens: signs, words, names and numbers.
 
-ghost use Rattle.std.specs.Prelude.{◌≡◌, ◌∷◌, ◌↔◌, IsTrue, MatchOption};
+ghost use Rattle.std.specs.Prelude.{◌≡◌, ◌<◌, ◌+◌, [], ◌∷◌, ◌↔◌, IsTrue, MatchOption, length};
 ghost use Rattle.nll_text.specs.Tokens as lex;
-ghost use Rattle.nll_text.specs.Tokens.{views};
-ghost use Rattle.nll_mir_grammar.specs.Grammars.{Begins, HasNone, IsNotNext};
+ghost use Rattle.nll_text.specs.Tokens.{view};
+ghost use Rattle.nll_mir_grammar.specs.Grammars.{Begins, HasNone, IsNotNext, from};
 ghost use Rattle.nll_mir_grammar.specs.Parts as parts;
 
 use nll_text::{Token, number_of};
 use nll_type_grammar::is_capital;
 
-/// What stands behind the sign, where it comes next.
-pub fn after_sign<'t, 'a>(tokens: &'t [Token<'a>], sign: u8) -> Option<&'t [Token<'a>]>
-    ensures { MatchOption result (IsNotNext (lex.sign sign) (views tokens.now))
-        (λ rest. views tokens.now ≡ lex.sign sign ∷ views rest.now) }
+/// The token at the index.
+pub fn token_at<'a>(tokens: &[Token<'a>], at: usize) -> Option<Token<'a>>
+    ensures { MatchOption result (from at tokens.now ≡ [])
+        (λ token. (at < length tokens.now)
+        × (from at tokens.now ≡ view token ∷ from (at + 1) tokens.now)) }
 {
-    match tokens {
-        [Token::Sign(first), rest @ ..] if *first == sign => Some(rest),
+    tokens.get(at).copied()
+}
+
+/// What stands behind the sign, where it comes next.
+pub fn after_sign(tokens: &[Token<'_>], at: usize, sign: u8) -> Option<usize>
+    ensures { MatchOption result (IsNotNext (lex.sign sign) (from at tokens.now))
+        (λ rest. from at tokens.now ≡ lex.sign sign ∷ from rest tokens.now) }
+{
+    match token_at(tokens, at) {
+        Some(Token::Sign(first)) if first == sign => Some(at + 1),
         _ => None,
     }
 }
@@ -28,118 +37,118 @@ fn is_same(word: &[u8], other: &[u8]) -> bool
 }
 
 /// What stands behind the word, where it comes next.
-pub fn after_word<'t, 'a>(tokens: &'t [Token<'a>], word: &[u8]) -> Option<&'t [Token<'a>]>
-    ensures { MatchOption result (IsNotNext (lex.word word.now) (views tokens.now))
-        (λ rest. views tokens.now ≡ lex.word word.now ∷ views rest.now) }
+pub fn after_word(tokens: &[Token<'_>], at: usize, word: &[u8]) -> Option<usize>
+    ensures { MatchOption result (IsNotNext (lex.word word.now) (from at tokens.now))
+        (λ rest. from at tokens.now ≡ lex.word word.now ∷ from rest tokens.now) }
 {
-    match tokens {
-        [Token::Word(first), rest @ ..] if is_same(first, word) => Some(rest),
+    match token_at(tokens, at) {
+        Some(Token::Word(first)) if is_same(first, word) => Some(at + 1),
         _ => None,
     }
 }
 
 /// What stands behind the arrow, where it comes next.
-pub fn after_arrow<'t, 'a>(tokens: &'t [Token<'a>]) -> Option<&'t [Token<'a>]>
-    ensures { MatchOption result (IsNotNext lex.arrow (views tokens.now))
-        (λ rest. views tokens.now ≡ lex.arrow ∷ views rest.now) }
+pub fn after_arrow(tokens: &[Token<'_>], at: usize) -> Option<usize>
+    ensures { MatchOption result (IsNotNext lex.arrow (from at tokens.now))
+        (λ rest. from at tokens.now ≡ lex.arrow ∷ from rest tokens.now) }
 {
-    match tokens {
-        [Token::Arrow, rest @ ..] => Some(rest),
+    match token_at(tokens, at) {
+        Some(Token::Arrow) => Some(at + 1),
         _ => None,
     }
 }
 
 /// The region at the front.
-pub fn region_at<'t, 'a>(tokens: &'t [Token<'a>]) -> Option<(&'a [u8], &'t [Token<'a>])>
-    ensures { MatchOption result (HasNone parts.regions (views tokens.now))
-        (λ p. Begins parts.regions (views tokens.now) p.0.now (views p.1.now)) }
+pub fn region_at<'a>(tokens: &[Token<'a>], at: usize) -> Option<(&'a [u8], usize)>
+    ensures { MatchOption result (HasNone parts.regions (from at tokens.now))
+        (λ p. Begins parts.regions (from at tokens.now) p.0.now (from p.1 tokens.now)) }
 {
-    match tokens {
-        [Token::Region(name), rest @ ..] => Some((name, rest)),
+    match token_at(tokens, at) {
+        Some(Token::Region(name)) => Some((name, at + 1)),
         _ => None,
     }
 }
 
 /// The word at the front.
-pub fn word_at<'t, 'a>(tokens: &'t [Token<'a>]) -> Option<(&'a [u8], &'t [Token<'a>])>
-    ensures { MatchOption result (HasNone parts.any_words (views tokens.now))
-        (λ p. Begins parts.any_words (views tokens.now) p.0.now (views p.1.now)) }
+pub fn word_at<'a>(tokens: &[Token<'a>], at: usize) -> Option<(&'a [u8], usize)>
+    ensures { MatchOption result (HasNone parts.any_words (from at tokens.now))
+        (λ p. Begins parts.any_words (from at tokens.now) p.0.now (from p.1 tokens.now)) }
 {
-    match tokens {
-        [Token::Word(word), rest @ ..] => Some((word, rest)),
+    match token_at(tokens, at) {
+        Some(Token::Word(word)) => Some((word, at + 1)),
         _ => None,
     }
 }
 
 /// The name of a type at the front.
-pub fn name_at<'t, 'a>(tokens: &'t [Token<'a>]) -> Option<(&'a [u8], &'t [Token<'a>])>
-    ensures { MatchOption result (HasNone parts.names (views tokens.now))
-        (λ p. Begins parts.names (views tokens.now) p.0.now (views p.1.now)) }
+pub fn name_at<'a>(tokens: &[Token<'a>], at: usize) -> Option<(&'a [u8], usize)>
+    ensures { MatchOption result (HasNone parts.names (from at tokens.now))
+        (λ p. Begins parts.names (from at tokens.now) p.0.now (from p.1 tokens.now)) }
 {
-    match tokens {
-        [Token::Word(word), rest @ ..] if is_capital(word) => Some((word, rest)),
+    match token_at(tokens, at) {
+        Some(Token::Word(word)) if is_capital(word) => Some((word, at + 1)),
         _ => None,
     }
 }
 
 /// The number at the front.
-pub fn number_at<'t, 'a>(tokens: &'t [Token<'a>]) -> Option<(u32, &'t [Token<'a>])>
-    ensures { MatchOption result (HasNone parts.numbers (views tokens.now))
-        (λ p. Begins parts.numbers (views tokens.now) p.0 (views p.1.now)) }
+pub fn number_at(tokens: &[Token<'_>], at: usize) -> Option<(u32, usize)>
+    ensures { MatchOption result (HasNone parts.numbers (from at tokens.now))
+        (λ p. Begins parts.numbers (from at tokens.now) p.0 (from p.1 tokens.now)) }
 {
-    match tokens {
-        [Token::Word(word), rest @ ..] => {
+    match token_at(tokens, at) {
+        Some(Token::Word(word)) => {
             let number = number_of(word)?;
-            Some((number, rest))
+            Some((number, at + 1))
         }
         _ => None,
     }
 }
 
 /// The variable at the front, by its number.
-pub fn variable_at<'t, 'a>(tokens: &'t [Token<'a>]) -> Option<(u32, &'t [Token<'a>])>
-    ensures { MatchOption result (HasNone parts.variables (views tokens.now))
-        (λ p. Begins parts.variables (views tokens.now) p.0 (views p.1.now)) }
+pub fn variable_at(tokens: &[Token<'_>], at: usize) -> Option<(u32, usize)>
+    ensures { MatchOption result (HasNone parts.variables (from at tokens.now))
+        (λ p. Begins parts.variables (from at tokens.now) p.0 (from p.1 tokens.now)) }
 {
-    match tokens {
-        [Token::Word([b'_', digits @ ..]), rest @ ..] => {
+    match token_at(tokens, at) {
+        Some(Token::Word([b'_', digits @ ..])) => {
             let number = number_of(digits)?;
-            Some((number, rest))
+            Some((number, at + 1))
         }
         _ => None,
     }
 }
 
 /// The block at the front, by its number.
-pub fn block_at<'t, 'a>(tokens: &'t [Token<'a>]) -> Option<(u32, &'t [Token<'a>])>
-    ensures { MatchOption result (HasNone parts.block_names (views tokens.now))
-        (λ p. Begins parts.block_names (views tokens.now) p.0 (views p.1.now)) }
+pub fn block_at(tokens: &[Token<'_>], at: usize) -> Option<(u32, usize)>
+    ensures { MatchOption result (HasNone parts.block_names (from at tokens.now))
+        (λ p. Begins parts.block_names (from at tokens.now) p.0 (from p.1 tokens.now)) }
 {
-    match tokens {
-        [Token::Word([b'b', b'b', digits @ ..]), rest @ ..] => {
+    match token_at(tokens, at) {
+        Some(Token::Word([b'b', b'b', digits @ ..])) => {
             let number = number_of(digits)?;
-            Some((number, rest))
+            Some((number, at + 1))
         }
         _ => None,
     }
 }
 
 /// Whether `mut` comes next, and what stands behind it or else here.
-pub fn mutability_at<'t, 'a>(tokens: &'t [Token<'a>]) -> (bool, &'t [Token<'a>])
-    ensures { Begins parts.mutabilities (views tokens.now) result.0 (views result.1.now) }
+pub fn mutability_at(tokens: &[Token<'_>], at: usize) -> (bool, usize)
+    ensures { Begins parts.mutabilities (from at tokens.now) result.0 (from result.1 tokens.now) }
 {
-    match after_word(tokens, b"mut") {
+    match after_word(tokens, at, b"mut") {
         Some(rest) => (true, rest),
-        None => (false, tokens),
+        None => (false, at),
     }
 }
 
 /// Whether `drop` comes next, and what stands behind it or else here.
-pub fn drop_mark_at<'t, 'a>(tokens: &'t [Token<'a>]) -> (bool, &'t [Token<'a>])
-    ensures { Begins parts.drop_marks (views tokens.now) result.0 (views result.1.now) }
+pub fn drop_mark_at(tokens: &[Token<'_>], at: usize) -> (bool, usize)
+    ensures { Begins parts.drop_marks (from at tokens.now) result.0 (from result.1 tokens.now) }
 {
-    match after_word(tokens, b"drop") {
+    match after_word(tokens, at, b"drop") {
         Some(rest) => (true, rest),
-        None => (false, tokens),
+        None => (false, at),
     }
 }

@@ -1,10 +1,11 @@
-use Rattle.std.proofs.Common.{◌-◌, length, map}
+use Rattle.std.proofs.Common.{length, map}
+use Rattle.nll_mir_grammar.specs.Grammars.{from}
 use Rattle.nll_mir_grammar.specs.Parts as parts
-use Rattle.nll_mir_grammar.proofs.GrammarLemmas.{ListsTo}
+use Rattle.nll_mir_grammar.proofs.GrammarLemmas.{HasListed}
 use Rattle.nll_mir_grammar.proofs.bounds.list_bounds.Given as goal
 
-abbrev pub invariant-loop-behind : goal.invariant-loop-behind
-invariant-loop-behind l = ListsTo parts.bounds l.tokens (map (λ w. (w.0.now, w.1.now)) l.bounds.items) l.at
+abbrev pub invariant-loop-next : goal.invariant-loop-next
+invariant-loop-next l = HasListed parts.bounds (from l.at l.tokens) (map (λ w. (w.0.now, w.1.now)) l.bounds.items) (from l.rest l.tokens)
 
-abbrev pub decreases-loop-behind : goal.decreases-loop-behind
-decreases-loop-behind l = length l.tokens - l.at
+abbrev pub decreases-loop-next : goal.decreases-loop-next
+decreases-loop-next l = length (from l.rest l.tokens)

@@ -1,7 +1,6 @@
 use Rattle.std.proofs.Common.{map}
-use Rattle.nll_text.specs.Tokens.{views}
 use Rattle.nll_type_grammar.specs.TypeTexts.{written}
-use Rattle.nll_mir_grammar.specs.Grammars.{pair}
+use Rattle.nll_mir_grammar.specs.Grammars.{from, pair}
 use Rattle.nll_mir_grammar.specs.Lines.{parameter_of}
 use Rattle.nll_mir_grammar.specs.Parts.{drop_marks, parameter_lists, tuples}
 use Rattle.nll_mir_grammar.specs.Tuples.{parts}
@@ -17,4 +16,4 @@ pub returns : goal.returns
 returns c =
     let found = rw c.in-Some.is at c.in_ok-parameters.ensures in
     rw c.with.ensures
-    (read_pair parameter_lists (pair drop_marks tuples) parameter_lists_one parameters_join _ _ c.in-Some.parameters (λ v. map parameter_of v.items) (λ f. (f.0, parts (written f.1))) (λ r. views r.now) _ found c.fields_at.ensures)
+    (read_pair parameter_lists (pair drop_marks tuples) parameter_lists_one parameters_join _ _ c.in-Some.parameters (λ v. map parameter_of v.items) (λ f. (f.0, parts (written f.1))) (λ r. from r c.args.tokens.now) _ found c.fields_at.ensures)

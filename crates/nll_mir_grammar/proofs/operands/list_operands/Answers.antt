@@ -1,30 +1,21 @@
-use Rattle.std.proofs.Common.{arith}
-use Rattle.std.proofs.lemmas.List.{take_rest}
 use Rattle.nll_types.specs.Operands.{operand_of}
 use Rattle.nll_mir_grammar.specs.Parts as parts
-use Rattle.nll_mir_grammar.proofs.GrammarLemmas.{commas_none, put_first, put_next, put_last}
+use Rattle.nll_mir_grammar.specs.Grammars.{from}
+use Rattle.nll_mir_grammar.proofs.GrammarLemmas.{commas_none, put_first, put_fewer, put_next, put_last}
 use Rattle.nll_mir_grammar.proofs.PartLemmas.{operands_listable}
 use Rattle.nll_mir_grammar.proofs.operands.list_operands.Goals as goal
 
 pub returns-in_default : goal.returns-in_default
-returns-in_default c = let none = rw c.in_default.is at c.in_ok-behind.ensures in commas_none parts.operands operands_listable.comma _ none.0
+returns-in_default c = let none = rw c.in_default.is at c.in_ok-first.ensures in commas_none parts.operands operands_listable.comma _ none.0
 
-pub overflow_sub-at : goal.overflow_sub-at
-overflow_sub-at c = (put_first parts.operands operand_of c.args.tokens.now c.in-Some.behind _ _ c.requires (rw c.in-Some.is at c.in_ok-behind.ensures)).fits
+pub loop-next-init : goal.loop-next-init
+loop-next-init c = put_first parts.operands operand_of (λ r. from r c.args.tokens.now) _ _ _ c.in-Some.first c.requires (rw c.in-Some.is at c.in_ok-first.ensures)
 
-pub loop-behind-init : goal.loop-behind-init
-loop-behind-init c = (put_first parts.operands operand_of c.args.tokens.now c.in-Some.behind _ _ c.requires (rw c.in-Some.is at c.in_ok-behind.ensures)).to
+pub loop-next-smaller : goal.loop-next-smaller
+loop-next-smaller c = put_fewer parts.operands operand_of (λ r. from r c.args.tokens.now) _ _ _ c.in-Some-2.next (rw c.in-Some-2.is at c.in_ok-next.ensures)
 
-pub overflow_sub-at-in-Some-2 : goal.overflow_sub-at-in-Some-2
-overflow_sub-at-in-Some-2 c = (put_next parts.operands operand_of c.args.tokens.now _ c.in-Some-2.behind _ _ c.loop-behind.at c.loop-behind.invariant (take_rest c.args.tokens.now c.loop-behind.at) (rw c.in-Some-2.is at c.in_ok-behind-2.ensures)).fits
-
-pub loop-behind-smaller : goal.loop-behind-smaller
-loop-behind-smaller c =
-    let h = put_next parts.operands operand_of c.args.tokens.now _ c.in-Some-2.behind _ _ c.loop-behind.at c.loop-behind.invariant (take_rest c.args.tokens.now c.loop-behind.at) (rw c.in-Some-2.is at c.in_ok-behind-2.ensures) in
-    omega (arith, h.onward, h.fits)
-
-pub loop-behind-preserved : goal.loop-behind-preserved
-loop-behind-preserved c = (put_next parts.operands operand_of c.args.tokens.now _ c.in-Some-2.behind _ _ c.loop-behind.at c.loop-behind.invariant (take_rest c.args.tokens.now c.loop-behind.at) (rw c.in-Some-2.is at c.in_ok-behind-2.ensures)).to
+pub loop-next-preserved : goal.loop-next-preserved
+loop-next-preserved c = put_next parts.operands operand_of (λ r. from r c.args.tokens.now) _ _ _ _ c.in-Some-2.next c.loop-next.invariant (rw c.in-Some-2.is at c.in_ok-next.ensures)
 
 pub returns : goal.returns
-returns c = put_last parts.operands operand_of c.args.tokens.now _ _ _ c.loop-behind.at c.loop-behind.invariant (take_rest c.args.tokens.now c.loop-behind.at) (rw c.in_default-2.is at c.in_ok-behind-2.ensures)
+returns c = put_last parts.operands operand_of (λ r. from r c.args.tokens.now) _ _ _ _ c.loop-next.invariant (rw c.in_default-2.is at c.in_ok-next.ensures)

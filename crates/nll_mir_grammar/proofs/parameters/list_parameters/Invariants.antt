@@ -1,11 +1,12 @@
-use Rattle.std.proofs.Common.{◌-◌, length, map}
+use Rattle.std.proofs.Common.{length, map}
 use Rattle.nll_mir_grammar.specs.Lines.{parameter_of}
+use Rattle.nll_mir_grammar.specs.Grammars.{from}
 use Rattle.nll_mir_grammar.specs.Parts as parts
-use Rattle.nll_mir_grammar.proofs.GrammarLemmas.{ListsTo}
+use Rattle.nll_mir_grammar.proofs.GrammarLemmas.{HasListed}
 use Rattle.nll_mir_grammar.proofs.parameters.list_parameters.Given as goal
 
-abbrev pub invariant-loop-behind : goal.invariant-loop-behind
-invariant-loop-behind l = ListsTo parts.parameters l.tokens (map parameter_of l.parameters.items) l.at
+abbrev pub invariant-loop-next : goal.invariant-loop-next
+invariant-loop-next l = HasListed parts.parameters (from l.at l.tokens) (map parameter_of l.parameters.items) (from l.rest l.tokens)
 
-abbrev pub decreases-loop-behind : goal.decreases-loop-behind
-decreases-loop-behind l = length l.tokens - l.at
+abbrev pub decreases-loop-next : goal.decreases-loop-next
+decreases-loop-next l = length (from l.rest l.tokens)

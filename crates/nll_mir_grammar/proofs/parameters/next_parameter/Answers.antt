@@ -1,8 +1,9 @@
-use Rattle.nll_text.specs.Tokens.{sign, views}
+use Rattle.nll_mir_grammar.specs.Grammars.{from}
+use Rattle.nll_text.specs.Tokens.{sign}
 use Rattle.nll_mir_grammar.specs.Lines.{parameter_of}
 use Rattle.nll_mir_grammar.specs.Parts as parts
 use Rattle.nll_mir_grammar.proofs.GrammarLemmas.{put_behind}
 use Rattle.nll_mir_grammar.proofs.parameters.next_parameter.Goals as goal
 
 pub returns-in-Some : goal.returns-in-Some
-returns-in-Some c = put_behind parts.parameters (sign 44) parameter_of (λ r. views r.now) _ _ _ _ _ c.in-Some.ensures c.push_parameter.ensures
+returns-in-Some c = put_behind parts.parameters (sign 44) parameter_of (λ r. from r c.args.tokens.now) _ _ _ _ _ c.in-Some.ensures c.push_parameter.ensures

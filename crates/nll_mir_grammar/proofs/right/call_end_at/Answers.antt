@@ -1,8 +1,8 @@
+use Rattle.nll_mir_grammar.specs.Grammars.{from}
 use Rattle.std.proofs.Common.{List, map}
 use Rattle.std.specs.Borrow.{Bor}
 use Rattle.std.specs.Prelude.{Ok}
 use Rattle.nll_text.specs.declared.token.Token.{Token as InLine}
-use Rattle.nll_text.specs.Tokens.{views}
 use Rattle.nll_mir_grammar.specs.Parts as parts
 use Rattle.nll_mir_grammar.proofs.GrammarLemmas.{pair_none, read_pair}
 use Rattle.nll_mir_grammar.proofs.PartLemmas.{bound_lists_one}
@@ -16,4 +16,4 @@ pub returns : goal.returns
 returns c =
     let found = rw c.in-Some.is at c.in_ok-bounds.ensures in
     rw c.with.ensures
-    (read_pair parts.bound_lists parts.exits bound_lists_one bounds_join _ _ c.in-Some.bounds (λ v. map (λ w. (w.0.now, w.1.now)) v.items) (λ e. e) (λ (r : Bor (List InLine)). views r.now) (Ok c.exits_at.result) found c.exits_at.ensures)
+    (read_pair parts.bound_lists parts.exits bound_lists_one bounds_join _ _ c.in-Some.bounds (λ v. map (λ w. (w.0.now, w.1.now)) v.items) (λ e. e) (λ r. from r c.args.tokens.now) (Ok c.exits_at.result) found c.exits_at.ensures)

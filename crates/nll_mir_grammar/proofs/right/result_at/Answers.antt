@@ -1,7 +1,6 @@
 use Rattle.std.proofs.Common.{map}
-use Rattle.nll_text.specs.Tokens.{views}
 use Rattle.nll_type_grammar.specs.TypeTexts.{written}
-use Rattle.nll_mir_grammar.specs.Grammars.{pair}
+use Rattle.nll_mir_grammar.specs.Grammars.{from, pair}
 use Rattle.nll_mir_grammar.specs.Parts as parts
 use Rattle.nll_mir_grammar.proofs.GrammarLemmas.{pair_none, read_pair}
 use Rattle.nll_mir_grammar.proofs.PartLemmas.{types_one}
@@ -15,4 +14,4 @@ pub returns : goal.returns
 returns c =
     let found = rw c.in-Some.is at c.in_ok-ty.ensures in
     rw c.with.ensures
-    (read_pair parts.types (pair parts.bound_lists parts.exits) types_one results_join _ _ c.in-Some.ty written (λ e. (map (λ w. (w.0.now, w.1.now)) e.0.items, e.1)) (λ r. views r.now) _ found c.call_end_at.ensures)
+    (read_pair parts.types (pair parts.bound_lists parts.exits) types_one results_join _ _ c.in-Some.ty written (λ e. (map (λ w. (w.0.now, w.1.now)) e.0.items, e.1)) (λ r. from r c.args.tokens.now) _ found c.call_end_at.ensures)

@@ -1,6 +1,6 @@
 use Rattle.std.proofs.Common.{map}
-use Rattle.nll_text.specs.Tokens.{sign, views}
-use Rattle.nll_mir_grammar.specs.Grammars.{behind, parentheses}
+use Rattle.nll_text.specs.Tokens.{sign}
+use Rattle.nll_mir_grammar.specs.Grammars.{behind, from, parentheses}
 use Rattle.nll_mir_grammar.specs.Lines.{argument_of, result_of}
 use Rattle.nll_mir_grammar.specs.Parts as parts
 use Rattle.nll_mir_grammar.specs.Kinds.{results}
@@ -18,4 +18,4 @@ pub returns : goal.returns
 returns c =
     let found = rw c.in-Some.is at c.in_ok-arguments.ensures in
     rw c.with.ensures
-    (read_pair (parentheses parts.arguments) (behind (sign 58) results) (parentheses_one parts.arguments arguments_listable) signatures_join _ _ c.in-Some.arguments (λ v. map argument_of v.items) result_of (λ r. views r.now) _ found c.result_behind.ensures)
+    (read_pair (parentheses parts.arguments) (behind (sign 58) results) (parentheses_one parts.arguments arguments_listable) signatures_join _ _ c.in-Some.arguments (λ v. map argument_of v.items) result_of (λ r. from r c.args.tokens.now) _ found c.result_behind.ensures)
