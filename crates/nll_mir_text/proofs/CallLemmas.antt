@@ -3,7 +3,7 @@ use Rattle.std.proofs.Common.{◌≡◌, ℕ, List, [], ◌∷◌, map, refl, sy
 use Rattle.std.specs.Borrow.{Bor}
 use Rattle.nll_reading.specs.Names.{number_of}
 use Rattle.nll_types.specs.Types.{TypeTree}
-use Rattle.nll_types.specs.Places.{PlacePath}
+use Rattle.nll_types.specs.Places.{PlacePath, path_of}
 use Rattle.nll_types.specs.Operands.{Operand}
 use Rattle.nll_types.specs.Views.{tree}
 use Rattle.nll_types.specs.declared.operand.Operand.{Operand as KeptOperand}
@@ -12,7 +12,10 @@ use Rattle.nll_type_grammar.specs.WrittenTypes.{Name, WrittenType}
 use Rattle.nll_type_grammar.specs.TypeTexts.{written}
 use Rattle.nll_type_grammar.specs.declared.type_text.TypeNode.{TypeNode}
 use Rattle.nll_statements.specs.Statements.{map_statement, call}
-use Rattle.nll_statements.specs.Kept.{arguments_of}
+use Rattle.nll_statements.specs.Kept.{arguments_of, call_of}
+use Rattle.nll_statements.specs.declared.statement.Call.{Call}
+use Rattle.std.specs.Prelude.{Result, Ok, IfOk}
+use Rattle.std.specs.Global.{Vec}
 use Rattle.nll_naming.specs.Naming.{Scope, meant}
 use Rattle.nll_mir_text.specs.Stating.{bound_numbers, argument_kept, argument_in, meant_in}
 
@@ -45,3 +48,17 @@ call_same s p q args texts t text ws bounds b unwind place arguments type wheres
     let all = arguments_fused args ∙ (arguments ∙ sym (texts_fused s texts)) in
     let each = same_bounds ws ∙ (wheres ∙ sym (bounds_fused s.regions bounds)) in
     cc
+
+-- a call that is made of the parts of another, which lacked no memory, means what it means
+pub call_told : {E : Type 0} (s : Scope) (made : Call ℕ Ty) (other : Call (Bor (List ℕ)) (List TypeNode)) (arguments : Result (Vec (KeptOperand × Ty)) E) (type : Result Ty E) (wheres : Result (Vec (ℕ × ℕ)) E)
+    → made.place ≡ other.place
+    → arguments ≡ Ok made.arguments → IfOk arguments (λ v. map argument_kept v.items ≡ map (argument_in s) other.arguments.items)
+    → type ≡ Ok made.result → IfOk type (λ t. tree t ≡ meant s (written other.result))
+    → wheres ≡ Ok made.wheres → IfOk wheres (λ v. v.items ≡ map (bound_numbers s.regions) other.wheres.items)
+    → made.target ≡ other.target → made.unwind ≡ other.unwind
+    → map_statement (λ r. r) tree (call_of made) ≡ meant_in s (map_statement (λ r. r.now) written (call_of other))
+call_told s made other arguments type wheres place some_arguments all_arguments some_type of_type some_wheres all_wheres target unwind =
+    let arguments_same : map argument_kept made.arguments.items ≡ map (argument_in s) other.arguments.items = rw some_arguments at all_arguments in
+    let type_same : tree made.result ≡ meant s (written other.result) = rw some_type at of_type in
+    let wheres_same : made.wheres.items ≡ map (bound_numbers s.regions) other.wheres.items = rw some_wheres at all_wheres in
+    rw (target, unwind) (call_same s (path_of made.place) (path_of other.place) made.arguments.items other.arguments.items made.result other.result made.wheres.items other.wheres.items other.target other.unwind (ap path_of place) arguments_same type_same wheres_same)

@@ -1,16 +1,18 @@
 -- One more struct: the kinds of its arguments, and that its fields keep to what is declared.
-use Rattle.std.proofs.Common.{◌≡◌, ℕ, Some, None, ◌+◌, ◌<◌, Bool, true, false, List, [], ◌∷◌, ◌++◌, length, map, refl, sym, ◌∙◌, subst, ⊎_elim, arith, length-append}
+use Rattle.std.proofs.Common.{◌≡◌, ℕ, Some, None, ◌+◌, ◌<◌, ◌≤◌, Bool, true, false, List, [], ◌∷◌, ◌++◌, length, map, refl, sym, ◌∙◌, subst, ⊎_elim, arith, length-append}
 use Rattle.std.specs.Prelude.{◌||◌}
 use Rattle.std.specs.List.{list_any}
-use Rattle.std.proofs.lemmas.Bool.{cases_lt, not-false, leb-false}
+use Rattle.std.proofs.lemmas.Bool.{cases_lt, not-false, leb-false, le-leb, lt-leb}
 use Rattle.std.proofs.lemmas.List.{get_or_append_left, get_or_at, length-map, take-append-le}
 use Rattle.std.proofs.Math.Seq.{take-length}
 use Rattle.nll_problem.specs.Limits.{most_structs}
-use Rattle.nll_reading.specs.declared.error.TextKind.TheVariants.{Unknown, Duplicate}
+use Rattle.nll_reading.specs.declared.error.TextKind.TheVariants.{Unknown, Duplicate, Shape, TypeSize, Limit}
+use Rattle.nll_problem.specs.declared.error.Kind.TheVariants.{Structs}
+use Rattle.nll_typing.specs.Typing.{are_small}
 use Rattle.nll_types.specs.Structs.{Struct, no_struct, HasGoodFields, AreWellFormed, AreInOrder}
 use Rattle.nll_type_grammar.specs.WrittenTypes.{Name, WrittenTypes}
 use Rattle.nll_mir_grammar.specs.MirForms.{WrittenParameter, region_parameter, type_parameter, struct_line}
-use Rattle.nll_naming.specs.Naming.{is_among, are_known, have_arguments}
+use Rattle.nll_naming.specs.Naming.{is_among, are_known, have_arguments, all_meant}
 use Rattle.nll_mir_text.specs.MirSaid.{Said, field_scope, declared, is_region, regions_in, types_in}
 use Rattle.nll_mir_text.specs.MirFaults.{has_repeats, redeclares, is_in_order, first_fault}
 use Rattle.nll_mir_text.specs.MirReading.{AreKinds, region_count, other_count}
@@ -79,6 +81,11 @@ struct_fine s n ps has_drop fields e =
       few = leb-false most_structs (length s.structs) no.structs;
     }
 
+-- no name of its own stands twice in a struct line that declares none again
+pub once_each : (s : Said) (n : Name) (ps : List WrittenParameter) → redeclares s n ps ≡ false → (has_repeats (region_names ps) ≡ false) × (has_repeats (type_names ps) ≡ false)
+once_each s n ps once =
+    let parts = four (is_among s.struct_names n) (has_repeats (region_names ps)) (has_repeats (type_names ps)) (list_any (is_among (n ∷ s.struct_names)) (type_names ps)) once in (parts.1, parts.2)
+
 -- ---- the first fault of a struct line that stands in order
 
 module _ (s : Said) (n : Name) (ps : List WrittenParameter) (has_drop : Bool) (fields : WrittenTypes) (order : is_in_order s (struct_line n ps has_drop fields) ≡ true) where
@@ -87,6 +94,21 @@ module _ (s : Said) (n : Name) (ps : List WrittenParameter) (has_drop : Bool) (f
 
   pub struct_duplicate : are_known (field_scope s ps) fields ≡ true → redeclares s n ps ≡ true → first_fault s (struct_line n ps has_drop fields) ≡ Some Duplicate
   struct_duplicate known again = rw (order, known, again) refl
+
+  module _ (known : are_known (field_scope s ps) fields ≡ true) (once : redeclares s n ps ≡ false) where
+    pub struct_unfit : have_arguments (field_scope s ps) fields ≡ false → first_fault s (struct_line n ps has_drop fields) ≡ Some Shape
+    struct_unfit fit = rw (order, known, once, fit) refl
+
+    module _ (fit : have_arguments (field_scope s ps) fields ≡ true) where
+      pub struct_too_large : are_small (all_meant (field_scope s ps) fields) ≡ false → first_fault s (struct_line n ps has_drop fields) ≡ Some TypeSize
+      struct_too_large small = rw (order, known, once, fit, small) refl
+
+      module _ (small : are_small (all_meant (field_scope s ps) fields) ≡ true) where
+        pub too_many_structs : most_structs ≤ length s.structs → first_fault s (struct_line n ps has_drop fields) ≡ Some (Limit Structs)
+        too_many_structs many = rw (order, known, once, fit, small, le-leb _ _ many) refl
+
+        pub no_struct_fault : length s.structs < most_structs → first_fault s (struct_line n ps has_drop fields) ≡ None
+        no_struct_fault few = rw (order, known, once, fit, small, lt-leb _ _ few) refl
 
 -- ---- what a struct line declares
 

@@ -1,5 +1,5 @@
 -- The lines of a MIR text, read one after another.
-use Rattle.std.proofs.Common.{◌≡◌, ℕ, ◌+◌, ◌-◌, ◌<◌, ◌≤◌, ◌==◌, Bool, true, false, cond, List, [], ◌∷◌, ◌++◌, length, subst, sym, ap, arith, ◌∙◌, length-append}
+use Rattle.std.proofs.Common.{◌≡◌, ℕ, ◌+◌, ◌-◌, ◌<◌, ◌≤◌, ◌==◌, Bool, true, false, cond, List, [], ◌∷◌, ◌++◌, length, refl, subst, sym, ap, arith, ◌∙◌, length-append}
 use Rattle.std.specs.List.{AllByRecursion, slice_split, onto_first}
 use Rattle.nll_text.specs.Lines.{lines_of}
 use Rattle.nll_text.specs.Tokens.{Token, word, region, arrow, sign, IsMadeOf, IsToken, spelling, IsNotMadeWithin}
@@ -9,7 +9,8 @@ use Rattle.nll_reading.specs.Text.{HasFault, IsFaulty, Says}
 use Rattle.nll_reading.specs.declared.error.TextKind.{TextKind}
 use Rattle.nll_reading.proofs.ReadingLemmas as lemmas
 use Rattle.nll_mir_text.specs.MirSaid.{Said, said}
-use Rattle.nll_mir_text.specs.MirReading.{Adds, ReadsLine, IsAmid}
+use Rattle.nll_mir_text.specs.MirReading.{Adds, ReadsLine, IsAmid, Advances, AreShort, IsReady}
+use Rattle.nll_mir_text.specs.declared.reader.Reader.{Reader}
 use Rattle.nll_mir_text.specs.MirText.{mir}
 use Rattle.nll_mir_text.proofs.SaidLemmas.{adds_said, same_fault}
 
@@ -67,6 +68,19 @@ amid_fault all left line after s number step kind wrong a =
 pub amid_all : (all : List (List ℕ)) (s : Said) (number : ℕ) → IsAmid all [] s number → (forms : List Form) × Says mir [] all forms × (said forms ≡ s) × (number ≡ 1 + length all)
 amid_all all s number a =
     let done = read_all all a.front a.forms s number (from_amid all [] s number a) in (a.forms, done.0, done.1, done.2)
+
+-- nothing is taken in yet
+pub advances_none : (lines : List (List ℕ)) (r : Reader) (number : ℕ) → IsReady r → AreShort lines → Advances lines lines r number r number
+advances_none lines r number ready short = record { ready = ready; short = short; counted = refl; read = λ all amid. amid }
+
+-- more lines are taken in
+pub advances_then : (lines some left : List (List ℕ)) (r s t : Reader) (i j k : ℕ) → Advances lines some r i s j → Advances some left s j t k → Advances lines left r i t k
+advances_then lines some left r s t i j k a b = record {
+  ready = b.ready;
+  short = b.short;
+  counted = omega (arith, a.counted, b.counted);
+  read = λ all amid. b.read all (a.read all amid);
+}
 
 -- ---- the tokens of a line
 

@@ -1,8 +1,8 @@
 -- What a reader makes of a struct line.
 -- Source: project's choice. Only private contracts cite this file.
-use Rattle.std.specs.Prelude.{◌≡◌, Bool, true, false, ◌||◌, List, [], ◌∷◌, ◌++◌, map, codes}
+use Rattle.std.specs.Prelude.{◌≡◌, Bool, false, ◌||◌, List, ◌∷◌, map, codes}
 use Rattle.nll_type_grammar.specs.WrittenTypes.{Name, WrittenTypes}
-use Rattle.nll_mir_grammar.specs.MirForms.{WrittenParameter, region_parameter, type_parameter}
+use Rattle.nll_mir_grammar.specs.MirForms.{WrittenParameter}
 use Rattle.nll_types.specs.declared.parameter.Parameter.{Parameter}
 use Rattle.nll_mir_grammar.specs.declared.line.ParameterText.{ParameterText}
 use Rattle.nll_mir_grammar.specs.declared.line.ParameterText.TheVariants as parameters
@@ -22,17 +22,12 @@ region_names ps = codes "static" ∷ map (λ p. p.0) (regions_in ps)
 abbrev pub type_names : List WrittenParameter → List Name
 type_names ps = map (λ p. p.0) (types_in ps)
 
--- what is marked of a parameter that is a region, or that is a type
-abbrev pub mark_in : Bool → WrittenParameter → List Parameter
-mark_in true (region_parameter a p) = p ∷ []
-mark_in true (type_parameter n p) = []
-mark_in false (region_parameter a p) = []
-mark_in false (type_parameter n p) = p ∷ []
+-- what is marked of the region parameters, and of the type parameters
+abbrev pub region_marks : List WrittenParameter → List Parameter
+region_marks ps = map (λ p. p.1) (regions_in ps)
 
--- what is marked of those among these parameters that are regions, or that are types
-abbrev pub marks_in : Bool → List WrittenParameter → List Parameter
-marks_in regions [] = []
-marks_in regions (p ∷ ps) = mark_in regions p ++ marks_in regions ps
+abbrev pub type_marks : List WrittenParameter → List Parameter
+type_marks ps = map (λ p. p.1) (types_in ps)
 
 -- The names are those of the row, each once.
 pub record AreNamesOf (row names : List Name) : Type 0 where

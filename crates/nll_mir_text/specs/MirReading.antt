@@ -1,7 +1,7 @@
 -- What a reader of MIR texts holds, and how a line changes it.
 -- Source: project's choice. Only private contracts cite this file.
 use Rattle.std.specs.Prelude.{◌≡◌, ◌⊎◌, ℕ, ◌+◌, ◌<◌, ◌≤◌, Bool, true, false, List, [], ◌∷◌, map}
-use Rattle.std.specs.Prelude.{◌++◌, length, slice_index_or, Option, Some, None}
+use Rattle.std.specs.Prelude.{◌^◌, ◌++◌, length, slice_index_or, Option, Some, None}
 use Rattle.std.specs.List.{AllByRecursion}
 use Rattle.std.specs.Str.{IsUtf8}
 use Rattle.nll_problem.specs.Limits.{most_points, most_edges, most_universals, most_regions}
@@ -210,6 +210,26 @@ pub record IsAmid (all left : List (List ℕ)) (s : Said) (number : ℕ) : Type 
   pub place : number ≡ 1 + length front
   pub fine : Says mir [] front forms
   pub holds : said forms ≡ s
+
+-- Of these lines some are taken in, and the others are left: the reader's tables agree, the lines
+-- that are left are short, and the number rises by one with each line that is taken in.
+pub record Advances (lines left : List (List ℕ)) (old : Reader) (before : ℕ) (new : Reader)
+    (number : ℕ) : Type 0 where
+  pub ready : IsReady new
+  pub short : AreShort left
+  pub counted : number + length left ≡ before + length lines
+  pub read : (all : List (List ℕ)) → IsAmid all lines (said_by old) before
+      → IsAmid all left (said_by new) number
+
+-- The text has a header, and of the lines behind it those that are left are not taken in yet.
+pub record IsUnderWay (text : List ℕ) (left : List (List ℕ)) (r : Reader) (number : ℕ)
+    : Type 0 where
+  pub body : List (List ℕ)
+  pub headed : IsHeaded mir text body
+  pub ready : IsReady r
+  pub short : AreShort left
+  pub few : number + length left ≤ 2 ^ 32
+  pub amid : IsAmid body left (said_by r) number
 
 -- the lines of the text that is left, and none where no text is left
 abbrev pub lines_in : Option (List ℕ) → List (List ℕ)

@@ -12,7 +12,7 @@ ghost use Rattle.nll_mir_grammar.specs.Tuples.{IsTuple, parts};
 ghost use Rattle.nll_naming.specs.Naming.{all_meant};
 ghost use Rattle.nll_mir_text.specs.MirSaid.{regions_in, types_in};
 ghost use Rattle.nll_typing.specs.Typing as typing;
-ghost use Rattle.nll_mir_text.specs.Declaring.{AreJudged, marks_in, own_scope};
+ghost use Rattle.nll_mir_text.specs.Declaring.{AreJudged, own_scope, region_marks, type_marks};
 
 use crate::own_names::OwnNames;
 use crate::parameters::push_marks;
@@ -128,9 +128,9 @@ fn declared_with(
     fields: Vec<Ty>,
 ) -> Result<Declaration, Memory>
     ensures regions { IfOk result (λ d.
-        d.regions.items ≡ marks_in true (map parameter_of parameters.now)) }
+        d.regions.items ≡ region_marks (map parameter_of parameters.now)) }
     ensures types { IfOk result (λ d.
-        d.types.items ≡ marks_in false (map parameter_of parameters.now)) }
+        d.types.items ≡ type_marks (map parameter_of parameters.now)) }
     ensures has_drop { IfOk result (λ d. d.has_drop ≡ has_drop) }
     ensures fields { IfOk result (λ d. d.fields ≡ fields) }
 {
@@ -140,29 +140,13 @@ fn declared_with(
         has_drop,
         fields,
     };
-    match push_all_marks(parameters, &mut declaration) {
+    match push_marks(parameters, &mut declaration) {
         Ok(()) => Ok(declaration),
         Err(memory) => {
             drop(declaration);
             Err(memory)
         }
     }
-}
-
-// Puts what is marked of parameters behind what is there.
-fn push_all_marks(
-    parameters: &[ParameterText<'_>],
-    declaration: &mut Declaration,
-) -> Result<(), Memory>
-    ensures regions { OnOk result (declaration.new.regions.items
-        ≡ declaration.old.regions.items ++ marks_in true (map parameter_of parameters.now)) }
-    ensures types { OnOk result (declaration.new.types.items
-        ≡ declaration.old.types.items ++ marks_in false (map parameter_of parameters.now)) }
-    ensures has_drop { declaration.new.has_drop ≡ declaration.old.has_drop }
-    ensures fields { declaration.new.fields ≡ declaration.old.fields }
-{
-    push_marks(parameters, true, &mut declaration.regions)?;
-    push_marks(parameters, false, &mut declaration.types)
 }
 
 /// What a struct line declares.

@@ -1,9 +1,10 @@
 //! The reader of MIR texts, version 1.
-//! Read `tables`, `judging`, `own_names`, `fields`, `reader`, `text`, `parts`, `mir`, then `laws`;
-//! the definitions are in specs/.
+//! Read `tables`, `judging`, `own_names`, `fields`, `reader`, `head`, `placing`, `text`, `parts`,
+//! `mir`, then `laws`; the definitions are in specs/.
 #![tactic(auto)]
 
 mod fields;
+mod head;
 mod judging;
 mod judging_types;
 mod knowing;
@@ -14,6 +15,7 @@ mod mir;
 mod own_names;
 mod parameters;
 mod parts;
+mod placing;
 mod reader;
 mod stating;
 mod tables;

@@ -1,6 +1,6 @@
 //! What a statement means: regions by their numbers, and types as trees.
 
-ghost use Rattle.std.specs.Prelude.{◌≡◌, ◌≤◌, [], length, map, IfOk};
+ghost use Rattle.std.specs.Prelude.{◌≡◌, ◌≤◌, ◌++◌, [], length, map, IfOk, OnOk, Ok};
 ghost use Rattle.nll_problem.specs.Limits.{most_regions};
 ghost use Rattle.nll_reading.specs.Names.{number_of};
 ghost use Rattle.nll_types.specs.Operands.{operand_of};
@@ -18,9 +18,9 @@ use crate::judging::type_meant;
 use crate::tables::{Regions, StructNames};
 use nll_problem::RegionId;
 use nll_sets::Memory;
-use nll_statements::{Call, Make, Statement, copy_operand, copy_place};
+use nll_statements::{Call, Make, Statement};
 use nll_type_grammar::TypeText;
-use nll_types::{Operand, Ty};
+use nll_types::{Operand, Place, Ty};
 use std::alloc::Global;
 
 // The region that a name means.
@@ -72,21 +72,47 @@ fn bounds_meant(
     Ok(meant)
 }
 
-// An argument of a call.
+// An argument of a call. Only its type is made anew.
 fn argument_meant(
     alloc: Global,
     regions: &Regions,
     structs: &StructNames,
-    argument: &(Operand, TypeText<'_>),
+    argument: (Operand, TypeText<'_>),
 ) -> Result<(Operand, Ty), Memory>
     requires none { structs.now.none ≡ [] }
     requires few { length regions.now.names ≤ most_regions }
     ensures { IfOk result (λ a. argument_kept a
-        ≡ argument_in (scope_in regions.now structs.now) argument.now) }
+        ≡ argument_in (scope_in regions.now structs.now) argument.entry) }
 {
-    let operand = copy_operand(alloc, &argument.0)?;
-    let ty = type_meant(alloc, regions, structs, &argument.1)?;
-    Ok((operand, ty))
+    let (operand, text) = argument;
+    let meant = type_meant(alloc, regions, structs, &text);
+    drop(text);
+    match meant {
+        Ok(ty) => Ok((operand, ty)),
+        Err(memory) => {
+            drop(operand);
+            Err(memory)
+        }
+    }
+}
+
+// Puts the arguments of a call behind the others.
+fn push_arguments(
+    alloc: Global,
+    regions: &Regions,
+    structs: &StructNames,
+    arguments: Vec<(Operand, TypeText<'_>)>,
+    meant: &mut Vec<(Operand, Ty)>,
+) -> Result<(), Memory>
+    requires none { structs.now.none ≡ [] }
+    requires few { length regions.now.names ≤ most_regions }
+    ensures { OnOk result (map argument_kept meant.new.items ≡ map argument_kept meant.old.items
+        ++ map (argument_in (scope_in regions.now structs.now)) arguments.entry.items) }
+{
+    for argument in arguments {
+        meant.push(argument_meant(alloc, regions, structs, argument)?)?;
+    }
+    Ok(())
 }
 
 // The arguments of a call.
@@ -94,45 +120,76 @@ fn arguments_meant(
     alloc: Global,
     regions: &Regions,
     structs: &StructNames,
-    arguments: &[(Operand, TypeText<'_>)],
+    arguments: Vec<(Operand, TypeText<'_>)>,
 ) -> Result<Vec<(Operand, Ty)>, Memory>
     requires none { structs.now.none ≡ [] }
     requires few { length regions.now.names ≤ most_regions }
     ensures { IfOk result (λ v. map argument_kept v.items
-        ≡ map (argument_in (scope_in regions.now structs.now)) arguments.now) }
+        ≡ map (argument_in (scope_in regions.now structs.now)) arguments.entry.items) }
 {
     let mut meant = Vec::with_capacity(alloc, arguments.len())?;
-    for argument in arguments {
-        meant.push(argument_meant(alloc, regions, structs, argument)?)?;
+    match push_arguments(alloc, regions, structs, arguments, &mut meant) {
+        Ok(()) => Ok(meant),
+        Err(memory) => {
+            drop(meant);
+            Err(memory)
+        }
     }
-    Ok(meant)
 }
 
-// A call.
-fn call_meant(
-    alloc: Global,
-    regions: &Regions,
-    structs: &StructNames,
-    call: &Call<&[u8], TypeText<'_>>,
+// A call of these parts, unless one of them lacked memory.
+fn call_with(
+    place: Place,
+    arguments: Result<Vec<(Operand, Ty)>, Memory>,
+    ty: Result<Ty, Memory>,
+    wheres: Result<Vec<(RegionId, RegionId)>, Memory>,
+    target: u32,
+    unwind: Option<u32>,
 ) -> Result<Call<RegionId, Ty>, Memory>
-    requires none { structs.now.none ≡ [] }
-    requires few { length regions.now.names ≤ most_regions }
-    ensures { IfOk result (λ c. map_statement (λ r. r) tree (call_of c)
-        ≡ meant_in (scope_in regions.now structs.now)
-        (map_statement (λ r. r.now) written (call_of call.now))) }
+    ensures { IfOk result (λ c. (c.place ≡ place) × (arguments ≡ Ok c.arguments)
+        × (ty ≡ Ok c.result) × (wheres ≡ Ok c.wheres)
+        × (c.target ≡ target) × (c.unwind ≡ unwind)) }
 {
-    let place = copy_place(alloc, &call.place)?;
-    let wheres = bounds_meant(alloc, regions, call.wheres.as_slice())?;
-    let arguments = arguments_meant(alloc, regions, structs, call.arguments.as_slice())?;
-    let result = type_meant(alloc, regions, structs, &call.result)?;
+    let arguments = arguments?;
+    let result = ty?;
+    let wheres = wheres?;
     Ok(Call {
         place,
         arguments,
         result,
         wheres,
-        target: call.target,
-        unwind: call.unwind,
+        target,
+        unwind,
     })
+}
+
+// A call. Its place and its operands are moved; its regions and types are made anew.
+fn call_meant(
+    alloc: Global,
+    regions: &Regions,
+    structs: &StructNames,
+    call: Call<&[u8], TypeText<'_>>,
+) -> Result<Call<RegionId, Ty>, Memory>
+    requires none { structs.now.none ≡ [] }
+    requires few { length regions.now.names ≤ most_regions }
+    ensures { IfOk result (λ c. map_statement (λ r. r) tree (call_of c)
+        ≡ meant_in (scope_in regions.now structs.now)
+        (map_statement (λ r. r.now) written (call_of call.entry))) }
+{
+    let Call {
+        place,
+        arguments,
+        result: text,
+        wheres: bounds,
+        target,
+        unwind,
+    } = call;
+    let wheres = bounds_meant(alloc, regions, bounds.as_slice());
+    drop(bounds);
+    let ty = type_meant(alloc, regions, structs, &text);
+    drop(text);
+    let arguments = arguments_meant(alloc, regions, structs, arguments);
+    call_with(place, arguments, ty, wheres, target, unwind)
 }
 
 // A tuple or struct that is made. Only its type is made anew.
@@ -199,9 +256,7 @@ fn called_meant(
     ensures { IfOk result (λ i. statement_kept i
         ≡ meant_in (scope_in regions.now structs.now) (as_written (Statement.Call call.entry))) }
 {
-    let meant = call_meant(alloc, regions, structs, &*call);
-    drop(call);
-    let meant = meant?;
+    let meant = call_meant(alloc, regions, structs, Box::into_inner(call))?;
     Ok(Statement::Call(Box::new(alloc, meant)?))
 }
 

@@ -13,8 +13,8 @@ use nll_body::Body;
 use nll_reading::{TextError, TextKind};
 use std::alloc::Global;
 
-// The body that a reader's lines say.
-fn body(alloc: Global, reader: Reader) -> Result<Body, TextKind>
+// Makes the body that a reader's lines say.
+fn make_body(alloc: Global, reader: Reader) -> Result<Body, TextKind>
     requires ready { IsReady reader }
     requires sound { IsSound (body_said (said_by reader)) }
     ensures ok { IfOk result (λ body. body ≡ body_said (said_by reader)) }
@@ -32,6 +32,19 @@ fn body(alloc: Global, reader: Reader) -> Result<Body, TextKind>
     }
 }
 
+// The body that a reader's lines say.
+fn body(alloc: Global, reader: Reader) -> Result<Body, TextError>
+    requires ready { IsReady reader }
+    requires sound { IsSound (body_said (said_by reader)) }
+    ensures ok { IfOk result (λ body. body ≡ body_said (said_by reader)) }
+    ensures err { IfErr result (λ error. error ≡ record { line = 0; kind = TextKind.Memory }) }
+{
+    match make_body(alloc, reader) {
+        Ok(body) => Ok(body),
+        Err(kind) => Err(TextError { line: 0, kind }),
+    }
+}
+
 /// Reads a MIR text, version 1.
 ///
 /// # Errors
@@ -46,10 +59,7 @@ pub fn read_mir(alloc: Global, text: &[u8]) -> Result<Body, TextError>
     ensures fault { IfErr result (IsRefusal (IsFault mir text.now)) }
 {
     let reader = read_text(alloc, text)?;
-    match body(alloc, reader) {
-        Ok(body) => Ok(body),
-        Err(kind) => Err(TextError { line: 0, kind }),
-    }
+    body(alloc, reader)
 }
 
 /// Reads a MIR text, version 1, which is freed while it is read.
@@ -65,11 +75,5 @@ pub fn read_mir_parts(alloc: Global, text: Vec<u8>) -> Result<Body, TextError>
     ensures fault { IfErr result (IsRefusal (IsFault mir text.items)) }
 {
     let reader = read_text_parts(alloc, text)?;
-    match body(alloc, reader) {
-        Ok(body) => Ok(body),
-        Err(memory) => Err(TextError {
-            line: 0,
-            kind: memory,
-        }),
-    }
+    body(alloc, reader)
 }

@@ -1,43 +1,45 @@
 //! The parameters of a struct.
 
-ghost use Rattle.std.specs.Prelude.{◌≡◌, ◌++◌, map, IfOk, OnOk};
+ghost use Rattle.std.specs.Prelude.{◌≡◌, ◌++◌, ◌∷◌, [], map, IfOk, OnOk};
 ghost use Rattle.nll_mir_grammar.specs.Lines.{parameter_of};
 ghost use Rattle.nll_mir_text.specs.MirSaid as specs;
-ghost use Rattle.nll_mir_text.specs.Declaring.{mark_in, marks_in};
+ghost use Rattle.nll_mir_text.specs.Declaring.{region_marks, type_marks};
 
 use nll_mir_grammar::ParameterText;
 use nll_sets::Memory;
-use nll_types::Parameter;
+use nll_types::Declaration;
 use std::alloc::Global;
 
-// Puts what is marked of a parameter behind the others, where it is a region or where it is a type.
-fn push_mark(
-    parameter: &ParameterText<'_>,
-    regions: bool,
-    found: &mut Vec<Parameter>,
-) -> Result<(), Memory>
-    ensures { OnOk result (found.new.items
-        ≡ found.old.items ++ mark_in regions (parameter_of parameter.now)) }
+// Puts what is marked of a parameter behind the others: of a region, or of a type.
+fn push_mark(parameter: &ParameterText<'_>, declaration: &mut Declaration) -> Result<(), Memory>
+    ensures regions { OnOk result (declaration.new.regions.items
+        ≡ declaration.old.regions.items ++ region_marks (parameter_of parameter.now ∷ [])) }
+    ensures types { OnOk result (declaration.new.types.items
+        ≡ declaration.old.types.items ++ type_marks (parameter_of parameter.now ∷ [])) }
+    ensures has_drop { declaration.new.has_drop ≡ declaration.old.has_drop }
+    ensures fields { declaration.new.fields ≡ declaration.old.fields }
 {
     match parameter {
-        ParameterText::Region(_, marks) if regions => found.push(*marks)?,
-        ParameterText::Type(_, marks) if !regions => found.push(*marks)?,
-        _ => {}
+        ParameterText::Region(_, marks) => declaration.regions.push(*marks)?,
+        ParameterText::Type(_, marks) => declaration.types.push(*marks)?,
     }
     Ok(())
 }
 
-/// Puts what is marked of the region parameters, or of the type parameters, behind the others.
+/// Puts what is marked of parameters behind what is there: of regions, and of types.
 pub fn push_marks(
     parameters: &[ParameterText<'_>],
-    regions: bool,
-    found: &mut Vec<Parameter>,
+    declaration: &mut Declaration,
 ) -> Result<(), Memory>
-    ensures { OnOk result (found.new.items
-        ≡ found.old.items ++ marks_in regions (map parameter_of parameters.now)) }
+    ensures regions { OnOk result (declaration.new.regions.items
+        ≡ declaration.old.regions.items ++ region_marks (map parameter_of parameters.now)) }
+    ensures types { OnOk result (declaration.new.types.items
+        ≡ declaration.old.types.items ++ type_marks (map parameter_of parameters.now)) }
+    ensures has_drop { declaration.new.has_drop ≡ declaration.old.has_drop }
+    ensures fields { declaration.new.fields ≡ declaration.old.fields }
 {
     for parameter in parameters {
-        push_mark(parameter, regions, found)?;
+        push_mark(parameter, declaration)?;
     }
     Ok(())
 }

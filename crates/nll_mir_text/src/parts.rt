@@ -4,11 +4,11 @@ ghost use Rattle.std.specs.Prelude.{◌≡◌, ◌+◌, ◌<◌, ◌≤◌, ◌^
 ghost use Rattle.std.specs.Prelude.{OnOk, IfOk, IfErr};
 ghost use Rattle.nll_problem.specs.Limits.{most_bytes};
 ghost use Rattle.nll_text.specs.Lines.{lines_left, lines_of};
-ghost use Rattle.nll_reading.specs.Text.{IsFault, IsHeaded, IsRefusal};
+ghost use Rattle.nll_reading.specs.Text.{IsFault, IsRefusal};
 ghost use Rattle.nll_mir_text.specs.MirSaid.{said};
 ghost use Rattle.nll_mir_text.specs.MirText.{mir};
-ghost use Rattle.nll_mir_text.specs.MirReading.{said_by, lines_in, AreShort, IsAmid, IsReady};
-ghost use Rattle.nll_mir_text.specs.MirReading.{HasRead, Holds, RefusesBody};
+ghost use Rattle.nll_mir_text.specs.MirReading.{said_by, lines_in, Advances, AreShort, IsAmid};
+ghost use Rattle.nll_mir_text.specs.MirReading.{IsReady, IsUnderWay, HasRead, Holds, RefusesBody};
 
 use crate::reader::Reader;
 use crate::text::{check_header, refusal};
@@ -31,14 +31,11 @@ fn read_next<'a>(
     requires ready { IsReady reader.old }
     requires long { number.old + length (lines_of text.now) ≤ 2 ^ 32 }
     requires short { AreShort (lines_of text.now) }
-    ensures ready { OnOk result (IsReady reader.new) }
     ensures counted { OnOk result (number.new ≡ number.old + 1) }
+    ensures advances { IfOk result (λ rest. Advances (lines_of text.now) (lines_left rest)
+        reader.old number.old reader.new number.new) }
     ensures fewer { IfOk result (λ rest.
-        length (lines_of text.now) ≡ 1 + length (lines_left rest)) }
-    ensures short { IfOk result (λ rest. AreShort (lines_left rest)) }
-    ensures read { IfOk result (λ rest. (all : List (List ℕ))
-        → IsAmid all (lines_of text.now) (said_by reader.old) number.old
-        → IsAmid all (lines_left rest) (said_by reader.new) number.new) }
+        length (lines_left rest) < length (lines_of text.now)) }
     ensures fault { IfErr result (λ error. (all : List (List ℕ))
         → IsAmid all (lines_of text.now) (said_by reader.old) number.old
         → RefusesBody all error) }
@@ -53,23 +50,18 @@ fn read_next<'a>(
 
 // Takes in lines until less than half of the text is left, or nothing of a small one: what is left.
 fn read_half<'a>(
-    alloc: Global,
     reader: &mut Reader,
     text: &'a [u8],
+    tokens: &mut Vec<Token<'a>>,
     number: &mut u64,
 ) -> Result<Option<&'a [u8]>, TextError>
     requires ready { IsReady reader.old }
     requires long { number.old + length (lines_of text.now) ≤ 2 ^ 32 }
     requires short { AreShort (lines_of text.now) }
-    ensures ready { OnOk result (IsReady reader.new) }
-    ensures counted { IfOk result (λ rest. number.new + length (lines_left rest)
-        ≡ number.old + length (lines_of text.now)) }
+    ensures advances { IfOk result (λ rest. Advances (lines_of text.now) (lines_left rest)
+        reader.old number.old reader.new number.new) }
     ensures fewer { IfOk result (λ rest.
         length (lines_left rest) < length (lines_of text.now)) }
-    ensures short { IfOk result (λ rest. AreShort (lines_left rest)) }
-    ensures read { IfOk result (λ rest. (all : List (List ℕ))
-        → IsAmid all (lines_of text.now) (said_by reader.old) number.old
-        → IsAmid all (lines_left rest) (said_by reader.new) number.new) }
     ensures fault { IfErr result (λ error. (all : List (List ℕ))
         → IsAmid all (lines_of text.now) (said_by reader.old) number.old
         → RefusesBody all error) }
@@ -79,13 +71,12 @@ fn read_half<'a>(
     } else {
         text.len() / 2
     };
-    let mut tokens = Vec::new(alloc);
-    let mut rest = read_next(reader, text, &mut tokens, number)?;
+    let mut rest = read_next(reader, text, tokens, number)?;
     while let Some(text) = rest {
         if text.len() < enough {
             return Ok(rest);
         }
-        rest = read_next(reader, text, &mut tokens, number)?;
+        rest = read_next(reader, text, tokens, number)?;
     }
     Ok(None)
 }
@@ -115,23 +106,18 @@ fn read_part(
     requires ready { IsReady reader.old }
     requires long { number.old + length (lines_of text.now) ≤ 2 ^ 32 }
     requires short { AreShort (lines_of text.now) }
-    ensures ready { OnOk result (IsReady reader.new) }
-    ensures counted { IfOk result (λ kept. number.new
-        + length (lines_in (option_map (λ v. v.items) kept))
-        ≡ number.old + length (lines_of text.now)) }
+    ensures advances { IfOk result (λ kept. Advances (lines_of text.now)
+        (lines_in (option_map (λ v. v.items) kept)) reader.old number.old reader.new number.new) }
     ensures fewer { IfOk result (λ kept. length (lines_in (option_map (λ v. v.items) kept))
         < length (lines_of text.now)) }
-    ensures short { IfOk result (λ kept. AreShort (lines_in (option_map (λ v. v.items) kept))) }
-    ensures read { IfOk result (λ kept. (all : List (List ℕ))
-        → IsAmid all (lines_of text.now) (said_by reader.old) number.old
-        → IsAmid all (lines_in (option_map (λ v. v.items) kept)) (said_by reader.new)
-        number.new) }
     ensures fault { IfErr result (λ error. (all : List (List ℕ))
         → IsAmid all (lines_of text.now) (said_by reader.old) number.old
         → RefusesBody all error) }
 {
-    let rest = read_half(alloc, reader, text, number)?;
-    match keep(alloc, rest) {
+    let mut tokens = Vec::new(alloc);
+    let rest = read_half(reader, text, &mut tokens, number);
+    drop(tokens);
+    match keep(alloc, rest?) {
         Ok(kept) => Ok(kept),
         Err(_) => Err(TextError {
             line: 0,
@@ -183,13 +169,8 @@ fn read_first(
     requires start { said_by reader.old ≡ said [] }
     requires ready { IsReady reader.old }
     requires long { length text.now ≤ most_bytes }
-    ensures ready { OnOk result (IsReady reader.new) }
-    ensures long { IfOk result (λ kept. number.new
-        + length (lines_in (option_map (λ v. v.items) kept)) ≤ 2 ^ 32) }
-    ensures short { IfOk result (λ kept. AreShort (lines_in (option_map (λ v. v.items) kept))) }
-    ensures read { IfOk result (λ kept. (body : List (List ℕ)) × IsHeaded mir text.now body
-        × IsAmid body (lines_in (option_map (λ v. v.items) kept)) (said_by reader.new)
-        number.new) }
+    ensures under_way { IfOk result (λ kept. IsUnderWay text.now
+        (lines_in (option_map (λ v. v.items) kept)) reader.new number.new) }
     ensures fault { IfErr result (IsRefusal (IsFault mir text.now)) }
 {
     let (header, body) = next_line(text);

@@ -53,10 +53,13 @@ pub fn judge_point(
     let regions = regions_known(&regions.names, statement);
     let shapes = variables.shapes.as_slice();
     let table = &mut variables.table;
-    let judged = judge_statement(alloc, table, shapes, statement, types.shapes.as_slice())?;
+    let judged = judge_statement(alloc, table, shapes, statement, types.shapes.as_slice());
+    let (known, fit) = (types.known, types.fit);
+    drop(types);
+    let judged = judged?;
     Ok(JudgedPoint {
-        known: declared & regions.known & types.known,
-        fits: types.fit & judged.fits,
+        known: declared & regions.known & known,
+        fits: fit & judged.fits,
         small: judged.small,
         region: regions.place,
     })

@@ -1,8 +1,8 @@
 -- The places of a call's operands.
-use Rattle.std.proofs.Common.{◌≡◌, ℕ, suc, ◌+◌, ◌<◌, ◌≤◌, List, [], ◌∷◌, ◌++◌, length, map, drop, take, get_or, refl, sym, ap, ◌∙◌, append_assoc}
+use Rattle.std.proofs.Common.{◌≡◌, ℕ, suc, ◌+◌, ◌<◌, ◌≤◌, List, [], ◌∷◌, ◌++◌, length, map, drop, get_or, refl, sym, ap, ◌∙◌, append_assoc}
 use Rattle.std.proofs.Math.Numerals.{add-one}
 use Rattle.std.proofs.Math.Seq.{drop-cons}
-use Rattle.std.proofs.lemmas.List.{append-nil, drop_all, map-append, map_push, map_more}
+use Rattle.std.proofs.lemmas.List.{append-nil, drop_all, map-append}
 use Rattle.std.specs.List.{flat_map}
 use Rattle.nll_types.specs.Operands.{Operand, operand_of}
 use Rattle.nll_types.specs.declared.operand.Operand.{Operand as Written}
@@ -31,13 +31,3 @@ module _ {X : Type 0} (h : X → Operand) where
 
   pub variables_all : (used whole : List ℕ) (xs : List X) (i : ℕ) → length xs ≤ i → used ++ variables_of (drop i xs) ≡ whole → used ≡ whole
   variables_all used whole xs i l told = sym (append-nil used) ∙ (ap (λ ys. used ++ variables_of ys) (sym (drop_all i xs l)) ∙ told)
-
--- copies of the first operands, and one copy more
-pub copies_more : (made longer ops : List Written) (copy op : Written) (i : ℕ) → i < length ops → op ≡ get_or ops i op → longer ≡ made ++ copy ∷ [] → operand_of copy ≡ operand_of op
-    → map operand_of made ≡ map operand_of (take i ops) → map operand_of longer ≡ map operand_of (take (i + 1) ops)
-copies_more made longer ops copy op i l is e same told =
-    ap (map operand_of) e
-    ∙ (map_push operand_of made copy
-    ∙ (ap (λ os. os ++ operand_of copy ∷ []) told
-    ∙ (ap (λ o. map operand_of (take i ops) ++ o ∷ []) (same ∙ ap operand_of is)
-    ∙ sym (map_more operand_of ops i op l))))

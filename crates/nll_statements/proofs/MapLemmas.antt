@@ -1,10 +1,10 @@
 -- Other regions and types leave what else is written in a statement as it is.
-use Rattle.std.proofs.Common.{◌≡◌, ℕ, Bool, List, [], ◌∷◌, ◌++◌, map, refl, ap, ◌∙◌, Option}
+use Rattle.std.proofs.Common.{◌≡◌, List, [], ◌∷◌, ◌++◌, map, refl, ap, ◌∙◌}
 use Rattle.std.specs.List.{flat_map}
 use Rattle.nll_types.specs.Places.{PlacePath}
 use Rattle.nll_types.specs.Operands.{Operand}
 use Rattle.nll_statements.specs.Statements.{Statement, map_statement, types_written, is_terminator, return, assign, borrow, make, read, live, dead, nop, goto, switch, drop, call, stop}
-use Rattle.nll_statements.specs.Effects.{operands_of, place_in, target_of, sources_of, targets}
+use Rattle.nll_statements.specs.Effects.{operands_of, place_in, targets}
 use Rattle.nll_statements.specs.Written.{regions_written, variables_written}
 use Rattle.nll_statements.specs.Edges.{edges_from}
 

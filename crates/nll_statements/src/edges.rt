@@ -58,13 +58,12 @@ fn distinct(alloc: Global, numbers: &[u32]) -> Result<usize, Memory>
         (λ n. n ≡ length (insert_all (λ b c. b == c) [] numbers.now)) }
     ensures few { IfOk result (λ n. n < 2 ^ 63) }
 {
-    if numbers.len() < 2 {
-        return Ok(numbers.len());
+    match numbers {
+        [] => Ok(0),
+        [_] => Ok(1),
+        [number, other] => Ok(of_two(*number, *other)),
+        _ => distinct_among(alloc, numbers),
     }
-    if let [number, other] = numbers {
-        return Ok(of_two(*number, *other));
-    }
-    distinct_among(alloc, numbers)
 }
 
 // How many numbers these are, each counted once, found with a set of them.

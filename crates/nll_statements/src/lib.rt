@@ -2,11 +2,9 @@
 //! it uses, defines and drops, and where it goes on. It knows no text and no graph.
 #![tactic(auto)]
 
-mod copying;
 mod edges;
 mod effects;
 mod statement;
 mod written;
 
-pub use copying::{copy_operand, copy_operands, copy_place};
 pub use statement::{Call, Make, Statement};

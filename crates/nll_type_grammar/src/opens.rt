@@ -1,7 +1,7 @@
 //! What of a type is begun and not complete, and one step through a type.
 
-ghost use Rattle.std.specs.Prelude.{◌≡◌, ◌∷◌, [], ◌++◌, ◌<◌, ◌-◌, ℕ, List, length, MatchOption, IfOk};
-ghost use Rattle.std.specs.Prelude.{Some, slice_get};
+ghost use Rattle.std.specs.Prelude.{◌≡◌, ◌∷◌, [], ◌++◌, ◌<◌, ◌-◌, ℕ, List, length};
+ghost use Rattle.std.specs.Prelude.{IfOk, MatchOption, Some, slice_get};
 ghost use Rattle.nll_text.specs.Tokens as lex;
 ghost use Rattle.nll_text.specs.Tokens.{views};
 ghost use Rattle.nll_type_grammar.specs.TypeTexts.{written};

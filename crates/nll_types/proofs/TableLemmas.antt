@@ -1,11 +1,11 @@
 -- What a table's numbers stand for.
 use Rattle.std.proofs.Common.{◌≡◌, ℕ, zero, suc, ◌+◌, ◌<◌, List, [], ◌∷◌, ◌++◌, length, get_or, refl, sym, ap, ◌∙◌, subst, arith, Bool, true, false, ⊎_elim}
-use Rattle.std.proofs.lemmas.Bool.{cases_Bool, cases_lt, eqb-true}
+use Rattle.std.proofs.lemmas.Bool.{cases_Bool, cases_lt, eqb-true, false≢true, true≢false}
 use Rattle.std.proofs.lemmas.Slice.Eq.{slice_eq-Decides}
 use Rattle.std.proofs.lemmas.Bool.Decides.{Decides-eqb}
 use Rattle.std.proofs.lemmas.List.Sums.{sum_by-cons}
 use Rattle.std.proofs.lemmas.Option.{get_or_from_slice_get}
-use Rattle.std.specs.Prelude.{slice_get, Some}
+use Rattle.std.specs.Prelude.{slice_get, Some, not}
 use Rattle.std.specs.Prelude.{min, sum_by, slice_index, ◌==◌, ◌&&◌, nat_eq}
 use Rattle.std.specs.List.{list_any}
 use Rattle.std.specs.Cmp.Lexicographic.{pointwise}
@@ -99,6 +99,13 @@ table_push ns n table over i h =
 
 pub table_insert : (eq : Node → Node → Bool) (ns : List Node) (n : Node) → IsTable ns → IsOver (length ns) n → IsTable (insert_key eq ns n)
 table_insert eq ns n table over = ⊎_elim (λ e. rw e table) (λ e. rw e (table_push ns n table over)) (cases_Bool (list_any (eq n) ns))
+
+-- a node that isn't there goes last, and of one that is there nothing changes
+pub inserted_new : (eq : Node → Node → Bool) (ns : List Node) (n : Node) → not (list_any (eq n) ns) ≡ true → insert_key eq ns n ≡ ns ++ n ∷ []
+inserted_new eq ns n h = ⊎_elim (λ e. absurd (false≢true (sym (ap not e) ∙ h))) (λ e. rw e refl) (cases_Bool (list_any (eq n) ns))
+
+pub inserted_known : (eq : Node → Node → Bool) (ns : List Node) (n : Node) → not (list_any (eq n) ns) ≡ false → insert_key eq ns n ≡ ns
+inserted_known eq ns n h = ⊎_elim (λ e. rw e refl) (λ e. absurd (true≢false (sym (ap not e) ∙ h))) (cases_Bool (list_any (eq n) ns))
 
 pub extends_insert : (eq : Node → Node → Bool) (ns : List Node) (n : Node) → Extends ns (insert_key eq ns n)
 extends_insert eq ns n = ⊎_elim (λ e. rw e (extends_same ns)) (λ e. rw e (extends_push ns n)) (cases_Bool (list_any (eq n) ns))

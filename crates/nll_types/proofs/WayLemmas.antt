@@ -71,35 +71,36 @@ way_starts structs first ps from h = record {
   told = refl;
 }
 
-next_is : (ps : List Projection) (n : ℕ) (p : Projection) → n < length ps → p ≡ get_or ps n p → drop n ps ≡ p ∷ drop (n + 1) ps
-next_is ps n p l is =
+next_is : (ps : List Projection) (n : ℕ) (d : Projection) → n < length ps → drop n ps ≡ get_or ps n d ∷ drop (n + 1) ps
+next_is ps n d l =
     let e : n + 1 ≡ suc n = omega arith in
-    drop-cons ps n p l ∙ ap (λ (z : Projection). z ∷ drop (suc n) ps) (sym is) ∙ ap (λ (z : ℕ). p ∷ drop z ps) (sym e)
+    drop-cons ps n d l ∙ ap (λ (z : ℕ). get_or ps n d ∷ drop z ps) (sym e)
 
 and_assoc : (a b c : Bool) → (a && (b && c)) ≡ ((a && b) && c)
 and_assoc true b c = refl
 and_assoc false b c = refl
 
-step_shapes : (structs : List Struct) (ps : List Projection) (n : ℕ) (p : Projection) (s : Shape) (o : Option Shape) → n < length ps → p ≡ get_or ps n p → o ≡ behind_shape structs p s
+step_shapes : (structs : List Struct) (ps : List Projection) (n : ℕ) (d : Projection) (s : Shape) (o : Option Shape) → n < length ps → o ≡ behind_shape structs (get_or ps n d) s
     → behind_shapes structs (drop n ps) s ≡ option_and_then (behind_shapes structs (drop (n + 1) ps)) o
-step_shapes structs ps n p s o l is e =
-    ap (λ (z : List Projection). behind_shapes structs z s) (next_is ps n p l is) ∙ ap (option_and_then (behind_shapes structs (drop (n + 1) ps))) (sym e)
+step_shapes structs ps n d s o l e =
+    ap (λ (z : List Projection). behind_shapes structs z s) (next_is ps n d l) ∙ ap (option_and_then (behind_shapes structs (drop (n + 1) ps))) (sym e)
 
-step_small : (structs : List Struct) (ps : List Projection) (n : ℕ) (p : Projection) (s u : Shape) → n < length ps → p ≡ get_or ps n p → Some u ≡ behind_shape structs p s
+step_small : (structs : List Struct) (ps : List Projection) (n : ℕ) (d : Projection) (s u : Shape) → n < length ps → Some u ≡ behind_shape structs (get_or ps n d) s
     → small_shapes structs (drop n ps) s ≡ (is_small_shape s && small_shapes structs (drop (n + 1) ps) u)
-step_small structs ps n p s u l is e =
-    ap (λ (z : List Projection). small_shapes structs z s) (next_is ps n p l is)
+step_small structs ps n d s u l e =
+    ap (λ (z : List Projection). small_shapes structs z s) (next_is ps n d l)
     ∙ ap (λ (o : Option Shape). is_small_shape s && unwrap_or (option_map (small_shapes structs (drop (n + 1) ps)) o) true) (sym e)
 
-pub way_on : (structs : List Struct) (first now next : List Node) (ps : List Projection) (n from number m : ℕ) (p : Projection) (small : Bool)
-    → n < length ps → p ≡ get_or ps n p → IsOnWay structs first now ps n from number small → Extends now next → m < length next
-    → Some (shape_in next m) ≡ behind_shape structs p (shape_in now number)
+-- one projection more is taken
+pub way_on : (structs : List Struct) (first now next : List Node) (ps : List Projection) (n from number m : ℕ) (d : Projection) (small : Bool)
+    → n < length ps → IsOnWay structs first now ps n from number small → Extends now next → m < length next
+    → Some (shape_in next m) ≡ behind_shape structs (get_or ps n d) (shape_in now number)
     → IsOnWay structs first next ps (n + 1) from m (small && is_small_shape (shape_in now number))
-way_on structs first now next ps n from number m p small l is way e within to = record {
+way_on structs first now next ps n from number m d small l way e within to = record {
   extends = extends_then first now next way.extends e;
   within = within;
-  same = way.same ∙ step_shapes structs ps n p (shape_in now number) (Some (shape_in next m)) l is to;
-  told = way.told ∙ ap (λ (b : Bool). small && b) (step_small structs ps n p (shape_in now number) (shape_in next m) l is to)
+  same = way.same ∙ step_shapes structs ps n d (shape_in now number) (Some (shape_in next m)) l to;
+  told = way.told ∙ ap (λ (b : Bool). small && b) (step_small structs ps n d (shape_in now number) (shape_in next m) l to)
       ∙ and_assoc small (is_small_shape (shape_in now number)) (small_shapes structs (drop (n + 1) ps) (shape_in next m));
 }
 

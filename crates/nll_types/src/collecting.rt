@@ -11,7 +11,7 @@ ghost use Rattle.nll_types.specs.Collecting.{IsPutRegion, IsSourceRegion, WantsW
 ghost use Rattle.nll_types.specs.Collecting.{WantsDropped};
 
 use crate::putting::region_in;
-use crate::source::{Source, add, add_where, has};
+use crate::source::{Source, add, add_where};
 use crate::structs::Structs;
 use crate::ty::Ty;
 use indexmap::IndexSet;
@@ -117,18 +117,11 @@ fn wants_written(sources: &IndexSet<Source>, place: usize, written: bool, droppe
     wants(sources, Source::AnyOf(place), dropped)
 }
 
-// Whether the drop regions of an argument are wanted.
-fn wants_dropped(sources: &IndexSet<Source>, place: usize, dropped: bool) -> bool
-    ensures { IsTrue result ↔ WantsDropped sources.now.keys dropped place }
-{
-    wants(sources, Source::DropOf(place), dropped)
-}
-
 // Whether drop regions are wanted and the source is among the sources.
 fn wants(sources: &IndexSet<Source>, source: Source, dropped: bool) -> bool
     ensures { IsTrue result ↔ (IsTrue dropped × Contains sources.now.keys source) }
 {
-    if dropped { has(sources, source) } else { false }
+    dropped && sources.contains(&source)
 }
 
 /// Adds sources of the regions that are written in a type, of its drop regions, or of both.
@@ -213,7 +206,7 @@ fn collect_arguments(
 {
     for place in 0..arguments.len() {
         let written = wants_written(sources, place, written, dropped);
-        let dropped = wants_dropped(sources, place, dropped);
+        let dropped = wants(sources, Source::DropOf(place), dropped);
         collect(structs, &arguments[place], written, dropped, out)?;
     }
     Ok(())

@@ -1,6 +1,6 @@
 //! Copies of types.
 
-ghost use Rattle.std.specs.Prelude.{◌≡◌, IfOk, map};
+ghost use Rattle.std.specs.Prelude.{◌≡◌, IfOk, IsOkAnd, map};
 ghost use Rattle.nll_types.specs.Types as spec;
 ghost use Rattle.nll_types.specs.Views.{tree, trees};
 
@@ -9,23 +9,46 @@ use nll_problem::RegionId;
 use nll_sets::Memory;
 use std::alloc::Global;
 
-// A reference to a type.
+// A reference to a type, where that was made.
 pub(crate) fn reference(
     alloc: Global,
     region: RegionId,
     mutable: bool,
-    target: Ty,
+    target: Result<Ty, Memory>,
 ) -> Result<Ty, Memory>
-    ensures { IfOk result (λ t. tree t ≡ spec.reference region mutable (tree target)) }
+    ensures { IfOk result
+        (λ t. IsOkAnd target (λ u. tree t ≡ spec.reference region mutable (tree u))) }
 {
-    Ok(Ty::Reference(region, mutable, Box::new(alloc, target)?))
+    match target {
+        Ok(target) => Ok(Ty::Reference(region, mutable, Box::new(alloc, target)?)),
+        Err(memory) => Err(memory),
+    }
 }
 
-// A struct with a copy of region arguments, and type arguments.
-fn named(alloc: Global, number: usize, regions: &[RegionId], types: Vec<Ty>) -> Result<Ty, Memory>
-    ensures { IfOk result (λ t. tree t ≡ spec.named number regions.now (trees types.items)) }
+// A tuple of parts, where those were made.
+pub(crate) fn tuple(parts: Result<Vec<Ty>, Memory>) -> Result<Ty, Memory>
+    ensures { IfOk result (λ t. IsOkAnd parts (λ v. tree t ≡ spec.tuple (trees v.items))) }
 {
-    Ok(Ty::Named(number, Vec::from_slice(alloc, regions)?, types))
+    match parts {
+        Ok(parts) => Ok(Ty::Tuple(parts)),
+        Err(memory) => Err(memory),
+    }
+}
+
+// A struct with a copy of region arguments, and type arguments, where those were made.
+fn named(
+    alloc: Global,
+    number: usize,
+    regions: &[RegionId],
+    types: Result<Vec<Ty>, Memory>,
+) -> Result<Ty, Memory>
+    ensures { IfOk result
+        (λ t. IsOkAnd types (λ v. tree t ≡ spec.named number regions.now (trees v.items))) }
+{
+    match types {
+        Ok(types) => Ok(Ty::Named(number, Vec::from_slice(alloc, regions)?, types)),
+        Err(memory) => Err(memory),
+    }
 }
 
 /// The same type once more.
@@ -40,17 +63,15 @@ pub fn copy(alloc: Global, ty: &Ty) -> Result<Ty, Memory>
         Ty::Int => Ok(Ty::Int),
         Ty::Parameter(number) => Ok(Ty::Parameter(*number)),
         Ty::Reference(region, mutable, target) => {
-            let target = copy(alloc, target)?;
-            reference(alloc, *region, *mutable, target)
+            reference(alloc, *region, *mutable, copy(alloc, target))
         }
-        Ty::Tuple(parts) => {
-            let parts = copy_all(alloc, parts.as_slice())?;
-            Ok(Ty::Tuple(parts))
-        }
-        Ty::Named(number, regions, types) => {
-            let types = copy_all(alloc, types.as_slice())?;
-            named(alloc, *number, regions.as_slice(), types)
-        }
+        Ty::Tuple(parts) => tuple(copy_all(alloc, parts.as_slice())),
+        Ty::Named(number, regions, types) => named(
+            alloc,
+            *number,
+            regions.as_slice(),
+            copy_all(alloc, types.as_slice()),
+        ),
     }
 }
 
@@ -61,7 +82,7 @@ fn copy_all(alloc: Global, types: &[Ty]) -> Result<Vec<Ty>, Memory>
 {
     let mut copies = Vec::with_capacity(alloc, types.len())?;
     for ty in types {
-        copies.push(copy(alloc, ty)?)?;
+        copies.push_reserved(copy(alloc, ty)?);
     }
     Ok(copies)
 }

@@ -43,6 +43,25 @@ fn regions_of(alloc: Global, sources: &[Source]) -> Result<Vec<RegionId>, Memory
     Ok(found)
 }
 
+// Regions of a type, by way of its sources: there are none yet.
+fn find_by(
+    alloc: Global,
+    structs: &Structs,
+    ty: &Ty,
+    written: bool,
+    dropped: bool,
+    sources: &mut IndexSet<Source>,
+) -> Result<Vec<RegionId>, Memory>
+    requires good { (regions : ℕ) × IsWellFormed (structs_of structs.now) regions 0 (tree ty.now) }
+    requires empty { sources.old.keys ≡ [] }
+    ensures each { IfOk result (λ v. (r : ℕ) → Contains v.items r
+        ↔ IsWanted (structs_of structs.now) (IsTrue written) (IsTrue dropped) (tree ty.now) r) }
+    ensures once { IfOk result (λ v. AllPairs (λ q r. q ≢ r) v.items) }
+{
+    collect(structs, ty, written, dropped, sources)?;
+    regions_of(alloc, sources.as_slice())
+}
+
 // Regions of a type: those that are written in it, its drop regions, or both.
 fn find(
     alloc: Global,
@@ -57,12 +76,9 @@ fn find(
     ensures once { IfOk result (λ v. AllPairs (λ q r. q ≢ r) v.items) }
 {
     let mut sources = IndexSet::new(alloc);
-    let told = collect(structs, ty, written, dropped, &mut sources);
-    let found = regions_of(alloc, sources.as_slice());
+    let found = find_by(alloc, structs, ty, written, dropped, &mut sources);
     drop(sources);
-    told?;
-    let found = found?;
-    Ok(found)
+    found
 }
 
 impl Structs {

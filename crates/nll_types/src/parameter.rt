@@ -4,7 +4,7 @@
 ///
 /// # Source
 /// RFC 2094, "Subtyping".
-#[derive(Clone, Copy, Debug, PartialEq, Eq)]
+#[derive(Clone, Copy, PartialEq, Eq)]
 pub enum Sign {
     /// Written `+`: the type with the longer region may stand for the one with the shorter.
     Covariant,
@@ -13,7 +13,7 @@ pub enum Sign {
 }
 
 /// A region parameter or a type parameter of a struct.
-#[derive(Clone, Copy, Debug, PartialEq, Eq)]
+#[derive(Clone, Copy)]
 pub struct Parameter {
     pub sign: Sign,
     /// Marked `?`: the struct's own drop doesn't need the argument to hold.

@@ -9,7 +9,7 @@ use std::alloc::Global;
 use std::slice;
 
 /// What is taken of a place.
-#[derive(Clone, Copy, Debug, PartialEq, Eq)]
+#[derive(Clone, Copy, Debug)]
 pub enum Projection {
     /// `.*`: what a reference points to.
     Deref,

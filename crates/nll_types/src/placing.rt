@@ -109,22 +109,6 @@ fn type_from(
     Ok(Some(current))
 }
 
-// The type behind projections, where there is one.
-fn type_behind(
-    alloc: Global,
-    structs: &Structs,
-    ty: &Ty,
-    projections: &[Projection],
-) -> Result<Option<Ty>, Memory>
-    ensures { IfOk result (λ o. option_map tree o
-        ≡ behind_all (structs_of structs.now) projections.now (tree ty.now)) }
-{
-    match advance(alloc, structs, ty, projections, 0)? {
-        Some((reached, taken)) => type_from(alloc, structs, reached, projections, taken),
-        None => Ok(None),
-    }
-}
-
 /// The type of a place over variables of these types, where it has one.
 ///
 /// # Cost
@@ -142,5 +126,9 @@ pub fn place_type(
     if variable >= variables.len() {
         return Ok(None);
     }
-    type_behind(alloc, structs, &variables[variable], place.projections())
+    let projections = place.projections();
+    match advance(alloc, structs, &variables[variable], projections, 0)? {
+        Some((reached, taken)) => type_from(alloc, structs, reached, projections, taken),
+        None => Ok(None),
+    }
 }

@@ -1,11 +1,11 @@
 //! Arguments put in for the parameters of a struct.
 
-ghost use Rattle.std.specs.Prelude.{◌≡◌, IfOk, map};
+ghost use Rattle.std.specs.Prelude.{◌≡◌, IfOk, IsOkAnd, map};
 ghost use Rattle.nll_types.specs.Structs as spec;
 ghost use Rattle.nll_types.specs.Types.{named};
 ghost use Rattle.nll_types.specs.Views.{tree, trees};
 
-use crate::copying::{copy, reference};
+use crate::copying::{copy, reference, tuple};
 use crate::ty::Ty;
 use nll_problem::RegionId;
 use nll_sets::Memory;
@@ -32,7 +32,7 @@ fn regions_in(alloc: Global, regions: &[RegionId], of: &[RegionId]) -> Result<Ve
 {
     let mut put = Vec::with_capacity(alloc, of.len())?;
     for region in of {
-        put.push(region_in(regions, *region))?;
+        put.push_reserved(region_in(regions, *region));
     }
     Ok(put)
 }
@@ -47,18 +47,21 @@ fn argument(alloc: Global, types: &[Ty], number: usize) -> Result<Ty, Memory>
     copy(alloc, &types[number])
 }
 
-// A struct with what its region arguments become, and type arguments.
+// A struct with what its region arguments become, and type arguments, where those were made.
 fn named_in(
     alloc: Global,
     number: usize,
     own: &[RegionId],
     regions: &[RegionId],
-    arguments: Vec<Ty>,
+    arguments: Result<Vec<Ty>, Memory>,
 ) -> Result<Ty, Memory>
-    ensures { IfOk result (λ t. tree t
-        ≡ named number (map (spec.region_in regions.now) own.now) (trees arguments.items)) }
+    ensures { IfOk result (λ t. IsOkAnd arguments (λ v. tree t
+        ≡ named number (map (spec.region_in regions.now) own.now) (trees v.items))) }
 {
-    Ok(Ty::Named(number, regions_in(alloc, regions, own)?, arguments))
+    match arguments {
+        Ok(arguments) => Ok(Ty::Named(number, regions_in(alloc, regions, own)?, arguments)),
+        Err(memory) => Err(memory),
+    }
 }
 
 /// A field's type with the region arguments and the type arguments put in for the parameters.
@@ -73,15 +76,12 @@ pub fn put_in(alloc: Global, ty: &Ty, regions: &[RegionId], types: &[Ty]) -> Res
         Ty::Int => Ok(Ty::Int),
         Ty::Parameter(number) => argument(alloc, types, *number),
         Ty::Reference(region, mutable, target) => {
-            let target = put_in(alloc, target, regions, types)?;
+            let target = put_in(alloc, target, regions, types);
             reference(alloc, region_in(regions, *region), *mutable, target)
         }
-        Ty::Tuple(parts) => {
-            let parts = put_in_all(alloc, parts.as_slice(), regions, types)?;
-            Ok(Ty::Tuple(parts))
-        }
+        Ty::Tuple(parts) => tuple(put_in_all(alloc, parts.as_slice(), regions, types)),
         Ty::Named(number, own, arguments) => {
-            let arguments = put_in_all(alloc, arguments.as_slice(), regions, types)?;
+            let arguments = put_in_all(alloc, arguments.as_slice(), regions, types);
             named_in(alloc, *number, own.as_slice(), regions, arguments)
         }
     }
@@ -100,7 +100,7 @@ fn put_in_all(
 {
     let mut put = Vec::with_capacity(alloc, parts.len())?;
     for part in parts {
-        put.push(put_in(alloc, part, regions, types)?)?;
+        put.push_reserved(put_in(alloc, part, regions, types)?);
     }
     Ok(put)
 }

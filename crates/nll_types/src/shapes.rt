@@ -1,10 +1,10 @@
 //! Types with their regions forgotten, each kept once.
 
-ghost use Rattle.std.specs.Prelude.{IsTrue, ◌↔◌, ◌≡◌, ◌<◌, ◌≤◌, ◌+◌, ◌++◌, ◌∷◌, [], length, min};
-ghost use Rattle.std.specs.Prelude.{IfOk, OnOk, OnErr, slice_index, ℕ, sum_by, if◌then◌else◌};
+ghost use Rattle.std.specs.Prelude.{IsTrue, ◌↔◌, ◌≡◌, ◌<◌, ◌≤◌, ◌+◌, [], length, min};
+ghost use Rattle.std.specs.Prelude.{IfOk, slice_index, ℕ, sum_by};
 ghost use Rattle.nll_problem.specs.Limits.{most_nodes};
 ghost use Rattle.nll_types.specs.Shapes.{shape_nodes, is_small_shape};
-ghost use Rattle.nll_types.specs.Table.{IsOver, Extends, IsTable, HasOneNumber};
+ghost use Rattle.nll_types.specs.Table.{IsOver, Extends, IsShapeTable};
 ghost use Rattle.nll_types.specs.Table.{shape_in, shape_over, shapes_in};
 ghost use Rattle.nll_types.specs.Table as spec;
 
@@ -66,20 +66,24 @@ fn size_over(sizes: &[usize], node: &Node) -> usize
     }
 }
 
-// Puts a node into the table, where it isn't there: its number, and whether it is new.
-fn intern(nodes: &mut IndexSet<Node>, node: Node) -> Result<(usize, bool), Memory>
-    requires table { IsTable nodes.old.keys }
+// The number of the shape that a node makes of those of a table, into which the node is put where
+// it isn't there.
+fn intern(nodes: &mut IndexSet<Node>, sizes: &mut Vec<usize>, node: Node) -> Result<usize, Memory>
+    requires table { IsShapeTable nodes.old.keys sizes.old.items }
     requires over { IsOver (length nodes.old.keys) node }
-    ensures ok { IfOk result (λ r. nodes.new.keys
-        ≡ (if r.1 then nodes.old.keys ++ node ∷ [] else nodes.old.keys)) }
-    ensures within { IfOk result (λ r. r.0 < length nodes.new.keys) }
-    ensures at { IfOk result (λ r. shape_in nodes.new.keys r.0
+    ensures table { IsShapeTable nodes.new.keys sizes.new.items }
+    ensures extends { Extends nodes.old.keys nodes.new.keys }
+    ensures within { IfOk result (λ i. i < length nodes.new.keys) }
+    ensures at { IfOk result (λ i. shape_in nodes.new.keys i
         ≡ shape_over (shapes_in nodes.old.keys) node) }
-    ensures one { OnOk result (HasOneNumber nodes.new.keys) }
-    ensures err { OnErr result (nodes.new.keys ≡ nodes.old.keys) }
 {
+    let size = size_over(sizes.as_slice(), &node);
+    sizes.reserve(1)?;
     let (place, new) = nodes.insert_full(node)?;
-    Ok((place, new))
+    if new {
+        sizes.push_reserved(size);
+    }
+    Ok(place)
 }
 
 impl Shapes {
@@ -158,13 +162,7 @@ impl Shapes {
         ensures within { IfOk result (λ i. i < length self.new) }
         ensures at { IfOk result (λ i. shape_in self.new i ≡ shape_over (shapes_in self.old) node) }
     {
-        let size = size_over(self.sizes.as_slice(), &node);
-        self.sizes.reserve(1)?;
-        let (place, new) = intern(&mut self.nodes, node)?;
-        if new {
-            self.sizes.push_reserved(size);
-        }
-        Ok(place)
+        intern(&mut self.nodes, &mut self.sizes, node)
     }
 
     // The number of the shape of an `int`.

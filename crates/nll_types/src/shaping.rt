@@ -98,8 +98,7 @@ fn shape_all(
 {
     let mut made = Vec::with_capacity(alloc, parts.len())?;
     for part in parts {
-        let number = shape(alloc, shapes, part, arguments)?;
-        made.push(number)?;
+        made.push_reserved(shape(alloc, shapes, part, arguments)?);
     }
     Ok(made)
 }

@@ -1,6 +1,6 @@
 //! Where the drop regions of a struct come from.
 
-ghost use Rattle.std.specs.Prelude.{◌↔◌, List, Contains, IsTrue, OnOk};
+ghost use Rattle.std.specs.Prelude.{List, IsTrue, OnOk};
 ghost use Rattle.nll_types.specs.Structs.{Struct};
 ghost use Rattle.nll_types.specs.Sources.{AddsSources, Yields};
 
@@ -41,11 +41,4 @@ pub(crate) fn add_where(
         add(sources, new)?;
     }
     Ok(())
-}
-
-// Whether a source is among the sources.
-pub(crate) fn has(sources: &IndexSet<Source>, sought: Source) -> bool
-    ensures { IsTrue result ↔ Contains sources.now.keys sought }
-{
-    sources.contains(&sought)
 }

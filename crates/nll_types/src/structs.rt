@@ -40,6 +40,15 @@ pub struct Structs {
     entries: Vec<Entry>,
 }
 
+// Puts an entry behind the others, or changes nothing.
+fn push_entry(entries: &mut Vec<Entry>, entry: Entry) -> Result<(), Memory>
+    ensures ok { OnOk result (entries.new.items ≡ entries.old.items ++ entry ∷ []) }
+    ensures err { OnErr result (entries.new.items ≡ entries.old.items) }
+{
+    entries.push(entry)?;
+    Ok(())
+}
+
 impl Model for Structs {
     ghost use Rattle.std.specs.Prelude.{List, map};
     ghost use Rattle.std.specs.Coded.{codes};
@@ -137,11 +146,11 @@ impl Structs {
     {
         match sources_of(alloc, self, &declaration) {
             Ok(sources) => {
-                self.entries.push(Entry {
+                let entry = Entry {
                     declaration,
                     sources,
-                })?;
-                Ok(())
+                };
+                push_entry(&mut self.entries, entry)
             }
             Err(memory) => Err(memory),
         }

@@ -163,7 +163,7 @@ impl TypeTable {
             (shape_in self.old.shapes number)) }
     {
         match projection {
-            Projection::Deref => Ok(target(&self.shapes, number)),
+            Projection::Deref => Ok(target(self.shapes(), number)),
             Projection::Field(place) => self.part(alloc, number, place as usize),
         }
     }
@@ -193,14 +193,14 @@ impl TypeTable {
         let mut number = from;
         let mut small = true;
         for projection in projections {
-            let here = self.shapes.is_small(number);
+            let here = self.shapes().is_small(number);
             small = small & here;
             match self.behind(alloc, *projection, number)? {
                 Some(next) => number = next,
                 None => return Ok(None),
             }
         }
-        let here = self.shapes.is_small(number);
+        let here = self.shapes().is_small(number);
         Ok(Some((number, small & here)))
     }
 
@@ -210,9 +210,9 @@ impl TypeTable {
         ensures { (t : TypeTree) → shape_of t ≡ shape_in self.now.shapes number
             → result ≡ part_count (structs_of self.now.structs) t }
     {
-        match self.shapes.node(number) {
+        match self.shapes().node(number) {
             Node::Tuple(parts) => Some(parts.len()),
-            Node::Named(named, _, _) => Some(self.structs.field_count(*named)),
+            Node::Named(named, _, _) => Some(self.structs().field_count(*named)),
             Node::Int | Node::Parameter(_) | Node::Reference(_, _) => None,
         }
     }
@@ -221,6 +221,13 @@ impl TypeTable {
     pub fn into_structs(self) -> Structs
         ensures { result ≡ self.structs }
     {
-        self.structs
+        let TypeTable {
+            structs,
+            shapes,
+            fields,
+        } = self;
+        drop(shapes);
+        drop(fields);
+        structs
     }
 }

@@ -1,18 +1,18 @@
-use Rattle.std.proofs.Common.{◌∙◌, true, false, map, ap}
+use Rattle.std.proofs.Common.{◌∙◌, List, map, ap}
 use Rattle.std.proofs.lemmas.Result.{IfOk-weaker}
 use Rattle.nll_types.specs.Views.{trees}
 use Rattle.nll_mir_grammar.specs.Lines.{parameter_of}
-use Rattle.nll_mir_text.specs.Declaring.{marks_in}
-use Rattle.nll_mir_text.proofs.MarkLemmas.{region_marks, type_marks}
+use Rattle.nll_mir_grammar.specs.declared.line.ParameterText.{ParameterText}
+use Rattle.nll_mir_text.specs.Declaring.{region_marks, type_marks}
 use Rattle.nll_mir_text.proofs.fields.declaration.Goals as goal
 
 pub returns-clause-regions : goal.returns-clause-regions
 returns-clause-regions c = IfOk-weaker c.declared_with.result _ _
-    (λ d same. same ∙ (ap (λ ps. marks_in true (map parameter_of ps)) c.as_slice.ensures.value ∙ region_marks (map parameter_of c.args.text.now.parameters.items))) c.declared_with.ensures.regions
+    (λ d same. same ∙ ap (λ (ps : List ParameterText). region_marks (map parameter_of ps)) c.as_slice.ensures.value) c.declared_with.ensures.regions
 
 pub returns-clause-types : goal.returns-clause-types
 returns-clause-types c = IfOk-weaker c.declared_with.result _ _
-    (λ d same. same ∙ (ap (λ ps. marks_in false (map parameter_of ps)) c.as_slice.ensures.value ∙ type_marks (map parameter_of c.args.text.now.parameters.items))) c.declared_with.ensures.types
+    (λ d same. same ∙ ap (λ (ps : List ParameterText). type_marks (map parameter_of ps)) c.as_slice.ensures.value) c.declared_with.ensures.types
 
 pub returns-clause-has_drop : goal.returns-clause-has_drop
 returns-clause-has_drop c = c.declared_with.ensures.has_drop

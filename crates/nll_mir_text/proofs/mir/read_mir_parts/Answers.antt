@@ -1,4 +1,5 @@
-use Rattle.std.proofs.Common.{subst, ap}
+use Rattle.std.proofs.Common.{subst, ap, sym, refl, ◌∙◌, inl}
+use Rattle.std.proofs.lemmas.Result.{IfOk-weaker, IfErr-weaker}
 use Rattle.nll_body.specs.Sound.{IsSound}
 use Rattle.nll_mir_text.specs.MirText.{body_said}
 use Rattle.nll_mir_text.proofs.SoundLemmas.{sound_text}
@@ -8,3 +9,11 @@ pub body-requires-clause-sound : goal.body-requires-clause-sound
 body-requires-clause-sound c =
     let h = c.in_ok-reader.ensures.ok in
     subst IsSound (ap body_said h.2) (sound_text _ h.0 h.1)
+
+pub returns-clause-ok : goal.returns-clause-ok
+returns-clause-ok c =
+    let h = c.in_ok-reader.ensures.ok in
+    IfOk-weaker c.body.result _ _ (λ body same. record { forms = h.0; fits = h.1; same = same ∙ sym (ap body_said h.2) }) c.body.ensures.ok
+
+pub returns-clause-fault : goal.returns-clause-fault
+returns-clause-fault c = IfErr-weaker c.body.result _ _ (λ error same. inl same) c.body.ensures.err

@@ -1,4 +1,4 @@
-use Rattle.std.proofs.Common.{◌∷◌, length, ap, subst, ◌∙◌, arith}
+use Rattle.std.proofs.Common.{List, ℕ, [], ◌∷◌, length, ap, subst, ◌∙◌, arith}
 use Rattle.std.proofs.lemmas.Result.{err_from_is_err_and, IfOk-weaker, IfErr-weaker}
 use Rattle.nll_text.specs.Lines.{lines_left, lines_of}
 use Rattle.nll_text.proofs.LineLemmas.{length-lines_of-le}
@@ -34,18 +34,19 @@ headed c = record {
   is_header = c.in_ok-check_header.ensures.ok.1;
 }
 
-pub returns-in-Some-clause-long : goal.returns-in-Some-clause-long
-returns-in-Some-clause-long c =
-    IfOk-weaker c.read_part.result _ _
-    (λ kept counted. omega (arith, counted, ap length c.next_line.ensures, ap length (ap lines_left c.in-Some.is), length-lines_of-le c.args.text.now, c.requires.long))
-    c.read_part.ensures.counted
-
-pub returns-in-Some-clause-read : goal.returns-in-Some-clause-read
-returns-in-Some-clause-read c =
+pub returns-in-Some-clause-under_way : goal.returns-in-Some-clause-under_way
+returns-in-Some-clause-under_way c =
     let body = lines_of c.in-Some.body.now in
     IfOk-weaker c.read_part.result _ _
-    (λ kept read. (body, headed (goal.at.returns-in-Some-clause-read c).After-read_part, read body (amid_none body _ c.requires.start)))
-    c.read_part.ensures.read
+    (λ kept told. record {
+      body = body;
+      headed = headed (goal.at.returns-in-Some-clause-under_way c).After-read_part;
+      ready = told.ready;
+      short = told.short;
+      few = omega (arith, told.counted, ap length c.next_line.ensures, ap length (ap lines_left c.in-Some.is), length-lines_of-le c.args.text.now, c.requires.long);
+      amid = told.read body (amid_none body _ c.requires.start);
+    })
+    c.read_part.ensures.advances
 
 pub returns-in-Some-clause-fault : goal.returns-in-Some-clause-fault
 returns-in-Some-clause-fault c =
@@ -53,3 +54,18 @@ returns-in-Some-clause-fault c =
     IfErr-weaker c.read_part.result _ _
     (λ error refuses. refuses body (amid_none body _ c.requires.start) c.args.text.now (headed (goal.at.returns-in-Some-clause-fault c).After-read_part))
     c.read_part.ensures.fault
+
+pub returns-in-None-clause-under_way : goal.returns-in-None-clause-under_way
+returns-in-None-clause-under_way c = record {
+  body = [];
+  headed = record {
+    header = c.next_line.result.0.now;
+    cut = record { short = c.requires.long; cut = c.next_line.ensures ∙ ap (λ (ls : List (List ℕ)). c.next_line.result.0.now ∷ ls) (ap lines_left c.in-None.is) };
+    utf8 = c.in_ok-check_header.ensures.ok.0;
+    is_header = c.in_ok-check_header.ensures.ok.1;
+  };
+  ready = c.requires.ready;
+  short = tt;
+  few = omega arith;
+  amid = amid_none [] _ c.requires.start;
+}

@@ -7,8 +7,28 @@ use Rattle.nll_reading.specs.declared.error.TextKind.TheVariants.{End}
 use Rattle.nll_mir_text.specs.MirSaid.{Said}
 use Rattle.nll_mir_text.specs.MirText.{mir}
 use Rattle.nll_mir_text.proofs.SaidLemmas.{not_ended}
-use Rattle.nll_mir_text.proofs.TextLemmas.{amid_all}
+use Rattle.nll_mir_text.proofs.TextLemmas.{amid_all, advances_none, advances_then}
 use Rattle.nll_mir_text.proofs.parts.read_parts.Goals as goal
+
+pub loop-left-init : goal.loop-left-init
+loop-left-init c = advances_none _ _ _ c.requires.ready c.requires.short
+
+pub read_part-requires-clause-ready : goal.read_part-requires-clause-ready
+read_part-requires-clause-ready c = c.loop-left.invariant.ready
+
+pub read_part-requires-clause-long : goal.read_part-requires-clause-long
+read_part-requires-clause-long c =
+    let told = rw c.in-Some.is at c.loop-left.invariant in
+    omega (arith, c.requires.long, told.counted, ap length (ap lines_of c.as_slice.ensures.value))
+
+pub read_part-requires-clause-short : goal.read_part-requires-clause-short
+read_part-requires-clause-short c = rw c.as_slice.ensures.value (rw c.in-Some.is at c.loop-left.invariant.short)
+
+pub loop-left-preserved : goal.loop-left-preserved
+loop-left-preserved c =
+    let told = rw c.in-Some.is at c.loop-left.invariant in
+    let more = rw c.as_slice.ensures.value at c.in_ok-left.ensures.advances in
+    advances_then _ _ _ _ _ _ _ _ _ told more
 
 pub returns-in_err-left-clause-fault : goal.returns-in_err-left-clause-fault
 returns-in_err-left-clause-fault c =

@@ -43,3 +43,18 @@ returns-in_err-judged-clause-structs c = c.in_err-judged.ensures.structs ∙ c.i
 
 pub returns-in_err-judged-clause-extends : goal.returns-in_err-judged-clause-extends
 returns-in_err-judged-clause-extends c = extends_then _ _ _ c.in_ok-types.ensures.extends c.in_err-judged.ensures.extends
+
+pub returns-in_err-types-clause-others : goal.returns-in_err-types-clause-others
+returns-in_err-types-clause-others c = refl
+
+pub returns-in_err-types-clause-structs : goal.returns-in_err-types-clause-structs
+returns-in_err-types-clause-structs c = c.in_err-types.ensures.structs
+
+pub returns-in_err-types-clause-extends : goal.returns-in_err-types-clause-extends
+returns-in_err-types-clause-extends c = c.in_err-types.ensures.extends
+
+pub returns-in_err-judged-clause-others : goal.returns-in_err-judged-clause-others
+returns-in_err-judged-clause-others c = refl
+
+pub judge_types-requires : goal.judge_types-requires
+judge_types-requires c = c.requires.none

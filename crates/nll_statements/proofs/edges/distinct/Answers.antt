@@ -1,5 +1,6 @@
-use Rattle.nll_statements.proofs.EdgeLemmas.{few_once}
+use Rattle.std.proofs.Common.{arith}
+use Rattle.nll_statements.proofs.EdgeLemmas.{one_once}
 use Rattle.nll_statements.proofs.edges.distinct.Goals as goal
 
-pub returns-then-numbers-lt2-clause-distinct : goal.returns-then-numbers-lt2-clause-distinct
-returns-then-numbers-lt2-clause-distinct c = few_once c.args.numbers.now c.if-numbers-lt2.true
+pub returns-in-len1-clause-distinct : goal.returns-in-len1-clause-distinct
+returns-in-len1-clause-distinct c = one_once c.args.numbers.now (omega arith)

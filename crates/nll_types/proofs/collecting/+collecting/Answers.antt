@@ -72,7 +72,7 @@ collect_arguments-loop-place-preserved t c = λ later n p w.
     let item = type_at_item c.args.arguments.now c.loop-place.place _ (slice_get_read c.args.arguments.now _ c.loop-place.place _ refl within c.index-arguments-place.is) in
     below_more _ (type_at (trees c.args.arguments.now)) _ c.loop-place.place _ _ _ _ item
     (c.loop-place.invariant later n p w)
-    (wanted_flags _ _ _ _ _ _ _ _ c.wants_written-written.ensures c.wants_dropped-dropped.ensures (c.in_ok-collect.ensures later n p (well_formed_at _ n p _ c.loop-place.place _ w item)))
+    (wanted_flags _ _ _ _ _ _ _ _ c.wants_written-written.ensures c.wants-dropped.ensures (c.in_ok-collect.ensures later n p (well_formed_at _ n p _ c.loop-place.place _ w item)))
 
 pub collect_arguments-returns : goal.collect_arguments-returns
 collect_arguments-returns t c = λ later n p w.

@@ -1,11 +1,12 @@
-use Rattle.std.proofs.Common.{refl, arith}
+use Rattle.std.proofs.Common.{◌∙◌, sym, refl, arith}
 use Rattle.std.specs.Prelude.{slice_get}
+use Rattle.std.proofs.lemmas.Bool.{false≢true}
 use Rattle.std.proofs.lemmas.Option.{slice_get_read, slice_get_within}
 use Rattle.nll_types.proofs.DropLemmas.{adds_nothing, adds_as, below_none, below_more, below_all}
 use Rattle.nll_types.proofs.collecting.collect_regions.Goals as goal
 
 pub returns-then-not-wanted : goal.returns-then-not-wanted
-returns-then-not-wanted c = λ all. adds_nothing all _ _ (λ rs ts r h. (let f = c.if-not-wanted.true in let t = h.0 in cc))
+returns-then-not-wanted c = λ all. adds_nothing all _ _ (λ rs ts r h. false≢true (sym c.if-not-wanted.true ∙ h.0))
 
 pub loop-region-init : goal.loop-region-init
 loop-region-init c = λ all. below_none all _ _ _

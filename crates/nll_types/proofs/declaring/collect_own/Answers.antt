@@ -1,9 +1,11 @@
+use Rattle.std.proofs.Common.{◌∙◌, sym}
+use Rattle.std.proofs.lemmas.Bool.{false≢true}
 use Rattle.indexmap.proofs.MapLemmas.{OnOk-map}
 use Rattle.nll_types.proofs.DropLemmas.{adds_nothing, adds_as, adds_then}
 use Rattle.nll_types.proofs.declaring.collect_own.Goals as goal
 
 pub returns-then-not-declaration : goal.returns-then-not-declaration
-returns-then-not-declaration c = λ all. adds_nothing all _ _ (λ rs ts r h. (let f = c.if-not-declaration.true in let t = h.0 in cc))
+returns-then-not-declaration c = λ all. adds_nothing all _ _ (λ rs ts r h. false≢true (sym c.if-not-declaration.true ∙ h.0))
 
 pub returns : goal.returns
 returns c =

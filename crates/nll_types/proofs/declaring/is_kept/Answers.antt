@@ -1,12 +1,13 @@
 use Rattle.std.proofs.Common.{◌≡◌, ◌<◌, ◌∙◌, ℕ, List, Bool, true, false, length, ap, refl, get_or}
 use Rattle.std.specs.Prelude.{IsTrue, not, ◌↔◌}
+use Rattle.std.proofs.lemmas.Bool.{true≢false, false≢true}
 use Rattle.std.proofs.lemmas.Option.{slice_get-get_or, get_or_from_slice_get}
 use Rattle.nll_types.specs.DropRegions.{IsKept}
 use Rattle.nll_types.specs.declared.parameter.Parameter.{Parameter}
 use Rattle.nll_types.proofs.declaring.is_kept.Goals as goal
 
 turned : (b : Bool) → IsTrue (not b) ↔ (b ≡ false)
-turned true = (λ h. absurd cc, λ e. absurd cc)
+turned true = (λ h. absurd (false≢true h), λ e. absurd (true≢false e))
 turned false = (λ h. refl, λ e. refl)
 
 kept_at : (ps : List Parameter) (k : ℕ) (d : Parameter) → k < length ps → IsTrue (not (get_or ps k d).may_dangle) ↔ IsKept ps k

@@ -7,7 +7,7 @@ use Rattle.nll_types.specs.Types.{TypeTree}
 use Rattle.nll_types.specs.Views.{tree}
 use Rattle.nll_types.specs.declared.node.Node.{Node}
 use Rattle.nll_types.proofs.ViewLemmas.{tree_int, tree_parameter, tree_reference, tree_tuple, tree_named}
-use Rattle.nll_types.proofs.ShapingLemmas.{extends_then, shaping_more, shaping_all}
+use Rattle.nll_types.proofs.ShapingLemmas.{extends_same, extends_then, shaping_more, shaping_all}
 use Rattle.nll_types.proofs.shaping.+shaping.Goals as goal
 
 -- what the shape of a tree becomes, where the tree is another
@@ -36,7 +36,7 @@ shape-returns-in_ok-parts-in-Tuple-clause-at t c = IfOk-weaker c.add-in-Tuple.re
 
 pub shape-returns-in_ok-types-in-Named-clause-at : goal.shape-returns-in_ok-types-in-Named-clause-at
 shape-returns-in_ok-types-in-Named-clause-at t c =
-    let count : c.len.result ≡ length c.in-Named.regions.items = cc in
+    let count = c.len.ensures ∙ c.in-Named.regions.ok.0 in
     IfOk-weaker c.add-in-Named.result _ _ (λ i at. λ b.
     let types = (rw c.as_slice-in-Named.ensures.value at c.in_ok-types-in-Named.ensures.at) b in
     at ∙ (ap (λ k. named_shape c.in-Named.number k (all_at (shapes_in c.shape_all-in-Named.new.shapes) c.in_ok-types-in-Named.types.items)) count
@@ -52,13 +52,18 @@ pub shape-returns-in_ok-types-in-Named-clause-extends : goal.shape-returns-in_ok
 shape-returns-in_ok-types-in-Named-clause-extends t c = extends_then _ _ _ c.shape_all-in-Named.ensures.extends c.add-in-Named.ensures.extends
 
 pub shape_all-loop-part-preserved : goal.shape_all-loop-part-preserved
-shape_all-loop-part-preserved t c = rw c.in_ok-push.ensures.items
-    (shaping_more _ _ _ c.args.arguments.now c.args.parts.now _ c.loop-part.part-index _ c.part-item.result c.loop-part-test.true c.part-item.is
-    c.loop-part.invariant c.shape.ensures.extends c.in_ok-number.ensures.within c.in_ok-number.ensures.at)
+shape_all-loop-part-preserved t c =
+    let pushed = c.push_reserved.ensures in (
+      rw pushed.items
+          (shaping_more _ _ _ c.args.arguments.now c.args.parts.now _ c.loop-part.part-index _ c.part-item.result c.loop-part-test.true c.part-item.is
+          c.loop-part.invariant.0 c.shape.ensures.extends c.in_ok-shape.ensures.within c.in_ok-shape.ensures.at),
+      omega arith,
+      omega arith,
+    )
 
 pub shape_all-returns-clause-at : goal.shape_all-returns-clause-at
 shape_all-returns-clause-at t c =
-    shaping_all _ _ c.args.arguments.now c.args.parts.now _ c.loop-part.part-index (let a : length c.args.parts.now ≤ c.loop-part.part-index = c.loop-part-test.false in omega arith) c.loop-part.invariant
+    shaping_all _ _ c.args.arguments.now c.args.parts.now _ c.loop-part.part-index (let a : length c.args.parts.now ≤ c.loop-part.part-index = c.loop-part-test.false in omega arith) c.loop-part.invariant.0
 
 pub shape-returns-in-Int-clause-extends : goal.shape-returns-in-Int-clause-extends
 shape-returns-in-Int-clause-extends t c = c.add.ensures.extends
@@ -114,26 +119,29 @@ shape_all-returns-in_err-made-clause-within t c = failed c.from_residual.result 
 pub shape_all-returns-in_err-made-clause-at : goal.shape_all-returns-in_err-made-clause-at
 shape_all-returns-in_err-made-clause-at t c = failed c.from_residual.result _ _ c.from_residual.ensures.1
 
-pub shape_all-returns-in_err-number-clause-within : goal.shape_all-returns-in_err-number-clause-within
-shape_all-returns-in_err-number-clause-within t c = failed c.from_residual-in_err-number.result _ _ c.from_residual-in_err-number.ensures.1
+pub shape_all-returns-in_err-shape-clause-within : goal.shape_all-returns-in_err-shape-clause-within
+shape_all-returns-in_err-shape-clause-within t c = failed c.from_residual-in_err-shape.result _ _ c.from_residual-in_err-shape.ensures.1
 
-pub shape_all-returns-in_err-number-clause-at : goal.shape_all-returns-in_err-number-clause-at
-shape_all-returns-in_err-number-clause-at t c = failed c.from_residual-in_err-number.result _ _ c.from_residual-in_err-number.ensures.1
+pub shape_all-returns-in_err-shape-clause-at : goal.shape_all-returns-in_err-shape-clause-at
+shape_all-returns-in_err-shape-clause-at t c = failed c.from_residual-in_err-shape.result _ _ c.from_residual-in_err-shape.ensures.1
 
-pub shape_all-returns-in_err-number-clause-extends : goal.shape_all-returns-in_err-number-clause-extends
-shape_all-returns-in_err-number-clause-extends t c = extends_then _ _ _ c.loop-part.invariant.extends c.shape.ensures.extends
-
-pub shape_all-returns-in_err-push-clause-within : goal.shape_all-returns-in_err-push-clause-within
-shape_all-returns-in_err-push-clause-within t c = failed c.from_residual-in_err-push.result _ _ c.from_residual-in_err-push.ensures.1
-
-pub shape_all-returns-in_err-push-clause-at : goal.shape_all-returns-in_err-push-clause-at
-shape_all-returns-in_err-push-clause-at t c = failed c.from_residual-in_err-push.result _ _ c.from_residual-in_err-push.ensures.1
-
-pub shape_all-returns-in_err-push-clause-extends : goal.shape_all-returns-in_err-push-clause-extends
-shape_all-returns-in_err-push-clause-extends t c = extends_then _ _ _ c.loop-part.invariant.extends c.shape.ensures.extends
+pub shape_all-returns-in_err-shape-clause-extends : goal.shape_all-returns-in_err-shape-clause-extends
+shape_all-returns-in_err-shape-clause-extends t c = extends_then _ _ _ c.loop-part.invariant.0.extends c.shape.ensures.extends
 
 pub shape_all-returns-clause-within : goal.shape_all-returns-clause-within
-shape_all-returns-clause-within t c = c.loop-part.invariant.within
+shape_all-returns-clause-within t c = c.loop-part.invariant.0.within
 
 pub shape_all-returns-clause-extends : goal.shape_all-returns-clause-extends
-shape_all-returns-clause-extends t c = c.loop-part.invariant.extends
+shape_all-returns-clause-extends t c = c.loop-part.invariant.0.extends
+
+pub shape_all-push_reserved-requires : goal.shape_all-push_reserved-requires
+shape_all-push_reserved-requires t c = omega arith
+
+pub shape_all-returns-in_err-made-clause-extends : goal.shape_all-returns-in_err-made-clause-extends
+shape_all-returns-in_err-made-clause-extends t c = extends_same _
+
+pub shape-add-requires-in-Tuple : goal.shape-add-requires-in-Tuple
+shape-add-requires-in-Tuple t c = c.in_ok-parts-in-Tuple.ensures.within
+
+pub shape-add-requires-in-Named : goal.shape-add-requires-in-Named
+shape-add-requires-in-Named t c = c.in_ok-types-in-Named.ensures.within

@@ -1,10 +1,25 @@
-use Rattle.std.proofs.Common.{◌∙◌, sym, refl, inr, map}
+use Rattle.std.proofs.Common.{◌≡◌, ◌∙◌, List, false, true, sym, refl, ap, inl, inr, map, length, arith}
 use Rattle.std.proofs.lemmas.Bool.{not-true, not-false}
 use Rattle.nll_type_grammar.specs.TypeTexts.{written}
 use Rattle.nll_mir_grammar.specs.Lines.{parameter_of}
 use Rattle.nll_mir_grammar.specs.Tuples.{parts}
-use Rattle.nll_mir_text.proofs.OwnLemmas.{own_known}
-use Rattle.nll_mir_text.proofs.StructLemmas.{struct_unknown, struct_duplicate}
+use Rattle.std.proofs.lemmas.List.{length-map}
+use Rattle.nll_naming.specs.Naming.{Scope, are_known, have_arguments, all_meant}
+use Rattle.nll_typing.specs.Typing.{are_small}
+use Rattle.nll_types.specs.Declarations as kept
+use Rattle.nll_types.specs.declared.structs.Declaration.{Declaration}
+use Rattle.nll_mir_text.specs.MirFaults.{redeclares}
+use Rattle.nll_mir_text.specs.MirSaid.{field_scope}
+use Rattle.nll_mir_text.specs.MirReading.{IsDue, struct_form}
+use Rattle.nll_mir_text.specs.Declaring.{AreJudged, AreOwn, own_scope}
+use Rattle.nll_mir_text.specs.declared.fields.JudgedFields.{JudgedFields}
+use Rattle.nll_mir_text.specs.declared.own_names.OwnNames.{OwnNames}
+use Rattle.nll_mir_text.specs.declared.reader.Reader.{Reader}
+use Rattle.nll_mir_grammar.specs.declared.line.StructText.{StructText}
+use Rattle.nll_type_grammar.specs.WrittenTypes.{WrittenTypes}
+use Rattle.nll_mir_grammar.specs.MirForms.{WrittenParameter}
+use Rattle.nll_mir_text.proofs.OwnLemmas.{own_known, own_scope_is}
+use Rattle.nll_mir_text.proofs.StructLemmas.{struct_unknown, struct_duplicate, struct_unfit, struct_too_large, too_many_structs, no_struct_fault, once_each}
 use Rattle.nll_mir_text.specs.MirReading.{said_by}
 use Rattle.nll_mir_text.proofs.reader.Reader.add_judged_struct.Goals as goal
 
@@ -29,3 +44,53 @@ returns-then-redeclares-clause-refused c =
     (sym (own_known s ps c.args.own.now c.args.self.now.structs fields c.requires.own refl)
     ∙ (sym c.requires.judged.known ∙ not-false c.args.judged.known c.if-not-judged.false))
     again)
+
+-- what is known of a struct line whose names are known and declare none again
+record IsNew (r : Reader) (own : OwnNames) (text : StructText) (judged : JudgedFields) : Type 0 where
+  known : are_known (field_scope (said_by r) (map parameter_of text.parameters.items)) (parts (written text.fields)) ≡ true
+  once : redeclares (said_by r) text.name.now (map parameter_of text.parameters.items) ≡ false
+  fits : judged.fits ≡ have_arguments (field_scope (said_by r) (map parameter_of text.parameters.items)) (parts (written text.fields))
+  small : judged.small ≡ are_small (all_meant (field_scope (said_by r) (map parameter_of text.parameters.items)) (parts (written text.fields)))
+
+is_new : (r : Reader) (own : OwnNames) (text : StructText) (judged : JudgedFields) → AreOwn (map parameter_of text.parameters.items) own → AreJudged (own_scope own r.structs) (parts (written text.fields)) judged → judged.known ≡ true → redeclares (said_by r) text.name.now (map parameter_of text.parameters.items) ≡ false → IsNew r own text judged
+is_new r own text judged h j known once =
+    let s = said_by r in
+    let ps = map parameter_of text.parameters.items in
+    let fields = parts (written text.fields) in
+    let each = once_each s text.name.now ps once in
+    let same : own_scope own r.structs ≡ field_scope s ps = own_scope_is s ps own r.structs h each.0 each.1 refl refl in
+    record {
+      known = sym (own_known s ps own r.structs fields h refl) ∙ (sym j.known ∙ known);
+      once = once;
+      fits = j.fits ∙ ap (λ (sc : Scope). have_arguments sc fields) same;
+      small = j.small ∙ ap (λ (sc : Scope). are_small (all_meant sc fields)) same;
+    }
+
+pub returns-then-not-judged-2-clause-refused : goal.returns-then-not-judged-2-clause-refused
+returns-then-not-judged-2-clause-refused c =
+    let text = c.args.text.now in
+    let n = is_new c.args.self.now c.args.own.now text c.args.judged c.requires.own c.requires.judged (not-false _ c.if-not-judged.false) (sym (rw c.as_slice.ensures.value at c.redeclares.ensures) ∙ c.if-redeclares.false) in
+    inr (struct_unfit (said_by c.args.self.now) text.name.now (map parameter_of text.parameters.items) text.has_drop (parts (written text.fields)) c.requires.due.order n.known n.once (sym n.fits ∙ not-true _ c.if-not-judged-2.true))
+
+pub returns-then-not-judged-3-clause-refused : goal.returns-then-not-judged-3-clause-refused
+returns-then-not-judged-3-clause-refused c =
+    let text = c.args.text.now in
+    let n = is_new c.args.self.now c.args.own.now text c.args.judged c.requires.own c.requires.judged (not-false _ c.if-not-judged.false) (sym (rw c.as_slice.ensures.value at c.redeclares.ensures) ∙ c.if-redeclares.false) in
+    inr (struct_too_large (said_by c.args.self.now) text.name.now (map parameter_of text.parameters.items) text.has_drop (parts (written text.fields)) c.requires.due.order n.known n.once (sym n.fits ∙ not-false _ c.if-not-judged-2.false) (sym n.small ∙ not-true _ c.if-not-judged-3.true))
+
+pub declare_struct-requires-clause-due : goal.declare_struct-requires-clause-due
+declare_struct-requires-clause-due c = c.requires.due
+
+pub declare_struct-requires-clause-own : goal.declare_struct-requires-clause-own
+declare_struct-requires-clause-own c = c.requires.own
+
+pub declare_struct-requires-clause-fine : goal.declare_struct-requires-clause-fine
+declare_struct-requires-clause-fine c =
+    let r = c.args.self.now in
+    let text = c.args.text.now in
+    let n = is_new r c.args.own.now text c.args.judged c.requires.own c.requires.judged (not-false _ c.if-not-judged.false) (sym (rw c.as_slice.ensures.value at c.redeclares.ensures) ∙ c.if-redeclares.false) in
+    no_struct_fault (said_by r) text.name.now (map parameter_of text.parameters.items) text.has_drop (parts (written text.fields)) c.requires.due.order n.known n.once (sym n.fits ∙ not-false _ c.if-not-judged-2.false) (sym n.small ∙ not-false _ c.if-not-judged-3.false)
+    (omega (arith, c.if-len-ge-MAX_STRUCTS.false, c.len.ensures, c.requires.due.ready.named_structs, length-map r.variables.table.structs kept.declared))
+
+pub returns-clause-taken : goal.returns-clause-taken
+returns-clause-taken c = c.in_ok-declare_struct.ensures

@@ -1,5 +1,5 @@
 use Rattle.std.proofs.Common.{ap, refl, inl, inr, ⊎_elim}
-use Rattle.std.proofs.lemmas.Result.{err_from_is_err_and}
+use Rattle.std.proofs.lemmas.Result.{on_ok_weaker, IfErr-weaker}
 use Rattle.nll_text.specs.Tokens.{views}
 use Rattle.nll_reading.specs.Text.{skipped, of_form, not_utf8, no_form, at_form}
 use Rattle.nll_reading.specs.Reading.{skips, reads}
@@ -31,15 +31,17 @@ take-requires-clause-few c =
     let h = rw c.in-Ok-Tokens.field-0-is at c.in-Ok-Tokens.ensures.ok in
     few_parameters_in _ _ c.requires.short (form_from _ _ _ (ap views c.as_slice.ensures.value) h _ (rw c.in-Some.is at c.in_ok-found.ensures))
 
-pub returns-in_err-take-clause-fault : goal.returns-in_err-take-clause-fault
-returns-in_err-take-clause-fault c =
+pub returns-clause-fault : goal.returns-clause-fault
+returns-clause-fault c =
     let h = rw c.in-Ok-Tokens.field-0-is at c.in-Ok-Tokens.ensures.ok in
     let form = form_from _ _ _ (ap views c.as_slice.ensures.value) h _ (rw c.in-Some.is at c.in_ok-found.ensures) in
-    let p = err_from_is_err_and c.from_residual-in_err-take.result c.from_residual-in_err-take.ensures.1 in
-    rw (p.1, p.2) (⊎_elim inl (λ fault. inr (at_form _ _ h.utf8 h.kept form fault)) c.in_err-take.ensures.refused)
+    IfErr-weaker c.take.result _ _ (λ kind refused. ⊎_elim inl (λ fault. inr (at_form _ _ h.utf8 h.kept form fault)) refused) c.take.ensures.refused
+
+pub returns-clause-ready : goal.returns-clause-ready
+returns-clause-ready c = on_ok_weaker c.take.result (λ told. told.ready) c.take.ensures.taken
 
 pub returns-clause-ok : goal.returns-clause-ok
 returns-clause-ok c =
     let h = rw c.in-Ok-Tokens.field-0-is at c.in-Ok-Tokens.ensures.ok in
     let form = form_from _ _ _ (ap views c.as_slice.ensures.value) h _ (rw c.in-Some.is at c.in_ok-found.ensures) in
-    reads _ (of_form _ h.utf8 h.kept form c.in_ok-take.ensures.taken.fine) c.in_ok-take.ensures.taken.says
+    on_ok_weaker c.take.result (λ told. reads _ (of_form _ h.utf8 h.kept form told.fine) told.says) c.take.ensures.taken

@@ -1,5 +1,5 @@
-use Rattle.std.proofs.Common.{◌≡◌, ◌<◌, ◌∙◌, ap, sym, refl, length, map, arith, rules}
-use Rattle.std.specs.Prelude.{option_map, vec_len}
+use Rattle.std.proofs.Common.{◌<◌, ◌∙◌, ap, sym, refl, length, map, arith}
+use Rattle.std.specs.Prelude.{option_map}
 use Rattle.std.proofs.lemmas.Option.{slice_get_read, slice_get-map}
 use Rattle.nll_types.specs.Types.{type_count}
 use Rattle.nll_types.specs.Structs.{Struct, no_struct}
@@ -16,5 +16,4 @@ returns-then-number-len c =
     let item = slice_get_read entries _ c.args.number c.index.result.now refl within c.index.ensures in
     let there = slice_get-map (λ entry. entry.declaration) entries c.args.number ∙ ap (option_map (λ entry. entry.declaration)) item in
     let is = get_mapped declared (map (λ entry. entry.declaration) entries) c.args.number c.index.result.now.declaration no_struct there in
-    let count : vec_len fields ≡ length fields.items = search rules in
-    rw (← c.self.view_is) (c.len-then-number-len.ensures ∙ count ∙ sym (count_trees fields.items) ∙ sym (ap (λ (z : Struct). type_count z.fields) is))
+    rw (← c.self.view_is) (c.len-then-number-len.ensures ∙ fields.ok.0 ∙ sym (count_trees fields.items) ∙ sym (ap (λ (z : Struct). type_count z.fields) is))

@@ -1,10 +1,7 @@
-use Rattle.std.proofs.Common.{◌≤◌, ◌∙◌, ap, length, arith}
-use Rattle.nll_types.specs.Shapes.{is_small_shape}
-use Rattle.nll_types.specs.Table.{shape_in}
-use Rattle.nll_types.specs.Tables.{Tables}
+use Rattle.std.proofs.Common.{◌≤◌, ◌∙◌, length, arith, refl}
 use Rattle.nll_types.proofs.FailLemmas.{failed}
 use Rattle.nll_types.proofs.ShapingLemmas.{extends_then}
-use Rattle.nll_types.proofs.WayLemmas.{way_ends, way_at, way_small}
+use Rattle.nll_types.proofs.WayLemmas.{way_starts, way_on, way_ends, way_at, way_small}
 use Rattle.nll_types.proofs.type_table.TypeTable.place_shape.Goals as goal
 
 pub returns-in-None-clause-at : goal.returns-in-None-clause-at
@@ -22,7 +19,7 @@ returns-clause-at c = λ t e.
 pub returns-clause-small : goal.returns-clause-small
 returns-clause-small c = λ t e.
     let past : length c.args.projections.now ≤ c.loop-projection.projection-index = omega arith in
-    let told = c.is_small-here-2.ensures ∙ ap (λ (z : Tables). is_small_shape (shape_in z.shapes c.loop-projection.number)) c.self-2.view_is in
+    let told = rw c.shapes-2.ensures at c.is_small-here-2.ensures in
     rw told (way_small _ _ _ c.args.projections.now c.loop-projection.projection-index c.args.from c.loop-projection.number c.loop-projection.small t past c.loop-projection.invariant.1 e)
 
 pub returns-in_err-next-clause-within : goal.returns-in_err-next-clause-within
@@ -60,3 +57,21 @@ returns-clause-within c = c.loop-projection.invariant.1.within
 
 pub returns-clause-structs : goal.returns-clause-structs
 returns-clause-structs c = c.loop-projection.invariant.0
+
+pub loop-projection-init : goal.loop-projection-init
+loop-projection-init c = (refl, way_starts _ _ _ _ c.requires)
+
+pub loop-projection-preserved : goal.loop-projection-preserved
+loop-projection-preserved c =
+    let on = c.loop-projection.invariant in
+    let here = rw c.shapes.ensures at c.is_small-here.ensures in
+    let next = rw (c.in-Some.is, on.0) at c.in_ok-next.ensures.at in
+    let within = rw c.in-Some.is at c.in_ok-next.ensures.within in (
+      c.behind.ensures.structs ∙ on.0,
+      rw here
+          (way_on _ _ _ _ c.args.projections.now c.loop-projection.projection-index c.args.from c.loop-projection.number c.in-Some.next _ c.loop-projection.small
+          c.loop-projection-test.true on.1 c.behind.ensures.extends within next),
+    )
+
+pub behind-requires : goal.behind-requires
+behind-requires c = c.loop-projection.invariant.1.within

@@ -1,0 +1,243 @@
+//! Lines of the head: regions, structs, variables, and how many blocks there are to be.
+
+ghost use Rattle.std.specs.Prelude.{◌≡◌, map, Some, None, true, false};
+ghost use Rattle.std.specs.Prelude.{IfOk, IfErr, OnOk, OnErr};
+ghost use Rattle.nll_reading.specs.Names.{number_of};
+ghost use Rattle.nll_type_grammar.specs.TypeTexts.{written};
+ghost use Rattle.nll_mir_grammar.specs.MirForms as forms;
+ghost use Rattle.nll_mir_grammar.specs.Lines.{parameter_of};
+ghost use Rattle.nll_mir_grammar.specs.Tuples.{parts};
+ghost use Rattle.nll_mir_text.specs.MirFaults.{first_fault, is_universal};
+ghost use Rattle.nll_mir_text.specs.MirReading.{said_by, IsReady};
+ghost use Rattle.nll_mir_text.specs.MirReading.{IsDue, IsTaken, IsRefused};
+ghost use Rattle.nll_mir_text.specs.MirReading.{struct_form, scope_in, IsOfType};
+ghost use Rattle.nll_mir_text.specs.Declaring.{AreJudged, AreOwn, own_scope};
+
+use crate::fields::{JudgedFields, declaration, judge_fields};
+use crate::judging::{JudgedType, judge_type, type_meant};
+use crate::limits::{MAX_STRUCTS, MAX_VARIABLES};
+use crate::own_names::{OwnNames, gather_names, redeclares};
+use crate::parameters::kinds;
+use crate::reader::Reader;
+use nll_mir_grammar::StructText;
+use nll_problem::{Kind, MAX_POINTS, MAX_REGIONS, MAX_UNIVERSALS};
+use nll_reading::TextKind;
+use nll_sets::Memory;
+use nll_type_grammar::TypeText;
+
+impl Reader {
+    /// Adds a universal region.
+    pub(crate) fn add_universal(&mut self, name: &[u8]) -> Result<(), TextKind>
+        requires { IsDue self.old (forms.universal name.now) }
+        ensures taken { OnOk result
+            (IsTaken (said_by self.old) (forms.universal name.now) self.new) }
+        ensures refused { IfErr result (IsRefused (said_by self.old) (forms.universal name.now)) }
+    {
+        if self.regions.names.number_of(name).is_some() {
+            return Err(TextKind::Duplicate);
+        }
+        if self.regions.universals >= MAX_UNIVERSALS as usize {
+            return Err(TextKind::Limit(Kind::Universals));
+        }
+        if self.regions.names.len() >= MAX_REGIONS as usize {
+            return Err(TextKind::Limit(Kind::Regions));
+        }
+        self.regions.names.add(self.alloc, name)?;
+        self.regions.universals += 1;
+        self.reached = 1;
+        Ok(())
+    }
+
+    /// Adds a further region.
+    pub(crate) fn add_region(&mut self, name: &[u8]) -> Result<(), TextKind>
+        requires { IsDue self.old (forms.further name.now) }
+        ensures taken { OnOk result (IsTaken (said_by self.old) (forms.further name.now) self.new) }
+        ensures refused { IfErr result (IsRefused (said_by self.old) (forms.further name.now)) }
+    {
+        if self.regions.names.number_of(name).is_some() {
+            return Err(TextKind::Duplicate);
+        }
+        if self.regions.names.len() >= MAX_REGIONS as usize {
+            return Err(TextKind::Limit(Kind::Regions));
+        }
+        self.regions.names.add(self.alloc, name)?;
+        self.reached = 3;
+        Ok(())
+    }
+
+    // The number of a universal region.
+    fn universal(&self, name: &[u8]) -> Result<u32, TextKind>
+        requires { IsReady self.now }
+        ensures ok { IfOk result (λ r. r ≡ number_of self.now.regions.names name.now) }
+        ensures universal { OnOk result (is_universal (said_by self.now) name.now ≡ true) }
+        ensures other { OnErr result (is_universal (said_by self.now) name.now ≡ false) }
+        ensures err { IfErr result (λ kind. kind ≡ TextKind.Unknown) }
+    {
+        match self.regions.names.number_of(name) {
+            Some(number) if number < self.regions.universals => Ok(number as u32),
+            _ => Err(TextKind::Unknown),
+        }
+    }
+
+    /// Adds that one universal region is known to outlive another.
+    pub(crate) fn add_outlives(&mut self, longer: &[u8], shorter: &[u8]) -> Result<(), TextKind>
+        requires { IsDue self.old (forms.outlives longer.now shorter.now) }
+        ensures taken { OnOk result
+            (IsTaken (said_by self.old) (forms.outlives longer.now shorter.now) self.new) }
+        ensures refused { IfErr result
+            (IsRefused (said_by self.old) (forms.outlives longer.now shorter.now)) }
+    {
+        let longer = self.universal(longer)?;
+        let shorter = self.universal(shorter)?;
+        self.regions.outlives.insert((longer, shorter))?;
+        self.reached = 2;
+        Ok(())
+    }
+
+    /// Sets the number of blocks.
+    pub(crate) fn set_blocks(&mut self, count: u32) -> Result<(), TextKind>
+        requires { IsDue self.old (forms.blocks count) }
+        ensures taken { OnOk result (IsTaken (said_by self.old) (forms.blocks count) self.new) }
+        ensures refused { IfErr result
+            (λ kind. first_fault (said_by self.old) (forms.blocks count) ≡ Some kind) }
+    {
+        if count == 0 {
+            return Err(TextKind::Range);
+        }
+        if count > MAX_POINTS {
+            return Err(TextKind::Limit(Kind::Points));
+        }
+        self.points.blocks = count;
+        self.reached = 6;
+        Ok(())
+    }
+
+    /// Declares a variable.
+    pub(crate) fn add_variable(&mut self, number: u32, text: &TypeText<'_>) -> Result<(), TextKind>
+        requires { IsDue self.old (forms.variable number (written text.now)) }
+        ensures taken { OnOk result
+            (IsTaken (said_by self.old) (forms.variable number (written text.now)) self.new) }
+        ensures refused { IfErr result
+            (IsRefused (said_by self.old) (forms.variable number (written text.now))) }
+    {
+        let table = &mut self.variables.table;
+        let judged = judge_type(self.alloc, &self.regions, &self.structs, table, text)?;
+        self.add_judged_variable(number, text, judged)
+    }
+
+    // Declares a variable whose type is judged.
+    fn add_judged_variable(
+        &mut self,
+        number: u32,
+        text: &TypeText<'_>,
+        judged: JudgedType,
+    ) -> Result<(), TextKind>
+        requires due { IsDue self.old (forms.variable number (written text.now)) }
+        requires judged { IsOfType (scope_in self.old.regions self.old.structs)
+            self.old.variables.table.shapes (written text.now) judged }
+        ensures taken { OnOk result
+            (IsTaken (said_by self.old) (forms.variable number (written text.now)) self.new) }
+        ensures refused { IfErr result
+            (IsRefused (said_by self.old) (forms.variable number (written text.now))) }
+    {
+        if !judged.known {
+            return Err(TextKind::Unknown);
+        }
+        if number as usize != self.variables.types.len() {
+            return Err(TextKind::Range);
+        }
+        if !judged.fits {
+            return Err(TextKind::Shape);
+        }
+        if !judged.small {
+            return Err(TextKind::TypeSize);
+        }
+        if self.variables.types.len() >= MAX_VARIABLES {
+            return Err(TextKind::Limit(Kind::Variables));
+        }
+        let ty = type_meant(self.alloc, &self.regions, &self.structs, text)?;
+        self.variables.types.push(ty)?;
+        self.variables.shapes.push(judged.shape)?;
+        self.reached = 5;
+        Ok(())
+    }
+
+    /// Declares a struct.
+    pub(crate) fn add_struct(&mut self, text: &StructText<'_>) -> Result<(), TextKind>
+        requires { IsDue self.old (struct_form text.now) }
+        ensures taken { OnOk result (IsTaken (said_by self.old) (struct_form text.now) self.new) }
+        ensures refused { IfErr result (IsRefused (said_by self.old) (struct_form text.now)) }
+    {
+        let own = gather_names(self.alloc, text.parameters.as_slice())?;
+        let taken = self.add_named_struct(&own, text);
+        drop(own);
+        taken
+    }
+
+    // Declares a struct with these names of its own.
+    fn add_named_struct(&mut self, own: &OwnNames, text: &StructText<'_>) -> Result<(), TextKind>
+        requires due { IsDue self.old (struct_form text.now) }
+        requires own { AreOwn (map parameter_of text.now.parameters.items) own.now }
+        ensures taken { OnOk result (IsTaken (said_by self.old) (struct_form text.now) self.new) }
+        ensures refused { IfErr result (IsRefused (said_by self.old) (struct_form text.now)) }
+    {
+        let table = &mut self.variables.table;
+        let fields = text.fields.as_type();
+        let judged = judge_fields(self.alloc, own, &self.structs, table, fields)?;
+        self.add_judged_struct(own, text, judged)
+    }
+
+    // Declares a struct whose fields are judged.
+    fn add_judged_struct(
+        &mut self,
+        own: &OwnNames,
+        text: &StructText<'_>,
+        judged: JudgedFields,
+    ) -> Result<(), TextKind>
+        requires due { IsDue self.old (struct_form text.now) }
+        requires own { AreOwn (map parameter_of text.now.parameters.items) own.now }
+        requires judged { AreJudged (own_scope own.now self.old.structs)
+            (parts (written text.now.fields)) judged }
+        ensures taken { OnOk result (IsTaken (said_by self.old) (struct_form text.now) self.new) }
+        ensures refused { IfErr result (IsRefused (said_by self.old) (struct_form text.now)) }
+    {
+        if !judged.known {
+            return Err(TextKind::Unknown);
+        }
+        if redeclares(
+            own,
+            &self.structs.names,
+            text.name,
+            text.parameters.as_slice(),
+        ) {
+            return Err(TextKind::Duplicate);
+        }
+        if !judged.fits {
+            return Err(TextKind::Shape);
+        }
+        if !judged.small {
+            return Err(TextKind::TypeSize);
+        }
+        if self.structs.names.len() >= MAX_STRUCTS {
+            return Err(TextKind::Limit(Kind::Structs));
+        }
+        self.declare_struct(own, text)?;
+        Ok(())
+    }
+
+    // Declares a struct with which nothing is wrong.
+    fn declare_struct(&mut self, own: &OwnNames, text: &StructText<'_>) -> Result<(), Memory>
+        requires due { IsDue self.old (struct_form text.now) }
+        requires own { AreOwn (map parameter_of text.now.parameters.items) own.now }
+        requires fine { first_fault (said_by self.old) (struct_form text.now) ≡ None }
+        ensures { OnOk result (IsTaken (said_by self.old) (struct_form text.now) self.new) }
+    {
+        let parameters = text.parameters.as_slice();
+        let declaration = declaration(self.alloc, own, &self.structs, text)?;
+        self.variables.table.declare(self.alloc, declaration)?;
+        let kinds = kinds(self.alloc, parameters)?;
+        self.structs.add(self.alloc, text.name, kinds)?;
+        self.reached = 4;
+        Ok(())
+    }
+}
