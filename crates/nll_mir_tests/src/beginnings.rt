@@ -3,7 +3,8 @@ use super::comparing::expect_none;
 use super::reading::fault_of;
 use nll_reading::{TextError, TextKind};
 use nll_worked_texts::{CALLED, DROPPED, MOVED, REBORROW, RETURNED, TWO_BORROWS, text_of};
-use std::alloc::{AllocError, Global};
+use std::alloc::Global;
+use std::process::Abort;
 
 // The number of a text's last line.
 fn last_line(text: &[u8]) -> u64 {
@@ -49,12 +50,10 @@ fn misjudged(alloc: Global, text: &[u8]) -> Option<usize> {
     None
 }
 
-// The same of a text of lines that end with `|`.
-fn misjudged_lines(alloc: Global, lines: &str) -> Result<Option<usize>, AllocError> {
-    let text = text_of(alloc, lines)?;
-    let found = misjudged(alloc, text.as_slice());
-    drop(text);
-    Ok(found)
+// Ends the test unless each beginning of a text of lines that end with `|` is judged so.
+fn judge(rt: &impl Abort, alloc: Global, lines: &str) {
+    let text = text_of(alloc, lines).expect(rt, "memory");
+    expect_none(rt, lines, misjudged(alloc, text.as_slice()));
 }
 
 const WORKED: &[&str] = &[TWO_BORROWS, REBORROW, DROPPED, MOVED, RETURNED, CALLED];
@@ -63,7 +62,6 @@ const WORKED: &[&str] = &[TWO_BORROWS, REBORROW, DROPPED, MOVED, RETURNED, CALLE
 #[test]
 fn beginnings_are_judged(rt: HostRuntime) {
     for lines in WORKED {
-        let found = misjudged_lines(rt.alloc(), lines);
-        expect_none(&rt, lines, found);
+        judge(&rt, rt.alloc(), lines);
     }
 }

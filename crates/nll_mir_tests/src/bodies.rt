@@ -1,6 +1,5 @@
 //! Bodies of worked texts: regions, points, edges, and what is used, defined and dropped.
-use super::comparing::compare;
-use super::reading::{Asked, read_lines};
+use super::reading::{Asked, compare_lines};
 use nll_worked_texts::{CALLED, DROPPED, MOVED, REBORROW, RETURNED, TWO_BORROWS};
 
 // Texts, and the bodies that they mean.
@@ -36,39 +35,33 @@ const BODIES: &[(&str, &str)] = &[
         "universal 'static|region 'a|region 'b|region 'c|3 variables|\
         bb0/0 to 1 uses 1 defines 2|bb1/0 to 2 uses 2|bb1/1 returns uses 0|",
     ),
+    // Blanks may stand between any two tokens, and are needed between words alone.
+    (
+        SPACED,
+        "universal 'static|region 'w|2 variables|\
+        bb0/0 to 1|bb0/1 to 2 drops 1|bb1/0 returns uses 0|",
+    ),
+    // A repeated line says nothing new.
+    (
+        OUTLIVING,
+        "universal 'static|universal 'a|universal 'b|region 'c|\
+        outlives 2 1|outlives 1 0|1 variables|bb0/0|",
+    ),
 ];
-
-// The bodies of worked texts.
-#[test]
-fn bodies_are_read(rt: HostRuntime) {
-    for (text, want) in BODIES {
-        compare(&rt, text, read_lines(rt.alloc(), text, Asked::All), want);
-    }
-}
 
 // The text in which a struct is dropped, with other blanks, remarks and empty lines.
 const SPACED: &str = "\tnll-mir \t 1\r|  | # the region of a W|region\t'w\r||\
     struct W < 'x+ > drop(& 'x int)|let _0:int|let _1 : W<'w>|blocks   2|\tblock bb0|nop\r|\
     #||drop _1->bb1|# the other block|block bb1|return|end\t|  |# no more|";
 
-// Blanks may stand between any two tokens, and are needed between words alone.
-#[test]
-fn blanks_and_remarks_say_nothing(rt: HostRuntime) {
-    let want = "universal 'static|region 'w|2 variables|\
-        bb0/0 to 1|bb0/1 to 2 drops 1|bb1/0 returns uses 0|";
-    let told = read_lines(rt.alloc(), SPACED, Asked::All);
-    compare(&rt, "blanks", told, want);
-}
-
 // A body in which two universal regions are known to outlive others, one of them by two lines.
 const OUTLIVING: &str = "nll-mir 1|universal 'a|universal 'b|outlives 'b 'a|outlives 'a 'static|\
     outlives 'b 'a|region 'c|let _0: &'c int|blocks 1|block bb0|stop|end|";
 
-// A repeated line says nothing new.
+// The bodies of worked texts.
 #[test]
-fn outlives_are_kept_once(rt: HostRuntime) {
-    let want = "universal 'static|universal 'a|universal 'b|region 'c|\
-        outlives 2 1|outlives 1 0|1 variables|bb0/0|";
-    let told = read_lines(rt.alloc(), OUTLIVING, Asked::All);
-    compare(&rt, "outlives", told, want);
+fn bodies_are_read(rt: HostRuntime) {
+    for (text, want) in BODIES {
+        compare_lines(&rt, rt.alloc(), Asked::All, text, want);
+    }
 }

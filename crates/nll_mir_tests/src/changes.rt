@@ -3,7 +3,8 @@ use super::comparing::expect_none;
 use super::reading::fault_of;
 use nll_reading::{TextError, TextKind};
 use nll_worked_texts::{CALLED, DROPPED, TWO_BORROWS, text_of};
-use std::alloc::{AllocError, Global};
+use std::alloc::Global;
+use std::process::Abort;
 
 // What is wrong with a line that has some byte: with the header, and with any other line.
 type Wrong = (u8, TextKind, TextKind);
@@ -38,23 +39,18 @@ fn misjudged(alloc: Global, text: &mut [u8], wrong: Wrong) -> Option<usize> {
     None
 }
 
-// The same of a text of lines that end with `|`.
-fn misjudged_lines(alloc: Global, lines: &str, wrong: Wrong) -> Result<Option<usize>, AllocError> {
-    let mut text = text_of(alloc, lines)?;
-    let found = misjudged(alloc, text.as_mut_slice(), wrong);
-    drop(text);
-    Ok(found)
+// Ends the test unless that byte leads to its fault wherever it stands in a text of lines that end
+// with `|`.
+fn judge(rt: &impl Abort, alloc: Global, lines: &str, wrong: Wrong) {
+    let mut text = text_of(alloc, lines).expect(rt, "memory");
+    expect_none(rt, lines, misjudged(alloc, text.as_mut_slice(), wrong));
 }
 
 // The same of all such bytes.
-fn misjudged_bytes(alloc: Global, lines: &str) -> Result<Option<usize>, AllocError> {
+fn judge_each(rt: &impl Abort, alloc: Global, lines: &str) {
     for wrong in WRONG {
-        let found = misjudged_lines(alloc, lines, *wrong)?;
-        if found.is_some() {
-            return Ok(found);
-        }
+        judge(rt, alloc, lines, *wrong);
     }
-    Ok(None)
 }
 
 const WORKED: &[&str] = &[TWO_BORROWS, DROPPED, CALLED];
@@ -63,7 +59,6 @@ const WORKED: &[&str] = &[TWO_BORROWS, DROPPED, CALLED];
 #[test]
 fn changed_bytes_are_told(rt: HostRuntime) {
     for lines in WORKED {
-        let found = misjudged_bytes(rt.alloc(), lines);
-        expect_none(&rt, lines, found);
+        judge_each(&rt, rt.alloc(), lines);
     }
 }

@@ -13,11 +13,8 @@ mod changes;
 #[cfg(test)]
 mod comparing;
 #[cfg(test)]
-mod copies;
 #[cfg(test)]
 mod limits;
-#[cfg(test)]
-mod numbers;
 #[cfg(test)]
 mod reading;
 #[cfg(test)]
@@ -32,3 +29,5 @@ mod sizes;
 mod statements;
 #[cfg(test)]
 mod types;
+#[cfg(test)]
+mod writing;

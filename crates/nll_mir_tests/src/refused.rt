@@ -1,9 +1,9 @@
 //! MIR texts with a fault: the line, and the first kind of fault that it has.
 use super::comparing::compare;
 use super::reading::{Asked, read};
-use super::rows::compare_rows;
+use super::rows::{Table, compare_tables};
 
-// Texts whose lines end with `|`, and their faults.
+// Texts whose lines end with `|`, and their faults: of order, and of a text's ends.
 const ORDER: &str = "
  ~ line 1: Header
 nll-facts 1| ~ line 1: Header
@@ -28,13 +28,6 @@ nll-mir 1|let _0: int|blocks 1|block bb0|stop|stop| ~ line 6: Syntax
 nll-mir 1|let _0: int|blocks 1|block bb0|stop|end|end| ~ line 7: Syntax
 nll-mir 1|let _0: int|blocks 1|block bb0|stop| ~ line 5: End
 ";
-
-// Faults of order, and of a text's ends.
-#[test]
-fn lines_out_of_order(rt: HostRuntime) {
-    let around = (("", ""), ("", ""));
-    compare_rows(&rt, rt.alloc(), Asked::All, around, ORDER);
-}
 
 // Declarations behind the header, and their faults.
 const DECLARATIONS: &str = "
@@ -94,13 +87,6 @@ let _0: int|blocks 2|block bb0|stop|block bb0| ~ line 6: Range
 let _0: int|blocks 1|block bb0|stop|block bb1| ~ line 6: Range
 let _0: int|blocks 2|block bb0|stop|end| ~ line 6: Range
 ";
-
-// Faults of declarations.
-#[test]
-fn declarations_are_refused(rt: HostRuntime) {
-    let around = (("nll-mir 1|", ""), ("", ""));
-    compare_rows(&rt, rt.alloc(), Asked::All, around, DECLARATIONS);
-}
 
 // Statements and terminators at the first point of a body, and their faults. The body has the
 // variables `_0: int`, `_1: &'r int`, `_2: &'q mut int`, `_3: (int, &'r int)`, `_4: S<'r>` with
@@ -185,27 +171,6 @@ const DECLARED: &str = "nll-mir 1|region 'r|region 'q|struct S<'x +>(&'x int)|st
     let _0: int|let _1: &'r int|let _2: &'q mut int|let _3: (int, &'r int)|let _4: S<'r>|\
     let _5: D<int>|blocks 1|block bb0|";
 
-// Faults of statements and terminators.
-#[test]
-fn statements_are_refused(rt: HostRuntime) {
-    let around = ((DECLARED, "|stop|"), ("", ""));
-    compare_rows(&rt, rt.alloc(), Asked::All, around, STATEMENTS);
-}
-
-// What is right is taken, so that the text only lacks its end.
-#[test]
-fn statements_are_taken(rt: HostRuntime) {
-    let around = ((DECLARED, "|stop|"), ("", ""));
-    compare_rows(&rt, rt.alloc(), Asked::All, around, TAKEN);
-}
-
-// The same of terminators.
-#[test]
-fn terminators_are_taken(rt: HostRuntime) {
-    let around = ((DECLARED, "|"), ("", ""));
-    compare_rows(&rt, rt.alloc(), Asked::All, around, ENDED);
-}
-
 // The text in which a struct is dropped, with one line changed, and its fault.
 const CHANGED: &str = "
 nll-mir 1|region 'w|struct W<'x +> drop (&'x int)|let _0: int|let _1: W|blocks 2|block bb0|nop|\
@@ -226,15 +191,8 @@ nll-mir 1|region 'w|struct W<'x +> drop (&'x int)|let _0: int|let _1: W<'w>|bloc
 nop|drop _1 -> bb1|block bb2|return|end| ~ line 10: Range
 ";
 
-// Faults of that text with one line changed.
-#[test]
-fn one_line_changed(rt: HostRuntime) {
-    let around = (("", ""), ("", ""));
-    compare_rows(&rt, rt.alloc(), Asked::All, around, CHANGED);
-}
-
 // The same text, cut off: behind a `let` line without arguments, behind the `nop` line, and behind
-// `drop _1 -> bb1`.
+// `drop _1 -> bb1`. It lacks its end, unless what is left is wrong.
 const CUT: &str = "
 nll-mir 1|region 'w|struct W<'x +> drop (&'x int)|let _0: int|let _1: W| ~ line 5: Shape
 nll-mir 1|region 'w|struct W<'x +> drop (&'x int)|let _0: int|let _1: W<'w>|blocks 2|block bb0|\
@@ -249,26 +207,28 @@ nop|drop _1 -> bb1|block bb1|return|end ~ universal 'static|region 'w|2 variable
 bb0/1 to 2 drops 1|bb1/0 returns uses 0|
 ";
 
-// A text that is cut off lacks its end, unless what is left is wrong.
+// All these tables. In each row of `TAKEN` and `ENDED` the text only lacks its end.
+const TABLES: &[Table<'static>] = &[
+    (Asked::All, ("", ""), ("", ""), ORDER),
+    (Asked::All, ("nll-mir 1|", ""), ("", ""), DECLARATIONS),
+    (Asked::All, (DECLARED, "|stop|"), ("", ""), STATEMENTS),
+    (Asked::All, (DECLARED, "|stop|"), ("", ""), TAKEN),
+    (Asked::All, (DECLARED, "|"), ("", ""), ENDED),
+    (Asked::All, ("", ""), ("", ""), CHANGED),
+    (Asked::All, ("", ""), ("", ""), CUT),
+];
+
+// Each text has that fault, or none.
 #[test]
-fn cut_off(rt: HostRuntime) {
-    let around = (("", ""), ("", ""));
-    compare_rows(&rt, rt.alloc(), Asked::All, around, CUT);
+fn texts_are_refused(rt: HostRuntime) {
+    compare_tables(&rt, rt.alloc(), TABLES);
 }
 
 // Bytes that are no text are told before the header, and in a skipped line.
 #[test]
 fn no_text(rt: HostRuntime) {
-    compare(
-        &rt,
-        "header",
-        read(rt.alloc(), b"\xFF", Asked::All),
-        "line 1: NotUtf8",
-    );
-    compare(
-        &rt,
-        "comment",
-        read(rt.alloc(), b"nll-mir 1\n# \xFF\n", Asked::All),
-        "line 2: NotUtf8",
-    );
+    let told = read(&rt, rt.alloc(), b"\xFF", Asked::All);
+    compare(&rt, "header", told.as_str(), "line 1: NotUtf8");
+    let told = read(&rt, rt.alloc(), b"nll-mir 1\n# \xFF\n", Asked::All);
+    compare(&rt, "comment", told.as_str(), "line 2: NotUtf8");
 }

@@ -1,90 +1,69 @@
 //! Texts in which something stands very often.
-use super::numbers::write_number;
-use super::reading::{Asked, read, read_size_in_parts};
-use std::alloc::{AllocError, Global};
+use super::comparing::compare;
+use super::reading::{Asked, read};
+use super::writing::{write_number, write_piece};
+use std::alloc::Global;
+use std::process::Abort;
 
-/// What stands in front, what stands often, and what stands behind.
-pub type Repeated = (&'static str, &'static str, &'static str);
+/// What stands in front, what stands often, and what stands behind. A `#` in what stands often is
+/// the number of those in front of it.
+pub type Repeated<'a> = (&'a str, &'a str, &'a str);
 
-/// What stands in front, what stands before and behind a number that counts up from 0, and what
-/// stands behind.
-pub type Numbered = (&'static str, (&'static str, &'static str), &'static str);
+/// Such a text, how often, and how much is told of it.
+pub type Row = (Repeated<'static>, u32, &'static str);
 
 // Writes something often.
-fn write_often(out: &mut String, piece: &str, count: u32) -> Result<(), AllocError> {
+fn write_same(rt: &impl Abort, out: &mut String, piece: &str, count: u32) {
     for _ in 0..count {
-        out.push_str(piece)?;
+        write_piece(rt, out, piece);
     }
-    Ok(())
 }
 
-/// Writes numbers that count up from 0, each between two words.
-pub fn write_numbered(
-    out: &mut String,
-    (before, behind): (&str, &str),
-    count: u32,
-) -> Result<(), AllocError> {
+// Writes numbers that count up from 0, each between two words.
+fn write_numbered(rt: &impl Abort, out: &mut String, before: &str, behind: &str, count: u32) {
     for number in 0..count {
-        write_number(out, before, u64::from(number), behind)?;
+        write_number(rt, out, before, u64::from(number), behind);
     }
-    Ok(())
 }
 
-// Writes a text in which something stands so often.
-fn write_repeated(
-    out: &mut String,
-    (front, piece, back): Repeated,
-    count: u32,
-) -> Result<(), AllocError> {
-    out.push_str(front)?;
-    write_often(out, piece, count)?;
-    out.push_str(back)
+/// Writes something often, with its number where it has one.
+pub fn write_often(rt: &impl Abort, out: &mut String, piece: &str, count: u32) {
+    match piece.split_once('#') {
+        Some((before, behind)) => write_numbered(rt, out, before, behind, count),
+        None => write_same(rt, out, piece, count),
+    }
 }
 
-// Writes a text with so many numbers.
-fn write_counted(
-    out: &mut String,
-    (front, words, back): Numbered,
-    count: u32,
-) -> Result<(), AllocError> {
-    out.push_str(front)?;
-    write_numbered(out, words, count)?;
-    out.push_str(back)
-}
-
-/// What is told of a text in which something stands so often.
-pub fn read_repeated(alloc: Global, parts: Repeated, count: u32) -> Result<String, AllocError> {
-    let mut text = String::new(alloc);
-    let written = write_repeated(&mut text, parts, count);
-    read_written(alloc, written, text)
-}
-
-/// The same, where the text is freed while it is read.
-pub fn read_repeated_in_parts(
+/// A text in which something stands so often.
+pub fn repeated(
+    rt: &impl Abort,
     alloc: Global,
-    parts: Repeated,
+    (front, piece, back): Repeated<'_>,
     count: u32,
-) -> Result<String, AllocError> {
+) -> String {
     let mut text = String::new(alloc);
-    let written = write_repeated(&mut text, parts, count);
-    let told = read_size_in_parts(alloc, text.into_bytes());
-    written.and(told)
+    write_piece(rt, &mut text, front);
+    write_often(rt, &mut text, piece, count);
+    write_piece(rt, &mut text, back);
+    text
 }
 
-/// What is told of a text with so many numbers.
-pub fn read_numbered(alloc: Global, parts: Numbered, count: u32) -> Result<String, AllocError> {
-    let mut text = String::new(alloc);
-    let written = write_counted(&mut text, parts, count);
-    read_written(alloc, written, text)
-}
-
-/// What is told of a text that was written so.
-pub fn read_written(
+/// Ends the test where something else is told of such a text.
+pub fn compare_repeated(
+    rt: &impl Abort,
     alloc: Global,
-    written: Result<(), AllocError>,
-    text: String,
-) -> Result<String, AllocError> {
-    let told = read(alloc, text.as_bytes(), Asked::Size);
-    drop(text);
-    written.and(told)
+    parts: Repeated<'_>,
+    count: u32,
+    want: &str,
+) {
+    let text = repeated(rt, alloc, parts, count);
+    let told = read(rt, alloc, text.as_bytes(), Asked::Size);
+    compare(rt, parts.1, told.as_str(), want);
+}
+
+/// The same of each row.
+pub fn compare_each(rt: &impl Abort, alloc: Global, rows: &[Row]) {
+    for (parts, count, want) in rows {
+        compare_repeated(rt, alloc, *parts, *count, want);
+    }
 }

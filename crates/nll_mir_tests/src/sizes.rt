@@ -1,12 +1,14 @@
 //! Types at the limit of their nodes and past it, however they are written.
 use super::comparing::compare;
-use super::numbers::write_number;
-use super::repeating::{Repeated, read_repeated, read_written};
-use std::alloc::{AllocError, Global};
+use super::reading::{Asked, read};
+use super::repeating::{Repeated, Row, compare_each, compare_repeated};
+use super::writing::{write_number, write_piece};
+use std::alloc::Global;
+use std::process::Abort;
 
-// Tuples of an `int` and more, where a type may be written, how many more, and what is told. A
-// tuple of 4,095 parts has 4,096 nodes, which is the most.
-const TUPLES: &[(Repeated, u32, &str)] = &[
+// Types, how many parts more than an `int` they have, and what is told: tuples, wherever a type
+// may be written, and references. A tuple of 4,095 parts has 4,096 nodes, which is the most.
+const TYPES: &[Row] = &[
     (VARIABLE, 4_094, "1 regions, 2 variables|bb0/0|"),
     (VARIABLE, 4_095, "line 3: TypeSize"),
     (FIELD, 4_094, "1 regions, 1 variables|bb0/0|"),
@@ -16,66 +18,53 @@ const TUPLES: &[(Repeated, u32, &str)] = &[
     (ARGUMENT, 4_094, "line 4: TypeSize"),
     // That the types differ is told first.
     (RESULT, 4_095, "line 5: Shape"),
+    // References are refused however deep they are: the last ones are a line of a mebibyte.
+    (DEEP, 4_096, "line 4: TypeSize"),
+    (DEEP, 262_144, "line 4: TypeSize"),
 ];
 
-const VARIABLE: Repeated = (
+const VARIABLE: Repeated<'static> = (
     "nll-mir 1\nlet _0: int\nlet _1: (int",
     ", int",
     ")\nblocks 1\nblock bb0\nstop\nend\n",
 );
 
-const FIELD: Repeated = (
+const FIELD: Repeated<'static> = (
     "nll-mir 1\nstruct S((int",
     ", int",
     "))\nlet _0: int\nblocks 1\nblock bb0\nstop\nend\n",
 );
 
-const ARGUMENT: Repeated = (
+const ARGUMENT: Repeated<'static> = (
     "nll-mir 1\nstruct P<T +>(T)\nlet _0: int\nlet _1: P<(int",
     ", int",
     ")>\nblocks 1\nblock bb0\nstop\nend\n",
 );
 
-const RESULT: Repeated = (
+const RESULT: Repeated<'static> = (
     "nll-mir 1\nlet _0: int\nblocks 1\nblock bb0\n_0 = call f(): (int",
     ", int",
     ") -> bb0\nend\n",
 );
 
-// Large types are taken, and larger ones refused.
-#[test]
-fn large_tuples(rt: HostRuntime) {
-    for (parts, count, want) in TUPLES {
-        compare(
-            &rt,
-            parts.0,
-            read_repeated(rt.alloc(), *parts, *count),
-            want,
-        );
-    }
-}
-
 // References to one another and to an `int`.
-const DEEP: Repeated = (
+const DEEP: Repeated<'static> = (
     "nll-mir 1\nregion 'r\nlet _0: int\nlet _1: ",
     "&'r ",
     "int\nblocks 1\nblock bb0\nstop\nend\n",
 );
 
+// Large types are taken, and larger ones refused.
+#[test]
+fn large_types(rt: HostRuntime) {
+    compare_each(&rt, rt.alloc(), TYPES);
+}
+
 // The deepest type has 4,095 references.
 #[test]
 fn deep_types(rt: HostRuntime) {
-    let told = read_repeated(rt.alloc(), DEEP, 4_095);
-    compare(&rt, "4,096 nodes", told, "2 regions, 2 variables|bb0/0|");
-}
-
-// A type that is too large is refused, however deep it is: the last one is a line of a mebibyte.
-#[test]
-fn too_deep_types(rt: HostRuntime) {
-    let told = read_repeated(rt.alloc(), DEEP, 4_096);
-    compare(&rt, "4,097 nodes", told, "line 4: TypeSize");
-    let told = read_repeated(rt.alloc(), DEEP, 262_144);
-    compare(&rt, "262,145 nodes", told, "line 4: TypeSize");
+    let want = "2 regions, 2 variables|bb0/0|";
+    compare_repeated(&rt, rt.alloc(), DEEP, 4_095, want);
 }
 
 // Projections of a variable whose type is the last of structs that double one another. So many
@@ -89,29 +78,25 @@ const DOUBLED: &[(&str, &str)] = &[
 
 // Writes a struct and so many more, each of which has the one before it of a pair of its
 // parameter.
-fn write_structs(out: &mut String, more: u32) -> Result<(), AllocError> {
-    out.push_str("nll-mir 1\nregion 'r\nstruct S0<T +>(T)\n")?;
+fn write_structs(rt: &impl Abort, out: &mut String, more: u32) {
+    write_piece(rt, out, "nll-mir 1\nregion 'r\nstruct S0<T +>(T)\n");
     for before in 0..more {
-        write_number(out, "struct S", u64::from(before) + 1, "<T +>(S")?;
-        write_number(out, "", u64::from(before), "<(T, T)>)\n")?;
+        write_number(rt, out, "struct S", u64::from(before) + 1, "<T +>(S");
+        write_number(rt, out, "", u64::from(before), "<(T, T)>)\n");
     }
-    Ok(())
 }
 
-// Writes a text of a thousand such structs, and of a place in a variable of the last one's type.
-fn write_doubling(out: &mut String, projections: &str) -> Result<(), AllocError> {
-    write_structs(out, 999)?;
-    out.push_str("let _0: int\nlet _1: S999<&'r int>\nblocks 1\nblock bb0\n")?;
-    out.push_str("read _1")?;
-    out.push_str(projections)?;
-    out.push_str("\nstop\nend\n")
-}
-
-// What is told of such a text.
-fn told_of_doubling(alloc: Global, projections: &str) -> Result<String, AllocError> {
+// Ends the test unless that is told of a text of a thousand such structs, and of a place in a
+// variable of the last one's type.
+fn compare_doubling(rt: &impl Abort, alloc: Global, projections: &str, want: &str) {
     let mut text = String::new(alloc);
-    let written = write_doubling(&mut text, projections);
-    read_written(alloc, written, text)
+    write_structs(rt, &mut text, 999);
+    let body = "let _0: int\nlet _1: S999<&'r int>\nblocks 1\nblock bb0\nread _1";
+    write_piece(rt, &mut text, body);
+    write_piece(rt, &mut text, projections);
+    write_piece(rt, &mut text, "\nstop\nend\n");
+    let told = read(rt, alloc, text.as_bytes(), Asked::Size);
+    compare(rt, projections, told.as_str(), want);
 }
 
 // Structs that double one another are declared quickly, and the first type that is too large is
@@ -119,7 +104,6 @@ fn told_of_doubling(alloc: Global, projections: &str) -> Result<String, AllocErr
 #[test]
 fn doubling_structs(rt: HostRuntime) {
     for (projections, want) in DOUBLED {
-        let told = told_of_doubling(rt.alloc(), projections);
-        compare(&rt, projections, told, want);
+        compare_doubling(&rt, rt.alloc(), projections, want);
     }
 }

@@ -1,7 +1,7 @@
 //! Statements and terminators of bodies: what each form uses, defines and drops, where it goes on,
 //! which variables are written in it, and how many edges leave its point.
 use super::reading::Asked;
-use super::rows::compare_rows;
+use super::rows::{Table, compare_tables};
 
 // The lines in front of the first point of a body, and what is told in front of that point.
 const DECLARED: &str = "nll-mir 1|region 'r|struct S(int)|let _0: int|let _1: int|\
@@ -40,23 +40,6 @@ return ~ bb0/0 returns uses 0
 stop ~ bb0/0
 ";
 
-// What each form of statement does.
-#[test]
-fn statements_use_and_define(rt: HostRuntime) {
-    let around = (
-        (DECLARED, "|stop|block bb1|stop|end|"),
-        (TOLD, "|bb0/1|bb1/0|"),
-    );
-    compare_rows(&rt, rt.alloc(), Asked::All, around, STATEMENTS);
-}
-
-// What each form of terminator does.
-#[test]
-fn terminators_go_on(rt: HostRuntime) {
-    let around = ((DECLARED, "|block bb1|stop|end|"), (TOLD, "|bb1/0|"));
-    compare_rows(&rt, rt.alloc(), Asked::All, around, TERMINATORS);
-}
-
 // How many edges leave the point of each line, and the variables that are written in it.
 const WRITTEN: &str = "
 _1 = const|stop| ~ 1 written 1
@@ -81,8 +64,29 @@ stop| ~ 0
 
 // Each variable is written as often as a place of it stands in the line, and each block to which
 // it goes on is one edge.
+const TABLES: &[Table<'static>] = &[
+    (
+        Asked::All,
+        (DECLARED, "|stop|block bb1|stop|end|"),
+        (TOLD, "|bb0/1|bb1/0|"),
+        STATEMENTS,
+    ),
+    (
+        Asked::All,
+        (DECLARED, "|block bb1|stop|end|"),
+        (TOLD, "|bb1/0|"),
+        TERMINATORS,
+    ),
+    (
+        Asked::First,
+        (DECLARED, "block bb1|stop|end|"),
+        ("", ""),
+        WRITTEN,
+    ),
+];
+
+// What each form of statement and terminator does, and what is written in it.
 #[test]
-fn lines_have_variables_and_edges(rt: HostRuntime) {
-    let around = ((DECLARED, "block bb1|stop|end|"), ("", ""));
-    compare_rows(&rt, rt.alloc(), Asked::First, around, WRITTEN);
+fn lines_do_what_they_say(rt: HostRuntime) {
+    compare_tables(&rt, rt.alloc(), TABLES);
 }

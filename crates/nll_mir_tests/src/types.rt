@@ -5,108 +5,106 @@ ghost use Rattle.nll_types.specs.Structs.{IsWellFormed};
 ghost use Rattle.nll_types.specs.Types.{TypeTree};
 ghost use Rattle.nll_types.specs.Views.{tree};
 
-use super::comparing::compare;
-use super::reading::{Asked, read_lines};
+use super::reading::{Asked, compare_lines};
+use super::writing::{write_number, write_piece};
 use nll_body::Body;
 use nll_problem::RegionId;
 use nll_sets::Memory;
 use nll_types::{Place, Projection, Ty, place_type};
 use smallvec::SmallVec;
-use std::alloc::{AllocError, Global};
+use std::alloc::Global;
+use std::process::Abort;
 
 // A body whose variables have references, a tuple and a struct.
 const BODY: &str = "nll-mir 1|region 'a|region 'b|region 'c|struct W<'x +>(&'x int)|let _0: int|\
     let _1: &'a mut &'b int|let _2: (int, W<'c>)|blocks 1|block bb0|stop|end|";
 
 // Writes which of the first four regions are among these.
-fn write_which(out: &mut String, regions: &[RegionId]) -> Result<(), AllocError> {
+fn write_which(rt: &impl Abort, out: &mut String, regions: &[RegionId]) {
     for number in 0..4 {
         if regions.contains(&RegionId(number)) {
-            write!(out, " {number}")?;
+            write_number(rt, out, " ", u64::from(number), "");
         }
     }
-    Ok(())
 }
 
 // Writes the regions of a type.
-fn write_type(alloc: Global, out: &mut String, body: &Body, ty: &Ty) -> Result<(), Memory>
+fn write_type(rt: &impl Abort, alloc: Global, out: &mut String, body: &Body, ty: &Ty)
     requires { IsWellFormed body.now.structs (length body.now.names) 0 (tree ty.now) }
 {
-    let regions = body.structs().regions(alloc, ty)?;
-    let written = write_which(out, regions.as_slice());
-    drop(regions);
-    written?;
-    Ok(())
+    let regions = body.structs().regions(alloc, ty).expect(rt, "memory");
+    write_which(rt, out, regions.as_slice());
 }
 
 // Writes the regions of a variable's type.
-fn write_variable(alloc: Global, out: &mut String, body: &Body, variable: u32) -> Result<(), Memory>
+fn write_variable(rt: &impl Abort, alloc: Global, out: &mut String, body: &Body, variable: u32)
     requires { variable < length body.now.variables }
 {
-    out.push_str("|")?;
-    write_type(alloc, out, body, body.var_type(variable))
+    write_piece(rt, out, "|");
+    write_type(rt, alloc, out, body, body.var_type(variable));
 }
 
 /// Writes the regions of each variable's type.
-pub fn write_variables(alloc: Global, out: &mut String, body: &Body) -> Result<(), Memory> {
+pub fn write_variables(rt: &impl Abort, alloc: Global, out: &mut String, body: &Body) {
     for variable in 0..body.variables() {
-        write_variable(alloc, out, body, variable as u32)?;
+        write_variable(rt, alloc, out, body, variable as u32);
     }
-    Ok(())
 }
 
 // Writes the regions of the type of a place that has one.
-fn write_found(alloc: Global, out: &mut String, body: &Body, place: &Place) -> Result<(), Memory>
+fn write_found(rt: &impl Abort, alloc: Global, out: &mut String, body: &Body, place: &Place)
     requires { (t : TypeTree)
         × (type_of body.now.structs body.now.variables (path_of place.now) ≡ Some t) }
 {
-    let ty = body.place_type(alloc, place)?;
-    let written = write_type(alloc, out, body, &ty);
-    drop(ty);
-    written
+    let ty = body.place_type(alloc, place).expect(rt, "memory");
+    write_type(rt, alloc, out, body, &ty);
 }
 
 // Writes the regions of a place's type, or that it has none.
-fn write_place(alloc: Global, out: &mut String, body: &Body, place: &Place) -> Result<(), Memory> {
+fn write_place(
+    rt: &impl Abort,
+    alloc: Global,
+    out: &mut String,
+    body: &Body,
+    place: &Place,
+) -> Result<(), Memory> {
     let found = place_type(alloc, body.structs(), body.variable_types(), place)?;
     match found {
         Some(ty) => {
             drop(ty);
-            write_found(alloc, out, body, place)
+            write_found(rt, alloc, out, body, place);
         }
-        None => Ok(out.push_str(" none")?),
+        None => write_piece(rt, out, " none"),
     }
+    Ok(())
 }
 
 // Writes the regions of the type of a place in a variable.
 fn write_one(
+    rt: &impl Abort,
     alloc: Global,
     out: &mut String,
     body: &Body,
     (variable, projections): (u32, &[Projection]),
-) -> Result<(), Memory> {
-    let projections = SmallVec::from_slice(alloc, projections)?;
-    let place = Place::new(alloc, variable, projections)?;
-    let written = write_place(alloc, out, body, &place);
-    drop(place);
-    written
+) {
+    let projections = SmallVec::from_slice(alloc, projections).expect(rt, "memory");
+    let place = Place::new(alloc, variable, projections).expect(rt, "memory");
+    write_place(rt, alloc, out, body, &place).expect(rt, "memory");
 }
 
 /// Writes the regions of the types of the places below, each behind a bar.
-pub fn write_places(alloc: Global, out: &mut String, body: &Body) -> Result<(), Memory> {
+pub fn write_places(rt: &impl Abort, alloc: Global, out: &mut String, body: &Body) {
     for place in PLACES {
-        out.push('|')?;
-        write_one(alloc, out, body, *place)?;
+        write_piece(rt, out, "|");
+        write_one(rt, alloc, out, body, *place);
     }
-    Ok(())
 }
 
 // The regions of each variable's type: of the second those of a reference to a reference, of the
 // third that of a struct in a tuple.
 #[test]
 fn variables_have_types(rt: HostRuntime) {
-    let told = read_lines(rt.alloc(), BODY, Asked::Variables);
-    compare(&rt, "variables", told, "|| 1 2| 3");
+    compare_lines(&rt, rt.alloc(), Asked::Variables, BODY, "|| 1 2| 3");
 }
 
 const DEREF: Projection = Projection::Deref;
@@ -136,7 +134,6 @@ const PLACES: &[(u32, &[Projection])] = &[
 // of each place's type.
 #[test]
 fn places_have_types(rt: HostRuntime) {
-    let told = read_lines(rt.alloc(), BODY, Asked::Places);
     let want = "|| 1 2| 2|| 3|| 3| 3|| none| none| none";
-    compare(&rt, "places", told, want);
+    compare_lines(&rt, rt.alloc(), Asked::Places, BODY, want);
 }

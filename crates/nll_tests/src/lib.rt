@@ -2,7 +2,8 @@
 //! Expected values are found by hand from the definitions. The plain solver, `rounds`, is a second
 //! body of `solve`'s contract.
 //!
-//! Reading order: `rounds`, `comparing`, `telling`, `calls`, `making`, then each module of tests.
+//! Reading order: `rounds`, `comparing`, `transcript`, `telling`, `calls`, `making`, `rows`, then
+//! each module of tests.
 #![tactic(auto)]
 
 mod rounds;
@@ -34,6 +35,8 @@ mod mir_lines;
 #[cfg(test)]
 mod naming;
 #[cfg(test)]
+mod rows;
+#[cfg(test)]
 mod sets;
 #[cfg(test)]
 mod solving;
@@ -41,6 +44,8 @@ mod solving;
 mod telling;
 #[cfg(test)]
 mod tokens;
+#[cfg(test)]
+mod transcript;
 #[cfg(test)]
 mod types;
 #[cfg(test)]

@@ -1,29 +1,22 @@
 //! Texts that are cut into lines.
 use super::comparing::compare;
+use super::transcript::Transcript;
 use nll_core::BuildError;
 use nll_text::next_line;
-use std::alloc::{AllocError, Global};
-
-/// Writes bytes, which are ASCII, and a bar behind them.
-pub fn write_part(out: &mut String, bytes: &[u8]) -> Result<(), AllocError> {
-    for byte in bytes {
-        out.push(char::from(*byte))?;
-    }
-    out.push('|')
-}
+use std::alloc::Global;
 
 // The lines of a text, each with a bar behind it.
 fn lines_of(alloc: Global, text: &str) -> Result<String, BuildError> {
-    let mut shown = String::new(alloc);
+    let mut out = Transcript::new(alloc);
     let mut left = Some(text.as_bytes());
     for _ in 0..=text.len() {
         if let Some(text) = left {
             let (line, after) = next_line(text);
-            write_part(&mut shown, line)?;
+            out.part("", line);
             left = after;
         }
     }
-    Ok(shown)
+    out.finish()
 }
 
 // Texts, and their lines with a bar behind each.

@@ -1,117 +1,100 @@
 //! Lines of MIR texts that are read from tokens, and what their statements do.
-use super::comparing::compare;
-use super::lines::write_part;
+use super::rows::{Asked, compare_rows};
+use super::transcript::Transcript;
 use super::written_types::write_nodes;
-use nll_core::BuildError;
 use nll_mir_grammar::{Line, ParameterText, StructText, line_of, one_form};
 use nll_statements::{Call, Statement};
-use nll_text::{Token, tokens_of};
+use nll_text::Token;
 use nll_type_grammar::TypeText;
 use nll_types::{Operand, Parameter, Place, Projection, Sign};
-use std::alloc::{AllocError, Global};
+use std::alloc::Global;
 
 // A statement as it is written.
 type Written<'a> = Statement<&'a [u8], TypeText<'a>>;
 
-// Writes a place.
-fn write_place(out: &mut String, place: &Place) -> Result<(), AllocError> {
-    write!(out, "_{}", place.variable())?;
+// Writes words and a place.
+fn write_place(out: &mut Transcript, before: &str, place: &Place) {
+    out.show(before, &place.variable());
     for projection in place.projections() {
         match projection {
-            Projection::Deref => out.push_str(".*")?,
-            Projection::Field(number) => write!(out, ".{number}")?,
+            Projection::Deref => out.say(".*"),
+            Projection::Field(number) => out.show(".", number),
         }
     }
-    Ok(())
 }
 
 // Writes an operand.
-fn write_operand(out: &mut String, operand: &Operand) -> Result<(), AllocError> {
+fn write_operand(out: &mut Transcript, operand: &Operand) {
     match operand {
-        Operand::Const => out.push_str("const"),
-        Operand::Copy(place) => {
-            out.push_str("copy ")?;
-            write_place(out, place)
-        }
-        Operand::Move(place) => {
-            out.push_str("move ")?;
-            write_place(out, place)
-        }
+        Operand::Const => out.say("const"),
+        Operand::Copy(place) => write_place(out, "copy _", place),
+        Operand::Move(place) => write_place(out, "move _", place),
     }
 }
 
 // Writes operands, with a comma behind each.
-fn write_operands(out: &mut String, operands: &[Operand]) -> Result<(), AllocError> {
+fn write_operands(out: &mut Transcript, operands: &[Operand]) {
     for operand in operands {
-        write_operand(out, operand)?;
-        out.push(',')?;
+        write_operand(out, operand);
+        out.say(",");
     }
-    Ok(())
 }
 
 // Writes the arguments of a call, with a comma behind each.
-fn write_arguments(
-    out: &mut String,
-    arguments: &[(Operand, TypeText<'_>)],
-) -> Result<(), AllocError> {
-    for (operand, ty) in arguments {
-        write_operand(out, operand)?;
-        out.push_str(": ")?;
-        write_nodes(out, ty)?;
-        out.push(',')?;
+fn write_arguments(out: &mut Transcript, arguments: &[(Operand, TypeText<'_>)]) {
+    for argument in arguments {
+        write_operand(out, &argument.0);
+        out.say(": ");
+        write_nodes(out, &argument.1);
+        out.say(",");
     }
-    Ok(())
 }
 
 // Writes the bounds of a call, two regions each.
-fn write_bounds(out: &mut String, bounds: &[(&[u8], &[u8])]) -> Result<(), AllocError> {
-    for (longer, shorter) in bounds {
-        out.push(' ')?;
-        write_part(out, longer)?;
-        write_part(out, shorter)?;
+fn write_bounds(out: &mut Transcript, bounds: &[(&[u8], &[u8])]) {
+    for bound in bounds {
+        out.part(" ", bound.0);
+        out.part("", bound.1);
     }
-    Ok(())
 }
 
 // Writes where a drop or a call goes on.
-fn write_exits(out: &mut String, target: u32, unwind: Option<u32>) -> Result<(), AllocError> {
-    write!(out, " to {target}")?;
-    match unwind {
-        Some(block) => write!(out, " or {block}"),
-        None => Ok(()),
+fn write_exits(out: &mut Transcript, target: u32, unwind: Option<u32>) {
+    out.show(" to ", &target);
+    if let Some(block) = unwind {
+        out.show(" or ", &block);
     }
 }
 
 // Writes a call.
-fn write_call(out: &mut String, call: &Call<&[u8], TypeText<'_>>) -> Result<(), AllocError> {
-    write_place(out, &call.place)?;
-    out.push_str(" = call ")?;
-    write_arguments(out, call.arguments.as_slice())?;
-    out.push_str(": ")?;
-    write_nodes(out, &call.result)?;
-    write_bounds(out, call.wheres.as_slice())?;
-    write_exits(out, call.target, call.unwind)
+fn write_call(out: &mut Transcript, call: &Call<&[u8], TypeText<'_>>) {
+    write_place(out, "_", &call.place);
+    out.say(" = call ");
+    write_arguments(out, call.arguments.as_slice());
+    out.say(": ");
+    write_nodes(out, &call.result);
+    write_bounds(out, call.wheres.as_slice());
+    write_exits(out, call.target, call.unwind);
 }
 
 // Writes a statement.
-fn write_statement(out: &mut String, statement: &Written<'_>) -> Result<(), AllocError> {
+fn write_statement(out: &mut Transcript, statement: &Written<'_>) {
     match statement {
         Statement::Assign(place, operand) => {
-            write_place(out, place)?;
-            out.push_str(" = ")?;
-            write_operand(out, operand)
+            write_place(out, "_", place);
+            out.say(" = ");
+            write_operand(out, operand);
         }
         Statement::Borrow(place, region, mutable, source) => {
-            write_place(out, place)?;
-            out.push_str(if *mutable { " = mut " } else { " = & " })?;
-            write_part(out, region)?;
-            write_place(out, source)
+            write_place(out, "_", place);
+            out.part(if *mutable { " = mut " } else { " = & " }, region);
+            write_place(out, "_", source);
         }
         Statement::Make(made) => {
-            write_place(out, &made.place)?;
-            out.push_str(" = make ")?;
-            write_nodes(out, &made.ty)?;
-            write_operands(out, made.operands.as_slice())
+            write_place(out, "_", &made.place);
+            out.say(" = make ");
+            write_nodes(out, &made.ty);
+            write_operands(out, made.operands.as_slice());
         }
         Statement::Call(call) => write_call(out, call),
         _ => write_other(out, statement),
@@ -119,270 +102,222 @@ fn write_statement(out: &mut String, statement: &Written<'_>) -> Result<(), Allo
 }
 
 // Writes a statement that begins with a word of its own.
-fn write_other(out: &mut String, statement: &Written<'_>) -> Result<(), AllocError> {
+fn write_other(out: &mut Transcript, statement: &Written<'_>) {
     match statement {
-        Statement::Read(place) => {
-            out.push_str("read ")?;
-            write_place(out, place)
-        }
-        Statement::Live(variable) => write!(out, "live {variable}"),
-        Statement::Dead(variable) => write!(out, "dead {variable}"),
-        Statement::Nop => out.push_str("nop"),
-        Statement::Goto(block) => write!(out, "goto {block}"),
+        Statement::Read(place) => write_place(out, "read _", place),
+        Statement::Live(variable) => out.show("live ", variable),
+        Statement::Dead(variable) => out.show("dead ", variable),
+        Statement::Nop => out.say("nop"),
+        Statement::Goto(block) => out.show("goto ", block),
         Statement::Switch(operand, blocks) => {
-            out.push_str("switch ")?;
-            write_operand(out, operand)?;
-            write!(out, " {:?}", blocks.as_slice())
+            out.say("switch ");
+            write_operand(out, operand);
+            out.show(" ", blocks);
         }
         Statement::Drop(variable, target, unwind) => {
-            write!(out, "drop {variable}")?;
-            write_exits(out, *target, *unwind)
+            out.show("drop ", variable);
+            write_exits(out, *target, *unwind);
         }
-        Statement::Return => out.push_str("return"),
-        _ => out.push_str("stop"),
+        Statement::Return => out.say("return"),
+        _ => out.say("stop"),
     }
 }
 
 // Writes the marks of a parameter.
-fn write_marks(out: &mut String, parameter: &Parameter) -> Result<(), AllocError> {
-    out.push(match parameter.sign {
-        Sign::Covariant => '+',
-        Sign::Invariant => '=',
-    })?;
-    out.push_str(if parameter.may_dangle { "? " } else { " " })
+fn write_marks(out: &mut Transcript, parameter: &Parameter) {
+    out.say(match parameter.sign {
+        Sign::Covariant => "+",
+        Sign::Invariant => "=",
+    });
+    out.say(if parameter.may_dangle { "? " } else { " " });
 }
 
 // Writes the parameters of a struct.
-fn write_parameters(out: &mut String, parameters: &[ParameterText<'_>]) -> Result<(), AllocError> {
+fn write_parameters(out: &mut Transcript, parameters: &[ParameterText<'_>]) {
     for parameter in parameters {
-        match parameter {
-            ParameterText::Region(name, marks) => {
-                out.push('\'')?;
-                write_part(out, name)?;
-                write_marks(out, marks)?;
-            }
-            ParameterText::Type(name, marks) => {
-                write_part(out, name)?;
-                write_marks(out, marks)?;
-            }
-        }
+        let (before, name, marks) = match parameter {
+            ParameterText::Region(name, marks) => ("'", name, marks),
+            ParameterText::Type(name, marks) => ("", name, marks),
+        };
+        out.part(before, name);
+        write_marks(out, marks);
     }
-    Ok(())
 }
 
 // Writes a struct.
-fn write_struct(out: &mut String, text: &StructText<'_>) -> Result<(), AllocError> {
-    out.push_str("struct ")?;
-    write_part(out, text.name)?;
-    write_parameters(out, text.parameters.as_slice())?;
-    out.push_str(if text.has_drop { "drop " } else { "" })?;
-    write_nodes(out, text.fields.as_type())
+fn write_struct(out: &mut Transcript, text: &StructText<'_>) {
+    out.part("struct ", text.name);
+    write_parameters(out, text.parameters.as_slice());
+    if text.has_drop {
+        out.say("drop ");
+    }
+    write_nodes(out, text.fields.as_type());
 }
 
 // Writes a line.
-fn write_line(out: &mut String, line: &Line<'_>) -> Result<(), AllocError> {
+fn write_line(out: &mut Transcript, line: &Line<'_>) {
     match line {
-        Line::Universal(name) => {
-            out.push_str("universal ")?;
-            write_part(out, name)
-        }
+        Line::Universal(name) => out.part("universal ", name),
         Line::Outlives(longer, shorter) => {
-            out.push_str("outlives ")?;
-            write_part(out, longer)?;
-            write_part(out, shorter)
+            out.part("outlives ", longer);
+            out.part("", shorter);
         }
-        Line::Region(name) => {
-            out.push_str("region ")?;
-            write_part(out, name)
-        }
+        Line::Region(name) => out.part("region ", name),
         Line::Struct(text) => write_struct(out, text),
         Line::Let(variable, ty) => {
-            write!(out, "let {variable} ")?;
-            write_nodes(out, ty)
+            out.show("let ", variable);
+            out.say(" ");
+            write_nodes(out, ty);
         }
-        Line::Blocks(count) => write!(out, "blocks {count}"),
-        Line::Block(number) => write!(out, "block {number}"),
+        Line::Blocks(count) => out.show("blocks ", count),
+        Line::Block(number) => out.show("block ", number),
         Line::At(statement) => write_statement(out, statement),
-        Line::End => out.push_str("end"),
+        Line::End => out.say("end"),
     }
 }
 
 // Writes what a statement uses, defines and drops, where it goes on, and whether the block ends
 // with it.
-fn write_effects(
-    out: &mut String,
-    alloc: Global,
-    statement: &Written<'_>,
-) -> Result<(), BuildError> {
-    let mut used = Vec::new(alloc);
-    let mut blocks = Vec::new(alloc);
-    statement.uses(&mut used)?;
-    statement.targets(&mut blocks)?;
-    let (defined, dropped) = (statement.defines(), statement.drops());
-    let (used, blocks, last) = (
-        used.as_slice(),
-        blocks.as_slice(),
-        statement.is_terminator(),
-    );
-    write!(out, "{used:?} {defined:?} {dropped:?} {blocks:?} {last}")?;
-    Ok(())
+fn write_effects(out: &mut Transcript, alloc: Global, statement: &Written<'_>) {
+    let mut numbers = Vec::new(alloc);
+    let told = statement.uses(&mut numbers);
+    out.note(told);
+    out.show("", &numbers);
+    out.show(" ", &statement.defines());
+    out.show(" ", &statement.drops());
+    numbers.clear();
+    let told = statement.targets(&mut numbers);
+    out.note(told);
+    out.show(" ", &numbers);
+    out.show(" ", &statement.is_terminator());
+    drop(numbers);
 }
 
 // Writes what the statement of a line does, or that the line is no statement.
-fn write_done(out: &mut String, alloc: Global, line: &Line<'_>) -> Result<(), BuildError> {
+fn write_done(out: &mut Transcript, alloc: Global, line: &Line<'_>) {
     match line {
         Line::At(statement) => write_effects(out, alloc, statement),
-        _ => Ok(out.push_str("no statement")?),
+        _ => out.say("no statement"),
     }
 }
 
-// Writes the form of tokens, or what their statement does.
-fn write_form(
-    out: &mut String,
-    alloc: Global,
-    tokens: &[Token<'_>],
-    is_done: bool,
-) -> Result<(), BuildError> {
-    let Some(line) = line_of(alloc, tokens)? else {
-        return Ok(out.push_str("none")?);
-    };
-    let written = if is_done {
-        write_done(out, alloc, &line)
+// Writes the form of a line, or what its statement does.
+fn write_told(out: &mut Transcript, alloc: Global, line: &Line<'_>, is_done: bool) {
+    if is_done {
+        write_done(out, alloc, line);
     } else {
-        write_line(out, &line).map_err(BuildError::from)
-    };
-    drop(line);
-    written
+        write_line(out, line);
+    }
 }
 
-// What is told of a line.
-fn told(alloc: Global, line: &str, is_done: bool) -> Result<String, BuildError> {
-    let mut out = String::new(alloc);
-    let mut tokens = Vec::new(alloc);
-    let _ = tokens_of(line.as_bytes(), 40, &mut tokens);
-    let written = write_form(&mut out, alloc, tokens.as_slice(), is_done);
-    drop(tokens);
-    written.and(Ok(out))
+/// Writes the form of tokens, or what their statement does.
+pub fn write_form(out: &mut Transcript, alloc: Global, tokens: &[Token<'_>], is_done: bool) {
+    match line_of(alloc, tokens) {
+        Ok(Some(line)) => {
+            write_told(out, alloc, &line, is_done);
+            drop(line);
+        }
+        Ok(None) => out.say("none"),
+        Err(_) => out.refuse(),
+    }
 }
 
 // Lines, and their forms.
-const LINES: &[(&str, &str)] = &[
-    ("", "none"),
-    ("universal 'a", "universal a|"),
-    ("universal a", "none"),
-    ("outlives 'a 'b", "outlives a|b|"),
-    ("outlives 'a", "none"),
-    ("region 'x", "region x|"),
-    ("region 'x 'y", "none"),
-    ("struct W()", "struct W|tuple|"),
-    (
-        "struct W<'x + ?, T => drop (&'x int, T)",
-        "struct W|'x|+? T|= drop int|& x| 0|T|tuple 1 2|",
-    ),
-    ("struct W<> ()", "none"),
-    ("struct W int", "none"),
-    ("struct w()", "none"),
-    ("let _3: &'p int", "let 3 int|& p| 0|"),
-    ("let 3: int", "none"),
-    ("blocks 3", "blocks 3"),
-    ("blocks 03", "none"),
-    ("block bb0", "block 0"),
-    ("block 0", "none"),
-    ("_3 = copy _1.*.2", "_3 = copy _1.*.2"),
-    ("_3.0 = const", "_3.0 = const"),
-    ("_3 = _1", "none"),
-    ("_3 = &'r _1.*", "_3 = & r|_1.*"),
-    ("_3 = &'r mut _1", "_3 = mut r|_1"),
-    ("_3 = & mut _1", "none"),
-    (
-        "_3 = make (T, int) (const, move _2.0)",
-        "_3 = make T|int|tuple 0 1|const,move _2.0,",
-    ),
-    ("_3 = make ()", "none"),
-    ("read _3.*", "read _3.*"),
-    ("read _3.-", "none"),
-    ("live _1", "live 1"),
-    ("live _1.0", "none"),
-    ("dead _1", "dead 1"),
-    ("dead", "none"),
-    ("nop", "nop"),
-    ("nop nop", "none"),
-    ("goto bb2", "goto 2"),
-    ("goto 2", "none"),
-    ("switch copy _2 bb1 bb2", "switch copy _2 [1, 2]"),
-    ("switch copy _2", "none"),
-    ("drop _1 -> bb1", "drop 1 to 1"),
-    ("drop _1 -> bb1 unwind bb2", "drop 1 to 1 or 2"),
-    ("drop _1 bb1", "none"),
-    (
-        "_2 = call call(copy _1: &'c int, const: int): &'c int -> bb1",
-        "_2 = call copy _1: int|& c| 0|,const: int|,: int|& c| 0| to 1",
-    ),
-    (
-        "_2.0 = call f(): int where 'a: 'b, 'c: 'd -> bb1 unwind bb2",
-        "_2.0 = call : int| a|b| c|d| to 1 or 2",
-    ),
-    ("_2 = call f(): int where -> bb1", "none"),
-    ("_2 = call f(const): int -> bb1", "none"),
-    ("return", "return"),
-    ("return _0", "none"),
-    ("stop", "stop"),
-    ("stop bb1", "none"),
-    ("end", "end"),
-    ("end end", "none"),
-];
+const LINES: &str = "
+ ~ none
+universal 'a ~ universal a|
+universal a ~ none
+outlives 'a 'b ~ outlives a|b|
+outlives 'a ~ none
+region 'x ~ region x|
+region 'x 'y ~ none
+struct W() ~ struct W|tuple|
+struct W<'x + ?, T => drop (&'x int, T) ~ struct W|'x|+? T|= drop int|& x| 0|T|tuple 1 2|
+struct W<> () ~ none
+struct W int ~ none
+struct w() ~ none
+let _3: &'p int ~ let 3 int|& p| 0|
+let 3: int ~ none
+blocks 3 ~ blocks 3
+blocks 03 ~ none
+block bb0 ~ block 0
+block 0 ~ none
+_3 = copy _1.*.2 ~ _3 = copy _1.*.2
+_3.0 = const ~ _3.0 = const
+_3 = _1 ~ none
+_3 = &'r _1.* ~ _3 = & r|_1.*
+_3 = &'r mut _1 ~ _3 = mut r|_1
+_3 = & mut _1 ~ none
+_3 = make (T, int) (const, move _2.0) ~ _3 = make T|int|tuple 0 1|const,move _2.0,
+_3 = make () ~ none
+read _3.* ~ read _3.*
+read _3.- ~ none
+live _1 ~ live 1
+live _1.0 ~ none
+dead _1 ~ dead 1
+dead ~ none
+nop ~ nop
+nop nop ~ none
+goto bb2 ~ goto 2
+goto 2 ~ none
+switch copy _2 bb1 bb2 ~ switch copy _2 [1, 2]
+switch copy _2 ~ none
+drop _1 -> bb1 ~ drop 1 to 1
+drop _1 -> bb1 unwind bb2 ~ drop 1 to 1 or 2
+drop _1 bb1 ~ none
+_2 = call call(copy _1: &'c int, const: int): &'c int -> bb1 \
+~ _2 = call copy _1: int|& c| 0|,const: int|,: int|& c| 0| to 1
+_2.0 = call f(): int where 'a: 'b, 'c: 'd -> bb1 unwind bb2 \
+~ _2.0 = call : int| a|b| c|d| to 1 or 2
+_2 = call f(): int where -> bb1 ~ none
+_2 = call f(const): int -> bb1 ~ none
+return ~ return
+return _0 ~ none
+stop ~ stop
+stop bb1 ~ none
+end ~ end
+end end ~ none
+";
 
 // A line has one of the forms, or none.
 #[test]
 fn lines_have_forms(rt: HostRuntime) {
-    for (line, want) in LINES {
-        compare(&rt, line, told(rt.alloc(), line, false), want);
-    }
+    compare_rows(&rt, rt.alloc(), Asked::Form, LINES);
     one_form();
 }
 
 // Statements and terminators; and the variables that each uses, that which it defines, that which
 // it drops, the blocks to which it goes on, and whether the block ends with it.
-const EFFECTS: &[(&str, &str)] = &[
-    ("_3 = &'foo _1", "[1] Some(3) None [] false"),
-    ("switch copy _2 bb1 bb2", "[2] None None [1, 2] true"),
-    ("read _3.*", "[3] None None [] false"),
-    ("goto bb2", "[] None None [2] true"),
-    ("return", "[0] None None [] true"),
-    ("_2 = &'r _1.*.*", "[1] Some(2) None [] false"),
-    ("nop", "[] None None [] false"),
-    ("drop _1 -> bb1", "[] None Some(1) [1] true"),
-    ("_2 = move _1", "[1] Some(2) None [] false"),
-    ("_0 = copy _1", "[1] Some(0) None [] false"),
-    (
-        "_2 = call f(copy _1: &'c int): &'c int -> bb1",
-        "[1] Some(2) None [1] true",
-    ),
-    ("_1 = const", "[] Some(1) None [] false"),
-    ("_1.0 = const", "[1] None None [] false"),
-    ("_1.* = copy _2.0", "[2, 1] None None [] false"),
-    ("_1.0 = &'a mut _2.*", "[2, 1] None None [] false"),
-    (
-        "_4 = make (int, int) (const, move _2)",
-        "[2] Some(4) None [] false",
-    ),
-    ("_4.1 = make () ()", "[4] None None [] false"),
-    ("live _5", "[] Some(5) None [] false"),
-    ("dead _5", "[] Some(5) None [] false"),
-    ("switch const bb3 bb3", "[] None None [3, 3] true"),
-    ("drop _1 -> bb1 unwind bb2", "[] None Some(1) [1, 2] true"),
-    (
-        "_2.0 = call f(copy _1: int, const: int, move _3: int): int -> bb1 unwind bb0",
-        "[1, 3, 2] None None [1, 0] true",
-    ),
-    ("stop", "[] None None [] true"),
-    ("end", "no statement"),
-];
+const EFFECTS: &str = "
+_3 = &'foo _1 ~ [1] Some(3) None [] false
+switch copy _2 bb1 bb2 ~ [2] None None [1, 2] true
+read _3.* ~ [3] None None [] false
+goto bb2 ~ [] None None [2] true
+return ~ [0] None None [] true
+_2 = &'r _1.*.* ~ [1] Some(2) None [] false
+nop ~ [] None None [] false
+drop _1 -> bb1 ~ [] None Some(1) [1] true
+_2 = move _1 ~ [1] Some(2) None [] false
+_0 = copy _1 ~ [1] Some(0) None [] false
+_2 = call f(copy _1: &'c int): &'c int -> bb1 ~ [1] Some(2) None [1] true
+_1 = const ~ [] Some(1) None [] false
+_1.0 = const ~ [1] None None [] false
+_1.* = copy _2.0 ~ [2, 1] None None [] false
+_1.0 = &'a mut _2.* ~ [2, 1] None None [] false
+_4 = make (int, int) (const, move _2) ~ [2] Some(4) None [] false
+_4.1 = make () () ~ [4] None None [] false
+live _5 ~ [] Some(5) None [] false
+dead _5 ~ [] Some(5) None [] false
+switch const bb3 bb3 ~ [] None None [3, 3] true
+drop _1 -> bb1 unwind bb2 ~ [] None Some(1) [1, 2] true
+_2.0 = call f(copy _1: int, const: int, move _3: int): int -> bb1 unwind bb0 \
+~ [1, 3, 2] None None [1, 0] true
+stop ~ [] None None [] true
+end ~ no statement
+";
 
 // A statement does what the table of statements says.
 #[test]
 fn statements_do_what_the_table_says(rt: HostRuntime) {
-    for (line, want) in EFFECTS {
-        compare(&rt, line, told(rt.alloc(), line, true), want);
-    }
+    compare_rows(&rt, rt.alloc(), Asked::Effects, EFFECTS);
 }

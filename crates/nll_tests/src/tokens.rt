@@ -1,43 +1,39 @@
 //! Lines that are read as tokens, and tokens that are read as numbers.
 use super::comparing::compare;
-use super::lines::write_part;
+use super::transcript::Transcript;
 use nll_core::BuildError;
 use nll_text::{Token, number_of, one_token_list, scan_line, tokens_of};
-use std::alloc::{AllocError, Global};
+use std::alloc::Global;
 
 // Writes a token, with a bar behind it.
-fn write_token(out: &mut String, token: &Token<'_>) -> Result<(), AllocError> {
+fn write_token(out: &mut Transcript, token: &Token<'_>) {
     match token {
-        Token::Word(name) => write_part(out, name),
-        Token::Region(name) => {
-            out.push_str("region ")?;
-            write_part(out, name)
-        }
-        Token::Arrow => write_part(out, b"arrow"),
-        Token::Sign(sign) => write_part(out, &[*sign]),
+        Token::Word(name) => out.part("", name),
+        Token::Region(name) => out.part("region ", name),
+        Token::Arrow => out.say("arrow|"),
+        Token::Sign(sign) => out.part("", &[*sign]),
     }
 }
 
 // Writes tokens.
-fn write_tokens(out: &mut String, tokens: &[Token<'_>]) -> Result<(), AllocError> {
+fn write_tokens(out: &mut Transcript, tokens: &[Token<'_>]) {
     for token in tokens {
-        write_token(out, token)?;
+        write_token(out, token);
     }
-    Ok(())
 }
 
 // What the reader of tokens answers to a line, and the tokens that are in its list then. The list
 // held those of another line before.
 fn tokens_in(alloc: Global, line: &[u8], most: usize) -> Result<String, BuildError> {
-    let mut out = String::new(alloc);
+    let mut out = Transcript::new(alloc);
     let mut tokens = Vec::new(alloc);
     let _ = tokens_of(b"next 0 1", 3, &mut tokens);
-    let written = match tokens_of(line, most, &mut tokens) {
+    match tokens_of(line, most, &mut tokens) {
         Ok(()) => write_tokens(&mut out, tokens.as_slice()),
-        Err(error) => write!(out, "{error:?}"),
-    };
+        Err(error) => out.show("", &error),
+    }
     drop(tokens);
-    Ok(written.and(Ok(out))?)
+    out.finish()
 }
 
 // Lines and their tokens, each with a bar behind it.
