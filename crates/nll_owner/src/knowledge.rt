@@ -134,7 +134,8 @@ impl<'q> Knowledge<'q> {
         requires sound { IsSound self.old }
         requires own { owner_of self.old.cut region ≡ self.old.me }
         requires region { region < self.old.problem.regions }
-        requires elements { (x : ℕ) → Contains found.now x → x < element_count self.old.problem.graph }
+        requires elements { let graph = self.old.problem.graph in
+            (x : ℕ) → Contains found.now x → x < element_count graph }
         requires called { (x : ℕ) → Contains found.now x → IsCalled self.old region x }
         ensures grows { Grows self.old self.new }
         ensures covers { OnOk result ((x : ℕ) → Contains found.now x → Has self.new region x) }
