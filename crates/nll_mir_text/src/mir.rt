@@ -68,8 +68,8 @@ pub fn read_mir(alloc: Global, text: &[u8]) -> Result<Body, TextError>
 /// Those of `read_mir`.
 ///
 /// # Cost
-/// That of `read_mir`, but that less than the text is copied: once half of a large text is read,
-/// the rest is kept by itself and the text freed, and so with the rest (not proved).
+/// That of `read_mir`, and that of copying half of the text: once two thirds of a large text are
+/// read, the rest is kept by itself and the text freed, and so with the rest (not proved).
 pub fn read_mir_parts(alloc: Global, text: Vec<u8>) -> Result<Body, TextError>
     ensures ok { IfOk result (Means text.items) }
     ensures fault { IfErr result (IsRefusal (IsFault mir text.items)) }

@@ -19,7 +19,7 @@ use nll_text::{Token, next_line};
 use std::alloc::Global;
 
 // A text that is smaller is read as one part.
-const LEAST: usize = 1 << 20;
+const LEAST: usize = 1 << 22;
 
 // Takes in the next line: the text behind it. The number is that of the line before it.
 fn read_next<'a>(
@@ -48,8 +48,10 @@ fn read_next<'a>(
     }
 }
 
-// Takes in lines until less than half of the text is left, or nothing of a small one: what is left.
-fn read_half<'a>(
+// Takes in lines until less than a third of the text is left, or nothing of a small one: what is
+// left. Of what is left a copy is made, so less of it is quicker, and more of it leaves more memory
+// for the rest of what the text says.
+fn read_most<'a>(
     reader: &mut Reader,
     text: &'a [u8],
     tokens: &mut Vec<Token<'a>>,
@@ -69,7 +71,7 @@ fn read_half<'a>(
     let enough = if text.len() < LEAST {
         0
     } else {
-        text.len() / 2
+        text.len() / 3
     };
     let mut rest = read_next(reader, text, tokens, number)?;
     while let Some(text) = rest {
@@ -95,8 +97,8 @@ fn keep(alloc: Global, rest: Option<&[u8]>) -> Result<Option<Vec<u8>>, Memory>
     }
 }
 
-// Takes in lines until less than half of the text is left, or nothing of a small one: what is left,
-// by itself.
+// Takes in lines until less than a third of the text is left, or nothing of a small one: what is
+// left, by itself.
 fn read_part(
     alloc: Global,
     reader: &mut Reader,
@@ -115,7 +117,7 @@ fn read_part(
         → RefusesBody all error) }
 {
     let mut tokens = Vec::new(alloc);
-    let rest = read_half(reader, text, &mut tokens, number);
+    let rest = read_most(reader, text, &mut tokens, number);
     drop(tokens);
     match keep(alloc, rest?) {
         Ok(kept) => Ok(kept),

@@ -3,7 +3,7 @@ use Rattle.std.proofs.lemmas.Result.{err_from_is_err_and}
 use Rattle.nll_text.specs.Lines.{lines_left, lines_of}
 use Rattle.nll_mir_text.specs.MirReading.{said_by, Advances, AreShort, IsAmid}
 use Rattle.nll_mir_text.proofs.TextLemmas.{advances_then}
-use Rattle.nll_mir_text.proofs.parts.read_half.Goals as goal
+use Rattle.nll_mir_text.proofs.parts.read_most.Goals as goal
 
 pub loop-rest-init : goal.loop-rest-init
 loop-rest-init c = record { advances = c.in_ok-rest.ensures.advances; fewer = c.in_ok-rest.ensures.fewer }

@@ -1,7 +1,7 @@
 use Rattle.std.proofs.Common.{◌<◌, ℕ, length}
 use Rattle.nll_text.specs.Lines.{lines_left, lines_of}
 use Rattle.nll_mir_text.specs.MirReading.{Advances}
-use Rattle.nll_mir_text.proofs.parts.read_half.Given as goal
+use Rattle.nll_mir_text.proofs.parts.read_most.Given as goal
 
 abbrev pub invariant-loop-rest : goal.invariant-loop-rest
 invariant-loop-rest l = record {
