@@ -6,6 +6,7 @@ ghost use Rattle.std.specs.Prelude.{MatchOption, OnOk, OnErr, slice_index_or};
 ghost use Rattle.std.specs.Str.{bytes_eq, IsUtf8};
 ghost use Rattle.nll_reading.specs.Names.{number_of};
 
+use crate::name::{Name, Sought};
 use indexmap::IndexSet;
 use std::alloc::{AllocError, Global};
 use std::marker::Model;
@@ -14,7 +15,7 @@ use std::str;
 /// Names, each once, in the order in which they were added.
 #[derive(Drop)]
 pub struct Names {
-    set: IndexSet<Vec<u8>>,
+    set: IndexSet<Name>,
 }
 
 impl Model for Names {
@@ -34,7 +35,7 @@ impl Names {
         ensures { IfOk result (λ names. names ≡ codes "static" ∷ []) }
     {
         let mut set = IndexSet::new(alloc);
-        set.insert(Vec::from_slice(alloc, b"static")?)?;
+        set.insert(Name::from_slice(alloc, b"static")?)?;
         Ok(Names { set })
     }
 
@@ -60,7 +61,7 @@ impl Names {
         ensures number { MatchOption result (number_of self.now name.now ≡ length self.now)
             (λ number. (number ≡ number_of self.now name.now) × (number < length self.now)) }
     {
-        self.set.get_index_of(name)
+        self.set.get_index_of(Sought(name))
     }
 
     /// Whether a name is the one at a place: then that is its number, and nothing is hashed.
@@ -81,7 +82,7 @@ impl Names {
         ensures ok { OnOk result (self.new ≡ self.old ++ name.now ∷ []) }
         ensures err { OnErr result (self.new ≡ self.old) }
     {
-        let name = Vec::from_slice(alloc, name)?;
+        let name = Name::from_slice(alloc, name)?;
         self.set.insert(name)?;
         Ok(())
     }

@@ -10,7 +10,7 @@ invariant_of-self c = rw c.in_err-insert.ensures.err c.self.invariant
 after : (c : In_ok-insert) → map (λ name. name.items) c.insert.new.self.keys ≡ map (λ name. name.items) c.self.inside.set.keys ++ c.args.name.now ∷ []
 after c =
     ap (map (λ name. name.items)) c.in_ok-insert.ensures.keys
-    ∙ names_inserted (λ name. name.items) c.self.inside.set.keys c.in_ok-name.name c.args.name.now c.in_ok-name.ensures.items (rw (← c.self.view_is) at c.requires.absent)
+    ∙ names_inserted (λ name. name.items) c.self.inside.set.keys c.in_ok-name.name c.args.name.now c.in_ok-name.ensures.ok (rw (← c.self.view_is) at c.requires.absent)
 
 pub invariant_of-self-2 : goal.invariant_of-self-2
 invariant_of-self-2 c = rw (after (goal.at.invariant_of-self-2 c).In_ok-insert) (texts_push _ c.args.name.now c.self.invariant c.requires.text)
