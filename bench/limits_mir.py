@@ -34,9 +34,26 @@ def limits():
     yield from long_lines()
     yield from size_limits()
     yield from many_reads()
+    yield from names_of_many_lengths()
     yield "drop_of_unlike_doubles", with_body(
         UNLIKE_DOUBLES + let(b"int", b"S1023<W<'static>, int>"), b"drop _1 -> bb0"
     ).replace(b"return\n", b""), "ok"
+
+
+def names_of_many_lengths():
+    """Texts with names that differ in their last byte, about the sixteen that stand in the list of names."""
+    names = [b"a" * length + last for length in (0, 14, 15, 16, 40, 1000) for last in (b"b", b"c")]
+    declared = [b"region '" + name for name in names]
+    types = let(b"int", *[b"&'" + name + b" int" for name in names])
+    borrows = [b"_%d = &'%s _0" % pair for pair in enumerate(names, 1)]
+    yield "names_of_many_lengths", with_body(declared + types, *borrows), "ok"
+    for name in names:
+        again = with_body(declared + [b"region '" + name] + types, *borrows)
+        yield f"name_of_{len(name)}_again", again, f"line {2 + len(names)}: duplicate"
+    for length in (14, 15, 16, 40, 1000):
+        other = [b"_1 = &'" + b"a" * length + b"d _0"]
+        line_number = 2 + len(names) + len(types) + 2
+        yield f"no_name_of_{length + 1}", with_body(declared + types, *other), f"line {line_number}: unknown"
 
 
 def declaration_limits():
