@@ -56,6 +56,16 @@ class Documents(unittest.TestCase):
             with self.subTest(block=lines[0]):
                 self.assertTrue(any(stands_in(lines, path) for path in (ROOT / "examples").glob("*.mir")))
 
+    def test_named_wrong_bodies(self):
+        """Each wrong body that the claims name stands in the folder that was named last."""
+        named = re.findall(r"`(?:(nll_\w+/[\w-]+)/)?(\w+)\.edit`", (ROOT / "docs/CLAIMS.md").read_text())
+        self.assertTrue(named)
+        folder = None
+        for of, edit in named:
+            folder = of or folder
+            with self.subTest(folder=folder, edit=edit):
+                self.assertTrue((ROOT / "crates" / folder / f"{edit}.edit").is_file())
+
 
 def stands_in(lines, path):
     """Whether the lines stand in a text in this order, where `..` stands for any lines."""
