@@ -39,15 +39,8 @@ if [ "$1" = rust ]; then
     exec python3 "$here/tools/nll-rust" "$@"
 elif [ "$#" = 1 ] && [ "$1" = --prove ]; then
     needs_rt
-    say "proving every crate, which takes 5 to 15 minutes; $here/out/prove.log says how far it is"
-    mkdir -p "$here/out" && touch "$here/out/began" && cd "$here/crates/nllc" || exit
-    if rt run -- --help >"$here/out/prove.log" 2>&1; then
-        touch -r "$here/out/began" "$proved" # rt leaves it as it is where no source has other words
-        say "proved and built: $proved"
-        exit
-    fi
-    say "not proved: see $here/out/prove.log"
-    exit 1
+    say "proving the program and what it stands on takes 20 to 40 minutes; $here/out/prove.log has what rt prints"
+    exec python3 "$here/tools/prove.py"
 elif is_current "$proved"; then
     exec "$proved" "$@"
 elif is_current "$unproved"; then

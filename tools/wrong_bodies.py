@@ -1,46 +1,205 @@
 #!/usr/bin/env python3
-"""Tries the wrong bodies that the gate doesn't: tools/wrong_bodies.py [CRATE ..]
+"""Tries the wrong bodies that the gate doesn't.
+
+    tools/wrong_bodies.py [--all] [--since COMMIT] [--jobs N] [CRATE ..]
 
 They stand in crates/*/wrong-bodies, and each is an edit as those of must-fail/ are. In a copy of the
-repository they take the place of these, and `rt must-fail` tries them. Ends with 0 where the prover
-refused each.
+repository they take the place of these, and `rt must-fail` tries them, several crates side by side; the
+libraries below are proved first, where the working tree keeps no proof of them. `--all` tries the edits of
+must-fail/ too, before a release. `--since` leaves out the crates that are as they were at that commit and
+stand on none that says something else since; tools/changes.py tells which do. Where crates are named, no
+others are tried.
+
+For each edit it prints the seconds of processor time that its check took, the first of a crate with the
+check of the crate itself, and what refused it:
+
+- a clause's goal: no search answers it any more, or its written answer (in Answers.antt) isn't one any more;
+- a step of a proof file: a lemma or an invariant that the changed text makes wrong;
+- a missing name: a proof file names what the edit took away, which says little of the contract.
+
+Ends with 0 where the prover refused each.
 """
 
+import argparse
+import collections
+import concurrent.futures
 import pathlib
+import re
 import shutil
-import subprocess
 import sys
 import tempfile
 
+from changes import changes_since
+from crates import above, below, edits_in, uses_of
+from processes import Watch, is_edit, seconds_of
+from proving import most_at_once, prove, started
+
 ROOT = pathlib.Path(__file__).resolve().parents[1]
+FOLDERS = ("wrong-bodies", "must-fail")
+# The crate of the copy that stands on each library which a tried crate uses.
+LIBRARIES = "libraries_to_prove"
+# What `rt` says of an edit that is refused, and more of one that took a name away.
+REFUSED = "refused, as it must be"
+TAKEN = (" (only because a proof file names what the edit took away, so this says little of the contract: "
+         "change a value and keep the names)")
+GOAL, STEP, NAME, NONE = "a clause's goal", "a step of a proof file", "a missing name", "nothing"
+
+Tried = collections.namedtuple("Tried", "crate edit seconds by text")
 
 
-def crates_with_wrong_bodies(root):
-    """The names of the crates that have wrong bodies beside those of the gate."""
-    return sorted(folder.parent.name for folder in root.glob("crates/*/wrong-bodies"))
+def crates_with(root, folders):
+    """The names of the crates that have edits in one of these folders."""
+    return sorted({folder.parent.name for name in folders for folder in root.glob(f"crates/*/{name}")
+                   if edits_in(root, folder.parent.name, name)})
 
 
-def put_in_place(room, crates):
-    """In the copy, gives each crate its wrong bodies as the only edits that must fail."""
+def changed_since(root, commit):
+    """The crates whose edits may have another answer than at the commit."""
+    changes, uses = changes_since(root, commit), uses_of(root)
+    return changes.crates | changes.edits | set(above(uses, changes.saying))
+
+
+def libraries_of(root, crates):
+    """The libraries below these crates."""
+    uses = uses_of(root)
+    return sorted({library for crate in crates for library in below(uses, crate)})
+
+
+def copied(root, room, libraries):
+    """Copies the repository, and of what its checks kept only that of the libraries."""
+    kept = [root / "crates" / library for library in libraries]
+
+    def left_out(folder, _):
+        return {".git"} if pathlib.Path(folder) in kept else {".git", "out"}
+
+    shutil.copytree(root, room, symlinks=True, ignore=left_out)
+
+
+def put_in_place(room, crates, folders):
+    """In the copy, gives each crate its edits of these folders as the only ones that must fail."""
     for edits in room.glob("crates/*/must-fail"):
-        shutil.rmtree(edits)
+        edits.rename(edits.with_name("gate"))
     for crate in crates:
-        folder = room / "crates" / crate
-        shutil.copytree(folder / "wrong-bodies", folder / "must-fail")
+        to = room / "crates" / crate / "must-fail"
+        to.mkdir()
+        for name in folders:
+            for edit in (to.parent / name.replace("must-fail", "gate")).glob("*.edit"):
+                shutil.copy(edit, to)
+    for edits in room.glob("crates/*/gate"):
+        shutil.rmtree(edits)
+
+
+def prove_libraries(room, libraries, jobs):
+    """Proves the libraries in the copy, and says which isn't."""
+    if not libraries:
+        return True
+    source = room / "crates" / LIBRARIES / "src"
+    source.mkdir(parents=True)
+    (source / "lib.rt").write_text("#![tactic(auto)]\n")
+    with open(room / "crates.txt", "a") as file:
+        file.write(f"{LIBRARIES}: {' '.join(libraries)}\n")
+    log = room / "libraries.log"
+
+    def told(crate, is_proved, is_new):
+        if crate != LIBRARIES and (is_new or not is_proved):
+            print(f"library {crate}: {'proved' if is_proved else 'NOT PROVED'}", flush=True)
+
+    with open(log, "w") as file:
+        status = prove(source.parent, jobs, told, file)
+    if status:
+        print(*log.read_text().splitlines()[-30:], sep="\n")
+    return status == 0
+
+
+def refused_by(text):
+    """What refused an edit, by what `rt must-fail` says of it."""
+    if not text.startswith(REFUSED):
+        return NONE
+    if TAKEN in text:
+        return NAME
+    place = re.search(r": (?:note: )?(?:\./)?(\S+?):\d+:\d+: ", text)
+    is_goal = place and (place[1].startswith("src/") or place[1].endswith("/Answers.antt"))
+    return GOAL if is_goal else STEP
+
+
+def try_crate(room, crate):
+    """Tries the edits of one crate; gives what came of each."""
+    words = ["rt", "must-fail", crate]
+    with started(words, room) as running, Watch(running.pid) as watch:
+        printed = running.stdout.read()
+    lines = dict(re.findall(rf"^rt: must-fail {crate}/(\S+)\.edit: (.*)$", printed, re.M))
+    seconds = [seconds_of(sample) for sample in watch.gone if is_edit(sample)]
+    edits = [pathlib.Path(edit).stem for edit in edits_in(room, crate, "must-fail")]
+    if len(seconds) < len(edits) or "BAD EDIT" in printed:
+        seconds = [None] * len(edits)
+    said = printed.strip().splitlines()[-1:] or ["rt says nothing"]
+    texts = [lines.get(edit, f"not tried: {said[0]}") for edit in edits]
+    return [Tried(crate, edit, taken, refused_by(text), text)
+            for edit, taken, text in zip(edits, seconds, texts)]
+
+
+def show(tried):
+    """One line that says what came of an edit."""
+    seconds = "? s" if tried.seconds is None else f"{tried.seconds:.0f} s"
+    place = tried.text[len(REFUSED):].replace(TAKEN, "")
+    said = tried.text if tried.by == NONE else f"refused by {tried.by}{place}"
+    return f"{tried.crate}/{tried.edit}: {seconds}, {said}"
+
+
+def try_all(room, crates, jobs):
+    """Tries the edits of these crates, so many crates at a time, those with the most edits first."""
+    found = []
+    crates = sorted(crates, key=lambda crate: -len(edits_in(room, crate, "must-fail")))
+    with concurrent.futures.ThreadPoolExecutor(jobs) as pool:
+        running = [pool.submit(try_crate, room, crate) for crate in crates]
+        for ended in concurrent.futures.as_completed(running):
+            found += ended.result()
+            print(*map(show, ended.result()), sep="\n", flush=True)
+    return found
+
+
+def count(tried):
+    by = collections.Counter(one.by for one in tried)
+    return (f"{len(tried)} tried, {by[GOAL]} refused by {GOAL}, {by[STEP]} by {STEP}, {by[NAME]} by {NAME}, "
+            f"{by[NONE]} not refused")
+
+
+def read_words(words):
+    parser = argparse.ArgumentParser(description="Tries the wrong bodies that the gate doesn't.")
+    parser.add_argument("--all", action="store_true", help="try those of must-fail/ too")
+    parser.add_argument("--since", metavar="COMMIT", help="leave out what hasn't changed since then")
+    parser.add_argument("--jobs", type=int, metavar="N", help="how many crates at a time")
+    parser.add_argument("crates", nargs="*", metavar="CRATE")
+    return parser.parse_args(words)
 
 
 def main(words, root=ROOT):
-    known = crates_with_wrong_bodies(root)
-    unknown = [word for word in words if word not in known]
+    asked = read_words(words)
+    folders = FOLDERS if asked.all else FOLDERS[:1]
+    known = crates_with(root, folders)
+    unknown = [word for word in asked.crates if word not in known]
     if unknown:
         print(f"{unknown[0]} has no wrong bodies; these have: {' '.join(known)}", file=sys.stderr)
         return 2
-    crates = words or known
+    crates = set(asked.crates or known)
+    try:
+        crates &= changed_since(root, asked.since) if asked.since else crates
+    except ValueError as error:
+        print(error, file=sys.stderr)
+        return 2
+    if not crates:
+        print(count([]))
+        return 0
+    libraries, jobs = libraries_of(root, crates), asked.jobs or most_at_once()
     with tempfile.TemporaryDirectory(prefix="nllc-") as folder:
         room = pathlib.Path(folder) / "copy"
-        shutil.copytree(root, room, symlinks=True, ignore=shutil.ignore_patterns(".git", "incremental"))
-        put_in_place(room, crates)
-        return subprocess.run(["rt", "must-fail", *crates], cwd=room).returncode
+        copied(root, room, libraries)
+        put_in_place(room, crates, folders)
+        if not prove_libraries(room, libraries, jobs):
+            return 1
+        tried = try_all(room, crates, jobs)
+    print(count(tried))
+    return 0 if all(one.by != NONE for one in tried) else 1
 
 
 if __name__ == "__main__":

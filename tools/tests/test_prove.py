@@ -1,0 +1,182 @@
+"""How `nllc.sh --prove` proves, tells how far it is, and ends; and what reads the lines of `rt all`."""
+
+import contextlib
+import io
+import os
+import pathlib
+import shutil
+import signal
+import stat
+import subprocess
+import sys
+import tempfile
+import time
+import unittest
+import unittest.mock
+
+ROOT = pathlib.Path(__file__).resolve().parents[2]
+sys.path.insert(0, str(ROOT / "tools"))
+
+import prove  # noqa: E402 (it stands in tools/)
+import proving  # noqa: E402
+
+# An `rt` that proves low and nllc, and then makes a program.
+PROVES = """#!/bin/sh
+echo "$@" in $(basename "$PWD") >> {said}
+if [ "$1" = all ]; then
+    echo "== low"; echo "fn low::f: proved"; echo "logic=proved functions=1"
+    echo "== nllc"; echo "logic=proved functions=1"; echo "== summary"; echo "low: ok"
+else
+    mkdir -p out && printf '#!/bin/sh\\necho proved "$@"\\n' > out/nllc && chmod +x out/nllc
+fi
+"""
+FAILS = """#!/bin/sh
+echo "== low"; echo "logic=proved functions=1"; echo "== nllc"; echo "logic=not-proved functions=1"
+echo "== summary"; echo "nllc: failed (1)"; exit 1
+"""
+# An `rt` that proves low, and of which the other check is killed while more than one runs at a time.
+KILLED = """#!/bin/sh
+echo "$@" >> {said}
+[ "$1" = run ] && exit 1
+echo "== low"; echo "logic=proved functions=1"; echo "== nllc"; echo "fn nllc::f"
+echo "== summary"; [ "$4" = 1 ] || echo "nllc: failed (-9)"; exit 1
+"""
+WAITS = "#!/bin/sh\necho $$ > {said}\nexec sleep 60\n"
+
+
+class Proving(unittest.TestCase):
+    def setUp(self):
+        self.folder = tempfile.TemporaryDirectory()
+        self.addCleanup(self.folder.cleanup)
+        self.root = pathlib.Path(self.folder.name) / "repository"
+        self.said = pathlib.Path(self.folder.name) / "said"
+        (self.root / "crates/nllc/src").mkdir(parents=True)
+        (self.root / "crates/nllc/src/main.rt").write_text("fn main() {}\n")
+        (self.root / "crates.txt").write_text("low:\nbeside: low\nnllc: low\n")
+        (self.root / "tools").mkdir()
+        for name in ("nllc.sh", "tools/prove.py", "tools/proving.py", "tools/crates.py"):
+            shutil.copy(ROOT / name, self.root / name)
+
+    def script(self, path, *words):
+        """Starts the script of a small repository with this PATH."""
+        return subprocess.Popen([str(self.root / "nllc.sh"), *words], stdout=subprocess.PIPE, text=True,
+                                stderr=subprocess.PIPE, start_new_session=True,
+                                preexec_fn=lambda: signal.signal(signal.SIGINT, signal.SIG_DFL),
+                                env={**os.environ, "PATH": path})
+
+    def start(self, rt, *words):
+        """Starts the script with this `rt`."""
+        file = pathlib.Path(self.folder.name) / "bin" / "rt"
+        file.parent.mkdir(exist_ok=True)
+        file.write_text(rt.format(said=self.said))
+        file.chmod(file.stat().st_mode | stat.S_IXUSR)
+        return self.script(f"{file.parent}:{os.environ['PATH']}", *words)
+
+    def run_without_rt(self, *words):
+        """The status where the PATH has no more than what the script needs beside `rt`."""
+        few = pathlib.Path(self.folder.name) / "few"
+        few.mkdir()
+        for name in ("dirname", "readlink", "find"):
+            (few / name).symlink_to(shutil.which(name))
+        running = self.script(str(few), *words)
+        running.communicate(timeout=300)
+        return running.returncode
+
+    def run_with(self, rt, *words):
+        running = self.start(rt, *words)
+        out, told = running.communicate(timeout=300)
+        return running.returncode, out, told.replace(str(self.root), "")
+
+    def test_what_the_program_stands_on_is_proved_and_then_it_is_built(self):
+        status, _, told = self.run_with(PROVES, "--prove")
+        self.assertEqual(status, 0, told)
+        self.assertEqual(told.splitlines()[1:], [
+            "nllc.sh: 1 of 2 proved: low", "nllc.sh: 2 of 2 proved: nllc", "nllc.sh: building the program",
+            "nllc.sh: proved and built: /crates/nllc/out/nllc"])
+        self.assertRegex(self.said.read_text(), r"\Aall check --jobs \d+ in nllc\nrun -- --help in nllc\n\Z")
+        self.assertIn("fn low::f: proved", (self.root / "out/prove.log").read_text())
+
+    def test_the_proved_program_answers_until_a_source_is_newer(self):
+        self.run_with(PROVES, "--prove")
+        self.assertEqual(self.run_with(FAILS, "check", "a"), (0, "proved check a\n", ""))
+        time.sleep(0.01)
+        (self.root / "crates/nllc/src/main.rt").write_text("fn main() { }\n")
+        self.assertEqual(self.run_without_rt("check", "a"), 127)
+
+    def test_what_changed_while_it_was_proved_is_newer(self):
+        self.run_with(PROVES.replace("mkdir", "touch src/main.rt; sleep 0.05; mkdir"), "--prove")
+        self.assertEqual(self.run_without_rt("check", "a"), 127)
+
+    def test_the_crate_that_fails_is_told(self):
+        status, _, told = self.run_with(FAILS, "--prove")
+        self.assertEqual(status, 1)
+        self.assertEqual(told.splitlines()[-1], "nllc.sh: not proved: nllc; see /out/prove.log")
+
+    def test_after_a_killed_check_the_rest_is_tried_again(self):
+        _, _, told = self.run_with(KILLED, "--prove")
+        self.assertEqual(self.said.read_text().splitlines()[-1], "all check --jobs 1")
+        self.assertEqual(told.count("1 of 2 proved: low"), 1, told)
+        self.assertIn("not proved: nllc", told)
+
+    def test_a_crate_is_told_once_and_one_that_is_proved_later_has_not_failed(self):
+        said = io.StringIO()
+        progress = prove.Progress(2)
+        with contextlib.redirect_stderr(said):
+            for crate, is_proved in (("low", True), ("nllc", False), ("low", True)):
+                progress.told(crate, is_proved, True)
+            self.assertEqual(progress.first_failure(), "nllc")
+            progress.told("nllc", True, True)
+        self.assertIsNone(progress.first_failure())
+        self.assertEqual(said.getvalue(), "nllc.sh: 1 of 2 proved: low\nnllc.sh: 2 of 2 proved: nllc\n")
+
+    def test_after_a_killed_check_half_as_many_run_at_a_time(self):
+        numbers = []
+
+        def once(_, number, *__):
+            numbers.append(number)
+            return 1, True
+
+        with unittest.mock.patch.object(proving, "prove_once", once):
+            self.assertEqual(proving.prove("", 5, None, io.StringIO()), 1)
+        self.assertEqual(numbers, [5, 2, 1])
+
+    def test_a_signal_ends_it_and_rt(self):
+        for number, status in ((signal.SIGINT, 130), (signal.SIGTERM, 143)):
+            self.said.unlink(missing_ok=True)
+            running = self.start(WAITS, "--prove")
+            while not (self.said.exists() and self.said.read_text().strip()):
+                time.sleep(0.02)
+            os.kill(running.pid, number)
+            told = running.communicate(timeout=300)[1]
+            self.assertEqual(running.returncode, status, told)
+            with self.assertRaises(ProcessLookupError):
+                os.kill(int(self.said.read_text()), 0)
+
+
+class Reading(unittest.TestCase):
+    def told(self, *lines):
+        found = []
+        reader = proving.Reader(lambda *crate: found.append(crate))
+        for line in lines:
+            reader.read(line)
+        return found, reader.killed
+
+    def test_a_crate_is_told_at_its_verdict_and_once(self):
+        lines = ["== low", "fn low::f: proved", "logic=proved functions=1"]
+        self.assertEqual(self.told(*lines), ([("low", True, True)], False))
+        self.assertEqual(self.told(*lines, "rt: more", "== summary", "low: ok")[0], [("low", True, True)])
+
+    def test_one_of_which_nothing_is_printed_is_kept_from_before(self):
+        self.assertEqual(self.told("== low", "== summary")[0], [("low", True, False)])
+
+    def test_one_with_no_verdict_is_not_proved(self):
+        self.assertEqual(self.told("== low", "error: no", "== summary")[0], [("low", False, True)])
+        self.assertEqual(self.told("== low", "logic=not-proved functions=1")[0], [("low", False, True)])
+
+    def test_a_killed_check_is_seen(self):
+        self.assertTrue(self.told("== low", "fn", "== summary", "low: failed (-9)")[1])
+        self.assertFalse(self.told("== low", "fn", "== summary", "low: failed (1)")[1])
+
+
+if __name__ == "__main__":
+    unittest.main()
