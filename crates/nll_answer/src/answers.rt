@@ -14,7 +14,8 @@ use crate::faults_report::faults_text;
 use crate::meanings::meaning;
 use crate::values_report::region_lines;
 use nll_core::{Memory, Problem, RegionId, faults, solve};
-use nll_mir::{Facts, Labels};
+use nll_facts::Facts;
+use nll_reading::Labels;
 use std::alloc::Global;
 
 /// What is asked of a text.

@@ -2,7 +2,7 @@
 
 use nll_body_problem::RuleError;
 use nll_core::Memory;
-use nll_mir::{TextError, TextKind};
+use nll_reading::{TextError, TextKind};
 use thiserror::Error;
 
 /// Why a text has no answer.

@@ -8,9 +8,12 @@ ghost use Rattle.nll_answer.specs.Texts.{HasProblem, IsAnswerError, IsBodyError,
 ghost use Rattle.nll_answer.specs.Texts.{IsMeaning, IsOf, error_of_body, error_of_text};
 
 use crate::error::AnswerError;
+use nll_body::Body;
 use nll_body_problem::{RuleError, problem_of};
 use nll_core::Problem;
-use nll_mir::{Body, Facts, TextError, read_facts, read_mir, read_mir_parts};
+use nll_facts::{Facts, read_facts};
+use nll_mir_text::{read_mir, read_mir_parts};
+use nll_reading::TextError;
 use nll_text::{is_header, next_line};
 use std::alloc::Global;
 

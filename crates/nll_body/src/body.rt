@@ -26,7 +26,6 @@ use std::alloc::Global;
 use std::marker::Model;
 
 /// A body. Points, variables and regions go by their numbers.
-#[derive(Drop)]
 pub struct Body {
     labels: Labels,
     outlives: Vec<(u32, u32)>,
@@ -34,6 +33,20 @@ pub struct Body {
     variables: Vec<Ty>,
     points: Vec<Stmt>,
     graph: Graph,
+}
+
+// A derived drop would be proved anew in each crate that drops one.
+impl Drop for Body {
+    fn drop(self) {
+        let Body {
+            labels: _,
+            outlives: _,
+            structs: _,
+            variables: _,
+            points: _,
+            graph: _,
+        } = self;
+    }
 }
 
 impl Model for Body {
@@ -110,7 +123,15 @@ impl Body {
     pub fn into_labels(self) -> Labels
         ensures { result ≡ labels_of self }
     {
-        self.labels
+        let Body {
+            labels,
+            outlives: _,
+            structs: _,
+            variables: _,
+            points: _,
+            graph: _,
+        } = self;
+        labels
     }
 
     /// How many points there are; they are numbered from 0.

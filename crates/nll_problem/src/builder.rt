@@ -32,13 +32,25 @@ use std::marker::Model;
 ///
 /// # Cost
 /// Each fact takes amortised constant time (not proved).
-#[derive(Drop)]
 pub struct ProblemBuilder {
     graph: GraphBuilder,
     regions: u32,
     bases: Bases,
     constraints: ConstraintSet,
     outlives: Outlives,
+}
+
+// A derived drop would be proved anew in each crate that drops one.
+impl Drop for ProblemBuilder {
+    fn drop(self) {
+        let ProblemBuilder {
+            graph: _,
+            regions: _,
+            bases: _,
+            constraints: _,
+            outlives: _,
+        } = self;
+    }
 }
 
 impl Model for ProblemBuilder {
@@ -217,12 +229,19 @@ impl ProblemBuilder {
         ensures others { IfOk result (λ q.
             q ≡ record self { bases = q.bases; outlives = q.outlives }) }
     {
+        let ProblemBuilder {
+            graph,
+            regions,
+            bases,
+            constraints,
+            outlives,
+        } = self;
         Ok(Problem::of(
-            self.graph.finish(),
-            self.regions,
-            self.bases.finish(),
-            self.constraints.finish(),
-            self.outlives.finish(),
+            graph.finish(),
+            regions,
+            bases.finish(),
+            constraints.finish(),
+            outlives.finish(),
         ))
     }
 }

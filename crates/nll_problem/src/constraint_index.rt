@@ -17,11 +17,20 @@ use std::alloc::Global;
 use std::marker::Model;
 
 /// The constraints of a problem by the region that they read, made once and lent to whoever solves.
-#[derive(Drop)]
 pub struct ConstraintIndex {
     constraints: Vec<Constraint>,
     // Where those of each region start, and where all end.
     starts: Vec<u32>,
+}
+
+// A derived drop would be proved anew in each crate that drops one.
+impl Drop for ConstraintIndex {
+    fn drop(self) {
+        let ConstraintIndex {
+            constraints: _,
+            starts: _,
+        } = self;
+    }
 }
 
 impl Model for ConstraintIndex {

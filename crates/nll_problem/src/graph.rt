@@ -12,7 +12,6 @@ use std::marker::Model;
 
 /// The points of a body, which of them may come after which, and the return points. A
 /// `GraphBuilder` makes one.
-#[derive(Drop)]
 pub struct Graph {
     pub(crate) points: u32,
     pub(crate) universals: u32,
@@ -21,6 +20,19 @@ pub struct Graph {
     pub(crate) returns: Vec<u32>,
     // Whether each point is a return point.
     pub(crate) marks: Vec<bool>,
+}
+
+// A derived drop would be proved anew in each crate that drops one.
+impl Drop for Graph {
+    fn drop(self) {
+        let Graph {
+            points: _,
+            universals: _,
+            next: _,
+            returns: _,
+            marks: _,
+        } = self;
+    }
 }
 
 impl Model for Graph {

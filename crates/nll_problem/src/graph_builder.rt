@@ -36,7 +36,6 @@ pub const SCANNED: usize = 8;
 ///
 /// # Cost
 /// Each edge takes amortised constant time (not proved).
-#[derive(Drop)]
 pub struct GraphBuilder {
     points: u32,
     universals: u32,
@@ -46,6 +45,20 @@ pub struct GraphBuilder {
     returns: Vec<u32>,
     // Whether each point is a return point.
     marks: Vec<bool>,
+}
+
+// A derived drop would be proved anew in each crate that drops one.
+impl Drop for GraphBuilder {
+    fn drop(self) {
+        let GraphBuilder {
+            points: _,
+            universals: _,
+            next: _,
+            index: _,
+            returns: _,
+            marks: _,
+        } = self;
+    }
 }
 
 impl Model for GraphBuilder {
@@ -182,13 +195,21 @@ impl GraphBuilder {
     pub fn finish(self) -> Graph
         ensures { result ≡ self }
     {
-        let next = self.next.finish();
-        Graph {
-            points: self.points,
-            universals: self.universals,
+        let GraphBuilder {
+            points,
+            universals,
             next,
-            returns: self.returns,
-            marks: self.marks,
+            index: _,
+            returns,
+            marks,
+        } = self;
+        let next = next.finish();
+        Graph {
+            points,
+            universals,
+            next,
+            returns,
+            marks,
         }
     }
 }

@@ -15,13 +15,25 @@ use std::marker::Model;
 /// # Shape
 /// Region 0 is `'static`; the other universal regions follow, and then the region variables. All
 /// numbers are in range, no limit is passed, and no fact is there twice.
-#[derive(Drop)]
 pub struct Problem {
     graph: Graph,
     regions: u32,
     bases: Vec<(RegionId, u32)>,
     constraints: Vec<Constraint>,
     outlives: Vec<(RegionId, RegionId)>,
+}
+
+// A derived drop would be proved anew in each crate that drops one.
+impl Drop for Problem {
+    fn drop(self) {
+        let Problem {
+            graph: _,
+            regions: _,
+            bases: _,
+            constraints: _,
+            outlives: _,
+        } = self;
+    }
 }
 
 impl Model for Problem {

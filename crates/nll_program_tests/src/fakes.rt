@@ -3,19 +3,21 @@ ghost use Rattle.std.specs.Prelude.{◌≡◌, IfOk};
 ghost use Rattle.nll_report.specs.Run.{holds_anything, lacks_anything};
 
 use nll_report::{Texts, Unread};
-use std::alloc::{AllocError, Global};
+use std::alloc::Global;
 use std::io;
 use std::io::{ErrorKind, Write};
+use std::process::Abort;
 
 /// The words between the bars of `text`, and none of an empty text.
-pub fn words_of(alloc: Global, text: &str) -> Result<Vec<String>, AllocError> {
+pub fn words_of(rt: &impl Abort, alloc: Global, text: &str) -> Vec<String> {
     let mut words = Vec::new(alloc);
     if !text.is_empty() {
         for word in text.split('|') {
-            words.push(String::from_str(alloc, word)?)?;
+            let word = String::from_str(alloc, word).expect(rt, "memory");
+            words.push(word).expect(rt, "memory");
         }
     }
-    Ok(words)
+    words
 }
 
 const CHAIN: &[u8] = b"nll-facts 1
@@ -52,23 +54,29 @@ constraint 'a 'b 0
 end
 ";
 
-// The bytes of the text of a path, where there is one.
-fn text_at(path: &str) -> Option<&'static [u8]> {
-    match path {
-        "chain" => Some(CHAIN),
-        "fault" => Some(FAULT),
-        "healed" => Some(HEALED),
-        "empty" => Some(b""),
-        "utf" => Some(b"nll-facts 1\npoints 1\n# \xc3\n\xa9\nend\n"),
-        "syntax" => Some(b"nll-facts 1\n\npoints one\n"),
-        "unknown" => Some(b"nll-facts 1\npoints 1\noutlives 'static 'z\nend\n"),
-        "duplicate" => Some(b"nll-facts 1\npoints 1\nuniversal 'a\nregion 'a\nend\n"),
-        "range" => Some(b"nll-facts 1\npoints 1\nreturn 0\nnext 0 1\nend\n"),
-        "points" => Some(b"nll-facts 1\n# One too many.\npoints 1048577\nend\n"),
-        "end" => Some(b"nll-facts 1\npoints 1\nreturn 0\n# end\n"),
-        _ => None,
-    }
-}
+// The texts by their paths.
+const TEXTS: &[(&str, &[u8])] = &[
+    ("chain", CHAIN),
+    ("fault", FAULT),
+    ("healed", HEALED),
+    ("empty", b""),
+    ("utf", b"nll-facts 1\npoints 1\n# \xc3\n\xa9\nend\n"),
+    ("syntax", b"nll-facts 1\n\npoints one\n"),
+    (
+        "unknown",
+        b"nll-facts 1\npoints 1\noutlives 'static 'z\nend\n",
+    ),
+    (
+        "duplicate",
+        b"nll-facts 1\npoints 1\nuniversal 'a\nregion 'a\nend\n",
+    ),
+    ("range", b"nll-facts 1\npoints 1\nreturn 0\nnext 0 1\nend\n"),
+    (
+        "points",
+        b"nll-facts 1\n# One too many.\npoints 1048577\nend\n",
+    ),
+    ("end", b"nll-facts 1\npoints 1\nreturn 0\n# end\n"),
+];
 
 /// The texts of the table above; the text `large` wants memory.
 #[derive(Drop)]
@@ -82,18 +90,21 @@ impl Texts for Shelf {
     ghost lacks = { λ _. lacks_anything };
 
     fn get(&self, path: &str) -> Result<Vec<u8>, Unread> {
-        if path == "large" {
-            return Err(Unread::Memory);
+        for (name, text) in TEXTS {
+            if *name == path {
+                return text.to_vec(self.alloc).or(Err(Unread::Memory));
+            }
         }
-        match text_at(path) {
-            Some(text) => text.to_vec(self.alloc).or(Err(Unread::Memory)),
-            None => Err(Unread::Cannot),
-        }
+        Err(if path == "large" {
+            Unread::Memory
+        } else {
+            Unread::Cannot
+        })
     }
 }
 
 /// What a writer does at one of its calls.
-#[derive(Clone, Copy, Debug, PartialEq, Eq)]
+#[derive(Clone, Copy)]
 pub enum Fault {
     /// The write fails.
     Fails,
@@ -114,12 +125,16 @@ pub struct Faulty {
 }
 
 impl Faulty {
-    pub fn new(alloc: Global, calls_before: u32, fault: Fault) -> Self {
+    pub fn new(alloc: Global, (fault, calls_before): (Fault, u32)) -> Self {
         Faulty {
             held: Vec::new(alloc),
             calls_before,
             fault,
         }
+    }
+
+    fn fails_to_flush(&self) -> bool {
+        matches!(self.fault, Fault::FailsToFlush)
     }
 
     fn fail(&mut self) -> io::Result<usize>
@@ -138,7 +153,7 @@ impl Faulty {
 
 impl Write for Faulty {
     fn write(&mut self, buf: &[u8]) -> io::Result<usize> {
-        if self.calls_before == 0 && self.fault != Fault::FailsToFlush {
+        if self.calls_before == 0 && !self.fails_to_flush() {
             return self.fail();
         }
         self.calls_before = self.calls_before.saturating_sub(1);
@@ -148,7 +163,7 @@ impl Write for Faulty {
     }
 
     fn flush(&mut self) -> io::Result<()> {
-        if self.fault == Fault::FailsToFlush {
+        if self.fails_to_flush() {
             return Err(io::Error::from(ErrorKind::StorageFull));
         }
         Ok(())

@@ -4,7 +4,8 @@
 //! The program is also run over a text and streams of which all is known (`known`), and its
 //! contract says then what they hold.
 //!
-//! Reading order: `known`, `comparing`, `reading`, `answers`, `fakes`, then each module of tests.
+//! Reading order: `known`, `rows`, `saying`, `comparing`, `reading`, `answers`, `fakes`, `program`,
+//! then each further module of tests.
 #![tactic(auto)]
 
 mod known;
@@ -40,7 +41,9 @@ mod reading;
 #[cfg(test)]
 mod refusals;
 #[cfg(test)]
-mod slow_reader;
+mod rows;
+#[cfg(test)]
+mod saying;
 #[cfg(test)]
 mod values;
 #[cfg(test)]

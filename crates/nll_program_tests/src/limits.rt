@@ -1,112 +1,96 @@
 //! Texts at the limits of the format, and past them.
 use super::answers::answer_to;
 use super::comparing::compare;
-use nll_mir::MAX_TEXT;
+use super::saying::{count, say};
+use nll_reading::MAX_TEXT;
 use nll_report::Command;
-use std::alloc::{AllocError, Global};
+use std::alloc::Global;
+use std::process::Abort;
 
-// Writes a text of one point that declares so many regions by a word, and then has further lines.
-fn write_declaring(
-    out: &mut String,
-    word: &str,
-    count: u32,
-    lines: &str,
-) -> Result<(), AllocError> {
-    out.push_str("nll-facts 1\npoints 1\n")?;
-    for number in 0..count {
-        write!(out, "{word} 'r{number}\n")?;
+/// Writes words so often.
+pub fn repeat(out: &mut String, times: u32, words: &str) {
+    for _ in 0..times {
+        say(out, words);
     }
-    out.push_str(lines)
 }
 
-// What is answered to such a text.
-fn answer_to_declaring(
-    alloc: Global,
-    word: &str,
-    count: u32,
+/// Writes each number from the first to before the second between words.
+pub fn say_each(out: &mut String, (first, end): (u32, u32), before: &str, behind: &str) {
+    for number in first..end {
+        say(out, before);
+        count(out, u64::from(number));
+        say(out, behind);
+    }
+}
+
+// Ends the test unless that is answered to a text, which is let go.
+fn compare_answer(rt: &impl Abort, alloc: Global, says: &str, text: String, want: &str) {
+    let told = answer_to(alloc, Command::Check, text.as_bytes());
+    drop(text);
+    compare(rt, says, told, want.as_bytes());
+}
+
+// The same of a text of one point that declares so many regions by these words, and then has
+// further lines.
+fn compare_declaring<R: Abort + AllocGlobal>(
+    rt: &R,
+    (words, times): (&str, u32),
     lines: &str,
-) -> Result<String, AllocError> {
-    let mut text = String::new(alloc);
-    let written = write_declaring(&mut text, word, count, lines);
-    written.and(answer_to(alloc, Command::Check, text.as_bytes()))
+    want: &str,
+) {
+    let mut text = String::new(rt.alloc());
+    say(&mut text, "nll-facts 1\npoints 1\n");
+    say_each(&mut text, (0, times), words, "\n");
+    say(&mut text, lines);
+    compare_answer(rt, rt.alloc(), lines, text, want);
 }
-
-// Declarations by a word, and what is answered to further lines.
-const DECLARED: &[(&str, u32, &str, &str)] = &[
-    ("universal", 255, "end\n", "ok\n"),
-    ("universal", 255, "region 'x\nbase 'x 0\nend\n", "ok\n"),
-    (
-        "universal",
-        255,
-        "universal 'x\nend\n",
-        "line 258: Limit(Universals)",
-    ),
-    (
-        "universal",
-        255,
-        "universal 'static\nend\n",
-        "line 258: Duplicate",
-    ),
-    ("universal", 255, "universal\n", "line 258: Syntax"),
-    ("region", 65_535, "base 'r65534 0\nend\n", "ok\n"),
-    (
-        "region",
-        65_535,
-        "region 'x\nend\n",
-        "line 65538: Limit(Regions)",
-    ),
-    (
-        "region",
-        65_535,
-        "region 'r0\nend\n",
-        "line 65538: Duplicate",
-    ),
-];
 
 // As many declarations as the limits allow are taken, and one more is refused.
 #[test]
 fn refuses_declarations_past_the_limits(rt: HostRuntime) {
-    for (word, count, lines, want) in DECLARED {
-        let answer = answer_to_declaring(rt.alloc(), word, *count, lines);
-        compare(&rt, lines, answer, want);
-    }
+    let universal = ("universal 'r", 255);
+    compare_declaring(&rt, universal, "end\n", "ok\n");
+    compare_declaring(&rt, universal, "region 'x\nbase 'x 0\nend\n", "ok\n");
+    let limit = "line 258: Limit(Universals)";
+    compare_declaring(&rt, universal, "universal 'x\nend\n", limit);
+    let duplicate = "line 258: Duplicate";
+    compare_declaring(&rt, universal, "universal 'static\nend\n", duplicate);
+    compare_declaring(&rt, universal, "universal\n", "line 258: Syntax");
+    let region = ("region 'r", 65_535);
+    compare_declaring(&rt, region, "base 'r65534 0\nend\n", "ok\n");
+    let limit = "line 65538: Limit(Regions)";
+    compare_declaring(&rt, region, "region 'x\nend\n", limit);
+    let duplicate = "line 65538: Duplicate";
+    compare_declaring(&rt, region, "region 'r0\nend\n", duplicate);
 }
 
 // What is answered to a text of so many blanks.
-fn answer_to_blanks(alloc: Global, bytes: usize) -> Result<String, AllocError> {
-    let text = Vec::from_elem(alloc, b' ', bytes)?;
-    answer_to(alloc, Command::Check, text.as_slice())
+fn compare_blanks<R: Abort + AllocGlobal>(rt: &R, bytes: usize, want: &[u8]) {
+    let text = Vec::from_elem(rt.alloc(), b' ', bytes).expect(rt, "memory");
+    let told = answer_to(rt.alloc(), Command::Check, text.as_slice());
+    drop(text);
+    compare(rt, "blanks", told, want);
 }
 
 // The text's length is judged before its header.
 #[test]
 fn refuses_a_long_text(rt: HostRuntime) {
-    let longest = answer_to_blanks(rt.alloc(), MAX_TEXT);
-    compare(&rt, "the longest text", longest, "line 1: Header");
-    let longer = answer_to_blanks(rt.alloc(), MAX_TEXT + 1);
-    compare(&rt, "a longer text", longer, "line 1: Limit(Text)");
+    compare_blanks(&rt, MAX_TEXT, b"line 1: Header");
+    compare_blanks(&rt, MAX_TEXT + 1, b"line 1: Limit(Text)");
 }
 
-// A text whose region has a name of so many letters, and a remark of as many.
-fn with_long_lines(alloc: Global, letters: usize) -> Result<String, AllocError> {
-    let mut name = String::new(alloc);
-    for _ in 0..letters {
-        name.push('r')?;
-    }
-    format!(in alloc; "nll-facts 1\n# {name}\npoints 1\nregion '{name}\nbase '{name} 0\nend\n")
-}
+// The letters of which there are a mebibyte where they stand 16,384 times.
+const LETTERS: &str = "rrrrrrrrrrrrrrrrrrrrrrrrrrrrrrrrrrrrrrrrrrrrrrrrrrrrrrrrrrrrrrrr";
 
-// What is answered to such a text.
-fn answer_to_long_lines(alloc: Global, letters: usize) -> Result<String, AllocError> {
-    let text = with_long_lines(alloc, letters)?;
-    answer_to(alloc, Command::Check, text.as_bytes())
-}
-
-// Lines of a mebibyte are read.
-#[test]
-fn takes_long_lines(rt: HostRuntime) {
-    let answer = answer_to_long_lines(rt.alloc(), 1_048_576);
-    compare(&rt, "names of 1 MiB", answer, "ok\n");
+// Writes a text whose region has a name of a mebibyte, and a remark of as many letters.
+fn write_long_lines(out: &mut String) {
+    say(out, "nll-facts 1\n# ");
+    repeat(out, 16_384, LETTERS);
+    say(out, "\npoints 1\nregion '");
+    repeat(out, 16_384, LETTERS);
+    say(out, "\nbase '");
+    repeat(out, 16_384, LETTERS);
+    say(out, " 0\nend\n");
 }
 
 // As many points as the limit allows; a constraint at the last one, which returns.
@@ -114,46 +98,41 @@ const LAST_POINT: &str = "nll-facts 1\npoints 1048576\nuniversal 'a\nuniversal '
     next 1048574 1048575\nreturn 1048575\nbase 'x 1048575\nconstraint 'x 'b 1048574\n\
     constraint 'a 'x 1048575\nend\n";
 
-// The last of all points has facts as any other.
-#[test]
-fn takes_the_last_point(rt: HostRuntime) {
-    let answer = answer_to(rt.alloc(), Command::Check, LAST_POINT.as_bytes());
-    compare(
-        &rt,
-        "the last point",
-        answer,
-        "fault 'a must outlive 'b\nstatus 1",
-    );
-}
-
-// Writes a text of so many constraints: of each of a hundred regions at each of a thousand points.
-fn write_constraints(out: &mut String, count: u32) -> Result<(), AllocError> {
-    out.push_str("nll-facts 1\npoints 1000\nuniversal 'a\n")?;
-    for number in 0..100u32 {
-        write!(out, "region 'r{number}\n")?;
+// Writes a constraint of a region at each of a thousand points.
+fn write_constraints(out: &mut String, region: u32) {
+    for point in 0..1000u64 {
+        say(out, "constraint 'r");
+        count(out, u64::from(region));
+        say(out, " 'static ");
+        count(out, point);
+        say(out, "\n");
     }
-    for number in 0..count {
-        let (region, point) = (number / 1000 % 100, number % 1000);
-        write!(out, "constraint 'r{region} 'static {point}\n")?;
+}
+
+// Writes a text of a hundred thousand constraints: of each of a hundred regions at each of a
+// thousand points.
+fn write_many_constraints(out: &mut String) {
+    say(out, "nll-facts 1\npoints 1000\nuniversal 'a\n");
+    say_each(out, (0, 100), "region 'r", "\n");
+    for region in 0..100 {
+        write_constraints(out, region);
     }
-    out.push_str("return 999\nconstraint 'a 'r99 999\nend\n")
+    say(out, "return 999\nconstraint 'a 'r99 999\nend\n");
 }
 
-// What is answered to such a text.
-fn answer_to_constraints(alloc: Global, count: u32) -> Result<String, AllocError> {
-    let mut text = String::new(alloc);
-    let written = write_constraints(&mut text, count);
-    written.and(answer_to(alloc, Command::Check, text.as_bytes()))
-}
-
-// A hundred thousand constraints are read and solved.
+// Lines of a mebibyte are read, the last of all points has facts as any other, and many constraints
+// are read and solved.
 #[test]
-fn solves_many_constraints(rt: HostRuntime) {
-    let answer = answer_to_constraints(rt.alloc(), 100_000);
-    compare(
-        &rt,
-        "many constraints",
-        answer,
-        "fault 'a must outlive 'static\nstatus 1",
-    );
+fn takes_long_texts(rt: HostRuntime) {
+    let mut text = String::new(rt.alloc());
+    write_long_lines(&mut text);
+    compare_answer(&rt, rt.alloc(), "names of 1 MiB", text, "ok\n");
+    let mut text = String::new(rt.alloc());
+    say(&mut text, LAST_POINT);
+    let want = "fault 'a must outlive 'b\nstatus 1";
+    compare_answer(&rt, rt.alloc(), "the last point", text, want);
+    let mut text = String::new(rt.alloc());
+    write_many_constraints(&mut text);
+    let want = "fault 'a must outlive 'static\nstatus 1";
+    compare_answer(&rt, rt.alloc(), "many constraints", text, want);
 }

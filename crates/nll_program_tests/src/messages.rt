@@ -1,15 +1,21 @@
 //! The lines of the refusals, those among them that no facts text brings about.
 use super::comparing::compare;
-use nll_core::Kind;
-use nll_mir::{TextError, TextKind};
-use nll_report::{AnswerError, LineError, Refusal, RuleError, Unread};
-use std::alloc::{AllocError, Global};
-use std::str;
+use super::saying::{count, print, say, say_bytes, show};
+use nll_core::{BuildError, Kind};
+use nll_reading::{TextError, TextKind};
+use nll_report::{AnswerError, LineError, Refusal, RuleError, USAGE, Unread};
+use std::alloc::{AllocError, AllocFailed, Global};
+use std::fmt::Display;
+use std::process::Abort;
 
 // The status and the line of a refusal.
-fn told(alloc: Global, error: AnswerError) -> Result<String, AllocError> {
+fn told(alloc: Global, error: AnswerError) -> String {
     let refusal = Refusal::from(error);
-    format!(in alloc; "{}, {refusal}", refusal.status())
+    let mut out = String::new(alloc);
+    count(&mut out, u64::from(refusal.status()));
+    say(&mut out, ", ");
+    print(&mut out, &refusal);
+    out
 }
 
 // Kinds of faults, and their words.
@@ -33,82 +39,103 @@ const KINDS: &[(TextKind, &str)] = &[
     (TextKind::End, "end"),
 ];
 
-// A kind of fault at a line, and the line that tells it.
-fn fault_told(alloc: Global, line: u64, kind: TextKind) -> Result<String, AllocError> {
-    told(alloc, AnswerError::Text(TextError { line, kind }))
-}
-
 // The line that is wanted.
-fn wanted(alloc: Global, line: u64, words: &str) -> Result<String, AllocError> {
-    format!(in alloc; "2, nllc: line {line}: {words}")
+fn wanted(alloc: Global, line: u64, words: &str) -> String {
+    let mut out = String::new(alloc);
+    say(&mut out, "2, nllc: line ");
+    count(&mut out, line);
+    say(&mut out, ": ");
+    say(&mut out, words);
+    out
 }
 
 // The fault of a text is told with its line, however far down, and its kind in words.
 #[test]
-fn prints_each_kind(rt: HostRuntime) -> Result<(), AllocError> {
+fn prints_each_kind(rt: HostRuntime) {
     for (kind, words) in KINDS {
         for line in [1, 65_538, u64::MAX] {
-            let want = wanted(rt.alloc(), line, words)?;
-            let told = fault_told(rt.alloc(), line, *kind);
-            compare(&rt, words, told, want.as_str());
+            let kind = *kind;
+            let told = told(rt.alloc(), AnswerError::Text(TextError { line, kind }));
+            let want = wanted(rt.alloc(), line, words);
+            compare(&rt, words, told, want.as_bytes());
         }
     }
-    Ok(())
-}
-
-// A want of memory has no line, wherever it was met.
-#[test]
-fn prints_a_want_of_memory(rt: HostRuntime) {
-    let answering = told(rt.alloc(), AnswerError::Memory);
-    compare(&rt, "answering", answering, "3, nllc: memory");
-    let reading = fault_told(rt.alloc(), 0, TextKind::Memory);
-    compare(&rt, "reading", reading, "3, nllc: memory");
-    let ruling = told(rt.alloc(), AnswerError::Rule(RuleError::Memory));
-    compare(&rt, "ruling", ruling, "3, nllc: memory");
-}
-
-// A limit of a body has no line.
-#[test]
-fn prints_a_limit(rt: HostRuntime) {
-    let told = told(
-        rt.alloc(),
-        AnswerError::Rule(RuleError::Limit(Kind::Constraints)),
-    );
-    compare(&rt, "a body", told, "2, nllc: limit constraints");
 }
 
 // The line of a refusal, as it is printed.
-fn printed(alloc: Global, error: AnswerError) -> Result<String, AllocError> {
-    let mut out = Vec::new(alloc);
-    let printed = Refusal::from(error).print(&mut out);
-    let told = format!(in alloc;
-        "{}{}",
-        str::from_utf8(out.as_slice()).unwrap_or("not utf-8"),
-        printed.is_ok()
-    );
-    drop(out);
-    told
+fn printed(alloc: Global, error: AnswerError) -> String {
+    let mut printed = Vec::new(alloc);
+    let mut out = String::new(alloc);
+    let is_printed = Refusal::from(error).print(&mut printed).is_ok();
+    say_bytes(&mut out, printed.as_slice());
+    show(&mut out, &is_printed);
+    out
+}
+
+// Ends the test unless that is the status and the line of a refusal.
+fn compare_refusal<R: Abort + AllocGlobal>(rt: &R, error: AnswerError, want: &[u8]) {
+    compare(rt, "a refusal", told(rt.alloc(), error), want);
+}
+
+// A want of memory has no line, wherever it was met, and a limit of a body has none.
+#[test]
+fn prints_refusals_without_a_line(rt: HostRuntime) {
+    let (line, kind) = (0, TextKind::Memory);
+    let memory = b"3, nllc: memory";
+    compare_refusal(&rt, AnswerError::Memory, memory);
+    compare_refusal(&rt, AnswerError::Text(TextError { line, kind }), memory);
+    compare_refusal(&rt, AnswerError::Rule(RuleError::Memory), memory);
+    let limit = AnswerError::Rule(RuleError::Limit(Kind::Constraints));
+    compare_refusal(&rt, limit, b"2, nllc: limit constraints");
+}
+
+// Ends the test unless that is displayed.
+fn compare_displayed<R: Abort + AllocGlobal, T: Display>(rt: &R, value: &T, want: &[u8]) {
+    let mut out = String::new(rt.alloc());
+    print(&mut out, value);
+    compare(rt, "an error", out, want);
+}
+
+// Errors and the usage line print what was wrong.
+#[test]
+fn prints_errors(rt: HostRuntime) {
+    let (line, kind) = (7, TextKind::Unknown);
+    let want = b"line 7: a name that no earlier line declares";
+    compare_displayed(&rt, &TextError { line, kind }, want);
+    compare_displayed(&rt, &Unread::Cannot, b"the text cannot be read");
+    compare_displayed(&rt, &LineError::Usage, b"the words are none of the forms");
+    let want = b"usage: nllc values|check|replay FILE [--owners N] [--deal round|blocks] \
+        [--cut FILE] [--mail queue|ring] [--schedule FILE]";
+    compare_displayed(&rt, &USAGE, want);
 }
 
 // A refusal is printed as a line.
 #[test]
 fn prints_a_line(rt: HostRuntime) {
-    compare(
-        &rt,
-        "memory",
-        printed(rt.alloc(), AnswerError::Memory),
-        "nllc: memory\ntrue",
-    );
+    let told = printed(rt.alloc(), AnswerError::Memory);
+    compare(&rt, "a line", told, b"nllc: memory\ntrue");
 }
 
-// Errors print what was wrong.
+// Kinds of fault that errors of calls are.
+fn write_kinds(out: &mut String) {
+    show(out, &TextKind::from(AllocError));
+    show(out, &TextKind::from(AllocFailed { value: 1u8 }));
+    for error in [
+        BuildError::PointRange,
+        BuildError::RegionRange,
+        BuildError::Limit(Kind::Edges),
+        BuildError::Memory,
+    ] {
+        say(out, " ");
+        show(out, &TextKind::from(error));
+    }
+}
+
+// What a builder refuses is a fault of the line.
 #[test]
-fn prints_errors(rt: HostRuntime) -> Result<(), AllocError> {
-    let (line, kind) = (7, TextKind::Unknown);
-    let error = TextError { line, kind };
-    let text = format!(in rt.alloc(); "{error}|{}|{}", Unread::Cannot, LineError::Usage)?;
-    let want = "line 7: a name that no earlier line declares|the text cannot be read|\
-        the words are none of the forms";
-    compare(&rt, "errors", Ok(text), want);
-    Ok(())
+fn errors_of_calls_are_kinds(rt: HostRuntime) {
+    let mut told = String::new(rt.alloc());
+    write_kinds(&mut told);
+    let want = b"MemoryMemory Range Unknown Limit(Edges) Memory";
+    compare(&rt, "errors of calls", told, want);
 }

@@ -3,114 +3,74 @@ use super::comparing::compare;
 use super::fakes::{Fault, Faulty, Shelf, words_of};
 use super::known::{Sheet, on_pages};
 use super::page::Page;
-use nll_report::{Disk, Texts, USAGE, Unread, drive};
-use std::alloc::AllocError;
-use std::str;
+use super::rows::{ALONE, Asked, compare_row, compare_rows, compare_same};
+use super::saying::{count, print, say, say_bytes};
+use nll_report::{Disk, Texts, Unread, drive};
+use std::alloc::Global;
+use std::process::Abort;
 
-// The status, what stands on standard output and what stands on standard error, between bars.
-fn shown<R: AllocGlobal>(rt: &R, status: u8, out: &[u8], err: &[u8]) -> Result<String, AllocError> {
-    let out = str::from_utf8(out).unwrap_or("not utf-8");
-    let err = str::from_utf8(err).unwrap_or("not utf-8");
-    format!(in rt.alloc(); "{status}|{out}|{err}")
+// The status, what stands on standard output and what stands on standard error.
+fn streams_told(alloc: Global, status: u8, out: &[u8], err: &[u8]) -> String {
+    let mut told = String::new(alloc);
+    count(&mut told, u64::from(status));
+    say(&mut told, ">");
+    say_bytes(&mut told, out);
+    say(&mut told, ">");
+    say_bytes(&mut told, err);
+    told
 }
 
-// What the program does with words, which stand between bars, and the texts of the shelf.
-fn run<R: AllocGlobal>(rt: &R, words: &str) -> Result<String, AllocError> {
-    let words = words_of(rt.alloc(), words)?;
+/// A fault of a stream, and after how many calls it comes.
+pub type FaultAt = (Fault, u32);
+
+/// A fault that doesn't come.
+pub const NEVER: FaultAt = (Fault::Fails, u32::MAX);
+
+// What a stream holds, or nothing where its fault comes.
+fn held_by(stream: &Faulty, (_, calls_before): FaultAt) -> &[u8] {
+    if calls_before == u32::MAX {
+        stream.held.as_slice()
+    } else {
+        b""
+    }
+}
+
+/// What the program does with words, which stand between bars, and the texts of the shelf, where
+/// its streams have these faults.
+pub fn run<R: Abort + AllocGlobal>(
+    rt: &R,
+    words: &str,
+    of_out: FaultAt,
+    of_err: FaultAt,
+) -> String {
+    let words = words_of(rt, rt.alloc(), words);
     let shelf = Shelf { alloc: rt.alloc() };
-    let (mut out, mut err) = (Vec::new(rt.alloc()), Vec::new(rt.alloc()));
+    let mut out = Faulty::new(rt.alloc(), of_out);
+    let mut err = Faulty::new(rt.alloc(), of_err);
     let status = drive(rt, words.as_slice(), &shelf, &mut out, &mut err);
-    shown(rt, status, out.as_slice(), err.as_slice())
+    streams_told(
+        rt.alloc(),
+        status,
+        held_by(&out, of_out),
+        held_by(&err, of_err),
+    )
 }
 
-// Words, and what the program does with them.
-const ANSWERED: &[(&str, &str)] = &[
-    (
-        "values|chain",
-        "0|'static: 0 1 2 end('static)\n'1: 1 2\n'2: 1 2\n|",
-    ),
-    ("check|chain", "0|ok\n|"),
-    (
-        "values|fault",
-        "0|'static: 0 1 end('static)\n'a: 0 1 end('a) end('b)\n'b: 0 1 end('b)\n|",
-    ),
-    ("check|fault", "1|fault 'a must outlive 'b\n|"),
-    ("check|--|fault", "1|fault 'a must outlive 'b\n|"),
-    ("check|healed", "0|ok\n|"),
-    ("values|missing", "2||nllc: cannot read missing\n"),
-    ("check|missing", "2||nllc: cannot read missing\n"),
-    ("values|", "2||nllc: cannot read \n"),
-    ("values|large", "3||nllc: memory\n"),
-    ("check|large", "3||nllc: memory\n"),
-    ("values|empty", "2||nllc: line 1: header\n"),
-    ("values|utf", "2||nllc: line 3: not utf-8\n"),
-    ("values|syntax", "2||nllc: line 3: syntax\n"),
-    ("check|unknown", "2||nllc: line 3: unknown\n"),
-    ("values|duplicate", "2||nllc: line 4: duplicate\n"),
-    ("check|range", "2||nllc: line 4: range\n"),
-    ("values|points", "2||nllc: line 3: limit points\n"),
-    ("check|end", "2||nllc: line 4: end\n"),
-    (
-        "values|a|b",
-        "2||usage: nllc values|check|replay FILE [--owners N] [--deal round|blocks] [--cut FILE] \
-         [--mail queue|ring] [--schedule FILE]\n",
-    ),
-];
-
-// An answer is printed on standard output, a refusal on standard error, each with its status.
-#[test]
-fn prints_answers_and_refusals(rt: HostRuntime) {
-    for (words, want) in ANSWERED {
-        compare(&rt, words, run(&rt, words), want);
+/// `help` where the program answers words with status 0 and a text that ends so on standard output.
+pub fn help_told<R: Abort + AllocGlobal>(rt: &R, words: &str, end: &str) -> String {
+    let told = run(rt, words, NEVER, NEVER);
+    let is_help = told.starts_with("0>") && told.ends_with(end);
+    if is_help {
+        let mut out = String::new(rt.alloc());
+        say(&mut out, "help");
+        return out;
     }
-}
-
-// Words that are none of the forms.
-const NO_LINES: &[&str] = &[
-    "",
-    "values",
-    "replay|chain|--schedule|s",
-    "values|chain|--owners|2",
-];
-
-// Such words are answered by the usage line.
-#[test]
-fn prints_the_usage_line(rt: HostRuntime) -> Result<(), AllocError> {
-    let want = format!(in rt.alloc(); "2||{USAGE}\n")?;
-    for words in NO_LINES {
-        compare(&rt, words, run(&rt, words), want.as_str());
-    }
-    Ok(())
-}
-
-// Words that ask for help, and its end.
-const HELPED: &[(&str, &str)] = &[
-    (
-        "--help",
-        "With /dev/stdin for FILE the text is read from standard input.\n|",
-    ),
-    (
-        "-h",
-        "With /dev/stdin for FILE the text is read from standard input.\n|",
-    ),
-    ("values|--help", "-h, --help  Print help\n|"),
-    ("check|-h", "-h, --help  Print help\n|"),
-];
-
-// Help goes to standard output, with status 0.
-#[test]
-fn prints_help(rt: HostRuntime) -> Result<(), AllocError> {
-    for (words, end) in HELPED {
-        let told = run(&rt, words)?;
-        assert!(rt; told.starts_with("0|"), "{words}");
-        assert!(rt; told.ends_with(end), "{words}");
-    }
-    Ok(())
+    told
 }
 
 /// What the program does with words over a text at the path `sheet`, and streams of 1,024 bytes.
-pub fn run_on<R: AllocGlobal>(rt: &R, words: &str, text: &[u8]) -> Result<String, AllocError> {
-    let words = words_of(rt.alloc(), words)?;
+pub fn run_on<R: Abort + AllocGlobal>(rt: &R, words: &str, text: &[u8]) -> String {
+    let words = words_of(rt, rt.alloc(), words);
     let sheet = Sheet {
         alloc: rt.alloc(),
         path: "sheet",
@@ -118,109 +78,156 @@ pub fn run_on<R: AllocGlobal>(rt: &R, words: &str, text: &[u8]) -> Result<String
     };
     let (mut out, mut err) = (Page::new(), Page::new());
     let status = on_pages(rt, words.as_slice(), &sheet, &mut out, &mut err);
-    shown(rt, status, out.written(), err.written())
+    streams_told(rt.alloc(), status, out.written(), err.written())
 }
 
-// A text whose problem has a fault.
-const SHEET: &[u8] =
-    b"nll-facts 1\npoints 2\nuniversal 'a\nreturn 1\nconstraint 'a 'static 1\nend\n";
+// Words, and what the program does with them.
+const ANSWERED: &str = "
+values|chain ~ 0>'static: 0 1 2 end('static)|'1: 1 2|'2: 1 2|>
+check|chain ~ 0>ok|>
+values|fault ~ 0>'static: 0 1 end('static)|'a: 0 1 end('a) end('b)|'b: 0 1 end('b)|>
+check|fault ~ 1>fault 'a must outlive 'b|>
+check|--|fault ~ 1>fault 'a must outlive 'b|>
+check|healed ~ 0>ok|>
+values|missing ~ 2>>nllc: cannot read missing|
+check|missing ~ 2>>nllc: cannot read missing|
+values| ~ 2>>nllc: cannot read |
+values|large ~ 3>>nllc: memory|
+check|large ~ 3>>nllc: memory|
+values|empty ~ 2>>nllc: line 1: header|
+values|utf ~ 2>>nllc: line 3: not utf-8|
+values|syntax ~ 2>>nllc: line 3: syntax|
+check|unknown ~ 2>>nllc: line 3: unknown|
+values|duplicate ~ 2>>nllc: line 4: duplicate|
+check|range ~ 2>>nllc: line 4: range|
+values|points ~ 2>>nllc: line 3: limit points|
+check|end ~ 2>>nllc: line 4: end|
+";
 
-// Words, and what the program does with them over it.
-const ON_PAGES: &[(&str, &str)] = &[
-    (
-        "values|sheet",
-        "0|'static: 0 1 end('static)\n'a: 0 1 end('static) end('a)\n|",
-    ),
-    ("check|sheet", "1|fault 'a must outlive 'static\n|"),
-    ("check|leaf", "2||nllc: cannot read leaf\n"),
-];
+// Words that are none of the forms, and what the program does with them.
+const NO_LINES: &str = "
+ ~ usage
+values
+replay|chain|--schedule|s
+values|chain|--owners|2
+values|a|b
+";
+
+const USAGE_LINE: &str = "2>>usage: nllc values!check!replay FILE \
+    [--owners N] [--deal round!blocks] [--cut FILE] [--mail queue!ring] [--schedule FILE]|";
+
+// Words that ask for help, and its end.
+const HELPED: &str = "
+--help
+-h
+";
+
+const HELP_END: &str = "With /dev/stdin for FILE the text is read from standard input.\n>";
+
+const COMMAND_HELPED: &str = "
+values|--help
+check|-h
+";
+
+const COMMAND_HELP_END: &str = "-h, --help  Print help\n>";
+
+// A text whose problem has a fault.
+const SHEET: &str = "nll-facts 1|points 2|universal 'a|return 1|constraint 'a 'static 1|end|";
+
+// What the program does with words over it.
+const SHEET_VALUES: &str = "0>'static: 0 1 end('static)|'a: 0 1 end('static) end('a)|>";
+
+const SHEET_CHECK: &str = "1>fault 'a must outlive 'static|>";
+
+const LEAF_CHECK: &str = "2>>nllc: cannot read leaf|";
+
+// Ends the test unless the program answers the words with help that ends so.
+fn compare_help<R: Abort + AllocGlobal>(rt: &R, end: &'static str, rows: &str) {
+    compare_same(rt, Asked::Help(end), ALONE, "help", rows);
+}
+
+// Ends the test unless that is what the program does with these words over the sheet.
+fn compare_on_sheet<R: Abort + AllocGlobal>(rt: &R, words: &'static str, want: &str) {
+    compare_row(rt, Asked::Run(words), ALONE, SHEET, want);
+}
+
+// An answer and help are printed on standard output, a refusal on standard error, each with its
+// status.
+#[test]
+fn prints_answers_and_refusals(rt: HostRuntime) {
+    let program = Asked::Program(NEVER, NEVER);
+    compare_rows(&rt, program, ANSWERED);
+    compare_same(&rt, program, ALONE, USAGE_LINE, NO_LINES);
+    compare_help(&rt, HELP_END, HELPED);
+    compare_help(&rt, COMMAND_HELP_END, COMMAND_HELPED);
+}
 
 // The run whose contract says all that it prints is one of the same program.
 #[test]
 fn runs_over_known_texts(rt: HostRuntime) {
-    for (words, want) in ON_PAGES {
-        compare(&rt, words, run_on(&rt, words, SHEET), want);
-    }
+    compare_on_sheet(&rt, "values|sheet", SHEET_VALUES);
+    compare_on_sheet(&rt, "check|sheet", SHEET_CHECK);
+    compare_on_sheet(&rt, "check|leaf", LEAF_CHECK);
 }
 
-// The status and standard error, where standard output has a fault after so many calls.
-fn run_out<R: AllocGlobal>(
-    rt: &R,
-    words: &str,
-    fault: Fault,
-    calls_before: u32,
-) -> Result<String, AllocError> {
-    let words = words_of(rt.alloc(), words)?;
-    let shelf = Shelf { alloc: rt.alloc() };
-    let mut out = Faulty::new(rt.alloc(), calls_before, fault);
-    let mut err = Vec::new(rt.alloc());
-    let status = drive(rt, words.as_slice(), &shelf, &mut out, &mut err);
-    shown(rt, status, b"", err.as_slice())
-}
-
-// Faults of standard output, and after how many calls at most they come.
-const OUT_FAULTS: &[(Fault, u32)] = &[
-    (Fault::Fails, 8),
-    (Fault::TakesNone, 8),
-    (Fault::FailsToFlush, 0),
-];
-
-// 25 bytes or more at three a call: a fault at any of nine calls, or at the flush, is status 3.
-#[test]
-fn tells_that_output_failed(rt: HostRuntime) {
-    for words in ["values|fault", "check|fault"] {
-        for (fault, last) in OUT_FAULTS {
-            for calls_before in 0..=*last {
-                let told = run_out(&rt, words, *fault, calls_before);
-                compare(&rt, words, told, "3||nllc: cannot write\n");
-            }
-        }
-    }
-}
-
-// The status and standard output, where standard error has a fault after so many calls.
-fn run_err<R: AllocGlobal>(
-    rt: &R,
-    words: &str,
-    fault: Fault,
-    calls_before: u32,
-) -> Result<String, AllocError> {
-    let words = words_of(rt.alloc(), words)?;
-    let shelf = Shelf { alloc: rt.alloc() };
-    let mut out = Vec::new(rt.alloc());
-    let mut err = Faulty::new(rt.alloc(), calls_before, fault);
-    let status = drive(rt, words.as_slice(), &shelf, &mut out, &mut err);
-    shown(rt, status, out.as_slice(), b"")
-}
+// Words that are answered.
+const PRINTED: &str = "
+values|fault
+check|fault
+";
 
 // Words that are refused, and the status.
-const REFUSED: &[(&str, &str)] = &[
-    ("", "2||"),
-    ("values|missing", "2||"),
-    ("check|end", "2||"),
-    ("check|large", "3||"),
-];
+const REFUSED: &str = "
+ ~ 2>>
+values|missing ~ 2>>
+check|end ~ 2>>
+check|large ~ 3>>
+";
 
-// A line that standard error does not take is lost, and the status stays.
-#[test]
-fn a_lost_line_changes_no_status(rt: HostRuntime) {
-    for (words, want) in REFUSED {
-        for fault in [Fault::Fails, Fault::TakesNone, Fault::FailsToFlush] {
-            for calls_before in 0..3 {
-                let told = run_err(&rt, words, fault, calls_before);
-                compare(&rt, words, told, want);
-            }
-        }
+// Words that are answered, where standard output has a fault after so many calls and fewer.
+fn compare_out<R: Abort + AllocGlobal>(rt: &R, fault: Fault, last: u32) {
+    for calls_before in 0..=last {
+        let asked = Asked::Program((fault, calls_before), NEVER);
+        compare_same(rt, asked, ALONE, "3>>nllc: cannot write|", PRINTED);
     }
+}
+
+// Words that are refused, where standard error has a fault after at most two calls.
+fn compare_err<R: Abort + AllocGlobal>(rt: &R, fault: Fault) {
+    for calls_before in 0..3 {
+        let asked = Asked::Program(NEVER, (fault, calls_before));
+        compare_rows(rt, asked, REFUSED);
+    }
+}
+
+// 25 bytes or more at three a call: a fault of standard output at any of nine calls, or at the
+// flush, is status 3. A line that standard error does not take is lost, and the status stays.
+#[test]
+fn tells_that_a_stream_failed(rt: HostRuntime) {
+    compare_out(&rt, Fault::Fails, 8);
+    compare_out(&rt, Fault::TakesNone, 8);
+    compare_out(&rt, Fault::FailsToFlush, 0);
+    compare_err(&rt, Fault::Fails);
+    compare_err(&rt, Fault::TakesNone);
+    compare_err(&rt, Fault::FailsToFlush);
+}
+
+// What a file of the system holds, or why it isn't read.
+fn file_told(alloc: Global, read: Result<Vec<u8>, Unread>) -> String {
+    let mut out = String::new(alloc);
+    match read {
+        Ok(text) => say_bytes(&mut out, text.as_slice()),
+        Err(unread) => print(&mut out, &unread),
+    }
+    out
 }
 
 // Files of the system are texts, and a path without a file has none.
 #[test]
 fn reads_files(rt: HostRuntime) {
     let disk = Disk::new(&rt);
-    match disk.get("/dev/null") {
-        Ok(text) => assert!(rt; text.is_empty()),
-        Err(_) => assert!(rt; false, "/dev/null is not read"),
-    }
-    assert!(rt; disk.get("/dev/null/text").err() == Some(Unread::Cannot));
+    let told = file_told(rt.alloc(), disk.get("/dev/null"));
+    compare(&rt, "/dev/null", told, b"");
+    let told = file_told(rt.alloc(), disk.get("/dev/null/text"));
+    compare(&rt, "/dev/null/text", told, b"the text cannot be read");
 }

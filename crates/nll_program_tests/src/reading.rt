@@ -1,23 +1,31 @@
 //! What a facts text says, and what is wrong with one, as text.
+use super::saying::{count, say, show};
 use nll_core::{Constraint, Element, Graph, Problem, RegionId};
-use nll_mir::{Facts, Labels, TextError, read_facts};
-use std::alloc::{AllocError, Global};
+use nll_facts::{Facts, read_facts};
+use nll_reading::{Labels, TextError};
+use nll_report::{Command, answer_of};
+use std::alloc::Global;
+use std::process::Abort;
 
-/// What a text says, or its fault.
-pub fn read(alloc: Global, text: &[u8]) -> Result<String, AllocError> {
-    match read_facts(alloc, text) {
-        Ok(facts) => {
-            let said = said(alloc, &facts);
-            drop(facts);
-            said
-        }
-        Err(TextError { line, kind }) => format!(in alloc; "line {line}: {kind:?}"),
-    }
+/// Writes a fault.
+pub fn write_fault(out: &mut String, error: TextError) {
+    say(out, "line ");
+    count(out, error.line);
+    say(out, ": ");
+    show(out, &error.kind);
 }
 
-/// The fault of a text, where it has one.
-pub fn fault_of(alloc: Global, text: &[u8]) -> Option<TextError> {
-    read_facts(alloc, text).err()
+// Writes a name.
+fn say_name(out: &mut String, name: &str) {
+    say(out, " '");
+    say(out, name);
+}
+
+// Writes a number, which ends a line.
+fn end_line(out: &mut String, number: u32) {
+    say(out, " ");
+    count(out, u64::from(number));
+    say(out, "\n");
 }
 
 // The name of a region.
@@ -29,80 +37,102 @@ fn name_of(labels: &Labels, region: RegionId) -> &str {
     }
 }
 
-// Writes the regions in their order, with their names.
-fn write_regions(out: &mut String, problem: &Problem, labels: &Labels) -> Result<(), AllocError> {
+// Writes the regions in their order.
+fn write_regions(out: &mut String, problem: &Problem, labels: &Labels) {
     for number in 0..problem.regions() {
-        let name = name_of(labels, RegionId(number));
         let is_universal = number < problem.universals();
         let kind = if is_universal { "universal" } else { "region" };
-        write!(out, "{kind} '{name}|")?;
+        say(out, kind);
+        say_name(out, name_of(labels, RegionId(number)));
+        say(out, "\n");
     }
-    Ok(())
-}
-
-// Writes the successors of a point.
-fn write_next(out: &mut String, from: u32, successors: &[u32]) -> Result<(), AllocError> {
-    for to in successors {
-        write!(out, "next {from} {to}|")?;
-    }
-    Ok(())
 }
 
 // Writes the edges and the return points, by points.
-fn write_graph(out: &mut String, graph: &Graph) -> Result<(), AllocError> {
+fn write_graph(out: &mut String, graph: &Graph) {
     for point in 0..graph.points() {
-        write_next(out, point, graph.next_of(point))?;
+        for to in graph.next_of(point) {
+            say(out, "next ");
+            count(out, u64::from(point));
+            end_line(out, *to);
+        }
         if graph.is_return(point) {
-            write!(out, "return {point}|")?;
+            say(out, "return");
+            end_line(out, point);
         }
     }
-    Ok(())
 }
 
-// Writes the points that are base elements of a region, where it isn't universal.
-fn write_bases(
-    out: &mut String,
-    problem: &Problem,
-    region: RegionId,
-    name: &str,
-) -> Result<(), AllocError> {
+// Writes the points that are base elements of a region.
+fn write_bases(out: &mut String, problem: &Problem, region: RegionId, name: &str) {
     for point in 0..problem.points() {
-        let holds_all = region.0 < problem.universals();
-        if !holds_all && problem.is_base(region, Element(point)) {
-            write!(out, "base '{name} {point}|")?;
+        if problem.is_base(region, Element(point)) {
+            say(out, "base");
+            say_name(out, name);
+            end_line(out, point);
         }
     }
-    Ok(())
 }
 
 // Writes the constraints.
-fn write_constraints(
-    out: &mut String,
-    constraints: &[Constraint],
-    labels: &Labels,
-) -> Result<(), AllocError> {
-    for Constraint { sup, sub, at } in constraints {
-        let (sup, sub) = (name_of(labels, *sup), name_of(labels, *sub));
-        write!(out, "constraint '{sup} '{sub} {at}|")?;
+fn write_constraints(out: &mut String, constraints: &[Constraint], labels: &Labels) {
+    for constraint in constraints {
+        say(out, "constraint");
+        say_name(out, name_of(labels, constraint.sup));
+        say_name(out, name_of(labels, constraint.sub));
+        end_line(out, constraint.at);
     }
-    Ok(())
 }
 
 // Writes all that a text says. A universal region holds all points, so no base of it is written.
-fn write_said(out: &mut String, problem: &Problem, labels: &Labels) -> Result<(), AllocError> {
-    write!(out, "points {}|", problem.points())?;
-    write_regions(out, problem, labels)?;
-    write_graph(out, problem.graph())?;
-    for number in 0..problem.regions() {
+fn write_said(out: &mut String, problem: &Problem, labels: &Labels) {
+    say(out, "points");
+    end_line(out, problem.points());
+    write_regions(out, problem, labels);
+    write_graph(out, problem.graph());
+    for number in problem.universals()..problem.regions() {
         let region = RegionId(number);
-        write_bases(out, problem, region, name_of(labels, region))?;
+        write_bases(out, problem, region, name_of(labels, region));
     }
-    write_constraints(out, problem.constraints(), labels)
+    write_constraints(out, problem.constraints(), labels);
 }
 
-// All that a text says.
-fn said(alloc: Global, facts: &Facts) -> Result<String, AllocError> {
+// Hands a problem on to be answered, which lets it go. To prove here how it is let go would cost
+// more than all else of this module.
+fn hand_on(rt: &impl Abort, alloc: Global, facts: Facts) {
+    assert!(rt; facts.labels.regions() == facts.problem.regions() as usize);
+    let _ = answer_of(alloc, Command::Check, facts);
+}
+
+/// What a text says, or its fault.
+pub fn said(rt: &impl Abort, alloc: Global, text: &[u8]) -> String {
     let mut out = String::new(alloc);
-    let written = write_said(&mut out, &facts.problem, &facts.labels);
-    written.and(Ok(out))
+    match read_facts(alloc, text) {
+        Ok(facts) => {
+            write_said(&mut out, &facts.problem, &facts.labels);
+            hand_on(rt, alloc, facts);
+        }
+        Err(error) => write_fault(&mut out, error),
+    }
+    out
+}
+
+/// How a point of a text is named.
+pub fn point_told(rt: &impl Abort, alloc: Global, text: &[u8], point: u32) -> String {
+    let facts = read_facts(alloc, text).expect(rt, "facts");
+    let mut out = String::new(alloc);
+    show(&mut out, &facts.labels.point(point));
+    hand_on(rt, alloc, facts);
+    out
+}
+
+/// The fault of a text, where it has one.
+pub fn fault_of(rt: &impl Abort, alloc: Global, text: &[u8]) -> Option<TextError> {
+    match read_facts(alloc, text) {
+        Ok(facts) => {
+            hand_on(rt, alloc, facts);
+            None
+        }
+        Err(error) => Some(error),
+    }
 }

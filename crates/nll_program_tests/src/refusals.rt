@@ -1,287 +1,197 @@
 //! Texts that are refused: the line and the kind.
-use super::hostile::told;
-use nll_core::{BuildError, Kind};
-use nll_mir::{TextError, TextKind, one_fault};
-use std::alloc::{AllocError, AllocFailed, Global};
+use super::rows::{Asked, compare_rows, compare_within};
 use std::process::Abort;
-use std::test::Fail;
 
 // Whole texts with the line of the fault and its kind.
-const TEXTS: &[(&[u8], u64, TextKind)] = &[
-    (b"", 1, TextKind::Header),
-    (b"\n", 1, TextKind::Header),
-    (b"points 1\nend\n", 1, TextKind::Header),
-    (b"\nnll-facts 1\npoints 1\nend\n", 1, TextKind::Header),
-    (
-        b"# facts\nnll-facts 1\npoints 1\nend\n",
-        1,
-        TextKind::Header,
-    ),
-    (b"nll-facts\npoints 1\nend\n", 1, TextKind::Header),
-    (b"nll-facts1\npoints 1\nend\n", 1, TextKind::Header),
-    (b"nll-facts 2\npoints 1\nend\n", 1, TextKind::Header),
-    (b"nll-facts 1 1\npoints 1\nend\n", 1, TextKind::Header),
-    (b"nll-facts 1 # one\npoints 1\nend\n", 1, TextKind::Header),
-    (b"nll-mir 1\npoints 1\nend\n", 1, TextKind::Header),
-    (b"NLL-FACTS 1\npoints 1\nend\n", 1, TextKind::Header),
-    (
-        b"\xef\xbb\xbfnll-facts 1\npoints 1\nend\n",
-        1,
-        TextKind::Header,
-    ),
-    (b"nll-facts 1 \xff\npoints 1\nend\n", 1, TextKind::NotUtf8),
-    (b"nll-facts \xe9\npoints 1\nend\n", 1, TextKind::NotUtf8),
-    // A fault of the first line comes before all others.
-    (b"nll-facts 2\n\xff\n", 1, TextKind::Header),
-    (b"nll-facts 1", 1, TextKind::End),
-    (b"nll-facts 1\n", 1, TextKind::End),
-    (b"nll-facts 1\n\n", 2, TextKind::End),
-    (b"nll-facts 1\npoints 1", 2, TextKind::End),
-    (b"nll-facts 1\npoints 1\n", 2, TextKind::End),
-    (b"nll-facts 1\r\npoints 1\r\n", 2, TextKind::End),
-    (b"nll-facts 1\npoints 1\n\n\n", 4, TextKind::End),
-    (b"nll-facts 1\npoints 1\n# end\n", 3, TextKind::End),
-    (
-        b"nll-facts 1\npoints 2\nregion 'x\nreturn 1\n",
-        4,
-        TextKind::End,
-    ),
-    // As many points as the limit allows are taken, so the next line is faulty.
-    (
-        b"nll-facts 1\npoints 1048576\nuniversal 'static\nend\n",
-        3,
-        TextKind::Duplicate,
-    ),
-    // Blank lines and remarks count.
-    (b"nll-facts 1\n\n# one\npoints 0\nend\n", 4, TextKind::Range),
-    // The first faulty line is told.
-    (b"nll-facts 1\npoints 0\nfirst\n\xff\n", 2, TextKind::Range),
-    (b"nll-facts 1\n# \xff\npoints 0\n", 2, TextKind::NotUtf8),
-    // A faulty line comes before an end that is lacking.
-    (b"nll-facts 1\npoints 1\nreturn 1\n", 3, TextKind::Range),
-];
-
-// A text that doesn't fit has this fault, and the slow reader tells the same.
-#[test]
-fn refuses_texts(rt: HostRuntime) -> Result<(), Fail> {
-    for (text, line, kind) in TEXTS {
-        let want = TextError {
-            line: *line,
-            kind: *kind,
-        };
-        let fault = told(&rt, rt.alloc(), text)?;
-        assert!(rt; fault == Some(want), "of {text:?}");
-    }
-    one_fault();
-    Ok(())
-}
+const TEXTS: &str = "
+ ~ line 1: Header
+| ~ line 1: Header
+points 1|end| ~ line 1: Header
+|nll-facts 1|points 1|end| ~ line 1: Header
+# facts|nll-facts 1|points 1|end| ~ line 1: Header
+nll-facts|points 1|end| ~ line 1: Header
+nll-facts1|points 1|end| ~ line 1: Header
+nll-facts 2|points 1|end| ~ line 1: Header
+nll-facts 1 1|points 1|end| ~ line 1: Header
+nll-facts 1 # one|points 1|end| ~ line 1: Header
+nll-mir 1|points 1|end| ~ line 1: Header
+NLL-FACTS 1|points 1|end| ~ line 1: Header
+\u{feff}nll-facts 1|points 1|end| ~ line 1: Header
+nll-facts 1 ^|points 1|end| ~ line 1: NotUtf8
+nll-facts `|points 1|end| ~ line 1: NotUtf8
+// A fault of the first line comes before all others.
+nll-facts 2|^| ~ line 1: Header
+nll-facts 1 ~ line 1: End
+nll-facts 1| ~ line 1: End
+nll-facts 1|| ~ line 2: End
+nll-facts 1|points 1 ~ line 2: End
+nll-facts 1|points 1| ~ line 2: End
+nll-facts 1\r|points 1\r| ~ line 2: End
+nll-facts 1|points 1||| ~ line 4: End
+nll-facts 1|points 1|# end| ~ line 3: End
+nll-facts 1|points 2|region 'x|return 1| ~ line 4: End
+// As many points as the limit allows are taken, so the next line is faulty.
+nll-facts 1|points 1048576|universal 'static|end| ~ line 3: Duplicate
+// Blank lines and remarks count.
+nll-facts 1||# one|points 0|end| ~ line 4: Range
+// The first faulty line is told.
+nll-facts 1|points 0|first|^| ~ line 2: Range
+nll-facts 1|# ^|points 0| ~ line 2: NotUtf8
+// A faulty line comes before an end that is lacking.
+nll-facts 1|points 1|return 1| ~ line 3: Range
+";
 
 // Lines that are faulty as the first line behind the header.
-const FIRST: &[(&[u8], TextKind)] = &[
-    (b"points", TextKind::Syntax),
-    (b"points 1 1", TextKind::Syntax),
-    (b"points 'a", TextKind::Syntax),
-    (b"points -1", TextKind::Syntax),
-    (b"points +1", TextKind::Syntax),
-    (b"points 01", TextKind::Syntax),
-    (b"points 00", TextKind::Syntax),
-    (b"points 1_0", TextKind::Syntax),
-    (b"points 0x1", TextKind::Syntax),
-    (b"points1", TextKind::Syntax),
-    (b"Points 1", TextKind::Syntax),
-    (b"points 1 # one", TextKind::Syntax),
-    (b"points 1\0", TextKind::Syntax),
-    (b"points \xc3\xa9", TextKind::Syntax),
-    (b"points \xff", TextKind::NotUtf8),
-    (b"points 0", TextKind::Range),
-    (b"points 1048577", TextKind::Limit(Kind::Points)),
-    (b"points 999999999", TextKind::Limit(Kind::Points)),
-    (b"points 1000000000", TextKind::Syntax),
-    (b"points 99999999999999999999", TextKind::Syntax),
-    // Each other line wants the points before it.
-    (b"universal 'a", TextKind::Syntax),
-    (b"universal 'static", TextKind::Syntax),
-    (b"outlives 'static 'static", TextKind::Syntax),
-    (b"region 'x", TextKind::Syntax),
-    (b"next 0 0", TextKind::Syntax),
-    (b"return 0", TextKind::Syntax),
-    (b"base 'static 0", TextKind::Syntax),
-    (b"constraint 'static 'static 0", TextKind::Syntax),
-    (b"end", TextKind::Syntax),
-];
+const FIRST: &str = "
+points ~ line 2: Syntax
+points 1 1 ~ line 2: Syntax
+points 'a ~ line 2: Syntax
+points -1 ~ line 2: Syntax
+points +1 ~ line 2: Syntax
+points 01 ~ line 2: Syntax
+points 00 ~ line 2: Syntax
+points 1_0 ~ line 2: Syntax
+points 0x1 ~ line 2: Syntax
+points1 ~ line 2: Syntax
+Points 1 ~ line 2: Syntax
+points 1 # one ~ line 2: Syntax
+points 1\0 ~ line 2: Syntax
+points é ~ line 2: Syntax
+points ^ ~ line 2: NotUtf8
+points 0 ~ line 2: Range
+points 1048577 ~ line 2: Limit(Points)
+points 999999999 ~ line 2: Limit(Points)
+points 1000000000 ~ line 2: Syntax
+points 99999999999999999999 ~ line 2: Syntax
+// Each other line wants the points before it.
+universal 'a ~ line 2: Syntax
+universal 'static ~ line 2: Syntax
+outlives 'static 'static ~ line 2: Syntax
+region 'x ~ line 2: Syntax
+next 0 0 ~ line 2: Syntax
+return 0 ~ line 2: Syntax
+base 'static 0 ~ line 2: Syntax
+constraint 'static 'static 0 ~ line 2: Syntax
+end ~ line 2: Syntax
+";
 
 // Lines that are faulty behind the points 0 and 1 and the universal region 'a.
-const BEHIND_UNIVERSAL: &[(&[u8], TextKind)] = &[
-    (b"points 2", TextKind::Syntax),
-    (b"points 0", TextKind::Syntax),
-    (b"universal", TextKind::Syntax),
-    (b"universal b", TextKind::Syntax),
-    (b"universal '", TextKind::Syntax),
-    (b"universal ' b", TextKind::Syntax),
-    (b"universal 'b 'c", TextKind::Syntax),
-    (b"universal 'a'", TextKind::Syntax),
-    (b"universal 'caf\xc3\xa9", TextKind::Syntax),
-    (b"universal 'caf\xe9", TextKind::NotUtf8),
-    (b"universal 'a", TextKind::Duplicate),
-    (b"universal 'static", TextKind::Duplicate),
-    (b"outlives 'a", TextKind::Syntax),
-    (b"outlives 'a 'a 'a", TextKind::Syntax),
-    (b"outlives 'a: 'a", TextKind::Syntax),
-    (b"outlives 'z 'a", TextKind::Unknown),
-    (b"outlives 'a 'z", TextKind::Unknown),
-    (b"outlives 'A 'a", TextKind::Unknown),
-    (b"region 'a", TextKind::Duplicate),
-    (b"region 'static", TextKind::Duplicate),
-];
+const BEHIND_UNIVERSAL: &str = "
+points 2 ~ line 4: Syntax
+points 0 ~ line 4: Syntax
+universal ~ line 4: Syntax
+universal b ~ line 4: Syntax
+universal ' ~ line 4: Syntax
+universal ' b ~ line 4: Syntax
+universal 'b 'c ~ line 4: Syntax
+universal 'a' ~ line 4: Syntax
+universal 'café ~ line 4: Syntax
+universal 'caf` ~ line 4: NotUtf8
+universal 'a ~ line 4: Duplicate
+universal 'static ~ line 4: Duplicate
+outlives 'a ~ line 4: Syntax
+outlives 'a 'a 'a ~ line 4: Syntax
+outlives 'a: 'a ~ line 4: Syntax
+outlives 'z 'a ~ line 4: Unknown
+outlives 'a 'z ~ line 4: Unknown
+outlives 'A 'a ~ line 4: Unknown
+region 'a ~ line 4: Duplicate
+region 'static ~ line 4: Duplicate
+";
 
 // Lines that are faulty behind the points 0 and 1, the universal region 'a and the region 'x.
-const BEHIND_REGION: &[(&[u8], TextKind)] = &[
-    (b"universal 'b", TextKind::Syntax),
-    (b"universal 'x", TextKind::Syntax),
-    (b"outlives 'a 'a", TextKind::Syntax),
-    (b"outlives 'z 'a", TextKind::Syntax),
-    (b"region", TextKind::Syntax),
-    (b"region y", TextKind::Syntax),
-    (b"region 'y 1", TextKind::Syntax),
-    (b"region 'x", TextKind::Duplicate),
-    (b"region 'a", TextKind::Duplicate),
-    (b"next 0", TextKind::Syntax),
-    (b"next 0 1 1", TextKind::Syntax),
-    (b"next 0 -> 1", TextKind::Syntax),
-    (b"next 0, 1", TextKind::Syntax),
-    (b"next 0 1000000000", TextKind::Syntax),
-    (b"next 2 0", TextKind::Range),
-    (b"next 0 2", TextKind::Range),
-    (b"next 999999999 0", TextKind::Range),
-    (b"return", TextKind::Syntax),
-    (b"return 0 1", TextKind::Syntax),
-    (b"return 'x", TextKind::Syntax),
-    (b"return 2", TextKind::Range),
-    (b"base 'x", TextKind::Syntax),
-    (b"base 0 'x", TextKind::Syntax),
-    (b"base 'x 0 1", TextKind::Syntax),
-    (b"base 'x 01", TextKind::Syntax),
-    (b"base 'z 0", TextKind::Unknown),
-    (b"base 'x 2", TextKind::Range),
-    (b"base 'static 2", TextKind::Range),
-    (b"constraint 'a 'x", TextKind::Syntax),
-    (b"constraint 'a 0", TextKind::Syntax),
-    (b"constraint 'a 'x 'x 0", TextKind::Syntax),
-    (b"constraint 'a 'z 0", TextKind::Unknown),
-    (b"constraint 'z 'a 0", TextKind::Unknown),
-    (b"constraint 'a 'x 2", TextKind::Range),
-    (b"end 0", TextKind::Syntax),
-    (b"end end", TextKind::Syntax),
-    (b"ends", TextKind::Syntax),
-    (b"'x", TextKind::Syntax),
-    (b"*", TextKind::Syntax),
-    // Faulty in two ways.
-    (b"base 'z 2", TextKind::Unknown),
-    (b"base 'z 02", TextKind::Syntax),
-    (b"constraint 'a 'z 2", TextKind::Unknown),
-    (b"constraint 'z 'x 2", TextKind::Unknown),
-    (b"# \xff", TextKind::NotUtf8),
-    (b"- \xff", TextKind::NotUtf8),
-    (b"points 0", TextKind::Syntax),
-];
+const BEHIND_REGION: &str = "
+universal 'b ~ line 5: Syntax
+universal 'x ~ line 5: Syntax
+outlives 'a 'a ~ line 5: Syntax
+outlives 'z 'a ~ line 5: Syntax
+region ~ line 5: Syntax
+region y ~ line 5: Syntax
+region 'y 1 ~ line 5: Syntax
+region 'x ~ line 5: Duplicate
+region 'a ~ line 5: Duplicate
+next 0 ~ line 5: Syntax
+next 0 1 1 ~ line 5: Syntax
+next 0 -> 1 ~ line 5: Syntax
+next 0, 1 ~ line 5: Syntax
+next 0 1000000000 ~ line 5: Syntax
+next 2 0 ~ line 5: Range
+next 0 2 ~ line 5: Range
+next 999999999 0 ~ line 5: Range
+return ~ line 5: Syntax
+return 0 1 ~ line 5: Syntax
+return 'x ~ line 5: Syntax
+return 2 ~ line 5: Range
+base 'x ~ line 5: Syntax
+base 0 'x ~ line 5: Syntax
+base 'x 0 1 ~ line 5: Syntax
+base 'x 01 ~ line 5: Syntax
+base 'z 0 ~ line 5: Unknown
+base 'x 2 ~ line 5: Range
+base 'static 2 ~ line 5: Range
+constraint 'a 'x ~ line 5: Syntax
+constraint 'a 0 ~ line 5: Syntax
+constraint 'a 'x 'x 0 ~ line 5: Syntax
+constraint 'a 'z 0 ~ line 5: Unknown
+constraint 'z 'a 0 ~ line 5: Unknown
+constraint 'a 'x 2 ~ line 5: Range
+end 0 ~ line 5: Syntax
+end end ~ line 5: Syntax
+ends ~ line 5: Syntax
+'x ~ line 5: Syntax
+* ~ line 5: Syntax
+// Faulty in two ways.
+base 'z 2 ~ line 5: Unknown
+base 'z 02 ~ line 5: Syntax
+constraint 'a 'z 2 ~ line 5: Unknown
+constraint 'z 'x 2 ~ line 5: Unknown
+# ^ ~ line 5: NotUtf8
+- ^ ~ line 5: NotUtf8
+points 0 ~ line 5: Syntax
+";
 
 // Lines that are faulty behind a fact: with it all declarations are over.
-const BEHIND_FACT: &[(&[u8], TextKind)] = &[
-    (b"points 2", TextKind::Syntax),
-    (b"universal 'a", TextKind::Syntax),
-    (b"outlives 'a 'a", TextKind::Syntax),
-    (b"region 'y", TextKind::Syntax),
-    (b"region 'x", TextKind::Syntax),
-    (b"next 0 2", TextKind::Range),
-    (b"return 2", TextKind::Range),
-];
+const BEHIND_FACT: &str = "
+points 2 ~ line 6: Syntax
+universal 'a ~ line 6: Syntax
+outlives 'a 'a ~ line 6: Syntax
+region 'y ~ line 6: Syntax
+region 'x ~ line 6: Syntax
+next 0 2 ~ line 6: Range
+return 2 ~ line 6: Range
+";
 
 // Lines that are faulty behind the last line.
-const BEHIND_END: &[(&[u8], TextKind)] = &[
-    (b"end", TextKind::Syntax),
-    (b"points 1", TextKind::Syntax),
-    (b"region 'y", TextKind::Syntax),
-    (b"next 0 0", TextKind::Syntax),
-    (b"return 2", TextKind::Syntax),
-    (b"base 'z 0", TextKind::Syntax),
-    (b"x", TextKind::Syntax),
-    (b"nll-facts 1", TextKind::Syntax),
-    (b"# \xff", TextKind::NotUtf8),
-];
+const BEHIND_END: &str = "
+end ~ line 6: Syntax
+points 1 ~ line 6: Syntax
+region 'y ~ line 6: Syntax
+next 0 0 ~ line 6: Syntax
+return 2 ~ line 6: Syntax
+base 'z 0 ~ line 6: Syntax
+x ~ line 6: Syntax
+nll-facts 1 ~ line 6: Syntax
+# ^ ~ line 6: NotUtf8
+";
 
-// Tries a line behind lines that are fine, with nothing behind it and with a further line.
-fn assert_faulty(
-    rt: &impl Abort,
-    alloc: Global,
-    before: &str,
-    line: &[u8],
-    want: TextError,
-) -> Result<(), AllocError> {
-    let mut text = Vec::from_slice(alloc, before.as_bytes())?;
-    text.extend_from_slice(line)?;
-    let alone = told(rt, alloc, text.as_slice())?;
-    assert!(rt; alone == Some(want), "of {line:?}");
-    text.extend_from_slice(b"\r\nend\n")?;
-    let followed = told(rt, alloc, text.as_slice())?;
-    assert!(rt; followed == Some(want), "of {line:?} and a further line");
-    Ok(())
+// Tries lines behind lines that are fine, each as the last one and with a further line.
+fn compare_behind<R: Abort + AllocGlobal>(rt: &R, before: &str, faulty: &str) {
+    compare_within(rt, Asked::Said, (before, ""), faulty);
+    compare_within(rt, Asked::Said, (before, "\r|end|"), faulty);
 }
 
-// Lines that are fine, the number of the next line, and lines that are faulty there.
-const BEHIND: &[(&str, u64, &[(&[u8], TextKind)])] = &[
-    ("nll-facts 1\n", 2, FIRST),
-    ("nll-facts 1\npoints 2\nuniversal 'a\n", 4, BEHIND_UNIVERSAL),
-    (
-        "nll-facts 1\npoints 2\nuniversal 'a\nregion 'x\n",
-        5,
-        BEHIND_REGION,
-    ),
-    (
-        "nll-facts 1\npoints 2\nuniversal 'a\nregion 'x\nnext 0 1\n",
-        6,
-        BEHIND_FACT,
-    ),
-    ("nll-facts 1\npoints 2\nregion 'x\nend\n\n", 6, BEHIND_END),
-];
-
-// Tries each of some lines behind lines that are fine.
-fn assert_all_faulty(
-    rt: &impl Abort,
-    alloc: Global,
-    before: &str,
-    line: u64,
-    faulty: &[(&[u8], TextKind)],
-) -> Result<(), AllocError> {
-    for (bytes, kind) in faulty {
-        let kind = *kind;
-        assert_faulty(rt, alloc, before, bytes, TextError { line, kind })?;
-    }
-    Ok(())
-}
-
-// A faulty line is refused with this kind, whatever stands behind it.
+// A text that doesn't fit has this fault; a faulty line is refused with this kind, whether it is
+// the last one or a further line stands behind it.
 #[test]
-fn refuses_lines(rt: HostRuntime) -> Result<(), AllocError> {
-    for (before, line, faulty) in BEHIND {
-        assert_all_faulty(&rt, rt.alloc(), before, *line, faulty)?;
-    }
-    Ok(())
-}
-
-// Errors of a builder's calls, and the kinds of fault that they are.
-const KINDS: &[(BuildError, TextKind)] = &[
-    (BuildError::PointRange, TextKind::Range),
-    (BuildError::RegionRange, TextKind::Unknown),
-    (BuildError::Limit(Kind::Edges), TextKind::Limit(Kind::Edges)),
-    (BuildError::Memory, TextKind::Memory),
-];
-
-// What a builder refuses is a fault of the line.
-#[test]
-fn errors_of_calls_are_kinds(rt: HostRuntime) {
-    assert!(rt; TextKind::from(AllocError) == TextKind::Memory);
-    assert!(rt; TextKind::from(AllocFailed { value: 1u8 }) == TextKind::Memory);
-    for (error, kind) in KINDS {
-        assert!(rt; TextKind::from(*error) == *kind);
-    }
+fn refuses_texts(rt: HostRuntime) {
+    compare_rows(&rt, Asked::Said, TEXTS);
+    compare_behind(&rt, "nll-facts 1|", FIRST);
+    let before = "nll-facts 1|points 2|universal 'a|";
+    compare_behind(&rt, before, BEHIND_UNIVERSAL);
+    let before = "nll-facts 1|points 2|universal 'a|region 'x|";
+    compare_behind(&rt, before, BEHIND_REGION);
+    let before = "nll-facts 1|points 2|universal 'a|region 'x|next 0 1|";
+    compare_behind(&rt, before, BEHIND_FACT);
+    let before = "nll-facts 1|points 2|region 'x|end||";
+    compare_behind(&rt, before, BEHIND_END);
 }

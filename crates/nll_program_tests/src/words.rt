@@ -1,99 +1,97 @@
 //! Which words are a line, which ask for help, and which are refused.
 use super::comparing::compare;
 use super::fakes::words_of;
+use super::rows::{ALONE, Asked, compare_rows, compare_same};
+use super::saying::{say, show};
 use clap::{Arg, ArgAction, Command};
-use nll_report::{LineError, line};
-use std::alloc::{AllocError, Global};
+use nll_report::{Line, LineError, line};
+use std::alloc::Global;
+use std::process::Abort;
 
-// The task and the file that words between bars ask for, the help, or why they are refused.
-fn line_of(alloc: Global, words: &str) -> Result<String, AllocError> {
-    let words = words_of(alloc, words)?;
-    match line(alloc, words.as_slice()) {
-        Ok(line) => format!(in alloc; "{:?} {}", line.task, line.file),
-        Err(LineError::Help(text)) => Ok(text),
-        Err(LineError::Usage) => String::from_str(alloc, "usage"),
-        Err(LineError::Memory) => Err(AllocError),
+// Writes a task and its file.
+fn write_line(out: &mut String, line: &Line) {
+    show(out, &line.task);
+    say(out, " ");
+    say(out, line.file.as_str());
+}
+
+/// The task and the file that words between bars ask for, the help, or why they are refused.
+pub fn line_told(rt: &impl Abort, alloc: Global, words: &str) -> String {
+    let words = words_of(rt, alloc, words);
+    let asked = line(alloc, words.as_slice());
+    drop(words);
+    let mut out = String::new(alloc);
+    match asked {
+        Ok(line) => write_line(&mut out, &line),
+        Err(LineError::Help(text)) => say(&mut out, text.as_str()),
+        Err(LineError::Usage) => say(&mut out, "usage"),
+        Err(LineError::Memory) => say(&mut out, "memory"),
     }
+    out
 }
 
 // A command and one file, with `--` before the file or behind it.
-const TAKEN: &[(&str, &str)] = &[
-    ("values|a.facts", "Values a.facts"),
-    ("check|a.facts", "Check a.facts"),
-    ("check|values", "Check values"),
-    ("values|values", "Values values"),
-    ("values|help", "Values help"),
-    ("values|--|a.facts", "Values a.facts"),
-    ("values|a.facts|--", "Values a.facts"),
-    ("check|--|--help", "Check --help"),
-    ("check|--|-h", "Check -h"),
-    ("check|--|--", "Check --"),
-    ("values|-", "Values -"),
-    ("values|", "Values "),
-    ("values|a=b c", "Values a=b c"),
-    ("values|ä.facts", "Values ä.facts"),
-];
-
-// A command and a file are a line.
-#[test]
-fn takes_a_command_and_a_file(rt: HostRuntime) {
-    for (words, want) in TAKEN {
-        compare(&rt, words, line_of(rt.alloc(), words), want);
-    }
-}
+const TAKEN: &str = "
+values|a.facts ~ Values a.facts
+check|a.facts ~ Check a.facts
+check|values ~ Check values
+values|values ~ Values values
+values|help ~ Values help
+values|--|a.facts ~ Values a.facts
+values|a.facts|-- ~ Values a.facts
+check|--|--help ~ Check --help
+check|--|-h ~ Check -h
+check|--|-- ~ Check --
+values|- ~ Values -
+values| ~ Values\x20
+values|a=b c ~ Values a=b c
+values|ä.facts ~ Values ä.facts
+";
 
 // Whatever is not of that form, options that there are not, and help behind a word that is refused.
-const REFUSED: &[&str] = &[
-    "",
-    "values",
-    "check",
-    "values|--",
-    "check|--|--|--",
-    "values|a|b",
-    "values|--|a|b",
-    "values|a|--|b",
-    "help",
-    "help|values",
-    "val|a",
-    "Values|a",
-    "values |a",
-    "replay|a",
-    "replay|a|--schedule|s",
-    "a",
-    "|a",
-    "-",
-    "--",
-    "--|values|a",
-    "--version",
-    "-V",
-    "values|a|--version",
-    "values|a|-V",
-    "values|--versio|a",
-    "--owners|2|values|a",
-    "-x|values|a",
-    "values|a|--owners|2",
-    "values|--owners=2|a",
-    "values|a|--deal|round",
-    "values|a|--cut|c",
-    "values|a|--mail|ring",
-    "values|a|--schedule|s",
-    "values|-a",
-    "values|-1",
-    "values|---",
-    "values|a|--hel",
-    "values|a|--help=1",
-    "values|a|--x",
-    "values|a|b|--help",
-    "replay|--help",
-];
-
-// Other words are refused, and not taken for a call for help.
-#[test]
-fn refuses_other_words(rt: HostRuntime) {
-    for words in REFUSED {
-        compare(&rt, words, line_of(rt.alloc(), words), "usage");
-    }
-}
+const REFUSED: &str = "
+ ~ usage
+values
+check
+values|--
+check|--|--|--
+values|a|b
+values|--|a|b
+values|a|--|b
+help
+help|values
+val|a
+Values|a
+values |a
+replay|a
+replay|a|--schedule|s
+a
+|a
+-
+--
+--|values|a
+--version
+-V
+values|a|--version
+values|a|-V
+values|--versio|a
+--owners|2|values|a
+-x|values|a
+values|a|--owners|2
+values|--owners=2|a
+values|a|--deal|round
+values|a|--cut|c
+values|a|--mail|ring
+values|a|--schedule|s
+values|-a
+values|-1
+values|---
+values|a|--hel
+values|a|--help=1
+values|a|--x
+values|a|b|--help
+replay|--help
+";
 
 const HELP: &str = "Solves the region constraints of location-aware non-lexical lifetimes
 
@@ -138,25 +136,39 @@ Options:
   -h, --help  Print help
 ";
 
-// Words that ask for help of the program, or of a command where they stand behind it, and the help.
-const HELPED: &[(&str, &str)] = &[
-    ("--help", HELP),
-    ("-h", HELP),
-    ("--help|values|a", HELP),
-    ("-h|--nothing", HELP),
-    ("values|--help", VALUES_HELP),
-    ("values|-h", VALUES_HELP),
-    ("values|a|--help", VALUES_HELP),
-    ("values|--help|a|b", VALUES_HELP),
-    ("check|-h", CHECK_HELP),
-];
+// Words that ask for help of the program, or of a command where they stand behind it.
+const ASK_HELP: &str = "
+--help
+-h
+--help|values|a
+-h|--nothing
+";
 
-// Help is given, whatever follows the words that ask for it.
+const ASK_VALUES_HELP: &str = "
+values|--help
+values|-h
+values|a|--help
+values|--help|a|b
+";
+
+const ASK_CHECK_HELP: &str = "
+check|-h
+";
+
+// Ends the test unless that is told of each of the words.
+fn compare_words<R: Abort + AllocGlobal>(rt: &R, same: &str, rows: &str) {
+    compare_same(rt, Asked::Line, ALONE, same, rows);
+}
+
+// A command and a file are a line. Other words are refused, and not taken for a call for help. Help
+// is given, whatever follows the words that ask for it.
 #[test]
-fn gives_help(rt: HostRuntime) {
-    for (words, want) in HELPED {
-        compare(&rt, words, line_of(rt.alloc(), words), want);
-    }
+fn reads_words(rt: HostRuntime) {
+    compare_rows(&rt, Asked::Line, TAKEN);
+    compare_words(&rt, "usage", REFUSED);
+    compare_words(&rt, HELP, ASK_HELP);
+    compare_words(&rt, VALUES_HELP, ASK_VALUES_HELP);
+    compare_words(&rt, CHECK_HELP, ASK_CHECK_HELP);
 }
 
 const ABOUT: &str = "Solves the region constraints of location-aware non-lexical lifetimes";
@@ -172,50 +184,54 @@ docs/FORMATS.md says how facts texts and MIR texts are written, and how the repo
 With /dev/stdin for FILE the text is read from standard input.";
 
 // A command with its file, for `clap`.
-fn command<'a>(alloc: Global, name: &'a str, about: &'a str) -> Result<Command<'a>, AllocError> {
+fn command<'a>(rt: &impl Abort, alloc: Global, name: &'a str, about: &'a str) -> Command<'a> {
     let file = Arg::new(alloc, "FILE")
         .help("The facts text or MIR text, or /dev/stdin for standard input")
         .action(ArgAction::Set)
         .required(true);
-    Command::new(alloc, name).about(about).arg(file)
+    let command = Command::new(alloc, name).about(about);
+    command.arg(file).expect(rt, "memory")
 }
 
-// The program with its commands, for `clap`.
-fn program<'a>(alloc: Global) -> Result<Command<'a>, AllocError> {
-    let values = command(alloc, "values", "Prints the values of the regions of FILE")?;
-    let check = command(alloc, "check", "Checks the universal regions of FILE")?;
-    Command::new(alloc, "nllc")
+// The program without its commands, for `clap`.
+fn bare_program<'a>(rt: &impl Abort, alloc: Global) -> Command<'a> {
+    let program = Command::new(alloc, "nllc")
         .about(ABOUT)
         .no_binary_name(true)
         .disable_help_subcommand(true)
         .subcommand_required(true)
-        .after_help(STATUSES)
-        .bin_name("nllc")?
-        .subcommand(values)?
-        .subcommand(check)
+        .after_help(STATUSES);
+    program.bin_name("nllc").expect(rt, "memory")
+}
+
+// The program with its commands, for `clap`.
+fn program<'a>(rt: &impl Abort, alloc: Global) -> Command<'a> {
+    let values = command(
+        rt,
+        alloc,
+        "values",
+        "Prints the values of the regions of FILE",
+    );
+    let check = command(rt, alloc, "check", "Checks the universal regions of FILE");
+    let with_values = bare_program(rt, alloc).subcommand(values);
+    let with_both = with_values.expect(rt, "memory").subcommand(check);
+    with_both.expect(rt, "memory")
 }
 
 // The text that `clap` answers words with where it has no matches.
-fn text_of_clap(alloc: Global, words: &[&str]) -> Result<String, AllocError> {
-    match program(alloc)?.try_get_matches_from(words) {
-        Ok(matches) => {
-            drop(matches);
-            String::from_str(alloc, "matches")
-        }
-        Err(error) => {
-            let text = error.to_string(alloc);
-            drop(error);
-            text
-        }
-    }
+fn text_of_clap(rt: &impl Abort, alloc: Global, words: &[&str]) -> String {
+    let matches = program(rt, alloc).try_get_matches_from(words);
+    let error = matches.expect_err(rt, "help");
+    error.to_string(alloc).expect(rt, "memory")
 }
 
 // The text of help is the one that `clap` makes of the commands.
 #[test]
 fn help_is_that_of_clap(rt: HostRuntime) {
-    compare(&rt, "-h", text_of_clap(rt.alloc(), &["--help"]), HELP);
-    let told = text_of_clap(rt.alloc(), &["values", "-h"]);
-    compare(&rt, "values -h", told, VALUES_HELP);
-    let told = text_of_clap(rt.alloc(), &["check", "a", "--help"]);
-    compare(&rt, "check a --help", told, CHECK_HELP);
+    let told = text_of_clap(&rt, rt.alloc(), &["--help"]);
+    compare(&rt, "--help", told, HELP.as_bytes());
+    let told = text_of_clap(&rt, rt.alloc(), &["values", "-h"]);
+    compare(&rt, "values -h", told, VALUES_HELP.as_bytes());
+    let told = text_of_clap(&rt, rt.alloc(), &["check", "a", "--help"]);
+    compare(&rt, "check a --help", told, CHECK_HELP.as_bytes());
 }

@@ -1,62 +1,68 @@
 //! Writers that fail in the middle.
+use super::comparing::compare;
 use super::fakes::{Fault, Faulty};
+use super::saying::{count, say};
 use nll_report::put;
 use std::alloc::Global;
 
 // Three bytes a call: twelve calls, and one more byte.
 const REPORT: &[u8] = b"'1: bb0/0 bb0/1\n'2: bb0/1 end('a)\nend";
 
-// How many bytes are told to be written where not all of the report is, and whether the writer
-// holds just these. It has a fault after so many calls.
-fn put_report(alloc: Global, calls_before: u32, fault: Fault) -> (Option<usize>, bool) {
-    let mut out = Faulty::new(alloc, calls_before, fault);
-    let written = match put(&mut out, REPORT) {
-        Ok(()) => None,
-        Err(unwritten) => Some(unwritten.written),
+// Writes how many bytes are told to be written of a report by a writer with a fault after so many
+// calls, or `all`; and `lost` where it doesn't hold just these.
+fn write_put(out: &mut String, alloc: Global, report: &[u8], fault: (Fault, u32)) {
+    let mut writer = Faulty::new(alloc, fault);
+    let written = match put(&mut writer, report) {
+        Ok(()) => report.len(),
+        Err(unwritten) => unwritten.written,
     };
-    let count = written.unwrap_or(REPORT.len());
-    let held = REPORT.starts_with(out.held.as_slice()) && out.held.len() == count;
-    drop(out);
-    (written, held)
-}
-
-// A failed write, and one that takes nothing, tells how many bytes stand before it.
-#[test]
-fn tells_how_much_was_written(rt: HostRuntime) {
-    for fault in [Fault::Fails, Fault::TakesNone] {
-        for calls_before in 0..13 {
-            let (written, held) = put_report(rt.alloc(), calls_before, fault);
-            assert!(rt;
-                written == Some(calls_before as usize * 3),
-                "after {calls_before} calls"
-            );
-            assert!(rt; held, "after {calls_before} calls");
-        }
+    if written == report.len() {
+        say(out, "all");
+    } else {
+        count(out, written as u64);
     }
+    let is_held = writer.held.len() == written && report.starts_with(writer.held.as_slice());
+    say(out, if is_held { " " } else { " lost " });
 }
 
-// Faults that are none: after the last call, at a flush, and a write that is tried again.
-const HARMLESS: &[(u32, Fault)] = &[
-    (13, Fault::Fails),
-    (13, Fault::TakesNone),
-    (0, Fault::FailsToFlush),
-    (0, Fault::IsInterrupted),
-    (7, Fault::IsInterrupted),
-    (12, Fault::IsInterrupted),
+// The same for each number of calls, and once for a report of nothing.
+fn puts_told(alloc: Global, fault: Fault) -> String {
+    let mut out = String::new(alloc);
+    for calls_before in 0..14 {
+        write_put(&mut out, alloc, REPORT, (fault, calls_before));
+    }
+    write_put(&mut out, alloc, b"", (fault, 0));
+    out
+}
+
+// Faults, and how many bytes are written before they come. A flush is none of these calls, and a
+// write that a signal interrupts is tried again.
+const FAULTS: &[(Fault, &str)] = &[
+    (Fault::Fails, "0 3 6 9 12 15 18 21 24 27 30 33 36 all all "),
+    (
+        Fault::TakesNone,
+        "0 3 6 9 12 15 18 21 24 27 30 33 36 all all ",
+    ),
+    (
+        Fault::FailsToFlush,
+        "all all all all all all all all all all all all all all all ",
+    ),
+    (
+        Fault::IsInterrupted,
+        "all all all all all all all all all all all all all all all ",
+    ),
 ];
 
-// All is written where no write fails.
+// A failed write, and one that takes nothing, tells how many bytes stand before it. All is written
+// where no write fails, and of nothing nothing is, so no fault is met.
 #[test]
-fn writes_all_where_no_write_fails(rt: HostRuntime) {
-    for (calls_before, fault) in HARMLESS {
-        let (written, held) = put_report(rt.alloc(), *calls_before, *fault);
-        assert!(rt; written.is_none() && held, "after {calls_before} calls");
+fn tells_how_much_was_written(rt: HostRuntime) {
+    for (fault, want) in FAULTS {
+        compare(
+            &rt,
+            "a fault",
+            puts_told(rt.alloc(), *fault),
+            want.as_bytes(),
+        );
     }
-}
-
-// Nothing is written of nothing, so no fault is met.
-#[test]
-fn an_empty_report_needs_no_writer(rt: HostRuntime) {
-    let mut out = Faulty::new(rt.alloc(), 0, Fault::Fails);
-    assert!(rt; put(&mut out, b"").is_ok());
 }

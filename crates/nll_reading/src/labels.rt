@@ -27,10 +27,19 @@ enum Points {
 ///
 /// # Shape
 /// One name a region, `static` first, without the `'` in front.
-#[derive(Drop)]
 pub struct Labels {
     names: Names,
     points: Points,
+}
+
+// A derived drop would be proved anew in each crate that drops one.
+impl Drop for Labels {
+    fn drop(self) {
+        let Labels {
+            names: _,
+            points: _,
+        } = self;
+    }
 }
 
 impl Model for Labels {

@@ -13,9 +13,15 @@ use std::marker::Model;
 use std::str;
 
 /// Names, each once, in the order in which they were added.
-#[derive(Drop)]
 pub struct Names {
     set: IndexSet<Name>,
+}
+
+// A derived drop would be proved anew in each crate that drops one.
+impl Drop for Names {
+    fn drop(self) {
+        let Names { set: _ } = self;
+    }
 }
 
 impl Model for Names {

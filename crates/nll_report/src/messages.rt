@@ -13,7 +13,7 @@ use itoa::Buffer;
 use nll_answer::AnswerError;
 use nll_body_problem::RuleError;
 use nll_core::Kind;
-use nll_mir::{TextError, TextKind};
+use nll_reading::{TextError, TextKind};
 use std::alloc::AllocError;
 use std::error::Error;
 use std::fmt;

@@ -20,10 +20,16 @@ use std::marker::Model;
 /// # Cost
 /// Eight bytes for 64 elements, which `empty` takes at once (not proved); `insert` takes no memory.
 /// `next_from` reads one word for each 64 elements that it passes (not proved).
-#[derive(Drop)]
 pub struct BitSet {
     words: Vec<u64>,
     len: u32,
+}
+
+// A derived drop would be proved anew in each crate that drops one.
+impl Drop for BitSet {
+    fn drop(self) {
+        let BitSet { words: _, len: _ } = self;
+    }
 }
 
 impl Model for BitSet {

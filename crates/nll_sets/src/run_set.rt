@@ -25,10 +25,16 @@ use std::marker::Model;
 /// # Cost
 /// `has`, `next_from`, `run_from` and the search of `insert` are logarithmic in the number of runs;
 /// `insert` and `insert_run` move the runs behind the place where the list changes (not proved).
-#[derive(Drop)]
 pub struct RunSet {
     runs: SmallVec<Run, 2>,
     len: u32,
+}
+
+// A derived drop would be proved anew in each crate that drops one.
+impl Drop for RunSet {
+    fn drop(self) {
+        let RunSet { runs: _, len: _ } = self;
+    }
 }
 
 impl Model for RunSet {

@@ -35,9 +35,15 @@ struct Entry {
 }
 
 /// The structs that are declared, by number.
-#[derive(Drop)]
 pub struct Structs {
     entries: Vec<Entry>,
+}
+
+// A derived drop would be proved anew in each crate that drops one.
+impl Drop for Structs {
+    fn drop(self) {
+        let Structs { entries: _ } = self;
+    }
 }
 
 // Puts an entry behind the others, or changes nothing.

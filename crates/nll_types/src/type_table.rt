@@ -27,11 +27,21 @@ use std::marker::Model;
 
 /// The structs that are declared and the shapes of types. The shape of a field of a struct is made
 /// once for each list of arguments, however often it is asked for.
-#[derive(Drop)]
 pub struct TypeTable {
     structs: Structs,
     shapes: Shapes,
     fields: IndexMap<FieldUse, usize>,
+}
+
+// A derived drop would be proved anew in each crate that drops one.
+impl Drop for TypeTable {
+    fn drop(self) {
+        let TypeTable {
+            structs: _,
+            shapes: _,
+            fields: _,
+        } = self;
+    }
 }
 
 impl Model for TypeTable {

@@ -1,0 +1,138 @@
+//! Tables of texts and of what is told of them: in each row a text, ` ~ `, and what is told. An
+//! empty row, or one that begins with `//`, says nothing.
+use super::answers::{answer_handed, answer_to};
+use super::comparing::compare;
+use super::program::{FaultAt, help_told, run, run_on};
+use super::reading::said;
+use super::words::line_told;
+use nll_report::Command;
+use std::process::Abort;
+
+/// What is asked of a text.
+#[derive(Clone, Copy)]
+pub enum Asked {
+    /// What a facts text says.
+    Said,
+    /// The answer to a command.
+    Answer(Command),
+    /// The answer to a command, where the text is handed over.
+    Handed(Command),
+    /// What the program does with these words over the text.
+    Run(&'static str),
+    /// Which line the words are. They stand between bars.
+    Line,
+    /// What the program does with the words, over the texts of the shelf, where standard output and
+    /// standard error have these faults.
+    Program(FaultAt, FaultAt),
+    /// Whether the words are answered with help that ends so.
+    Help(&'static str),
+}
+
+/// What stands in front of something, and what stands behind it.
+pub type Around<'a> = (&'a str, &'a str);
+
+/// What stands around a text that stands alone.
+pub const ALONE: Around<'static> = ("", "");
+
+// The byte that a byte of a row stands for: a bar for the end of a line, `!` for a bar, `^` and a
+// back quote for bytes that are no UTF-8.
+fn meant(byte: u8) -> u8 {
+    match byte {
+        b'|' => b'\n',
+        b'!' => b'|',
+        b'^' => 0xff,
+        b'`' => 0xe9,
+        _ => byte,
+    }
+}
+
+// Puts the bytes that some of a row stands for.
+fn put_meant(rt: &impl Abort, out: &mut Vec<u8>, row: &str) {
+    for byte in row.as_bytes() {
+        out.push(meant(*byte)).expect(rt, "memory");
+    }
+}
+
+// The bytes that some of a row stands for, and what stands around it.
+fn bytes_of<R: Abort + AllocGlobal>(rt: &R, (front, back): Around<'_>, row: &str) -> Vec<u8> {
+    let mut out = Vec::new(rt.alloc());
+    put_meant(rt, &mut out, front);
+    put_meant(rt, &mut out, row);
+    put_meant(rt, &mut out, back);
+    out
+}
+
+/// What is told of words, or of a text.
+pub fn told<R: Abort + AllocGlobal>(rt: &R, asked: Asked, words: &str, text: &[u8]) -> String {
+    match asked {
+        Asked::Said => said(rt, rt.alloc(), text),
+        Asked::Answer(command) => answer_to(rt.alloc(), command, text),
+        Asked::Handed(command) => answer_handed(rt, rt.alloc(), command, text),
+        Asked::Run(words) => run_on(rt, words, text),
+        Asked::Line => line_told(rt, rt.alloc(), words),
+        Asked::Program(of_out, of_err) => run(rt, words, of_out, of_err),
+        Asked::Help(end) => help_told(rt, words, end),
+    }
+}
+
+/// Ends the test unless that is told of a text, both as in a row.
+pub fn compare_row<R: Abort + AllocGlobal>(
+    rt: &R,
+    asked: Asked,
+    around: Around<'_>,
+    row: &str,
+    want: &str,
+) {
+    let text = bytes_of(rt, around, row);
+    let told = told(rt, asked, row, text.as_slice());
+    drop(text);
+    let want = bytes_of(rt, ALONE, want);
+    compare(rt, row, told, want.as_slice());
+}
+
+// Whether a row says something.
+fn says_something(row: &str) -> bool {
+    !row.is_empty() && !row.starts_with("//")
+}
+
+// The same of each row of a table, or of each text of it what is the same.
+fn compare_each<R: Abort + AllocGlobal>(
+    rt: &R,
+    asked: Asked,
+    around: Around<'_>,
+    same: Option<&str>,
+    rows: &str,
+) {
+    for row in rows.split('\n') {
+        if says_something(row) {
+            let (text, want) = row.split_once(" ~ ").unwrap_or((row, "a row"));
+            compare_row(rt, asked, around, text, same.unwrap_or(want));
+        }
+    }
+}
+
+/// Ends the test unless of each text of a table that is told which its row says.
+pub fn compare_rows<R: Abort + AllocGlobal>(rt: &R, asked: Asked, rows: &str) {
+    compare_each(rt, asked, ALONE, None, rows);
+}
+
+/// The same, where something stands around each text.
+pub fn compare_within<R: Abort + AllocGlobal>(
+    rt: &R,
+    asked: Asked,
+    around: Around<'_>,
+    rows: &str,
+) {
+    compare_each(rt, asked, around, None, rows);
+}
+
+/// The same, where the same is told of each text.
+pub fn compare_same<R: Abort + AllocGlobal>(
+    rt: &R,
+    asked: Asked,
+    around: Around<'_>,
+    same: &str,
+    rows: &str,
+) {
+    compare_each(rt, asked, around, Some(same), rows);
+}
