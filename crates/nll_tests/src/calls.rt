@@ -1,7 +1,7 @@
 //! Calls of a problem's builder, what they answer, and what the problems that they make tell.
-use super::telling::{Asked, tell};
-use nll_core::{BuildError, Constraint, Problem, ProblemBuilder, RegionId};
-use std::alloc::{AllocError, Global};
+use super::telling::{OfProblem, tell};
+use super::transcript::Transcript;
+use nll_core::{BuildError, Constraint, ProblemBuilder, RegionId};
 
 /// A call of a builder.
 #[derive(Clone, Copy)]
@@ -41,16 +41,11 @@ fn call_at(calls: Calls, place: u32) -> Option<Call> {
     }
 }
 
-// A number that looks random.
-fn mixed(seed: u32, place: u32) -> u32 {
+// A call of a problem of nine points and two universal regions, by a number that looks random.
+fn random_call(seed: u32, place: u32) -> Call {
     let sum = seed.wrapping_mul(2_654_435_761) ^ place.wrapping_mul(2_246_822_519);
     let once = (sum ^ (sum >> 15)).wrapping_mul(3_266_489_917);
-    (once ^ (once >> 13)).wrapping_mul(668_265_263) >> 4
-}
-
-// A random call of a problem of nine points and two universal regions.
-fn random_call(seed: u32, place: u32) -> Call {
-    let number = mixed(seed, place);
+    let number = (once ^ (once >> 13)).wrapping_mul(668_265_263) >> 4;
     let (first, second, third) = (number / 8 % 9, number / 72 % 9, number / 648 % 9);
     if place < 7 {
         return Call::Region;
@@ -80,76 +75,57 @@ fn make(builder: &mut ProblemBuilder, call: Call) -> Result<(), BuildError> {
     }
 }
 
-// Makes the first calls, so many of them, up to one that is refused.
-fn make_first(builder: &mut ProblemBuilder, calls: Calls, count: u32) -> Result<(), BuildError> {
+// Makes the first calls, so many of them.
+fn make_first(out: &mut Transcript, builder: &mut ProblemBuilder, calls: Calls, count: u32) {
     for place in 0..count {
         if let Some(call) = call_at(calls, place) {
-            make(builder, call)?;
+            let made = make(builder, call);
+            out.note(made);
         }
     }
-    Ok(())
 }
 
-// Makes calls, and writes what they answer.
-fn write_answers(
-    out: &mut String,
-    builder: &mut ProblemBuilder,
-    calls: &[Call],
-) -> Result<(), AllocError> {
+// Makes calls, and writes what they answer, each with a bar behind it.
+fn write_answers(out: &mut Transcript, builder: &mut ProblemBuilder, calls: &[Call]) {
     for call in calls {
         let made = make(builder, *call);
-        write!(out, "{made:?}|")?;
+        out.show("", &made);
+        out.say("|");
     }
-    Ok(())
 }
 
-/// What calls answer behind so many others, each with a bar behind it.
-pub fn answers_behind(
-    alloc: Global,
-    (points, universals): (u32, u32),
-    (first, count): (Calls, u32),
-    calls: &[Call],
-) -> Result<String, BuildError> {
-    let mut out = String::new(alloc);
-    let mut builder = ProblemBuilder::new(alloc, points, universals)?;
-    let made = make_first(&mut builder, first, count);
-    let written = write_answers(&mut out, &mut builder, calls);
-    drop(builder);
-    made?;
-    written?;
-    Ok(out)
-}
-
-// The problem that calls make, up to twenty of them, none of which is refused.
-fn problem_of(
-    alloc: Global,
-    (points, universals): (u32, u32),
-    calls: &'static [Call],
-) -> Result<Problem, BuildError> {
-    let mut builder = ProblemBuilder::new(alloc, points, universals)?;
-    let made = make_first(&mut builder, Calls::Listed(calls), 20);
-    made.and(builder.finish())
-}
-
-/// What both solvers make of a random problem.
-pub fn solved_alike(alloc: Global, seed: u32) -> Result<String, BuildError> {
-    let mut builder = ProblemBuilder::new(alloc, 9, 2)?;
-    let made = make_first(&mut builder, Calls::Random(seed), 20 + seed % 60);
-    let problem = made.and(builder.finish())?;
-    let told = tell(alloc, &problem, Asked::BothSolvers);
-    drop(problem);
-    told
-}
-
-/// What the problem that calls make tells.
-pub fn told(
-    alloc: Global,
+/// Writes what calls answer behind so many others.
+pub fn write_behind(
+    out: &mut Transcript,
     numbers: (u32, u32),
-    calls: &'static [Call],
-    asked: Asked,
-) -> Result<String, BuildError> {
-    let problem = problem_of(alloc, numbers, calls)?;
-    let told = tell(alloc, &problem, asked);
-    drop(problem);
-    told
+    first: (Calls, u32),
+    calls: &[Call],
+) {
+    if let Ok(mut builder) = ProblemBuilder::new(out.alloc, numbers.0, numbers.1) {
+        make_first(out, &mut builder, first.0, first.1);
+        write_answers(out, &mut builder, calls);
+        drop(builder);
+    }
+}
+
+/// Writes what the problem tells that the first calls make, so many of them.
+pub fn write_problem(
+    out: &mut Transcript,
+    numbers: (u32, u32),
+    first: (Calls, u32),
+    asked: OfProblem,
+) {
+    if let Ok(mut builder) = ProblemBuilder::new(out.alloc, numbers.0, numbers.1) {
+        make_first(out, &mut builder, first.0, first.1);
+        if let Ok(problem) = builder.finish() {
+            tell(out, &problem, asked);
+            drop(problem);
+        }
+    }
+}
+
+/// Writes what both solvers make of a random problem of nine points and two universal regions.
+pub fn write_random(out: &mut Transcript, seed: u32) {
+    let first = (Calls::Random(seed), 20 + seed % 60);
+    write_problem(out, (9, 2), first, OfProblem::BothSolvers);
 }

@@ -1,171 +1,114 @@
 //! Cuts of regions among owners, and who reads what.
 
+use super::calls::Call;
 use super::calls::Call::{Holds, Next, Region, Ret};
-use super::calls::{Call, told};
-use super::comparing::compare;
-use super::telling::Asked;
-use nll_core::{BuildError, Memory, RegionId};
-use nll_cut::{Cut, CutError};
-use std::alloc::{AllocError, AllocFailed, Global};
+use super::cuts::Deal::{Blocks, Listed, Round};
+use super::rows::Asked::{Cut, Made};
+use super::rows::{Row, compare_rows};
+use super::telling::OfProblem::ReadersAmong;
+use super::transcript::Transcript;
+use nll_core::RegionId;
+use nll_cut::CutError;
+use std::alloc::Global;
 
-// How regions are dealt.
+/// How regions are dealt.
 #[derive(Clone, Copy)]
-enum Deal {
+pub enum Deal {
     Round,
     Blocks,
     Listed(&'static [u16]),
 }
 
+// The cut of so many regions among so many owners.
+fn cut_of(
+    alloc: Global,
+    (regions, owners): (u32, u16),
+    deal: Deal,
+) -> Result<nll_cut::Cut, CutError> {
+    match deal {
+        Round => nll_cut::Cut::round(alloc, regions, owners),
+        Blocks => nll_cut::Cut::blocks(alloc, regions, owners),
+        Listed(list) => nll_cut::Cut::from_list(alloc, regions, owners, list),
+    }
+}
+
+/// Writes what a cut tells: each region's owner, or why it is refused.
+pub fn write_cut(out: &mut Transcript, numbers: (u32, u16), deal: Deal) {
+    match cut_of(out.alloc, numbers, deal) {
+        Ok(cut) => {
+            out.number("of ", u32::from(cut.owners()), ":");
+            for number in 0..numbers.0 {
+                if (number as usize) < cut.regions() {
+                    out.number(" ", u32::from(cut.owner_of(RegionId(number))), "");
+                }
+            }
+        }
+        Err(error) => out.show("", &error),
+    }
+}
+
 // Regions, owners and how they are dealt, and what the cut tells: each region's owner, or why it is
 // refused.
-#[derive(Clone, Copy)]
-struct Row {
-    says: &'static str,
-    regions: u32,
-    owners: u16,
-    deal: Deal,
-    want: &'static str,
-}
-
 const ROWS: &[Row] = &[
-    Row {
-        says: "regions go round",
-        regions: 3,
-        owners: 2,
-        deal: Deal::Round,
-        want: "of 2: 0 1 0",
-    },
-    Row {
-        says: "one owner has all regions",
-        regions: 3,
-        owners: 1,
-        deal: Deal::Round,
-        want: "of 1: 0 0 0",
-    },
-    Row {
-        says: "some of 16 owners have none",
-        regions: 3,
-        owners: 16,
-        deal: Deal::Round,
-        want: "of 16: 0 1 2",
-    },
-    Row {
-        says: "a block is as large as it must be",
-        regions: 3,
-        owners: 2,
-        deal: Deal::Blocks,
-        want: "of 2: 0 0 1",
-    },
-    Row {
-        says: "blocks that come out even",
-        regions: 6,
-        owners: 3,
-        deal: Deal::Blocks,
-        want: "of 3: 0 0 1 1 2 2",
-    },
-    Row {
-        says: "the last owners may have no block",
-        regions: 6,
-        owners: 4,
-        deal: Deal::Blocks,
-        want: "of 4: 0 0 1 1 2 2",
-    },
-    Row {
-        says: "a list says it",
-        regions: 3,
-        owners: 2,
-        deal: Deal::Listed(&[0, 0, 1]),
-        want: "of 2: 0 0 1",
-    },
-    Row {
-        says: "64 owners are taken",
-        regions: 2,
-        owners: 64,
-        deal: Deal::Listed(&[63, 0]),
-        want: "of 64: 63 0",
-    },
-    Row {
-        says: "65 owners are refused before the list is looked at",
-        regions: 3,
-        owners: 65,
-        deal: Deal::Listed(&[70, 0]),
-        want: "Owners",
-    },
-    Row {
-        says: "there is an owner",
-        regions: 3,
-        owners: 0,
-        deal: Deal::Round,
-        want: "Owners",
-    },
-    Row {
-        says: "65 owners of blocks are refused",
-        regions: 3,
-        owners: 65,
-        deal: Deal::Blocks,
-        want: "Owners",
-    },
-    Row {
-        says: "a list that is too short is told before its entries",
-        regions: 3,
-        owners: 2,
-        deal: Deal::Listed(&[0, 2]),
-        want: "Length",
-    },
-    Row {
-        says: "a list that is too long",
-        regions: 3,
-        owners: 2,
-        deal: Deal::Listed(&[0, 0, 0, 0]),
-        want: "Length",
-    },
-    Row {
-        says: "the first entry that names no owner is told, counted from 0",
-        regions: 3,
-        owners: 16,
-        deal: Deal::Listed(&[0, 16, 70]),
-        want: "NoSuchOwner(1)",
-    },
+    ("regions go round", Cut(3, 2, Round), "of 2: 0 1 0"),
+    ("one owner has all regions", Cut(3, 1, Round), "of 1: 0 0 0"),
+    (
+        "some of 16 owners have none",
+        Cut(3, 16, Round),
+        "of 16: 0 1 2",
+    ),
+    (
+        "a block is as large as it must be",
+        Cut(3, 2, Blocks),
+        "of 2: 0 0 1",
+    ),
+    (
+        "blocks that come out even",
+        Cut(6, 3, Blocks),
+        "of 3: 0 0 1 1 2 2",
+    ),
+    (
+        "the last owners may have no block",
+        Cut(6, 4, Blocks),
+        "of 4: 0 0 1 1 2 2",
+    ),
+    (
+        "a list says it",
+        Cut(3, 2, Listed(&[0, 0, 1])),
+        "of 2: 0 0 1",
+    ),
+    (
+        "64 owners are taken",
+        Cut(2, 64, Listed(&[63, 0])),
+        "of 64: 63 0",
+    ),
+    (
+        "65 owners are refused before the list is looked at",
+        Cut(3, 65, Listed(&[70, 0])),
+        "Owners",
+    ),
+    ("there is an owner", Cut(3, 0, Round), "Owners"),
+    (
+        "65 owners of blocks are refused",
+        Cut(3, 65, Blocks),
+        "Owners",
+    ),
+    (
+        "a list that is too short is told before its entries",
+        Cut(3, 2, Listed(&[0, 2])),
+        "Length",
+    ),
+    (
+        "a list that is too long",
+        Cut(3, 2, Listed(&[0, 0, 0, 0])),
+        "Length",
+    ),
+    (
+        "the first entry that names no owner is told, counted from 0",
+        Cut(3, 16, Listed(&[0, 16, 70])),
+        "NoSuchOwner(1)",
+    ),
 ];
-
-// The cut of a row.
-fn cut_of(alloc: Global, regions: u32, owners: u16, deal: Deal) -> Result<Cut, CutError> {
-    match deal {
-        Deal::Round => Cut::round(alloc, regions, owners),
-        Deal::Blocks => Cut::blocks(alloc, regions, owners),
-        Deal::Listed(list) => Cut::from_list(alloc, regions, owners, list),
-    }
-}
-
-// Writes the owner of each region.
-fn write_owners(out: &mut String, cut: &Cut, regions: u32) -> Result<(), AllocError> {
-    write!(out, "of {}:", cut.owners())?;
-    for number in 0..regions {
-        if (number as usize) < cut.regions() {
-            write!(out, " {}", cut.owner_of(RegionId(number)))?;
-        }
-    }
-    Ok(())
-}
-
-// What the cut of a row tells.
-fn cut_told(alloc: Global, row: Row) -> Result<String, BuildError> {
-    let mut out = String::new(alloc);
-    let written = match cut_of(alloc, row.regions, row.owners, row.deal) {
-        Ok(cut) => write_owners(&mut out, &cut, row.regions),
-        Err(error) => write!(out, "{error:?}"),
-    };
-    written?;
-    Ok(out)
-}
-
-// Each region has the owner that the rule gives it, and of several faults the first is told.
-#[test]
-fn deals_regions(rt: HostRuntime) {
-    for row in ROWS {
-        compare(&rt, row.says, cut_told(rt.alloc(), *row), row.want);
-    }
-}
 
 // Two regions that ask each other for what they hold from the point 0 on.
 const TWO_REGIONS: &[Call] = &[
@@ -191,38 +134,39 @@ const THREE_REGIONS: &[Call] = &[
 
 // Calls that make a problem of two points, and which regions each owner reads where its regions go
 // round so many.
-const READERS: &[(&[Call], u16, &str)] = &[
-    (TWO_REGIONS, 1, "0 reads|1 reads|"),
-    (TWO_REGIONS, 2, "0 reads 1|1 reads 2|2 reads|"),
-    (TWO_REGIONS, 3, "0 reads|1 reads 2|2 reads 1|3 reads|"),
-    (THREE_REGIONS, 2, "0 reads 3|1 reads 0|2 reads|"),
+const READERS: &[Row] = &[
     (
-        THREE_REGIONS,
-        4,
+        "two regions of one owner",
+        Made((2, 1), TWO_REGIONS, ReadersAmong(1)),
+        "0 reads|1 reads|",
+    ),
+    (
+        "two regions and 'static of two owners",
+        Made((2, 1), TWO_REGIONS, ReadersAmong(2)),
+        "0 reads 1|1 reads 2|2 reads|",
+    ),
+    (
+        "each region of an owner of its own",
+        Made((2, 1), TWO_REGIONS, ReadersAmong(3)),
+        "0 reads|1 reads 2|2 reads 1|3 reads|",
+    ),
+    (
+        "three regions and 'static of two owners",
+        Made((2, 1), THREE_REGIONS, ReadersAmong(2)),
+        "0 reads 3|1 reads 0|2 reads|",
+    ),
+    (
+        "each of three regions of an owner of its own",
+        Made((2, 1), THREE_REGIONS, ReadersAmong(4)),
         "0 reads 3|1 reads|2 reads 0|3 reads 0|4 reads|",
     ),
 ];
 
-// An owner reads the regions of others that its constraints read, and none of its own; a number
-// past the owners reads nothing.
+// Each region has the owner that the rule gives it, and of several faults the first is told. An
+// owner reads the regions of others that its constraints read, and none of its own; a number past
+// the owners reads nothing.
 #[test]
-fn tells_who_reads(rt: HostRuntime) {
-    for (calls, owners, want) in READERS {
-        let told = told(rt.alloc(), (2, 1), *calls, Asked::ReadersAmong(*owners));
-        compare(&rt, want, told, want);
-    }
-}
-
-// An error prints what was wrong, and want of memory stays one.
-#[test]
-fn prints_refusals(rt: HostRuntime) -> Result<(), AllocError> {
-    let (owners, length, entry) = (CutError::Owners, CutError::Length, CutError::NoSuchOwner(4));
-    let text = format!(in rt.alloc(); "{owners}|{length}|{entry}|{}", CutError::Memory)?;
-    let want =
-        "no owner, or too many|not an owner for each region|no such owner at 4|out of memory";
-    compare(&rt, "errors of cuts", Ok(text), want);
-    assert!(rt; CutError::from(AllocError) == CutError::Memory);
-    assert!(rt; CutError::from(AllocFailed { value: 1u8 }) == CutError::Memory);
-    assert!(rt; CutError::from(Memory::from(AllocError)) == CutError::Memory);
-    Ok(())
+fn regions_have_owners(rt: HostRuntime) {
+    compare_rows(&rt, rt.alloc(), ROWS);
+    compare_rows(&rt, rt.alloc(), READERS);
 }

@@ -2,8 +2,8 @@
 //! Expected values are found by hand from the definitions. The plain solver, `rounds`, is a second
 //! body of `solve`'s contract.
 //!
-//! Reading order: `rounds`, `comparing`, `transcript`, `telling`, `calls`, `making`, `rows`, then
-//! each module of tests.
+//! Reading order: `rounds`, `transcript`, `telling`, `calls`, `making`, `typing`, `rows`, then each
+//! module of tests.
 #![tactic(auto)]
 
 mod rounds;
@@ -15,15 +15,11 @@ mod building;
 #[cfg(test)]
 mod calls;
 #[cfg(test)]
-mod comparing;
-#[cfg(test)]
 mod cuts;
 #[cfg(test)]
 mod frontiers;
 #[cfg(test)]
 mod graphs;
-#[cfg(test)]
-mod headers;
 #[cfg(test)]
 mod lines;
 #[cfg(test)]
@@ -48,5 +44,7 @@ mod tokens;
 mod transcript;
 #[cfg(test)]
 mod types;
+#[cfg(test)]
+mod typing;
 #[cfg(test)]
 mod written_types;

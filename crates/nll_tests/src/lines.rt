@@ -1,13 +1,72 @@
-//! Texts that are cut into lines.
-use super::comparing::compare;
+//! Lines of texts: what is asked of them, and texts that are cut into lines.
+use super::rows::Asked::Line;
+use super::rows::{Row, compare_lines, compare_rows};
 use super::transcript::Transcript;
-use nll_core::BuildError;
-use nll_text::next_line;
-use std::alloc::Global;
+use super::{mir_lines, naming, tokens, written_types};
+use nll_text::{Token, is_header, next_line, number_of, tokens_of};
+use nll_type_grammar::is_capital;
 
-// The lines of a text, each with a bar behind it.
-fn lines_of(alloc: Global, text: &str) -> Result<String, BuildError> {
-    let mut out = Transcript::new(alloc);
+/// What is asked of a line.
+#[derive(Clone, Copy)]
+pub enum OfLine {
+    /// The lines into which it is cut, where it is a text.
+    Lines,
+    /// Whether it is a header of this kind and version.
+    Header(&'static str, &'static str),
+    /// Its tokens, where it may have so many.
+    Tokens(usize),
+    /// The number that it is.
+    Number,
+    /// Whether it begins as the name of a struct does.
+    Capital,
+    /// The type in front.
+    Type,
+    /// What the names in the type in front mean.
+    Names,
+    /// Its form.
+    Form,
+    /// What its statement does.
+    Effects,
+}
+
+/// Writes what is told of a line.
+pub fn write_line(out: &mut Transcript, line: &str, asked: OfLine) {
+    match asked {
+        OfLine::Lines => write_lines(out, line),
+        OfLine::Header(kind, version) => {
+            out.flag(
+                "",
+                is_header(line.as_bytes(), kind.as_bytes(), version.as_bytes()),
+                "",
+            )
+        }
+        OfLine::Tokens(most) => tokens::write_tokens_in(out, line, most),
+        OfLine::Number => out.option("", number_of(line.as_bytes())),
+        OfLine::Capital => out.flag("", is_capital(line.as_bytes()), ""),
+        _ => write_read(out, line, asked),
+    }
+}
+
+// Writes what is told of a line that is read as tokens.
+fn write_read(out: &mut Transcript, line: &str, asked: OfLine) {
+    let mut tokens = Vec::new(out.alloc);
+    let _ = tokens_of(line.as_bytes(), 40, &mut tokens);
+    write_told(out, asked, tokens.as_slice());
+    drop(tokens);
+}
+
+// Writes what is told of a line's tokens.
+fn write_told(out: &mut Transcript, asked: OfLine, tokens: &[Token<'_>]) {
+    match asked {
+        OfLine::Type => written_types::write_front(out, tokens),
+        OfLine::Names => naming::write_names(out, tokens),
+        OfLine::Form => mir_lines::write_form(out, tokens, false),
+        _ => mir_lines::write_form(out, tokens, true),
+    }
+}
+
+// Writes the lines of a text, each with a bar behind it.
+fn write_lines(out: &mut Transcript, text: &str) {
     let mut left = Some(text.as_bytes());
     for _ in 0..=text.len() {
         if let Some(text) = left {
@@ -16,7 +75,6 @@ fn lines_of(alloc: Global, text: &str) -> Result<String, BuildError> {
             left = after;
         }
     }
-    out.finish()
 }
 
 // Texts, and their lines with a bar behind each.
@@ -32,10 +90,32 @@ const LINES: &[(&str, &str)] = &[
     ("a\rb\r\nc", "a\rb\r|c|"),
 ];
 
-// A line ends at a line feed, and nothing stands behind the last one.
+// Lines, and whether they are the header of facts texts.
+const HEADERS: &[(&str, &str)] = &[
+    ("nll-facts 1", "true"),
+    (" \tnll-facts\t \r1\r", "true"),
+    ("nll-facts", "false"),
+    ("nll-facts1", "false"),
+    ("nll-facts 11", "false"),
+    ("nll-facts 1 1", "false"),
+    ("nll-facts 1#", "false"),
+    ("nll-mir 1", "false"),
+    ("# nll-facts 1", "false"),
+    ("\u{feff}nll-facts 1", "false"),
+    ("", "false"),
+];
+
+// Lines that aren't headers, whatever the kind is.
+const OTHERS: &[Row] = &[
+    ("1", Line(OfLine::Header("", "1")), "false"),
+    ("a b 1", Line(OfLine::Header("a b", "1")), "false"),
+];
+
+// A line ends at a line feed, and nothing stands behind the last one. A header is two runs of bytes
+// that aren't blanks.
 #[test]
 fn texts_are_cut_into_lines(rt: HostRuntime) {
-    for (text, want) in LINES {
-        compare(&rt, text, lines_of(rt.alloc(), text), want);
-    }
+    compare_lines(&rt, rt.alloc(), OfLine::Lines, LINES);
+    compare_lines(&rt, rt.alloc(), OfLine::Header("nll-facts", "1"), HEADERS);
+    compare_rows(&rt, rt.alloc(), OTHERS);
 }

@@ -1,7 +1,8 @@
-//! Types, structs and tables that are written as data.
-use nll_core::{BuildError, RegionId};
+//! Types, structs and tables that are written as data. Where memory is refused, something else is
+//! made, and the transcript says so.
+use super::transcript::Transcript;
+use nll_core::RegionId;
 use nll_types::{Declaration, Parameter, Sign, Ty, TypeTable, has_good_fields};
-use std::alloc::Global;
 
 /// A step in making types. It takes its parts from the end of the list of those made so far, and
 /// puts the type that it makes there.
@@ -22,139 +23,93 @@ pub enum Step {
 pub type Written<'a> = (&'a [bool], &'a [bool], bool, &'a [Step]);
 
 // The last types of a list, taken from it.
-fn take_last(types: &mut Vec<Ty>, count: usize) -> Result<Vec<Ty>, BuildError> {
+fn take_last(out: &mut Transcript, types: &mut Vec<Ty>, count: usize) -> Vec<Ty> {
     let at = types.len().saturating_sub(count);
-    Ok(types.split_off(at)?)
+    match types.split_off(at) {
+        Ok(taken) => taken,
+        Err(_) => {
+            out.say("refused");
+            Vec::new(out.alloc)
+        }
+    }
 }
 
-// Puts a reference to the last type in its place.
-fn add_reference(
-    alloc: Global,
-    types: &mut Vec<Ty>,
-    region: u32,
-    mutable: bool,
-) -> Result<(), BuildError> {
-    match types.pop() {
-        Some(target) => {
-            let target = Box::new(alloc, target)?;
-            types.push(Ty::Reference(RegionId(region), mutable, target))?;
-            Ok(())
+// A reference to the last type, which is taken from the list.
+fn reference_to_last(out: &mut Transcript, types: &mut Vec<Ty>, region: u32, mutable: bool) -> Ty {
+    match Box::new(out.alloc, types.pop().unwrap_or(Ty::Int)) {
+        Ok(target) => Ty::Reference(RegionId(region), mutable, target),
+        Err(_) => {
+            out.say("refused");
+            Ty::Int
         }
-        None => Ok(()),
     }
 }
 
 // Numbers as regions.
-fn regions_of(alloc: Global, numbers: &[u32]) -> Result<Vec<RegionId>, BuildError> {
-    let mut regions = Vec::new(alloc);
+fn regions_of(out: &mut Transcript, numbers: &[u32]) -> Vec<RegionId> {
+    let mut regions = Vec::new(out.alloc);
     for number in numbers {
-        regions.push(RegionId(*number))?;
+        out.note(regions.push(RegionId(*number)));
     }
-    Ok(regions)
+    regions
 }
 
-// Puts the type that a step makes at the end.
-fn add(alloc: Global, types: &mut Vec<Ty>, step: Step) -> Result<(), BuildError> {
+// The type that a step makes.
+fn made(out: &mut Transcript, types: &mut Vec<Ty>, step: Step) -> Ty {
     match step {
-        Step::Int => types.push(Ty::Int)?,
-        Step::Parameter(number) => types.push(Ty::Parameter(number))?,
-        Step::Reference(region, mutable) => add_reference(alloc, types, region, mutable)?,
-        Step::Tuple(count) => {
-            let parts = take_last(types, count)?;
-            types.push(Ty::Tuple(parts))?;
-        }
+        Step::Int => Ty::Int,
+        Step::Parameter(number) => Ty::Parameter(number),
+        Step::Reference(region, mutable) => reference_to_last(out, types, region, mutable),
+        Step::Tuple(count) => Ty::Tuple(take_last(out, types, count)),
         Step::Named(number, regions, count) => {
-            let regions = regions_of(alloc, regions)?;
-            let arguments = take_last(types, count)?;
-            types.push(Ty::Named(number, regions, arguments))?;
+            let regions = regions_of(out, regions);
+            Ty::Named(number, regions, take_last(out, types, count))
         }
     }
-    Ok(())
 }
 
-/// Puts the types that steps make at the end.
-pub fn add_types(alloc: Global, types: &mut Vec<Ty>, steps: &[Step]) -> Result<(), BuildError> {
+/// The types that steps make, and then so many references to the last one.
+pub fn types_of(out: &mut Transcript, steps: &[Step], references: usize) -> Vec<Ty> {
+    let mut types = Vec::new(out.alloc);
     for step in steps {
-        add(alloc, types, *step)?;
+        let ty = made(out, &mut types, *step);
+        out.note(types.push(ty));
     }
-    Ok(())
-}
-
-/// The types that steps make.
-pub fn types_of(alloc: Global, steps: &[Step]) -> Result<Vec<Ty>, BuildError> {
-    let mut types = Vec::new(alloc);
-    match add_types(alloc, &mut types, steps) {
-        Ok(()) => Ok(types),
-        Err(error) => Err(error),
+    for _ in 0..references {
+        let ty = reference_to_last(out, &mut types, 1, false);
+        out.note(types.push(ty));
     }
-}
-
-/// An `int` behind so many references.
-pub fn nested(alloc: Global, depth: usize) -> Result<Vec<Ty>, BuildError> {
-    let mut types = types_of(alloc, &[Step::Int])?;
-    match add_references(alloc, &mut types, depth) {
-        Ok(()) => Ok(types),
-        Err(error) => Err(error),
-    }
-}
-
-// Puts so many references in front of the last type.
-fn add_references(alloc: Global, types: &mut Vec<Ty>, depth: usize) -> Result<(), BuildError> {
-    for _ in 0..depth {
-        add(alloc, types, Step::Reference(1, false))?;
-    }
-    Ok(())
+    types
 }
 
 // Parameters, marked or not.
-fn parameters_of(alloc: Global, marks: &[bool]) -> Result<Vec<Parameter>, BuildError> {
-    let mut parameters = Vec::new(alloc);
+fn parameters_of(out: &mut Transcript, marks: &[bool]) -> Vec<Parameter> {
+    let mut parameters = Vec::new(out.alloc);
     for mark in marks {
         let (sign, may_dangle) = (Sign::Covariant, *mark);
-        parameters.push(Parameter { sign, may_dangle })?;
+        out.note(parameters.push(Parameter { sign, may_dangle }));
     }
-    Ok(parameters)
+    parameters
 }
 
-/// Declares a struct, or refuses it where its fields don't keep to what is declared.
-pub fn declare(
-    alloc: Global,
-    table: &mut TypeTable,
-    (regions, types, has_drop, fields): &Written<'_>,
-) -> Result<(), BuildError> {
-    let declaration = Declaration {
-        regions: parameters_of(alloc, regions)?,
-        types: parameters_of(alloc, types)?,
-        has_drop: *has_drop,
-        fields: types_of(alloc, fields)?,
-    };
-    declare_good(alloc, table, declaration)
-}
-
-// Declares a struct, or refuses it.
-fn declare_good(
-    alloc: Global,
-    table: &mut TypeTable,
-    declaration: Declaration,
-) -> Result<(), BuildError> {
+// Declares a struct, or writes that its fields don't keep to what is declared.
+fn declare_good(out: &mut Transcript, table: &mut TypeTable, declaration: Declaration) {
     let few = declaration.regions.len() < 1_000;
     let good = has_good_fields(table.structs(), &declaration);
     if few && good {
-        table.declare(alloc, declaration)?;
-        Ok(())
+        out.note(table.declare(out.alloc, declaration));
     } else {
-        Err(BuildError::RegionRange)
+        out.say("no such struct");
     }
 }
 
-/// Declares structs, one after another.
-pub fn declare_all(
-    alloc: Global,
-    table: &mut TypeTable,
-    structs: &[Written<'_>],
-) -> Result<(), BuildError> {
-    for written in structs {
-        declare(alloc, table, written)?;
-    }
-    Ok(())
+/// Declares a struct.
+pub fn declare(out: &mut Transcript, table: &mut TypeTable, written: &Written<'_>) {
+    let declaration = Declaration {
+        regions: parameters_of(out, written.0),
+        types: parameters_of(out, written.1),
+        has_drop: written.2,
+        fields: types_of(out, written.3, 0),
+    };
+    declare_good(out, table, declaration);
 }

@@ -1,48 +1,78 @@
 //! Errors, and how they are printed.
-use super::comparing::compare;
+use super::rows::{Asked, Row, compare_rows};
+use super::transcript::Transcript;
 use nll_core::{BuildError, Kind, Memory};
+use nll_cut::CutError;
 use nll_text::{LexError, ScanError};
 use std::alloc::{AllocError, AllocFailed};
 
-// Errors of builders, and their messages.
-const BUILD_ERRORS: &[(BuildError, &str)] = &[
-    (BuildError::PointRange, "no such point"),
-    (BuildError::RegionRange, "no such region"),
-    (
-        BuildError::Limit(Kind::Points),
-        "more points than the limit",
-    ),
-    (
-        BuildError::Limit(Kind::Universals),
-        "more universal regions than the limit",
-    ),
-    (BuildError::Memory, "out of memory"),
+// Errors of builders.
+const BUILD_ERRORS: &[BuildError] = &[
+    BuildError::PointRange,
+    BuildError::RegionRange,
+    BuildError::Limit(Kind::Points),
+    BuildError::Limit(Kind::Universals),
+    BuildError::Memory,
 ];
 
-// An error prints what was wrong.
-#[test]
-fn prints_errors(rt: HostRuntime) -> Result<(), AllocError> {
-    for (error, want) in BUILD_ERRORS {
-        let text = format!(in rt.alloc(); "{error}")?;
-        compare(&rt, want, Ok(text), want);
+// Errors of cuts.
+const CUT_ERRORS: &[CutError] = &[
+    CutError::Owners,
+    CutError::Length,
+    CutError::NoSuchOwner(4),
+    CutError::Memory,
+];
+
+/// Writes what errors print, each with a bar behind it.
+pub fn write_messages(out: &mut Transcript) {
+    for error in BUILD_ERRORS {
+        out.print(error);
     }
-    let (lexing, scanning) = (LexError::NoTokens, ScanError::NotUtf8);
-    let text = format!(in rt.alloc(); "{}|{lexing}|{scanning}", Memory::from(AllocError))?;
-    let want = "a growth of memory was refused|no tokens, or too many|not UTF-8";
-    compare(&rt, "errors below", Ok(text), want);
-    Ok(())
+    for error in CUT_ERRORS {
+        out.print(error);
+    }
+    out.print(&Memory::from(AllocError));
+    out.print(&LexError::NoTokens);
+    out.print(&ScanError::NotUtf8);
 }
 
-// A refused growth of memory is told as such, whatever it comes from.
-#[test]
-fn errors_of_memory_are_memory(rt: HostRuntime) {
+/// Writes what becomes of a refused growth of memory, whatever it comes from.
+pub fn write_memory(out: &mut Transcript) {
     let memory = Memory::from(AllocError);
-    assert!(rt; memory == Memory::from(AllocFailed { value: 1u8 }));
-    assert!(rt; BuildError::from(AllocError) == BuildError::Memory);
-    assert!(rt; BuildError::from(AllocFailed { value: 1u8 }) == BuildError::Memory);
-    assert!(rt; BuildError::from(memory) == BuildError::Memory);
-    assert!(rt; LexError::from(AllocError) == LexError::Memory);
-    assert!(rt; LexError::from(AllocFailed { value: 1u8 }) == LexError::Memory);
-    assert!(rt; ScanError::from(AllocError) == ScanError::Memory);
-    assert!(rt; ScanError::from(AllocFailed { value: 1u8 }) == ScanError::Memory);
+    out.show("", &memory);
+    out.show("|", &Memory::from(AllocFailed { value: 1u8 }));
+    out.show("|", &BuildError::from(AllocError));
+    out.show("|", &BuildError::from(AllocFailed { value: 1u8 }));
+    out.show("|", &BuildError::from(memory));
+    out.show("|", &LexError::from(AllocError));
+    out.show("|", &LexError::from(AllocFailed { value: 1u8 }));
+    out.show("|", &ScanError::from(AllocError));
+    out.show("|", &ScanError::from(AllocFailed { value: 1u8 }));
+    out.show("|", &CutError::from(AllocError));
+    out.show("|", &CutError::from(AllocFailed { value: 1u8 }));
+    out.show("|", &CutError::from(memory));
+}
+
+// What errors print, and what becomes of a refused growth of memory.
+const ERRORS: &[Row] = &[
+    (
+        "errors",
+        Asked::Messages,
+        "no such point|no such region|more points than the limit|\
+         more universal regions than the limit|out of memory|\
+         no owner, or too many|not an owner for each region|no such owner at 4|out of memory|\
+         a growth of memory was refused|no tokens, or too many|not UTF-8|",
+    ),
+    (
+        "memory",
+        Asked::Memory,
+        "Memory(())|Memory(())|Memory|Memory|Memory|Memory|Memory|Memory|Memory|Memory|Memory|Memory",
+    ),
+];
+
+// An error prints what was wrong, and a refused growth of memory is told as such, whatever it comes
+// from.
+#[test]
+fn errors_are_told(rt: HostRuntime) {
+    compare_rows(&rt, rt.alloc(), ERRORS);
 }

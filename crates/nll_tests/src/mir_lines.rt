@@ -1,24 +1,24 @@
 //! Lines of MIR texts that are read from tokens, and what their statements do.
-use super::rows::{Asked, compare_rows};
+use super::lines::OfLine;
+use super::rows::compare_text;
 use super::transcript::Transcript;
 use super::written_types::write_nodes;
 use nll_mir_grammar::{Line, ParameterText, StructText, line_of, one_form};
-use nll_statements::{Call, Statement};
+use nll_statements::{Call, Make, Statement};
 use nll_text::Token;
 use nll_type_grammar::TypeText;
 use nll_types::{Operand, Parameter, Place, Projection, Sign};
-use std::alloc::Global;
 
 // A statement as it is written.
 type Written<'a> = Statement<&'a [u8], TypeText<'a>>;
 
 // Writes words and a place.
 fn write_place(out: &mut Transcript, before: &str, place: &Place) {
-    out.show(before, &place.variable());
+    out.number(before, place.variable(), "");
     for projection in place.projections() {
         match projection {
             Projection::Deref => out.say(".*"),
-            Projection::Field(number) => out.show(".", number),
+            Projection::Field(number) => out.number(".", *number, ""),
         }
     }
 }
@@ -32,48 +32,41 @@ fn write_operand(out: &mut Transcript, operand: &Operand) {
     }
 }
 
-// Writes operands, with a comma behind each.
-fn write_operands(out: &mut Transcript, operands: &[Operand]) {
-    for operand in operands {
+// Writes what is made of operands, with a comma behind each of them.
+fn write_make(out: &mut Transcript, made: &Make<TypeText<'_>>) {
+    write_place(out, "_", &made.place);
+    out.say(" = make ");
+    write_nodes(out, &made.ty);
+    for operand in made.operands.as_slice() {
         write_operand(out, operand);
         out.say(",");
     }
 }
 
-// Writes the arguments of a call, with a comma behind each.
-fn write_arguments(out: &mut Transcript, arguments: &[(Operand, TypeText<'_>)]) {
-    for argument in arguments {
+// Writes where a drop or a call goes on.
+fn write_exits(out: &mut Transcript, target: u32, unwind: Option<u32>) {
+    out.number(" to ", target, "");
+    if let Some(block) = unwind {
+        out.number(" or ", block, "");
+    }
+}
+
+// Writes a call: its arguments with a comma behind each, and its bounds, two regions each.
+fn write_call(out: &mut Transcript, call: &Call<&[u8], TypeText<'_>>) {
+    write_place(out, "_", &call.place);
+    out.say(" = call ");
+    for argument in call.arguments.as_slice() {
         write_operand(out, &argument.0);
         out.say(": ");
         write_nodes(out, &argument.1);
         out.say(",");
     }
-}
-
-// Writes the bounds of a call, two regions each.
-fn write_bounds(out: &mut Transcript, bounds: &[(&[u8], &[u8])]) {
-    for bound in bounds {
+    out.say(": ");
+    write_nodes(out, &call.result);
+    for bound in call.wheres.as_slice() {
         out.part(" ", bound.0);
         out.part("", bound.1);
     }
-}
-
-// Writes where a drop or a call goes on.
-fn write_exits(out: &mut Transcript, target: u32, unwind: Option<u32>) {
-    out.show(" to ", &target);
-    if let Some(block) = unwind {
-        out.show(" or ", &block);
-    }
-}
-
-// Writes a call.
-fn write_call(out: &mut Transcript, call: &Call<&[u8], TypeText<'_>>) {
-    write_place(out, "_", &call.place);
-    out.say(" = call ");
-    write_arguments(out, call.arguments.as_slice());
-    out.say(": ");
-    write_nodes(out, &call.result);
-    write_bounds(out, call.wheres.as_slice());
     write_exits(out, call.target, call.unwind);
 }
 
@@ -90,67 +83,49 @@ fn write_statement(out: &mut Transcript, statement: &Written<'_>) {
             out.part(if *mutable { " = mut " } else { " = & " }, region);
             write_place(out, "_", source);
         }
-        Statement::Make(made) => {
-            write_place(out, "_", &made.place);
-            out.say(" = make ");
-            write_nodes(out, &made.ty);
-            write_operands(out, made.operands.as_slice());
-        }
+        Statement::Make(made) => write_make(out, made),
         Statement::Call(call) => write_call(out, call),
-        _ => write_other(out, statement),
-    }
-}
-
-// Writes a statement that begins with a word of its own.
-fn write_other(out: &mut Transcript, statement: &Written<'_>) {
-    match statement {
         Statement::Read(place) => write_place(out, "read _", place),
-        Statement::Live(variable) => out.show("live ", variable),
-        Statement::Dead(variable) => out.show("dead ", variable),
+        Statement::Live(variable) => out.number("live ", *variable, ""),
+        Statement::Dead(variable) => out.number("dead ", *variable, ""),
         Statement::Nop => out.say("nop"),
-        Statement::Goto(block) => out.show("goto ", block),
+        Statement::Goto(block) => out.number("goto ", *block, ""),
         Statement::Switch(operand, blocks) => {
             out.say("switch ");
             write_operand(out, operand);
-            out.show(" ", blocks);
+            out.numbers(" ", blocks.as_slice());
         }
         Statement::Drop(variable, target, unwind) => {
-            out.show("drop ", variable);
+            out.number("drop ", *variable, "");
             write_exits(out, *target, *unwind);
         }
         Statement::Return => out.say("return"),
-        _ => out.say("stop"),
+        Statement::Stop => out.say("stop"),
     }
 }
 
-// Writes the marks of a parameter.
-fn write_marks(out: &mut Transcript, parameter: &Parameter) {
-    out.say(match parameter.sign {
-        Sign::Covariant => "+",
-        Sign::Invariant => "=",
-    });
-    out.say(if parameter.may_dangle { "? " } else { " " });
-}
-
-// Writes the parameters of a struct.
-fn write_parameters(out: &mut Transcript, parameters: &[ParameterText<'_>]) {
-    for parameter in parameters {
-        let (before, name, marks) = match parameter {
-            ParameterText::Region(name, marks) => ("'", name, marks),
-            ParameterText::Type(name, marks) => ("", name, marks),
-        };
-        out.part(before, name);
-        write_marks(out, marks);
+// The marks of a parameter.
+fn marks_of(parameter: &Parameter) -> &'static str {
+    match (parameter.sign, parameter.may_dangle) {
+        (Sign::Covariant, true) => "+? ",
+        (Sign::Covariant, false) => "+ ",
+        (Sign::Invariant, true) => "=? ",
+        (Sign::Invariant, false) => "= ",
     }
 }
 
 // Writes a struct.
 fn write_struct(out: &mut Transcript, text: &StructText<'_>) {
     out.part("struct ", text.name);
-    write_parameters(out, text.parameters.as_slice());
-    if text.has_drop {
-        out.say("drop ");
+    for parameter in text.parameters.as_slice() {
+        let (before, name, marks) = match parameter {
+            ParameterText::Region(name, marks) => ("'", name, marks),
+            ParameterText::Type(name, marks) => ("", name, marks),
+        };
+        out.part(before, name);
+        out.say(marks_of(marks));
     }
+    out.say(if text.has_drop { "drop " } else { "" });
     write_nodes(out, text.fields.as_type());
 }
 
@@ -165,12 +140,11 @@ fn write_line(out: &mut Transcript, line: &Line<'_>) {
         Line::Region(name) => out.part("region ", name),
         Line::Struct(text) => write_struct(out, text),
         Line::Let(variable, ty) => {
-            out.show("let ", variable);
-            out.say(" ");
+            out.number("let ", *variable, " ");
             write_nodes(out, ty);
         }
-        Line::Blocks(count) => out.show("blocks ", count),
-        Line::Block(number) => out.show("block ", number),
+        Line::Blocks(count) => out.number("blocks ", *count, ""),
+        Line::Block(number) => out.number("block ", *number, ""),
         Line::At(statement) => write_statement(out, statement),
         Line::End => out.say("end"),
     }
@@ -178,47 +152,38 @@ fn write_line(out: &mut Transcript, line: &Line<'_>) {
 
 // Writes what a statement uses, defines and drops, where it goes on, and whether the block ends
 // with it.
-fn write_effects(out: &mut Transcript, alloc: Global, statement: &Written<'_>) {
-    let mut numbers = Vec::new(alloc);
-    let told = statement.uses(&mut numbers);
-    out.note(told);
-    out.show("", &numbers);
-    out.show(" ", &statement.defines());
-    out.show(" ", &statement.drops());
-    numbers.clear();
-    let told = statement.targets(&mut numbers);
-    out.note(told);
-    out.show(" ", &numbers);
-    out.show(" ", &statement.is_terminator());
-    drop(numbers);
+fn write_effects(out: &mut Transcript, statement: &Written<'_>) {
+    let mut used = Vec::new(out.alloc);
+    let mut blocks = Vec::new(out.alloc);
+    out.note(statement.uses(&mut used));
+    out.note(statement.targets(&mut blocks));
+    out.numbers("", used.as_slice());
+    drop(used);
+    out.option(" ", statement.defines());
+    out.option(" ", statement.drops());
+    out.numbers(" ", blocks.as_slice());
+    drop(blocks);
+    out.flag(" ", statement.is_terminator(), "");
 }
 
-// Writes what the statement of a line does, or that the line is no statement.
-fn write_done(out: &mut Transcript, alloc: Global, line: &Line<'_>) {
+// Writes the form of a line, or what its statement does, where it is one.
+fn write_told(out: &mut Transcript, line: &Line<'_>, is_done: bool) {
     match line {
-        Line::At(statement) => write_effects(out, alloc, statement),
-        _ => out.say("no statement"),
-    }
-}
-
-// Writes the form of a line, or what its statement does.
-fn write_told(out: &mut Transcript, alloc: Global, line: &Line<'_>, is_done: bool) {
-    if is_done {
-        write_done(out, alloc, line);
-    } else {
-        write_line(out, line);
+        Line::At(statement) if is_done => write_effects(out, statement),
+        _ if is_done => out.say("no statement"),
+        _ => write_line(out, line),
     }
 }
 
 /// Writes the form of tokens, or what their statement does.
-pub fn write_form(out: &mut Transcript, alloc: Global, tokens: &[Token<'_>], is_done: bool) {
-    match line_of(alloc, tokens) {
+pub fn write_form(out: &mut Transcript, tokens: &[Token<'_>], is_done: bool) {
+    match line_of(out.alloc, tokens) {
         Ok(Some(line)) => {
-            write_told(out, alloc, &line, is_done);
+            write_told(out, &line, is_done);
             drop(line);
         }
         Ok(None) => out.say("none"),
-        Err(_) => out.refuse(),
+        Err(_) => out.say("refused"),
     }
 }
 
@@ -279,13 +244,6 @@ end ~ end
 end end ~ none
 ";
 
-// A line has one of the forms, or none.
-#[test]
-fn lines_have_forms(rt: HostRuntime) {
-    compare_rows(&rt, rt.alloc(), Asked::Form, LINES);
-    one_form();
-}
-
 // Statements and terminators; and the variables that each uses, that which it defines, that which
 // it drops, the blocks to which it goes on, and whether the block ends with it.
 const EFFECTS: &str = "
@@ -316,8 +274,10 @@ stop ~ [] None None [] true
 end ~ no statement
 ";
 
-// A statement does what the table of statements says.
+// A line has one of the forms, or none. A statement does what the table of statements says.
 #[test]
-fn statements_do_what_the_table_says(rt: HostRuntime) {
-    compare_rows(&rt, rt.alloc(), Asked::Effects, EFFECTS);
+fn lines_have_forms(rt: HostRuntime) {
+    compare_text(&rt, rt.alloc(), OfLine::Form, LINES);
+    compare_text(&rt, rt.alloc(), OfLine::Effects, EFFECTS);
+    one_form();
 }

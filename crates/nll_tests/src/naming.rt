@@ -1,22 +1,20 @@
 //! What the names of written types mean.
-use super::rows::{Asked, compare_rows};
+use super::lines::OfLine;
+use super::rows::compare_text;
 use super::transcript::Transcript;
-use super::types::write_type;
-use nll_core::BuildError;
+use super::typing::write_type;
 use nll_naming::{Scope, judge, meant};
 use nll_reading::Names;
 use nll_text::Token;
 use nll_type_grammar::{TypeText, type_at};
 use nll_types::TypeTable;
-use std::alloc::Global;
 
 // A table of names.
-fn names_of(out: &mut Transcript, alloc: Global, words: &[&str]) -> Names {
-    let mut names = Names::empty(alloc);
+fn names_of(out: &mut Transcript, words: &[&str]) -> Names {
+    let mut names = Names::empty(out.alloc);
     for word in words {
         if names.number_of(word.as_bytes()).is_none() {
-            let added = names.add(alloc, word.as_bytes());
-            out.note(added);
+            out.note(names.add(out.alloc, word.as_bytes()));
         }
     }
     names
@@ -26,94 +24,73 @@ fn names_of(out: &mut Transcript, alloc: Global, words: &[&str]) -> Names {
 // how many nodes the type has.
 fn write_judged(
     out: &mut Transcript,
-    alloc: Global,
     scope: &Scope<'_>,
     table: &mut TypeTable,
     text: &TypeText<'_>,
 ) {
-    match judge(alloc, scope, table, text) {
-        Ok(judged) => {
-            out.show("", &judged.known);
-            out.show(" ", &judged.fits);
-            out.show(" ", &table.shapes().size(judged.shape));
-            out.say(": ");
-        }
-        Err(_) => out.refuse(),
+    if let Ok(judged) = judge(out.alloc, scope, table, text) {
+        out.flag("", judged.known, " ");
+        out.flag("", judged.fits, " ");
+        out.size("", table.shapes().size(judged.shape));
+        out.say(": ");
     }
 }
 
-// Writes the type that a written type means.
-fn write_meant(out: &mut Transcript, alloc: Global, scope: &Scope<'_>, text: &TypeText<'_>) {
-    if scope.regions.len() > 100 {
-        return;
-    }
-    match meant(alloc, scope, text) {
-        Ok(ty) => {
+// Writes the type that a type means.
+fn write_meant(out: &mut Transcript, scope: &Scope<'_>, text: &TypeText<'_>) {
+    if scope.regions.len() <= 100 {
+        if let Ok(ty) = meant(out.alloc, scope, text) {
             write_type(out, &ty);
             drop(ty);
         }
-        Err(_) => out.refuse(),
     }
 }
 
-// Writes what is told of a type.
-fn write_told(out: &mut Transcript, alloc: Global, scope: &Scope<'_>, text: &TypeText<'_>) {
-    let mut table = TypeTable::new(alloc);
-    write_judged(out, alloc, scope, &mut table, text);
+// Writes what is told of a type, and what it means.
+fn write_told(out: &mut Transcript, scope: &Scope<'_>, text: &TypeText<'_>) {
+    let mut table = TypeTable::new(out.alloc);
+    write_judged(out, scope, &mut table, text);
     drop(table);
-    write_meant(out, alloc, scope, text);
+    write_meant(out, scope, text);
 }
 
 // Writes what is told of the type in front of tokens, where there is one.
-fn write_front(out: &mut Transcript, alloc: Global, scope: &Scope<'_>, tokens: &[Token<'_>]) {
-    match type_at(alloc, tokens) {
+fn write_front(out: &mut Transcript, scope: &Scope<'_>, tokens: &[Token<'_>]) {
+    match type_at(out.alloc, tokens) {
         Ok(Some((text, _))) => {
-            write_told(out, alloc, scope, &text);
+            write_told(out, scope, &text);
             drop(text);
         }
-        Ok(None) => {}
-        Err(_) => out.refuse(),
+        Ok(None) => out.say("none"),
+        Err(_) => out.say("refused"),
     }
 }
 
 // The kinds of arguments that the structs of the tests take.
-fn kinds(alloc: Global) -> Result<Vec<Vec<bool>>, BuildError> {
-    let mut kinds = Vec::new(alloc);
+fn kinds(out: &mut Transcript) -> Vec<Vec<bool>> {
+    let mut kinds = Vec::new(out.alloc);
     for taken in KINDS {
-        let taken = Vec::from_slice(alloc, taken)?;
-        kinds.push(taken)?;
-    }
-    Ok(kinds)
-}
-
-// Writes what is told of the type in front of tokens over tables of names.
-fn write_over(
-    out: &mut Transcript,
-    alloc: Global,
-    (regions, parameters, structs): (&Names, &Names, &Names),
-    tokens: &[Token<'_>],
-) {
-    match kinds(alloc) {
-        Ok(kinds) => {
-            let scope = Scope {
-                regions,
-                parameters,
-                structs,
-                kinds: kinds.as_slice(),
-            };
-            write_front(out, alloc, &scope, tokens);
-            drop(kinds);
+        if let Ok(taken) = Vec::from_slice(out.alloc, taken) {
+            out.note(kinds.push(taken));
         }
-        Err(_) => out.refuse(),
     }
+    kinds
 }
 
-/// Writes what is told of the type in front of tokens.
-pub fn write_names(out: &mut Transcript, alloc: Global, tokens: &[Token<'_>]) {
-    let regions = names_of(out, alloc, &["static", "a", "b"]);
-    let parameters = names_of(out, alloc, &["T"]);
-    let structs = names_of(out, alloc, &["W", "V", "U", "T"]);
-    write_over(out, alloc, (&regions, &parameters, &structs), tokens);
+/// Writes what is told of the type in front of tokens, where there is one, and what it means.
+pub fn write_names(out: &mut Transcript, tokens: &[Token<'_>]) {
+    let regions = names_of(out, &["static", "a", "b"]);
+    let parameters = names_of(out, &["T"]);
+    let structs = names_of(out, &["W", "V", "U", "T"]);
+    let kinds = kinds(out);
+    let scope = Scope {
+        regions: &regions,
+        parameters: &parameters,
+        structs: &structs,
+        kinds: kinds.as_slice(),
+    };
+    write_front(out, &scope, tokens);
+    drop(kinds);
     drop(regions);
     drop(parameters);
     drop(structs);
@@ -150,5 +127,5 @@ U<'a> ~ true false 1: S2< 1 >
 // Names are judged, and mean what they stand for.
 #[test]
 fn names_have_meanings(rt: HostRuntime) {
-    compare_rows(&rt, rt.alloc(), Asked::Names, TYPES);
+    compare_text(&rt, rt.alloc(), OfLine::Names, TYPES);
 }

@@ -1,52 +1,113 @@
-//! Tables of lines and of what is told of them: in each row a line, ` ~ `, and what is told. An
-//! empty row says nothing.
-use super::comparing::compare;
+//! What tests ask, and tables of what is told. In each row of a table stand what is looked at, what
+//! is asked, and what is told.
+use super::building::write_new;
+use super::calls::{Call, Calls, write_behind, write_problem, write_random};
+use super::cuts::{Deal, write_cut};
+use super::frontiers::write_frontier;
+use super::graphs::{Then, write_graph_then};
+use super::lines::{OfLine, write_line};
+use super::messages::{write_memory, write_messages};
+use super::sets::{write_last_bit, write_runs, write_sets};
+use super::telling::OfProblem;
+use super::tokens::write_scanned;
 use super::transcript::Transcript;
-use super::{mir_lines, naming, written_types};
-use nll_core::BuildError;
-use nll_text::{Token, tokens_of};
+use super::typing::{OfType, write_typed};
 use std::alloc::Global;
 use std::process::Abort;
 
-/// What is asked of a line.
+/// What is asked.
 #[derive(Clone, Copy)]
 pub enum Asked {
-    /// The type in front.
-    Type,
-    /// What the names in the type mean.
-    Names,
-    /// Its form.
-    Form,
-    /// What its statement does.
-    Effects,
+    /// Of the line that the row looks at.
+    Line(OfLine),
+    /// Of a line of bytes: how it is scanned.
+    Scanned(&'static [u8]),
+    /// Of a graph and of a problem of so many points and universal regions: whether they can be
+    /// made.
+    New(u32, u32),
+    /// Of points and universal regions, of first calls, so many of them, and of further ones: what
+    /// these answer.
+    Behind((u32, u32), (Calls, u32), &'static [Call]),
+    /// Of points and universal regions and of calls, up to twenty of them: what the problem tells
+    /// that they make.
+    Made((u32, u32), &'static [Call], OfProblem),
+    /// Of a number: whether both solvers give the random problem of that number the same values.
+    Random(u32),
+    /// Of points, universal regions and calls: what becomes of the graph that they make.
+    Graph((u32, u32), &'static [Call], Then),
+    /// Of elements that come into a set: what a frontier reaches.
+    Frontier(&'static [u32]),
+    /// Of so many regions and owners: how they are dealt.
+    Cut(u32, u16, Deal),
+    /// Of a set of a length: what it tells as elements are put in, and of the next element from some
+    /// numbers on.
+    Sets(u32, &'static [u32], &'static [u32]),
+    /// Of a set of bits: the elements that its own method gives.
+    LastBit,
+    /// Of elements that are put into a set of runs: how many runs there are.
+    Runs(&'static [u32]),
+    /// Of types, structs and shapes.
+    Type(OfType),
+    /// What errors print.
+    Messages,
+    /// What becomes of a refused growth of memory.
+    Memory,
 }
 
-// Writes what is told of a line's tokens.
-fn write_told(out: &mut Transcript, alloc: Global, asked: Asked, tokens: &[Token<'_>]) {
+/// What is looked at, what is asked, and what is told.
+pub type Row = (&'static str, Asked, &'static str);
+
+// Writes what is told.
+fn write_told(out: &mut Transcript, says: &str, asked: Asked) {
     match asked {
-        Asked::Type => written_types::write_front(out, alloc, tokens),
-        Asked::Names => naming::write_names(out, alloc, tokens),
-        Asked::Form => mir_lines::write_form(out, alloc, tokens, false),
-        Asked::Effects => mir_lines::write_form(out, alloc, tokens, true),
+        Asked::Line(of_line) => write_line(out, says, of_line),
+        Asked::Scanned(line) => write_scanned(out, line),
+        Asked::New(points, universals) => write_new(out, points, universals),
+        Asked::Behind(numbers, first, calls) => write_behind(out, numbers, first, calls),
+        Asked::Made(numbers, calls, of_problem) => {
+            write_problem(out, numbers, (Calls::Listed(calls), 20), of_problem)
+        }
+        Asked::Random(seed) => write_random(out, seed),
+        Asked::Graph(numbers, calls, then) => write_graph_then(out, numbers, calls, then),
+        Asked::Frontier(numbers) => write_frontier(out, numbers),
+        Asked::Cut(regions, owners, deal) => write_cut(out, (regions, owners), deal),
+        Asked::Sets(len, inserted, from) => write_sets(out, len, inserted, from),
+        Asked::LastBit => write_last_bit(out),
+        Asked::Runs(elements) => write_runs(out, elements),
+        Asked::Type(of_type) => write_typed(out, of_type),
+        Asked::Messages => write_messages(out),
+        Asked::Memory => write_memory(out),
     }
 }
 
-// What is told of a line.
-fn told(alloc: Global, asked: Asked, line: &str) -> Result<String, BuildError> {
+/// Ends the test where something else is told.
+pub fn compare(rt: &impl Abort, alloc: Global, says: &str, asked: Asked, want: &str) {
     let mut out = Transcript::new(alloc);
-    let mut tokens = Vec::new(alloc);
-    let _ = tokens_of(line.as_bytes(), 40, &mut tokens);
-    write_told(&mut out, alloc, asked, tokens.as_slice());
-    drop(tokens);
-    out.finish()
+    write_told(&mut out, says, asked);
+    out.compare(rt, says, want);
+    drop(out);
 }
 
-/// Ends the test unless that is told of each row's line which the row says.
-pub fn compare_rows(rt: &impl Abort, alloc: Global, asked: Asked, rows: &str) {
+/// Ends the test unless that is told which each row says.
+pub fn compare_rows(rt: &impl Abort, alloc: Global, rows: &[Row]) {
+    for row in rows {
+        compare(rt, alloc, row.0, row.1, row.2);
+    }
+}
+
+/// The same of lines, and of what is told of each.
+pub fn compare_lines(rt: &impl Abort, alloc: Global, of_line: OfLine, lines: &[(&str, &str)]) {
+    for line in lines {
+        compare(rt, alloc, line.0, Asked::Line(of_line), line.1);
+    }
+}
+
+/// The same of a text: in each row a line, ` ~ `, and what is told. An empty row says nothing.
+pub fn compare_text(rt: &impl Abort, alloc: Global, of_line: OfLine, rows: &str) {
     for row in rows.split('\n') {
         if !row.is_empty() {
             let (line, want) = row.split_once(" ~ ").unwrap_or((row, "a row"));
-            compare(rt, line, told(alloc, asked, line), want);
+            compare(rt, alloc, line, Asked::Line(of_line), want);
         }
     }
 }

@@ -1,291 +1,206 @@
-//! What problems, values and sets tell, as text.
-ghost use Rattle.std.specs.Prelude.{◌≡◌, ◌<◌, length};
-ghost use Rattle.nll_core.specs.Values.{IsShaped, set_of};
+//! What graphs, problems, values and sets tell, as text.
+ghost use Rattle.std.specs.Prelude.{◌≡◌, IfOk};
+ghost use Rattle.nll_core.specs.Values.{IsShaped};
 
+use super::transcript::Transcript;
 use crate::rounds::solve_by_rounds;
 use nll_core::{
-    BuildError, Constraint, Element, ElementSet, Elements, Graph, Memory, Problem, RegionId,
-    Values, faults, solve,
+    Element, ElementSet, Elements, Graph, Memory, Problem, RegionId, Values, faults, solve,
 };
-use nll_cut::{Cut, CutError, Readers};
+use nll_cut::Cut;
 use nll_problem::{ConstraintIndex, Predecessors};
-use std::alloc::{AllocError, Global};
+use std::alloc::Global;
 
 /// What is asked of a problem.
 #[derive(Clone, Copy)]
-pub enum Asked {
+pub enum OfProblem {
     /// Its graph, each region's base elements, its constraints and outlives facts.
     Facts,
     /// Its constraints by the region that they read.
     Readers,
-    /// Its least values.
+    /// Its least values, whether the plain solver gives it the same ones, and its faults.
     Values,
     /// Whether both solvers give it the same values.
     BothSolvers,
     /// Who reads what, where its regions go round so many owners.
     ReadersAmong(u16),
-    /// The faults of its least values.
-    Faults,
     /// What values of it that hold nothing answer where an element is put into a region's.
-    Inserted(RegionId, Element),
+    Inserted(u32, u32),
 }
 
-/// What a problem tells.
-pub fn tell(alloc: Global, problem: &Problem, asked: Asked) -> Result<String, BuildError> {
+/// Writes what a problem tells.
+pub fn tell(out: &mut Transcript, problem: &Problem, asked: OfProblem) {
     match asked {
-        Asked::Facts => Ok(facts_of(alloc, problem)?),
-        Asked::Readers => readers_of(alloc, problem),
-        Asked::Values => values_of(alloc, problem),
-        Asked::BothSolvers => solvers_of(alloc, problem),
-        Asked::ReadersAmong(owners) => readers_among(alloc, problem, owners),
-        Asked::Faults => faults_of(alloc, problem),
-        Asked::Inserted(region, element) => inserted(alloc, problem, region, element),
+        OfProblem::Facts => write_facts(out, problem),
+        OfProblem::Readers => write_readers(out, problem),
+        OfProblem::Values => write_solved(out, problem),
+        OfProblem::BothSolvers => write_both(out, problem),
+        OfProblem::ReadersAmong(owners) => write_readers_among(out, problem, owners),
+        OfProblem::Inserted(region, element) => write_inserted(out, problem, region, element),
     }
 }
 
 /// Writes the successors of each point and its predecessors, and which points return.
-pub fn write_graph(alloc: Global, out: &mut String, graph: &Graph) -> Result<(), Memory> {
-    let predecessors = Predecessors::of(alloc, graph)?;
-    let written = write_points(out, graph, &predecessors);
-    drop(predecessors);
-    Ok(written?)
-}
-
-// The same, by the predecessors of the graph's points.
-fn write_points(
-    out: &mut String,
-    graph: &Graph,
-    predecessors: &Predecessors,
-) -> Result<(), AllocError>
-    requires { predecessors.now ≡ graph.now }
-{
-    for point in 0..graph.points() {
-        write!(out, "{point} to {:?}", graph.next_of(point))?;
-        write!(out, " from {:?}", predecessors.previous_of(point))?;
-        if graph.is_return(point) {
-            out.push_str(" and out")?;
+pub fn write_graph(out: &mut Transcript, graph: &Graph) {
+    if let Ok(predecessors) = Predecessors::of(out.alloc, graph) {
+        for point in 0..graph.points() {
+            out.number("", point, " to ");
+            out.numbers("", graph.next_of(point));
+            out.numbers(" from ", predecessors.previous_of(point));
+            let is_return = graph.is_return(point);
+            out.say(if is_return { " and out|" } else { "|" });
         }
-        out.push('|')?;
+        drop(predecessors);
     }
-    write!(out, "out {:?}|", graph.returns())
-}
-
-// Writes the base elements of a region, points and ends.
-fn write_bases(out: &mut String, problem: &Problem, region: u32) -> Result<(), AllocError> {
-    write!(out, "{region}:")?;
-    for number in 0..problem.points() + problem.universals() {
-        if problem.is_base(RegionId(region), Element(number)) {
-            write!(out, " {number}")?;
-        }
-    }
-    out.push('|')
+    out.numbers("out ", graph.returns());
+    out.say("|");
 }
 
 // Writes the base facts, the constraints and the outlives facts.
-fn write_lists(out: &mut String, problem: &Problem) -> Result<(), AllocError> {
+fn write_lists(out: &mut Transcript, problem: &Problem) {
     for (region, point) in problem.bases() {
-        write!(out, "{} has {point}|", region.0)?;
+        out.pair(region.0, " has ", *point, "|");
     }
-    for Constraint { sup, sub, at } in problem.constraints() {
-        write!(out, "{} holds {} at {at}|", sup.0, sub.0)?;
+    for constraint in problem.constraints() {
+        out.pair(constraint.sup.0, " holds ", constraint.sub.0, " at ");
+        out.number("", constraint.at, "|");
     }
     for (longer, shorter) in problem.outlives_facts() {
-        let back = problem.has_outlives(*shorter, *longer);
-        write!(out, "{} over {}, back {back}|", longer.0, shorter.0)?;
+        out.pair(longer.0, " over ", shorter.0, ", back ");
+        out.flag("", problem.has_outlives(*shorter, *longer), "|");
     }
-    Ok(())
 }
 
-// The facts of a problem.
-fn facts_of(alloc: Global, problem: &Problem) -> Result<String, Memory> {
-    let mut out = String::new(alloc);
-    write_graph(alloc, &mut out, problem.graph())?;
+// Writes the facts of a problem, the base elements of each region among them.
+fn write_facts(out: &mut Transcript, problem: &Problem) {
+    write_graph(out, problem.graph());
     for region in 0..problem.regions() {
-        write_bases(&mut out, problem, region)?;
-    }
-    write_lists(&mut out, problem)?;
-    Ok(out)
-}
-
-// Writes the constraints that read each region.
-fn write_readers(
-    out: &mut String,
-    index: &ConstraintIndex,
-    regions: u32,
-) -> Result<(), AllocError> {
-    for number in 0..regions {
-        write!(out, "{number}:")?;
-        for Constraint { sup, at, .. } in index.reading(RegionId(number)) {
-            write!(out, " {} at {at}", sup.0)?;
+        out.number("", region, ":");
+        for number in 0..problem.points() + problem.universals() {
+            if problem.is_base(RegionId(region), Element(number)) {
+                out.number(" ", number, "");
+            }
         }
-        out.push('|')?;
+        out.say("|");
     }
-    Ok(())
+    write_lists(out, problem);
 }
 
-// The constraints of a problem by the region that they read.
-fn readers_of(alloc: Global, problem: &Problem) -> Result<String, BuildError> {
-    let mut out = String::new(alloc);
-    let index = ConstraintIndex::of(alloc, problem)?;
-    let written = write_readers(&mut out, &index, problem.regions());
-    drop(index);
-    written?;
-    Ok(out)
-}
-
-// Writes which regions an owner reads, of those that there are and one more.
-fn write_read(
-    out: &mut String,
-    readers: &Readers,
-    owner: u16,
-    regions: u32,
-) -> Result<(), AllocError> {
-    write!(out, "{owner} reads")?;
-    for number in 0..=regions {
-        if readers.reads(owner, RegionId(number)) {
-            write!(out, " {number}")?;
+// Writes the constraints of a problem by the region that they read.
+fn write_readers(out: &mut Transcript, problem: &Problem) {
+    if let Ok(index) = ConstraintIndex::of(out.alloc, problem) {
+        for number in 0..problem.regions() {
+            out.number("", number, ":");
+            for constraint in index.reading(RegionId(number)) {
+                out.number(" ", constraint.sup.0, " at ");
+                out.number("", constraint.at, "");
+            }
+            out.say("|");
         }
     }
-    out.push('|')
 }
 
-// Writes which regions each owner reads, and one more that there isn't.
-fn write_all_read(
-    out: &mut String,
-    readers: &Readers,
-    owners: u16,
-    regions: u32,
-) -> Result<(), AllocError> {
-    for owner in 0..=owners {
-        write_read(out, readers, owner, regions)?;
+// Writes which regions each owner reads where the regions of a problem go round so many owners: of
+// those that there are, and one more; and those of an owner that there isn't.
+fn write_readers_among(out: &mut Transcript, problem: &Problem, owners: u16) {
+    if let Ok(cut) = Cut::round(out.alloc, problem.regions(), owners) {
+        if let Ok(readers) = cut.readers(out.alloc, problem) {
+            for owner in 0..=owners {
+                out.number("", u32::from(owner), " reads");
+                for number in 0..=problem.regions() {
+                    if readers.reads(owner, RegionId(number)) {
+                        out.number(" ", number, "");
+                    }
+                }
+                out.say("|");
+            }
+        }
     }
-    Ok(())
-}
-
-// The readers of a problem whose regions go round so many owners.
-fn readers_of_round(alloc: Global, problem: &Problem, owners: u16) -> Result<Readers, CutError> {
-    let cut = Cut::round(alloc, problem.regions(), owners)?;
-    let readers = cut.readers(alloc, problem);
-    drop(cut);
-    Ok(readers?)
-}
-
-// Who reads what, where the regions of a problem go round so many owners.
-fn readers_among(alloc: Global, problem: &Problem, owners: u16) -> Result<String, BuildError> {
-    let mut out = String::new(alloc);
-    let written = match readers_of_round(alloc, problem, owners) {
-        Ok(readers) => write_all_read(&mut out, &readers, owners, problem.regions()),
-        Err(error) => write!(out, "{error}"),
-    };
-    written?;
-    Ok(out)
 }
 
 /// Writes the elements that are still to come.
-pub fn write_elements<S: ElementSet>(
-    out: &mut String,
-    elements: Elements<'_, S>,
-) -> Result<(), AllocError> {
+pub fn write_elements<S: ElementSet>(out: &mut Transcript, elements: Elements<'_, S>) {
     for element in elements {
-        write!(out, " {}", element.0)?;
+        out.number(" ", element.0, "");
     }
-    Ok(())
 }
 
-// Writes the value of a region that is there.
-fn write_value(out: &mut String, values: &Values, region: RegionId) -> Result<(), AllocError>
-    requires { region < length values.now }
-{
-    write!(out, "{}:", region.0)?;
-    for element in values.iter(region) {
-        write!(out, " {}", element.0)?;
-    }
-    out.push('|')
-}
-
-// The values of all regions.
-fn values_shown(alloc: Global, problem: &Problem, values: &Values) -> Result<String, AllocError>
+// Writes the values of all regions.
+fn write_values(out: &mut Transcript, problem: &Problem, values: &Values)
     requires { IsShaped problem.now values.now }
 {
-    let mut out = String::new(alloc);
     for number in 0..problem.regions() {
-        write_value(&mut out, values, RegionId(number))?;
+        out.number("", number, ":");
+        for element in values.iter(RegionId(number)) {
+            out.number(" ", element.0, "");
+        }
+        out.say("|");
     }
-    Ok(out)
 }
 
-// The least values of a problem.
-fn values_of(alloc: Global, problem: &Problem) -> Result<String, BuildError> {
-    let values = solve(alloc, problem)?;
-    let shown = values_shown(alloc, problem, &values);
-    drop(values);
-    Ok(shown?)
-}
-
-// The least values of a problem, as the plain solver gives them.
-fn plain_values_of(alloc: Global, problem: &Problem) -> Result<String, BuildError> {
-    let values = solve_by_rounds(alloc, problem)?;
-    let shown = values_shown(alloc, problem, &values);
-    drop(values);
-    Ok(shown?)
-}
-
-// The least values of a problem as both solvers give them, or that they are the same.
-fn solvers_of(alloc: Global, problem: &Problem) -> Result<String, BuildError> {
-    let quick = values_of(alloc, problem)?;
-    let plain = plain_values_of(alloc, problem)?;
-    if quick.as_str() == plain.as_str() {
-        return Ok(String::from_str(alloc, "same")?);
-    }
-    Ok(format!(in alloc; "{quick} and {plain}")?)
-}
-
-// Pairs of regions.
-fn pairs_shown(alloc: Global, pairs: &[(RegionId, RegionId)]) -> Result<String, AllocError> {
-    let mut out = String::new(alloc);
-    for pair in pairs {
-        write!(out, "{} over {}|", pair.0.0, pair.1.0)?;
-    }
-    Ok(out)
-}
-
-// The faults of the least values of a problem.
-fn faults_of(alloc: Global, problem: &Problem) -> Result<String, BuildError> {
-    let values = solve(alloc, problem)?;
-    let found = faults(alloc, problem, &values);
-    drop(values);
-    let shown = pairs_shown(alloc, found?.as_slice());
-    Ok(shown?)
-}
-
-// Whether values have an element of a region, and what they answer where it is put in.
-fn put(
-    alloc: Global,
-    values: &mut Values,
-    region: RegionId,
-    element: Element,
-) -> Result<String, AllocError>
-    requires region { region < length values.old }
-    requires element { element < length (set_of values.old region) }
+// What a solver gives a problem, as text.
+fn values_told(alloc: Global, problem: &Problem, solved: Result<Values, Memory>) -> Transcript
+    requires { IfOk solved (IsShaped problem.now) }
 {
-    let before = values.has(region, element);
-    let new = values.insert(region, element);
-    format!(in alloc; "{before} {new:?}")
+    let mut out = Transcript::new(alloc);
+    if let Ok(values) = solved {
+        write_values(&mut out, problem, &values);
+        drop(values);
+    }
+    out
 }
 
-// What values that hold nothing answer where an element is put into a region's.
-fn inserted(
-    alloc: Global,
-    problem: &Problem,
-    region: RegionId,
-    element: Element,
-) -> Result<String, BuildError> {
-    let mut values = Values::empty(alloc, problem)?;
-    let told = if region.0 < problem.regions() && element.0 < problem.points() {
-        put(alloc, &mut values, region, element)
+// Writes the least values of a problem as both solvers give them, or that they are the same.
+fn write_both(out: &mut Transcript, problem: &Problem) {
+    let quick = values_told(out.alloc, problem, solve(out.alloc, problem));
+    let plain = values_told(out.alloc, problem, solve_by_rounds(out.alloc, problem));
+    let is_told = !quick.text().is_empty();
+    if is_told && quick.text() == plain.text() {
+        out.say("same");
     } else {
-        Ok(String::new(alloc))
-    };
-    drop(values);
-    Ok(told?)
+        out.say(quick.text());
+        out.say(" and ");
+        out.say(plain.text());
+    }
+    drop(quick);
+    drop(plain);
+}
+
+// Writes the faults of values.
+fn write_faults(out: &mut Transcript, problem: &Problem, values: &Values)
+    requires { IsShaped problem.now values.now }
+{
+    match faults(out.alloc, problem, values) {
+        Ok(found) => {
+            for pair in &found {
+                out.pair(pair.0.0, " over ", pair.1.0, "|");
+            }
+            drop(found);
+        }
+        Err(_) => out.say("refused"),
+    }
+}
+
+// Writes the least values of a problem, what both solvers make of it, and its faults.
+fn write_solved(out: &mut Transcript, problem: &Problem) {
+    if let Ok(values) = solve(out.alloc, problem) {
+        write_values(out, problem, &values);
+        write_both(out, problem);
+        out.say("|");
+        write_faults(out, problem, &values);
+        drop(values);
+    }
+}
+
+// Writes whether values that hold nothing have an element of a region, and what they answer where
+// it is put in.
+fn write_inserted(out: &mut Transcript, problem: &Problem, region: u32, element: u32) {
+    if let Ok(mut values) = Values::empty(out.alloc, problem) {
+        let (region, element) = (RegionId(region), Element(element));
+        if region.0 < problem.regions() && element.0 < problem.points() {
+            out.flag("", values.has(region, element), " ");
+            out.show("", &values.insert(region, element));
+        }
+        drop(values);
+    }
 }

@@ -1,13 +1,15 @@
-//! What tests write down of what they are told.
-use nll_core::BuildError;
+//! What tests write down of what they are told, and comparing it with what was found by hand.
 use std::alloc::Global;
-use std::fmt::Debug;
+use std::fmt::{Debug, Display};
+use std::process::Abort;
 
 /// A text that grows until memory is refused, and then remembers that it was.
 #[derive(Drop)]
 pub struct Transcript {
     text: String,
     is_refused: bool,
+    /// The memory of what is asked.
+    pub alloc: Global,
 }
 
 impl Transcript {
@@ -16,19 +18,13 @@ impl Transcript {
         Transcript {
             text: String::new(alloc),
             is_refused: false,
+            alloc,
         }
     }
 
-    /// Remembers that memory was refused.
-    pub fn refuse(&mut self) {
-        self.is_refused = true;
-    }
-
-    /// Remembers whether a call was refused memory.
+    /// Remembers whether a call was refused.
     pub fn note<E: Drop>(&mut self, done: Result<(), E>) {
-        if done.is_err() {
-            self.refuse();
-        }
+        self.is_refused |= done.is_err();
     }
 
     /// Writes words.
@@ -37,9 +33,48 @@ impl Transcript {
         self.note(written);
     }
 
-    /// Writes words and a value.
+    /// Writes a value behind words.
     pub fn show<T: Debug>(&mut self, before: &str, value: &T) {
         let written = write!(self.text, "{before}{value:?}");
+        self.note(written);
+    }
+
+    /// Writes what an error prints, and a bar.
+    pub fn print<T: Display>(&mut self, error: &T) {
+        let written = write!(self.text, "{error}|");
+        self.note(written);
+    }
+
+    /// Writes a number between words.
+    pub fn number(&mut self, before: &str, number: u32, behind: &str) {
+        let written = write!(self.text, "{before}{number}{behind}");
+        self.note(written);
+    }
+
+    /// Writes two numbers, each with words behind it.
+    pub fn pair(&mut self, first: u32, between: &str, second: u32, behind: &str) {
+        self.number("", first, between);
+        self.number("", second, behind);
+    }
+
+    /// Writes a size behind words.
+    pub fn size(&mut self, before: &str, size: usize) {
+        self.show(before, &size);
+    }
+
+    /// Writes a number, or that there is none, behind words.
+    pub fn option(&mut self, before: &str, number: Option<u32>) {
+        self.show(before, &number);
+    }
+
+    /// Writes numbers as a list behind words.
+    pub fn numbers(&mut self, before: &str, numbers: &[u32]) {
+        self.show(before, &numbers);
+    }
+
+    /// Writes whether something is so, between words.
+    pub fn flag(&mut self, before: &str, is_so: bool, behind: &str) {
+        let written = write!(self.text, "{before}{is_so}{behind}");
         self.note(written);
     }
 
@@ -53,13 +88,15 @@ impl Transcript {
         self.say("|");
     }
 
-    /// The text, unless memory was refused.
-    pub fn finish(self) -> Result<String, BuildError> {
-        let Transcript { text, is_refused } = self;
-        if is_refused {
-            Err(BuildError::Memory)
-        } else {
-            Ok(text)
-        }
+    /// What was written.
+    pub fn text(&self) -> &str {
+        self.text.as_str()
+    }
+
+    /// Ends the test where something else was written, or a call was refused.
+    pub fn compare(&self, rt: &impl Abort, says: &str, want: &str) {
+        let told = self.text();
+        let right = told == want && !self.is_refused;
+        assert!(rt; right, "{says}: {told}");
     }
 }

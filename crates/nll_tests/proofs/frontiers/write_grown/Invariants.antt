@@ -2,7 +2,7 @@ use Rattle.std.proofs.Common.{◌≡◌, ◌≤◌, false, length}
 use Rattle.nll_problem.specs.Graph.{element_count}
 use Rattle.nll_core.specs.Search.{IsIn}
 use Rattle.nll_core.specs.Frontiers.{IsFrontierIn}
-use Rattle.nll_tests.proofs.frontiers.told_of.Given as goal
+use Rattle.nll_tests.proofs.frontiers.write_grown.Given as goal
 
 abbrev pub invariant-loop-number : goal.invariant-loop-number
 invariant-loop-number l = record {
