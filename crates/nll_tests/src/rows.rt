@@ -39,8 +39,8 @@ pub enum Asked {
     Frontier(&'static [u32]),
     /// Of so many regions and owners: how they are dealt.
     Cut(u32, u16, Deal),
-    /// Of a set of a length: what it tells as elements are put in, and of the next element from some
-    /// numbers on.
+    /// Of a set of a length: what it tells as elements are put in, and of the next element from
+    /// some numbers on.
     Sets(u32, &'static [u32], &'static [u32]),
     /// Of a set of bits: the elements that its own method gives.
     LastBit,

@@ -135,8 +135,8 @@ fn write_inserted(out: &mut Transcript, set: &mut RunSet, elements: &[u32])
     }
 }
 
-// Writes what a set of runs tells where the elements from 2 to 5 are put in, and where all are taken
-// out.
+// Writes what a set of runs tells where the elements from 2 to 5 are put in, and where all are
+// taken out.
 fn write_filled(out: &mut Transcript, set: &mut RunSet)
     requires { length set.old ≡ 10 }
 {
