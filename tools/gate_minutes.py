@@ -27,9 +27,9 @@ from processes import Watch, crate_of, is_edit, seconds_of
 
 ROOT = pathlib.Path(__file__).resolve().parents[1]
 
-# Seconds of their checks on that machine: those of the run of 0daefc2, 55, 95 and 97, divided by 1.30 (its
-# machine was so much slower than that of ba498cd) and by 2.33 (this one was so much slower than the first).
-YARDSTICK = {"nll_cut": 18.2, "nll_command_line": 31.4, "nll_text": 32.0}
+# Seconds of their checks on that machine: those of a run of 1d7f5c2, 77, 100 and 158, divided by 3.66, which
+# is how much slower the run's machine was by the checks of three other crates, which have changed since.
+YARDSTICK = {"nll_statements": 21.1, "nll_type_grammar": 27.2, "nll_naming": 43.1}
 # Beyond this the yardstick's crates tell of different machines, so one of them isn't what it was.
 MOST_APART = 2.0
 

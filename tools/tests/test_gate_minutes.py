@@ -81,12 +81,12 @@ class Table(unittest.TestCase):
 
     def test_a_yardstick_that_lacks_a_crate_gives_no_units(self):
         told = gate_minutes.table(yardstick(3)[1:], None).splitlines()[-1]
-        self.assertEqual(told, "no units: the yardstick's nll_cut has no check in this run")
+        self.assertEqual(told, "no units: the yardstick's nll_statements has no check in this run")
 
     def test_a_yardstick_with_a_crate_that_changed_gives_no_units(self):
         told = gate_minutes.table(yardstick(3)[1:] + yardstick(7)[:1], None).splitlines()[-1]
         self.assertIn("no units: the yardstick's crates don't agree", told)
-        self.assertIn("nll_cut 7.00", told)
+        self.assertIn("nll_statements 7.00", told)
 
 
 class Running(unittest.TestCase):
@@ -131,12 +131,15 @@ class Watching(unittest.TestCase):
     def test_each_child_is_told_of_once_it_has_ended(self):
         told = []
         watch = processes.Watch(os.getpid(), told.append)
-        with subprocess.Popen(["sleep", "60"]) as child:
+        with subprocess.Popen(["cat", "-"], stdin=subprocess.PIPE, stdout=subprocess.PIPE) as child:
+            # Until it answers, its command line may still be empty.
+            child.stdin.write(b"\n")
+            child.stdin.flush()
+            child.stdout.readline()
             watch.look()
             self.assertEqual((told, [one["pid"] for one in watch.samples()]), ([], [child.pid]))
-            child.kill()
         watch.look()
-        self.assertEqual([one["words"][:2] for one in told], [["sleep", "60"]])
+        self.assertEqual([one["words"][:2] for one in told], [["cat", "-"]])
         self.assertEqual((told, told), (watch.gone, watch.samples()))
         self.assertTrue(told[0]["kb"] > 0 and told[0]["last"] >= told[0]["first"])
 
