@@ -3,15 +3,16 @@
 
 These are the crates that aren't as they were at the commit (HEAD, where none is named), those that stand on
 one which says something else since (tools/changes.py tells which do), and the tests that stand on a changed
-one. It works in place, by `rt all check` in the highest of them and then `rt test`, so that what it proves
-is kept; libraries between are built too, which over kept work takes little. Each crate has a line as it
-ends, with its seconds of processor time. At the end it says what the gate does beside. Ends with 0 where all
-is proved and passed.
+one. It works in place, by `rt fmt` in the changed crates, since the gate refuses another layout, then by
+`rt all check` in the highest of them and by `rt test`, so that what it proves is kept; libraries between are
+built too, which over kept work takes little. Each crate has a line as it ends, with its seconds of processor
+time. At the end it says what the gate does beside. Ends with 0 where all is proved and passed.
 """
 
 import argparse
 import collections
 import pathlib
+import subprocess
 import sys
 import tempfile
 
@@ -42,6 +43,14 @@ class Told:
         if is_new:
             said = "proved" if is_proved else "NOT PROVED"
             print(f"{crate}: {said}, {self.taken(crate):.0f} s", flush=True)
+
+
+def format_crates(root, crates):
+    """Puts the files of these crates into the layout that the gate wants, and tells which weren't in it."""
+    for crate in crates:
+        done = subprocess.run(["rt", "fmt"], cwd=root / "crates" / crate, capture_output=True, text=True)
+        for line in (done.stdout + done.stderr).splitlines():
+            print(f"{crate}: {line}", flush=True)
 
 
 def tops_of(uses, crates):
@@ -92,6 +101,7 @@ def main(words, root=ROOT):
     changed = changes.crates & set(uses)
     crates = changed | set(above(uses, changes.saying))
     tested = [crate for crate in uses if has_tests(root, crate) and changed & {crate, *below(uses, crate)}]
+    format_crates(root, [crate for crate in uses if crate in changed])
     with tempfile.NamedTemporaryFile("w", prefix="check-changed-", suffix=".log", delete=False) as log:
         check(root, uses, crates | set(tested), asked.jobs or most_at_once(), told, log)
         for crate in tested:

@@ -20,7 +20,7 @@ sys.path.insert(0, str(ROOT / "tools"))
 import prove  # noqa: E402 (it stands in tools/)
 import proving  # noqa: E402
 
-# An `rt` that proves low and nllc, and then makes a program.
+# An `rt` that proves low, then nllc by itself, and then makes a program.
 PROVES = """#!/bin/sh
 echo "$@" in $(basename "$PWD") >> {said}
 if [ "$1" = all ]; then
@@ -93,7 +93,7 @@ class Proving(unittest.TestCase):
         self.assertEqual(told.splitlines()[1:], [
             "nllc.sh: 1 of 2 proved: low", "nllc.sh: 2 of 2 proved: nllc", "nllc.sh: building the program",
             "nllc.sh: proved and built: /crates/nllc/out/nllc"])
-        self.assertRegex(self.said.read_text(), r"\Aall check --jobs \d+ in nllc\nrun -- --help in nllc\n\Z")
+        self.assertRegex(self.said.read_text(), r"\Aall check --jobs (\d+) in nllc\ncheck --jobs \1 in nllc\nrun -- --help in nllc\n\Z")
         self.assertIn("fn low::f: proved", (self.root / "out/prove.log").read_text())
 
     def test_the_proved_program_answers_until_a_source_is_newer(self):

@@ -7,7 +7,7 @@ use Rattle.std.proofs.lemmas.List.Folds.{list_any_more, Any-from_list_any, list_
 use Rattle.nll_problem.specs.Problem.{Problem, IsSound}
 use Rattle.nll_problem.specs.declared.constraint.Constraint.{Constraint}
 use Rattle.nll_cut.specs.Partition.{Cut, owner_of, Reads, reads, makes_read}
-use Rattle.nll_cut.specs.Readers.{is_read, regions_read, with_read, HasRegions, TellsReaders}
+use Rattle.nll_cut.specs.Readers.{is_read, readers_of, with_reader, HasOwners, TellsReaders}
 
 -- ---- the test and the relation
 
@@ -39,9 +39,9 @@ in_cut q c constraints i k sound size same within at =
 
 -- ---- a table of readers
 
--- owners that read nothing have their sets
-pub none_regions : (n m : ℕ) → HasRegions (replicate n (replicate m false)) m
-none_regions n m owner h = ap length (get_or-replicate n owner (replicate m false) [] (omega (arith, length-replicate n (replicate m false)))) ∙ length-replicate m false
+-- regions that nobody reads have their sets
+pub none_owners : (n m : ℕ) → HasOwners (replicate n (replicate m false)) m
+none_owners n m r h = ap length (get_or-replicate n r (replicate m false) [] (omega (arith, length-replicate n (replicate m false)))) ∙ length-replicate m false
 
 -- one constraint more, which lets no owner read more
 adds_nothing : (n a s t : Bool) → (s ≡ true → t ≡ true → n ≡ false) → (n && a) ≡ (n && (a || (s && t)))
@@ -77,8 +77,8 @@ module _ (c : Cut) (readers : List (List Bool)) (constraints : List Constraint) 
   -- a constraint between regions of one owner
   pub tells_own : owner_of c k.sub ≡ owner_of c k.sup → TellsReaders c readers (take (i + 1) constraints)
   tells_own own = record {
-    owners = so_far.owners;
     regions = so_far.regions;
+    owners = so_far.owners;
     each = λ owner r. so_far.each owner r
         ∙ (adds_nothing (not (eqb (owner_of c r) owner)) (before owner r) (eqb (owner_of c k.sup) owner) (eqb k.sub r)
         (λ s t. ap not (eq-eqb (owner_of c r) owner (ap (owner_of c) (sym (eqb-true _ _ t)) ∙ (own ∙ eqb-true _ _ s))))
@@ -87,53 +87,53 @@ module _ (c : Cut) (readers : List (List Bool)) (constraints : List Constraint) 
 
   -- a constraint that lets an owner read a region of another
   module _ (reader : ℕ) (is : reader ≡ owner_of c k.sup) (owned : reader < c.owners) (region : k.sub < length c.list) (apart : owner_of c k.sub ≢ reader) where
-    there : reader < length readers
-    there = omega (arith, so_far.owners)
+    there : k.sub < length readers
+    there = omega (arith, so_far.regions)
 
-    row_here : regions_read (with_read readers reader k.sub) reader ≡ set (regions_read readers reader) k.sub true
-    row_here = get_or-set_same readers reader (set (regions_read readers reader) k.sub true) [] there
+    row_here : readers_of (with_reader readers reader k.sub) k.sub ≡ set (readers_of readers k.sub) reader true
+    row_here = get_or-set_same readers k.sub (set (readers_of readers k.sub) reader true) [] there
 
-    row_other : (o : ℕ) → o ≢ reader → regions_read (with_read readers reader k.sub) o ≡ regions_read readers o
-    row_other o other = get_or-set_other readers reader o (set (regions_read readers reader) k.sub true) [] other
+    row_other : (r : ℕ) → r ≢ k.sub → readers_of (with_reader readers reader k.sub) r ≡ readers_of readers r
+    row_other r other = get_or-set_other readers k.sub r (set (readers_of readers k.sub) reader true) [] other
 
-    each_row : (o : ℕ) → o < length readers → length (regions_read (with_read readers reader k.sub) o) ≡ length c.list
-    each_row o h = ⊎_elim
-        (λ (same : o ≡ reader). subst (λ x. length (regions_read (with_read readers reader k.sub) x) ≡ length c.list) (sym same)
-        (ap length row_here ∙ (length-set (regions_read readers reader) k.sub true ∙ so_far.regions reader there)))
-        (λ other. ap length (row_other o other) ∙ so_far.regions o h)
-        (cases_eq o reader)
+    each_row : (r : ℕ) → r < length readers → length (readers_of (with_reader readers reader k.sub) r) ≡ c.owners
+    each_row r h = ⊎_elim
+        (λ (same : r ≡ k.sub). subst (λ x. length (readers_of (with_reader readers reader k.sub) x) ≡ c.owners) (sym same)
+        (ap length row_here ∙ (length-set (readers_of readers k.sub) reader true ∙ so_far.owners k.sub there)))
+        (λ other. ap length (row_other r other) ∙ so_far.owners r h)
+        (cases_eq r k.sub)
 
-    flag_here : is_read (with_read readers reader k.sub) reader k.sub ≡ true
-    flag_here = ap (λ row. get_or row k.sub false) row_here ∙ get_or-set_same (regions_read readers reader) k.sub true false (omega (arith, so_far.regions reader there))
+    flag_here : is_read (with_reader readers reader k.sub) reader k.sub ≡ true
+    flag_here = ap (λ row. get_or row reader false) row_here ∙ get_or-set_same (readers_of readers k.sub) reader true false (omega (arith, owned, so_far.owners k.sub there))
 
-    flag_other : (r : ℕ) → r ≢ k.sub → is_read (with_read readers reader k.sub) reader r ≡ is_read readers reader r
-    flag_other r other = ap (λ row. get_or row r false) row_here ∙ get_or-set_other (regions_read readers reader) k.sub r true false other
+    flag_other : (o : ℕ) → o ≢ reader → is_read (with_reader readers reader k.sub) o k.sub ≡ is_read readers o k.sub
+    flag_other o other = ap (λ row. get_or row o false) row_here ∙ get_or-set_other (readers_of readers k.sub) reader o true false other
 
     -- what is told of an owner and a region which the constraint isn't of
-    others : (o r : ℕ) → ((owner_of c k.sup ≡ o) → (k.sub ≡ r) → ⊥) → is_read (with_read readers reader k.sub) o r ≡ is_read readers o r → is_read (with_read readers reader k.sub) o r ≡ (not (eqb (owner_of c r) o) && after o r)
+    others : (o r : ℕ) → ((owner_of c k.sup ≡ o) → (k.sub ≡ r) → ⊥) → is_read (with_reader readers reader k.sub) o r ≡ is_read readers o r → is_read (with_reader readers reader k.sub) o r ≡ (not (eqb (owner_of c r) o) && after o r)
     others o r none same = same
         ∙ (so_far.each o r
         ∙ (passes_by (not (eqb (owner_of c r) o)) (before o r) (eqb (owner_of c k.sup) o) (eqb k.sub r) (λ s t. none (eqb-true _ _ s) (eqb-true _ _ t))
         ∙ ap (λ b. not (eqb (owner_of c r) o) && b) (sym (one_more o r))))
 
-    told_here : is_read (with_read readers reader k.sub) reader k.sub ≡ (not (eqb (owner_of c k.sub) reader) && after reader k.sub)
+    told_here : is_read (with_reader readers reader k.sub) reader k.sub ≡ (not (eqb (owner_of c k.sub) reader) && after reader k.sub)
     told_here = flag_here
         ∙ (adds_one (not (eqb (owner_of c k.sub) reader)) (before reader k.sub) (eqb (owner_of c k.sup) reader) (eqb k.sub k.sub)
         (not_from_false _ (ne_eqb (owner_of c k.sub) reader apart)) (eq-eqb _ _ (sym is)) (eq-eqb _ _ refl)
         ∙ ap (λ b. not (eqb (owner_of c k.sub) reader) && b) (sym (one_more reader k.sub)))
 
-    told : (o r : ℕ) → is_read (with_read readers reader k.sub) o r ≡ (not (eqb (owner_of c r) o) && after o r)
+    told : (o r : ℕ) → is_read (with_reader readers reader k.sub) o r ≡ (not (eqb (owner_of c r) o) && after o r)
     told o r = ⊎_elim
-        (λ (same : o ≡ reader). ⊎_elim
-        (λ (this : r ≡ k.sub). subst (λ (x : ℕ × ℕ). is_read (with_read readers reader k.sub) x.0 x.1 ≡ (not (eqb (owner_of c x.1) x.0) && after x.0 x.1)) (λ j. (sym same j, sym this j)) told_here)
-        (λ (other : r ≢ k.sub). others o r (λ _ t. other (sym t)) (subst (λ x. is_read (with_read readers reader k.sub) x r ≡ is_read readers x r) (sym same) (flag_other r other)))
-        (cases_eq r k.sub))
-        (λ (other : o ≢ reader). others o r (λ s _. other (sym s ∙ sym is)) (ap (λ row. get_or row r false) (row_other o other)))
-        (cases_eq o reader)
+        (λ (this : r ≡ k.sub). ⊎_elim
+        (λ (same : o ≡ reader). subst (λ (x : ℕ × ℕ). is_read (with_reader readers reader k.sub) x.0 x.1 ≡ (not (eqb (owner_of c x.1) x.0) && after x.0 x.1)) (λ j. (sym same j, sym this j)) told_here)
+        (λ (other : o ≢ reader). others o r (λ s _. other (sym s ∙ sym is)) (subst (λ x. is_read (with_reader readers reader k.sub) o x ≡ is_read readers o x) (sym this) (flag_other o other)))
+        (cases_eq o reader))
+        (λ (other : r ≢ k.sub). others o r (λ _ t. other (sym t)) (ap (λ row. get_or row o false) (row_other r other)))
+        (cases_eq r k.sub)
 
-    pub tells_other : TellsReaders c (with_read readers reader k.sub) (take (i + 1) constraints)
+    pub tells_other : TellsReaders c (with_reader readers reader k.sub) (take (i + 1) constraints)
     tells_other = record {
-      owners = length-set readers reader (set (regions_read readers reader) k.sub true) ∙ so_far.owners;
-      regions = λ o h. each_row o (omega (arith, length-set readers reader (set (regions_read readers reader) k.sub true)));
+      regions = length-set readers k.sub (set (readers_of readers k.sub) reader true) ∙ so_far.regions;
+      owners = λ r h. each_row r (omega (arith, length-set readers k.sub (set (readers_of readers k.sub) reader true)));
       each = told;
     }

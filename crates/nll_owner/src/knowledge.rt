@@ -14,14 +14,16 @@ ghost use Rattle.nll_owner.specs.Owner.{IsSound, IsCalled, Has, HasBases, Passes
 ghost use Rattle.nll_owner.specs.Owner.{part_for, given_to, received_from, with_growth};
 ghost use Rattle.nll_owner.specs.Owner.{first_owner};
 ghost use Rattle.nll_owner.specs.Keeping.{Grows, HasBeside};
+ghost use Rattle.nll_owner.specs.Outboxes.{AreQueued, AreAllQueued};
 ghost use Rattle.nll_owner.specs.declared.error.OwnerError.TheVariants.{RankFull, Broken};
 
 use crate::error::OwnerError;
+use crate::outboxes::Outboxes;
 use nll_core::Values;
 use nll_cut::{Cut, Readers};
 use nll_mail::Growth;
 use nll_problem::{Problem, RegionId};
-use nll_sets::Element;
+use nll_sets::{Element, Memory};
 use std::alloc::Global;
 use std::marker::Model;
 
@@ -31,8 +33,8 @@ pub const MAX_RANK: u64 = 1 << 62;
 /// The values and copies of an owner, its log, and what it received. Contracts see it as the owner.
 ///
 /// # Shape
-/// `received`, `places` and `given` have an entry for each owner: what it told, how far in the log
-/// it was given its part, and how much of it.
+/// `received` and `given` have an entry for each owner: what it told, and how much of its part of the
+/// log it was given.
 #[derive(Drop)]
 pub struct Knowledge<'q> {
     pub problem: &'q Problem,
@@ -42,7 +44,6 @@ pub struct Knowledge<'q> {
     pub values: Values,
     pub log: Vec<Growth>,
     pub received: Vec<Vec<Growth>>,
-    pub places: Vec<usize>,
     pub given: Vec<u64>,
     pub clock: u64,
     pub loaded: bool,
@@ -62,7 +63,7 @@ impl<'q> Model for Knowledge<'q> {
     ghost invariant = { λ o. IsKept
         (owner_of_parts o.problem.now o.cut.now o.me o.log.items
         (map (λ list. list.items) o.received.items) o.given.items o.clock o.loaded o.broken)
-        o.values o.places.items o.readers };
+        o.values o.readers };
 }
 
 impl<'q> Knowledge<'q> {
@@ -72,7 +73,7 @@ impl<'q> Knowledge<'q> {
         problem: &'q Problem,
         cut: &'q Cut,
         me: u16,
-    ) -> Result<Knowledge<'q>, OwnerError>
+    ) -> Result<Knowledge<'q>, Memory>
         requires cut { length cut.now.list ≡ problem.now.regions }
         requires me { me < cut.now.owners }
         ensures owner { IfOk result (λ o. o ≡ first_owner problem.now cut.now me) }
@@ -83,7 +84,6 @@ impl<'q> Knowledge<'q> {
         let readers = cut.readers(alloc, problem)?;
         let values = Values::empty(alloc, problem)?;
         let received = empty_lists(alloc, owners)?;
-        let places = vec![in alloc; 0usize; owners as usize]?;
         let given = vec![in alloc; 0u64; owners as usize]?;
         Ok(Knowledge {
             problem,
@@ -93,7 +93,6 @@ impl<'q> Knowledge<'q> {
             values,
             log: Vec::new(alloc),
             received,
-            places,
             given,
             clock: 0,
             loaded: false,
@@ -180,42 +179,27 @@ impl<'q> Knowledge<'q> {
         self.broken = broken;
     }
 
-    /// The next growth of the part of the log that another owner reads, which is then given.
-    pub fn give_next(&mut self, to: u16) -> Option<Growth>
-        requires { to < self.old.cut.owners }
-        ensures some { IfSome result (λ growth.
-            (slice_get (part_for self.old to) (given_to self.old to) ≡ Some growth)
-            × (self.new ≡ record self.old {
-              given = slice_set self.old.given to (given_to self.old to + 1);
-            })) }
-        ensures none { IfNone result
-            ((self.new ≡ self.old) × (given_to self.old to ≡ length (part_for self.old to))) }
+    /// Gives the growth at a place of the log to another owner, which lacks some of its part.
+    pub fn give(&mut self, to: u16, place: usize) -> Growth
+        requires to { to < self.old.cut.owners }
+        requires place { place < length self.old.log }
+        requires more { given_to self.old to < length (part_for self.old to) }
+        ensures growth { slice_get self.old.log place ≡ Some result }
+        ensures given { self.new ≡ record self.old {
+          given = slice_set self.old.given to (given_to self.old to + 1);
+        } }
         ensures sound { IsSound self.new }
     {
-        let place = self.next_place(to)?;
-        let growth = self.log[place];
-        self.places[to as usize] = place + 1;
         self.given[to as usize] += 1;
-        Some(growth)
+        self.log[place]
     }
 
-    // The place in the log of the next growth for another owner.
-    fn next_place(&self, to: u16) -> Option<usize>
-        requires { to < self.now.cut.owners }
-        ensures some { IfSome result (λ place. (place < length self.now.log)
-            × (given_to self.now to
-            ≡ length (part self.now.problem self.now.cut to (take place self.now.log)))
-            × ((g : Growth) → slice_get self.now.log place ≡ Some g
-            → reads self.now.problem self.now.cut to g.region ≡ true)) }
-        ensures none { IfNone result
-            (given_to self.now to ≡ length (part_for self.now to)) }
+    /// Queues the growths of the log that aren't queued yet.
+    pub fn queue(&self, outboxes: &mut Outboxes) -> Result<(), Memory>
+        requires { AreQueued self.now outboxes.old }
+        ensures { OnOk result (AreAllQueued self.now outboxes.new) }
     {
-        for place in self.places[to as usize]..self.log.len() {
-            if self.readers.reads(to, self.log[place].region) {
-                return Some(place);
-            }
-        }
-        None
+        outboxes.take_up(&self.readers, &self.log)
     }
 
     /// Whether the owner may be told a growth by another one.
@@ -255,6 +239,14 @@ impl<'q> Knowledge<'q> {
         &self.log
     }
 
+    /// Hands out the log.
+    pub fn into_log(self) -> Vec<Growth>
+        ensures { result.items ≡ self.entry.log }
+    {
+        let Knowledge { log, .. } = self;
+        log
+    }
+
     /// How many growths were given out.
     pub fn given_count(&self) -> u64
         ensures { result ≡ sum self.now.given }
@@ -289,7 +281,7 @@ impl<'q> Knowledge<'q> {
 }
 
 // This many empty lists.
-fn empty_lists(alloc: Global, count: u16) -> Result<Vec<Vec<Growth>>, OwnerError>
+fn empty_lists(alloc: Global, count: u16) -> Result<Vec<Vec<Growth>>, Memory>
     ensures { IfOk result
         (λ lists. map (λ list. list.items) lists.items ≡ replicate count []) }
 {

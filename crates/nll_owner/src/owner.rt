@@ -10,15 +10,17 @@ ghost use Rattle.nll_owner.specs.Owner.{IsSound, IsDone, IsReady, Has, Passes, p
 ghost use Rattle.nll_owner.specs.Owner.{received_from, with_growth, first_owner};
 ghost use Rattle.nll_owner.specs.Keeping.{Grows, IsClosed};
 ghost use Rattle.nll_owner.specs.Following.{IsFollowing, Nothing, Pair};
+ghost use Rattle.nll_owner.specs.Outboxes.{AreQueued, AreAllQueued};
 ghost use Rattle.nll_owner.specs.declared.error.OwnerError.TheVariants.{RankFull, Broken};
 
 use crate::error::OwnerError;
 use crate::following::Following;
 use crate::knowledge::Knowledge;
+use crate::outboxes::Outboxes;
 use nll_cut::Cut;
 use nll_mail::Growth;
 use nll_problem::{Problem, RegionId};
-use nll_sets::Element;
+use nll_sets::{Element, Memory};
 use std::alloc::Global;
 use std::marker::Model;
 
@@ -41,21 +43,24 @@ pub struct Counts {
 pub struct Owner<'q> {
     alloc: Global,
     knowledge: Knowledge<'q>,
-    // Nothing is known of it once a call was refused.
+    // Nothing is known of these two once a call was refused.
     following: Following<'q>,
+    outboxes: Outboxes,
 }
 
 impl<'q> Model for Owner<'q> {
     ghost use Rattle.std.specs.Prelude.{◌≡◌, false};
     ghost use Rattle.nll_owner.specs.Owner as spec;
-    ghost use Rattle.nll_owner.specs.Following.{IsFollowing, Nothing, Pair};
+    ghost use Rattle.nll_owner.specs.Following.{IsFollowing, Nothing};
+    ghost use Rattle.nll_owner.specs.Outboxes.{AreAllQueued};
 
     ghost Value = { spec.Owner };
 
     ghost view = { λ o. o.knowledge };
 
     ghost invariant = { λ o. spec.IsSound o.knowledge
-        × (o.knowledge.broken ≡ false → IsFollowing Nothing o.knowledge o.following) };
+        × (o.knowledge.broken ≡ false → IsFollowing Nothing o.knowledge o.following
+        × AreAllQueued o.knowledge o.outboxes) };
 }
 
 impl<'q> Owner<'q> {
@@ -68,18 +73,18 @@ impl<'q> Owner<'q> {
         problem: &'q Problem,
         cut: &'q Cut,
         me: u16,
-    ) -> Result<Owner<'q>, OwnerError>
+    ) -> Result<Owner<'q>, Memory>
         requires cut { length cut.now.list ≡ problem.now.regions }
         requires me { me < cut.now.owners }
-        ensures owner { IfOk result (λ o. o ≡ first_owner problem.now cut.now me) }
+        ensures { IfOk result (λ o. o ≡ first_owner problem.now cut.now me) }
     {
-        let following = Following::new(alloc, problem, cut, me)?;
-        let knowledge = Knowledge::new(alloc, problem, cut, me);
-        match knowledge {
-            Ok(knowledge) => Ok(Owner {
+        let outboxes = Outboxes::new(alloc, cut.owners())?;
+        match parts_of(alloc, problem, cut, me) {
+            Ok((knowledge, following)) => Ok(Owner {
                 alloc,
                 knowledge,
                 following,
+                outboxes,
             }),
             Err(error) => Err(error),
         }
@@ -111,7 +116,12 @@ impl<'q> Owner<'q> {
         if self.knowledge.broken {
             return Err(OwnerError::Broken);
         }
-        let result = load_all(self.alloc, &mut self.knowledge, &mut self.following);
+        let result = load_all(
+            self.alloc,
+            &mut self.knowledge,
+            &mut self.following,
+            &mut self.outboxes,
+        );
         self.knowledge.mark(result.is_ok(), result.is_err());
         result
     }
@@ -153,6 +163,7 @@ impl<'q> Owner<'q> {
             alloc,
             &mut self.knowledge,
             &mut self.following,
+            &mut self.outboxes,
             from,
             growth,
         );
@@ -203,10 +214,41 @@ impl<'q> Owner<'q> {
             → given_to self.old to ≡ length (part_for self.old to))) }
         ensures sound { IsSound self.new }
     {
-        if self.knowledge.broken || to >= self.knowledge.cut.owners() {
+        if self.knowledge.broken {
             return None;
         }
-        self.knowledge.give_next(to)
+        let place = self.outboxes.take(to)?;
+        Some(self.knowledge.give(to, place))
+    }
+
+    /// The growth that `outgoing` gives next. None where that gives none.
+    pub fn next_for(&self, to: u16) -> Option<Growth>
+        ensures some { IfSome result (λ growth. (self.now.broken ≡ false)
+            × (slice_get (part_for self.now to) (given_to self.now to) ≡ Some growth)) }
+        ensures none { IfNone result (self.now.broken ≡ false → to < self.now.cut.owners
+            → given_to self.now to ≡ length (part_for self.now to)) }
+        ensures sound { IsSound self.now }
+    {
+        if self.knowledge.broken {
+            return None;
+        }
+        let place = self.outboxes.first(to)?;
+        Some(self.knowledge.entries()[place])
+    }
+
+    /// How many growths of the part of the log that another owner reads weren't given out; 0 where
+    /// `to` is no other owner, and after an error.
+    pub fn unsent(&self, to: u16) -> u64
+        ensures count { self.now.broken ≡ false → to < self.now.cut.owners
+            → given_to self.now to + result ≡ length (part_for self.now to) }
+        ensures past { self.now.cut.owners ≤ to → result ≡ 0 }
+        ensures broken { self.now.broken ≡ true → result ≡ 0 }
+        ensures sound { IsSound self.now }
+    {
+        if self.knowledge.broken {
+            return 0;
+        }
+        self.outboxes.len(to)
     }
 
     /// Whether the value of an own region, or the copy of a region that is read, has an element;
@@ -241,6 +283,14 @@ impl<'q> Owner<'q> {
         self.knowledge.entries()
     }
 
+    /// Hands out the log.
+    pub fn into_log(self) -> Vec<Growth>
+        ensures { result.items ≡ self.entry.log }
+    {
+        let Owner { knowledge, .. } = self;
+        knowledge.into_log()
+    }
+
     /// What was received from an owner, in the order of receipt; nothing where it is no other
     /// owner.
     pub fn received(&self, from: u16) -> &[Growth]
@@ -251,8 +301,51 @@ impl<'q> Owner<'q> {
     }
 }
 
-// Enters the base elements, and settles.
+// What an owner knows and has followed up that has done nothing yet.
+fn parts_of<'q>(
+    alloc: Global,
+    problem: &'q Problem,
+    cut: &'q Cut,
+    me: u16,
+) -> Result<(Knowledge<'q>, Following<'q>), Memory>
+    requires cut { length cut.now.list ≡ problem.now.regions }
+    requires me { me < cut.now.owners }
+    ensures owner { IfOk result (λ parts. parts.0 ≡ first_owner problem.now cut.now me) }
+    ensures sound { IfOk result (λ parts. IsSound parts.0) }
+    ensures following { IfOk result
+        (λ parts. IsFollowing Nothing (first_owner problem.now cut.now me) parts.1) }
+{
+    let following = Following::new(alloc, problem, cut, me)?;
+    match Knowledge::new(alloc, problem, cut, me) {
+        Ok(knowledge) => Ok((knowledge, following)),
+        Err(error) => Err(error),
+    }
+}
+
+// Enters the base elements, settles, and queues what the log got.
 fn load_all(
+    alloc: Global,
+    knowledge: &mut Knowledge,
+    following: &mut Following,
+    outboxes: &mut Outboxes,
+) -> Result<(), OwnerError>
+    requires sound { IsSound knowledge.old }
+    requires following { IsFollowing Nothing knowledge.old following.old }
+    requires queued { AreQueued knowledge.old outboxes.old }
+    ensures grows { Grows knowledge.old knowledge.new }
+    ensures following { OnOk result (IsFollowing Nothing knowledge.new following.new) }
+    ensures queued { OnOk result (AreAllQueued knowledge.new outboxes.new) }
+    ensures done { OnOk result (IsDone knowledge.new) }
+    ensures full { result ≡ Err RankFull → 2 ^ 62 ≤ knowledge.new.clock }
+    ensures whole { result ≡ Err Broken → ⊥ }
+{
+    load_and_settle(alloc, knowledge, following)?;
+    knowledge.queue(outboxes)?;
+    Ok(())
+}
+
+// Enters the base elements, and settles.
+fn load_and_settle(
     alloc: Global,
     knowledge: &mut Knowledge,
     following: &mut Following,
@@ -270,8 +363,44 @@ fn load_all(
     Ok(())
 }
 
-// Enters a growth into the copy of its region, and settles.
+// Enters a growth into the copy of its region, settles, and queues what the log got.
 fn receive_all(
+    alloc: Global,
+    knowledge: &mut Knowledge,
+    following: &mut Following,
+    outboxes: &mut Outboxes,
+    from: u16,
+    growth: Growth,
+) -> Result<(), OwnerError>
+    requires sound { IsSound knowledge.old }
+    requires loaded { knowledge.old.loaded ≡ true }
+    requires following { IsFollowing Nothing knowledge.old following.old }
+    requires queued { AreQueued knowledge.old outboxes.old }
+    requires passes { Passes knowledge.old.problem knowledge.old.cut knowledge.old.me from growth }
+    ensures begins { IsPrefix knowledge.old.log knowledge.new.log }
+    ensures others { knowledge.new ≡ record knowledge.old {
+      log = knowledge.new.log;
+      received = knowledge.new.received;
+      clock = knowledge.new.clock;
+    } }
+    ensures received { OnOk result
+        (knowledge.new.received ≡ with_growth knowledge.old.received from growth) }
+    ensures perhaps { (knowledge.new.received ≡ knowledge.old.received)
+        ⊎ (knowledge.new.received ≡ with_growth knowledge.old.received from growth) }
+    ensures following { OnOk result (IsFollowing Nothing knowledge.new following.new) }
+    ensures queued { OnOk result (AreAllQueued knowledge.new outboxes.new) }
+    ensures done { OnOk result (IsDone knowledge.new) }
+    ensures full { result ≡ Err RankFull → 2 ^ 62 ≤ knowledge.new.clock }
+    ensures whole { result ≡ Err Broken → ⊥ }
+    ensures sound { IsSound knowledge.new }
+{
+    receive_and_settle(alloc, knowledge, following, from, growth)?;
+    knowledge.queue(outboxes)?;
+    Ok(())
+}
+
+// Enters a growth into the copy of its region, and settles.
+fn receive_and_settle(
     alloc: Global,
     knowledge: &mut Knowledge,
     following: &mut Following,

@@ -123,8 +123,10 @@ fn write_last_answers(out: &mut String, owner: &mut Owner) -> Result<(), AllocEr
         };
         write_answer(out, owner, growth)?;
     }
-    let next = owner.outgoing(1);
-    write!(out, "{next:?}|")
+    let unsent = owner.unsent(1);
+    let next = owner.next_for(1);
+    let given = owner.outgoing(1);
+    write!(out, "{unsent} {next:?} {given:?}|")
 }
 
 // What the first of two owners answers to them, and what it has for the other then.
@@ -136,9 +138,10 @@ fn last_answers_over(alloc: Global, problem: &Problem, cut: &Cut) -> Result<Stri
     let mut owner = Owner::new(alloc, problem, cut, 0)?;
     let loaded = owner.load();
     let written = write_last_answers(&mut out, &mut owner);
-    drop(owner);
+    let entries = owner.into_log().len();
     loaded?;
     written?;
+    write!(out, "{entries}")?;
     Ok(out)
 }
 

@@ -34,13 +34,19 @@ fn refusal(error: OwnerError, again: Result<(), OwnerError>, kept: bool) -> Endi
     }
 }
 
+// Whether an owner has nothing for itself and one other.
+fn is_silent(owner: &mut Owner<'_>) -> bool {
+    let none_left = owner.unsent(0) == 0 && owner.unsent(1) == 0 && owner.next_for(1).is_none();
+    none_left && owner.outgoing(0).is_none() && owner.outgoing(1).is_none()
+}
+
 // Loads an owner. Answers how it ends, if that is refused.
 fn load(owner: &mut Owner<'_>) -> Option<Ending>
     requires { owner.old.broken ≡ false → owner.old.loaded ≡ false }
 {
     let error = owner.load().err()?;
     let again = owner.load();
-    let silent = owner.outgoing(0).is_none() && owner.outgoing(1).is_none();
+    let silent = is_silent(owner);
     Some(refusal(error, again, silent))
 }
 
@@ -54,7 +60,7 @@ fn receive(owner: &mut Owner<'_>, from: u16, growth: Growth) -> Option<Ending>
     let error = owner.receive(from, growth).err()?;
     let kept = has_still(owner.log(), count, last);
     let again = owner.receive(from, growth);
-    let silent = owner.outgoing(0).is_none() && owner.outgoing(1).is_none();
+    let silent = is_silent(owner);
     Some(refusal(error, again, kept && silent))
 }
 
@@ -113,13 +119,8 @@ fn with_first(alloc: Global, problem: &Problem, cut: &Cut, first: &mut Owner<'_>
             drop(second);
             ending
         }
-        Err(error) => not_made(error),
+        Err(_) => Ending::Refused,
     }
-}
-
-// How it ends where an owner isn't made.
-fn not_made(error: OwnerError) -> Ending {
-    refusal(error, Err(OwnerError::Broken), true)
 }
 
 // The same of the two owners of a cut.
@@ -135,7 +136,7 @@ fn over(alloc: Global, problem: &Problem, cut: &Cut) -> Ending
             drop(first);
             ending
         }
-        Err(error) => not_made(error),
+        Err(_) => Ending::Refused,
     }
 }
 

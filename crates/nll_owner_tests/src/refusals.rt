@@ -6,7 +6,7 @@ use nll_driver::Stop;
 #[test]
 fn an_owner_without_ranks_is_refused(rt: HostRuntime) {
     let told = answers_at_the_last_rank(rt.alloc(), BY_TURNS);
-    let want = "Ok(())|Err(RankFull)|Err(Broken)|None|";
+    let want = "Ok(())|Err(RankFull)|Err(Broken)|0 None None|4";
     match told {
         Ok(text) => assert!(rt; text.as_str() == want, "{text}"),
         Err(stop) => assert!(rt; false, "{stop:?}"),

@@ -108,7 +108,9 @@ fn write_readers_among(out: &mut Transcript, problem: &Problem, owners: u16) {
             for owner in 0..=owners {
                 out.number("", u32::from(owner), " reads");
                 for number in 0..=problem.regions() {
-                    if readers.reads(owner, RegionId(number)) {
+                    let region = RegionId(number);
+                    let next = readers.next_reader(region, owner);
+                    if readers.reads(owner, region) && next == Some(owner) {
                         out.number(" ", number, "");
                     }
                 }

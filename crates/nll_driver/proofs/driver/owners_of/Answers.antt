@@ -23,6 +23,6 @@ loop-me-preserved c =
       first = λ i p h. ⊎_elim
           (λ (before : slice_get owners i ≡ Some p). was.first i p before)
           (λ (t : (i ≡ length owners) × (p ≡ o)).
-          t.1 ∙ (c.in_ok-new.ensures.owner ∙ ap (λ j. first_owner c.args.problem.now c.args.cut.now j) (sym (t.0 ∙ was.count))))
+          t.1 ∙ (c.in_ok-new.ensures ∙ ap (λ j. first_owner c.args.problem.now c.args.cut.now j) (sym (t.0 ∙ was.count))))
           (get_pushed owners o i p (rw is at h));
     }

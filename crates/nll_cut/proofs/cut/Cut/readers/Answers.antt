@@ -17,13 +17,13 @@ owner_of-requires c = (item_in_cut (goal.at.owner_of-requires c).After-constrain
 pub enter-requires-clause-owner : goal.enter-requires-clause-owner
 enter-requires-clause-owner c =
     let both = item_in_cut (goal.at.enter-requires-clause-owner c).After-constraint-item in
-    omega (arith, c.owner_of-reader.ensures.value, c.owner_of-reader.ensures.sound.owned c.constraint-item.result.sup both.0, c.loop-constraint.invariant.owners)
+    let owned = c.owner_of-reader.ensures.sound.owned c.constraint-item.result.sup both.0 in
+    omega (arith, c.owner_of-reader.ensures.value, owned, c.loop-constraint.invariant.owners c.constraint-item.result.sub (omega (arith, both.1, c.loop-constraint.invariant.regions)))
 
 pub enter-requires-clause-region : goal.enter-requires-clause-region
 enter-requires-clause-region c =
     let both = item_in_cut (goal.at.enter-requires-clause-region c).After-constraint-item in
-    let owned = c.owner_of-reader.ensures.sound.owned c.constraint-item.result.sup both.0 in
-    omega (arith, both.1, c.loop-constraint.invariant.regions c.owner_of-reader.result (omega (arith, c.owner_of-reader.ensures.value, owned, c.loop-constraint.invariant.owners)))
+    omega (arith, both.1, c.loop-constraint.invariant.regions)
 
 pub loop-constraint-preserved : goal.loop-constraint-preserved
 loop-constraint-preserved c =
