@@ -4,6 +4,7 @@ pub mod SolverLemmas
 pub mod BaseLemmas
 pub mod FaultLemmas
 pub mod LineLemmas
+pub mod LandingLemmas
 pub mod JumpLemmas
 pub mod WalkingLemmas
 pub mod RunValueLemmas

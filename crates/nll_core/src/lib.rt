@@ -11,6 +11,8 @@ mod bases;
 mod fault_check;
 mod frontier;
 mod jumps;
+mod landing;
+mod landings;
 mod line_ends;
 mod lines;
 mod meeting;
@@ -28,6 +30,8 @@ mod walk;
 pub use bases::base_values;
 pub use fault_check::faults;
 pub use frontier::Frontier;
+pub use landings::Landings;
+pub use lines::Lines;
 pub use nll_problem::{
     BuildError, Constraint, Graph, Kind, MAX_CONSTRAINTS, MAX_EDGES, MAX_POINTS, MAX_REGIONS,
     MAX_UNIVERSALS, Problem, ProblemBuilder, RegionId,
