@@ -10,4 +10,6 @@ pub mod WalkingLemmas
 pub mod RunValueLemmas
 pub mod WorklistLemmas
 pub mod OrderLemmas
+pub mod ListingLemmas
+pub mod StartLemmas
 pub mod FrontierLemmas

@@ -263,6 +263,10 @@ module _ (g : Graph) (sub : List Bool) where
   jump_to_ends sound x t past (inl next) = absurd (omega (arith, past, (sound.edges_in_range x t next.0).1))
   jump_to_ends sound x t past (inr back) = inr (back.0, refl)
 
+  -- a walk goes on with another one
+  pub reaches_append : (a b c : ℕ) → Reaches g (IsIn sub) a b → Reaches g (IsIn sub) b c → Reaches g (IsIn sub) a c
+  reaches_append a b c p q = reaches_carries g (IsIn sub) b (Reaches g (IsIn sub) a) (λ u v h step within. reaches_more g (IsIn sub) a u v h step within) c p q
+
   -- ---- the list, run by run
 
   pub record Spreading (start now : List Bool) (listed todo : List Run) (place : ℕ) (ends : Bool) : Type 0 where
@@ -325,10 +329,7 @@ module _ (g : Graph) (sub : List Bool) where
       }
     where
       led : (x y t : ℕ) → IsLedTo g sub start y → IsJump g y t → t < g.points → Reaches g (IsIn sub) t x → IsLedTo g sub start x
-      led x y t from (inl next) point way = (from.0, from.1, append from.0 t x (reaches_more g (IsIn sub) from.0 y t from.2 (inl next.0) (reaches_starts g (IsIn sub) t x way)) way)
-        where
-          append : (a b c : ℕ) → Reaches g (IsIn sub) a b → Reaches g (IsIn sub) b c → Reaches g (IsIn sub) a c
-          append a b c p q = reaches_carries g (IsIn sub) b (Reaches g (IsIn sub) a) (λ u v h step within. reaches_more g (IsIn sub) a u v h step within) c p q
+      led x y t from (inl next) point way = (from.0, from.1, reaches_append from.0 t x (reaches_more g (IsIn sub) from.0 y t from.2 (inl next.0) (reaches_starts g (IsIn sub) t x way)) way)
       led x y t from (inr back) point way = absurd (omega (arith, back.1, point))
 
   pub spread_end : (start now : List Bool) (listed todo : List Run) (place : ℕ) (ends : Bool) → length todo ≤ place → Spreading start now listed todo place ends → IsSpread g sub start now listed todo ends
@@ -337,9 +338,6 @@ module _ (g : Graph) (sub : List Bool) where
     ends_from = s.ends_from;
     followed = λ before all x h. ⊎_elim (λ (k, from, l, a, b). absurd (omega (arith, from, l, past))) (λ d. d) (s.pending before all x h);
   }
-
-  reaches_append : (a b c : ℕ) → Reaches g (IsIn sub) a b → Reaches g (IsIn sub) b c → Reaches g (IsIn sub) a c
-  reaches_append a b c p q = reaches_carries g (IsIn sub) b (Reaches g (IsIn sub) a) (λ u v h step within. reaches_more g (IsIn sub) a u v h step within) c p q
 
   -- along a line inside `sub` all from a reached point on is reached
   along : (reached : List Bool) → IsLineClosed g sub reached → (p k : ℕ) → IsIn reached p → ((x : ℕ) → p ≤ x → x < p + k → IsNext g x (x + 1)) → ((x : ℕ) → p ≤ x → x ≤ p + k → IsIn sub x) → IsIn reached (p + k)

@@ -9,7 +9,7 @@ ghost use Rattle.nll_owner.specs.Logs.{IsPrefix};
 ghost use Rattle.nll_owner.specs.Owner.{IsSound, IsDone, IsReady, Has, Passes, part_for, given_to};
 ghost use Rattle.nll_owner.specs.Owner.{received_from, with_growth, first_owner};
 ghost use Rattle.nll_owner.specs.Keeping.{Grows, IsClosed};
-ghost use Rattle.nll_owner.specs.Following.{IsFollowing, Nothing, Pair};
+ghost use Rattle.nll_owner.specs.Following.{IsFollowing, Nothing, OfRun};
 ghost use Rattle.nll_owner.specs.Outboxes.{AreQueued, AreAllQueued};
 ghost use Rattle.nll_owner.specs.declared.error.OwnerError.TheVariants.{RankFull, Broken};
 
@@ -20,7 +20,7 @@ use crate::outboxes::Outboxes;
 use nll_cut::Cut;
 use nll_mail::Growth;
 use nll_problem::{Problem, RegionId};
-use nll_sets::{Element, Memory};
+use nll_sets::{Element, Memory, Run};
 use std::alloc::Global;
 use std::marker::Model;
 
@@ -41,10 +41,9 @@ pub struct Counts {
 /// RFC 2094, "Solving constraints"; that the regions are dealt to owners is project's choice.
 #[derive(Drop)]
 pub struct Owner<'q> {
-    alloc: Global,
     knowledge: Knowledge<'q>,
     // Nothing is known of these two once a call was refused.
-    following: Following<'q>,
+    following: Following,
     outboxes: Outboxes,
 }
 
@@ -81,7 +80,6 @@ impl<'q> Owner<'q> {
         let outboxes = Outboxes::new(alloc, cut.owners())?;
         match parts_of(alloc, problem, cut, me) {
             Ok((knowledge, following)) => Ok(Owner {
-                alloc,
                 knowledge,
                 following,
                 outboxes,
@@ -117,7 +115,6 @@ impl<'q> Owner<'q> {
             return Err(OwnerError::Broken);
         }
         let result = load_all(
-            self.alloc,
             &mut self.knowledge,
             &mut self.following,
             &mut self.outboxes,
@@ -157,10 +154,8 @@ impl<'q> Owner<'q> {
         if self.knowledge.broken {
             return Err(OwnerError::Broken);
         }
-        let alloc = self.alloc;
         let loaded = self.knowledge.loaded;
         let result = receive_all(
-            alloc,
             &mut self.knowledge,
             &mut self.following,
             &mut self.outboxes,
@@ -307,7 +302,7 @@ fn parts_of<'q>(
     problem: &'q Problem,
     cut: &'q Cut,
     me: u16,
-) -> Result<(Knowledge<'q>, Following<'q>), Memory>
+) -> Result<(Knowledge<'q>, Following), Memory>
     requires cut { length cut.now.list ≡ problem.now.regions }
     requires me { me < cut.now.owners }
     ensures owner { IfOk result (λ parts. parts.0 ≡ first_owner problem.now cut.now me) }
@@ -324,7 +319,6 @@ fn parts_of<'q>(
 
 // Enters the base elements, settles, and queues what the log got.
 fn load_all(
-    alloc: Global,
     knowledge: &mut Knowledge,
     following: &mut Following,
     outboxes: &mut Outboxes,
@@ -339,14 +333,13 @@ fn load_all(
     ensures full { result ≡ Err RankFull → 2 ^ 62 ≤ knowledge.new.clock }
     ensures whole { result ≡ Err Broken → ⊥ }
 {
-    load_and_settle(alloc, knowledge, following)?;
+    load_and_settle(knowledge, following)?;
     knowledge.queue(outboxes)?;
     Ok(())
 }
 
 // Enters the base elements, and settles.
 fn load_and_settle(
-    alloc: Global,
     knowledge: &mut Knowledge,
     following: &mut Following,
 ) -> Result<(), OwnerError>
@@ -359,13 +352,12 @@ fn load_and_settle(
     ensures whole { result ≡ Err Broken → ⊥ }
 {
     knowledge.enter_bases()?;
-    following.settle(alloc, knowledge)?;
+    following.settle(knowledge)?;
     Ok(())
 }
 
 // Enters a growth into the copy of its region, settles, and queues what the log got.
 fn receive_all(
-    alloc: Global,
     knowledge: &mut Knowledge,
     following: &mut Following,
     outboxes: &mut Outboxes,
@@ -394,14 +386,13 @@ fn receive_all(
     ensures whole { result ≡ Err Broken → ⊥ }
     ensures sound { IsSound knowledge.new }
 {
-    receive_and_settle(alloc, knowledge, following, from, growth)?;
+    receive_and_settle(knowledge, following, from, growth)?;
     knowledge.queue(outboxes)?;
     Ok(())
 }
 
 // Enters a growth into the copy of its region, and settles.
 fn receive_and_settle(
-    alloc: Global,
     knowledge: &mut Knowledge,
     following: &mut Following,
     from: u16,
@@ -433,29 +424,32 @@ fn receive_and_settle(
         ..
     } = growth;
     knowledge.enter_received(from, growth)?;
-    pursue(alloc, knowledge, following, region, element)
+    pursue(knowledge, following, region, element.0)
 }
 
 // Follows up an element that the owner has got, and settles.
 fn pursue(
-    alloc: Global,
     knowledge: &mut Knowledge,
     following: &mut Following,
     region: RegionId,
-    element: Element,
+    element: u32,
 ) -> Result<(), OwnerError>
     requires sound { IsSound knowledge.old }
     requires region { region < knowledge.old.problem.regions }
     requires element { element < element_count knowledge.old.problem.graph }
     requires has { Has knowledge.old region element }
-    requires following { IsFollowing (Pair region element) knowledge.old following.old }
+    requires following { IsFollowing (OfRun region element element) knowledge.old following.old }
     ensures grows { Grows knowledge.old knowledge.new }
     ensures following { OnOk result (IsFollowing Nothing knowledge.new following.new) }
     ensures closed { OnOk result (IsClosed knowledge.new) }
     ensures full { result ≡ Err RankFull → 2 ^ 62 ≤ knowledge.new.clock }
     ensures whole { result ≡ Err Broken → ⊥ }
 {
-    following.follow(alloc, knowledge, region, element)?;
-    following.settle(alloc, knowledge)?;
+    let run = Run {
+        first: element,
+        last: element,
+    };
+    following.follow(knowledge, region, run)?;
+    following.settle(knowledge)?;
     Ok(())
 }

@@ -202,13 +202,14 @@ impl RunSet {
         Ok(())
     }
 
-    // The first run, from a number on up to another, of elements that the set lacks.
-    fn gap_from(&self, from: u32, last: u32) -> Option<Run>
-        requires below { last < length self.now }
-        requires short { length self.now < 4294967296 }
+    /// The first run, from a number on up to another, of elements that the set lacks.
+    pub fn gap_from(&self, from: u32, last: u32) -> Option<Run>
+        requires { last < length self.now }
         ensures some { IfSome result (IsGapFrom self.now from last) }
         ensures none { IfNone result ((x : ℕ) → from ≤ x → x ≤ last → flag self.now x ≡ true) }
     {
+        // `free_from` asks for a length of 32 bits.
+        prove!(self.len <= u32::MAX);
         let first = self.free_from(from);
         if first > last {
             return None;

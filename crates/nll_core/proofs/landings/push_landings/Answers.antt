@@ -1,4 +1,4 @@
-use Rattle.std.proofs.Common.{◌+◌, List, ◌++◌, [], ◌∷◌, get_or, refl, subst, sym, arith}
+use Rattle.std.proofs.Common.{◌+◌, List, refl, subst, sym, arith}
 use Rattle.nll_core.specs.declared.landing.Landing.{Landing}
 use Rattle.nll_core.proofs.LandingLemmas.{Landed, landed_first, landed_more, landed_end}
 use Rattle.nll_core.proofs.landings.push_landings.Goals as goal

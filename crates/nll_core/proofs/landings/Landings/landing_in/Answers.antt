@@ -1,4 +1,4 @@
-use Rattle.std.proofs.Common.{◌≡◌, ◌↔◌, ◌≤◌, List, Contains, subst, sym, ap, ◌∙◌}
+use Rattle.std.proofs.Common.{◌↔◌, List, Contains, subst, sym}
 use Rattle.nll_problem.specs.Graph.{Graph}
 use Rattle.nll_core.specs.Lines.{IsJump}
 use Rattle.nll_core.specs.declared.landing.Landing.{Landing}

@@ -4,9 +4,6 @@ use Rattle.nll_sets.proofs.RunSetLemmas.{width}
 use Rattle.nll_sets.proofs.GapLemmas.{ListsTo, lists_none, lists_gap, lists_end}
 use Rattle.nll_sets.proofs.run_set.RunSet.gaps.Goals as goal
 
-pub gap_from-requires-clause-short : goal.gap_from-requires-clause-short
-gap_from-requires-clause-short c = omega (arith, width _ _ _ c.self.view_is c.self.invariant, c.self.invariant.short)
-
 pub overflow_add-next : goal.overflow_add-next
 overflow_add-next c = omega (arith, c.in-Some.ensures.some.below, c.requires.below, width _ _ _ c.self.view_is c.self.invariant, c.self.invariant.short)
 
