@@ -1,15 +1,16 @@
 -- A frontier goes on from a run, and is again what walks reach.
-use Rattle.std.proofs.Common.{◌≡◌, ◌⊎◌, ◌↔◌, ℕ, ◌+◌, ◌<◌, ◌≤◌, Bool, true, false, List, [], ◌∷◌, Contains, length, get_or, replicate, refl, sym, ap, ◌∙◌, subst, inl, inr, ⊎_elim, arith}
+use Rattle.std.proofs.Common.{◌≡◌, ◌⊎◌, ◌↔◌, ℕ, ◌+◌, ◌<◌, ◌≤◌, Bool, false, List, [], Contains, length, get_or, replicate, refl, sym, ap, ◌∙◌, subst, inl, inr, ⊎_elim, arith}
 use Rattle.std.proofs.lemmas.Bool.{cases_eq, cases_lt, false≢true}
+use Rattle.std.proofs.lemmas.List.{get_or_default}
 use Rattle.nll_sets.specs.ElementSet.{flag}
 use Rattle.nll_sets.specs.Runs.{IsInRuns, IsWithin, Fills}
 use Rattle.nll_sets.specs.declared.run.Run.{Run}
-use Rattle.nll_problem.specs.Graph.{Graph, element_count, IsNext, IsReturn, IsEnd, IsStep, IsSound}
+use Rattle.nll_problem.specs.Graph.{Graph, element_count, IsNext, IsReturn, IsStep, IsSound}
 use Rattle.nll_problem.specs.Walks.{Reaches}
 use Rattle.nll_problem.proofs.WalkLemmas.{reaches_first, reaches_starts, reaches_inside, reaches_more, reaches_carries, reaches_weaker}
 use Rattle.nll_core.specs.Search.{IsIn}
 use Rattle.nll_core.specs.Lines.{IsJump}
-use Rattle.nll_core.specs.Walking.{Grows, IsLedTo, IsSpread, IsLineClosed, IsFollowed, AreFollowedBut, FillsFrom}
+use Rattle.nll_core.specs.Walking.{Grows, IsLedTo, IsSpread, IsLineClosed, IsFollowed, AreFollowedBut, AreOfPoints, FillsFrom}
 use Rattle.nll_core.specs.Frontiers.{Frontier, ReachesFrom, IsReachedFrom, IsFrontierIn, IsBeside, ResumesPoints, ListsNew}
 use Rattle.nll_core.specs.declared.landing.Landing.{Landing}
 use Rattle.nll_core.proofs.SearchLemmas.{none_in_empty, flag_within}
@@ -92,10 +93,9 @@ module _ (g : Graph) (set : List Bool) (starts : List ℕ) where
         ends = λ x h back. inr h;
       }
 
-      -- else its points are entered from which walks go on, and these go on
-      module _ (part : Run) (first : part.first ≡ run.first) (last : (x : ℕ) → x ≤ run.last → x < g.points → x ≤ part.last)
-          (one two three four : List Bool) (fs gs hs ks : List Run) (ended : Bool)
-          (a : Grows g set (IsLedTo g set old) old one [] fs) (near : (x : ℕ) → x + 1 ≡ part.first → IsIn old x → IsNext g x part.first → IsIn one part.first)
+      -- else its points are entered from which walks go on
+      module _ (part : Run) (first : part.first ≡ run.first) (last : (x : ℕ) → x ≤ run.last → x < g.points → x ≤ part.last) (es : List Run) (none : es ≡ [])
+          (one two : List Bool) (fs gs : List Run) (a : Grows g set (IsLedTo g set old) old one es fs) (near : (x : ℕ) → x + 1 ≡ part.first → IsIn old x → IsNext g x part.first → IsIn one part.first)
           (b : Grows g set (ReachesFrom g (IsIn set) starts) one two fs gs) where
         one_sound : (x : ℕ) → IsIn one x → ReachesFrom g (IsIn set) starts x
         one_sound x h = ⊎_elim (old_sound x) (led_from old old_sound x) (a.cause x h)
@@ -106,15 +106,15 @@ module _ (g : Graph) (set : List Bool) (starts : List ℕ) where
         pub two_inside : (x : ℕ) → IsIn two x → IsIn set x
         two_inside x h = from_inside x (two_sound x h)
 
-        module _ (begin : (p : ℕ) → Contains starts p → IsWithin part p → IsIn two p)
+        module _ (begin : (p : ℕ) → Contains starts p → IsWithin part p → IsIn two p) (three : List Bool) (hs : List Run)
             (c : Grows g set (IsLedTo g set two) two three gs hs) (land : (x t : ℕ) → IsIn two x → IsJump g x t → IsWithin part t → IsIn three t) where
-          entered : Grows g set (ReachesFrom g (IsIn set) starts) old three [] hs
+          entered : Grows g set (ReachesFrom g (IsIn set) starts) old three es hs
           entered = grows_append g set (ReachesFrom g (IsIn set) starts) _ _ _ _ _ _
               (grows_append g set (ReachesFrom g (IsIn set) starts) _ _ _ _ _ _ (grows_weaker g set (IsLedTo g set old) (ReachesFrom g (IsIn set) starts) (led_from old old_sound) _ _ _ _ a) b)
               (grows_weaker g set (IsLedTo g set two) (ReachesFrom g (IsIn set) starts) (led_from two two_sound) _ _ _ _ c)
 
           three_sound : (x : ℕ) → IsIn three x → ReachesFrom g (IsIn set) starts x
-          three_sound = sound_more old three [] hs old_sound entered
+          three_sound = sound_more old three es hs old_sound entered
 
           pub three_inside : (x : ℕ) → IsIn three x → IsIn set x
           three_inside x h = from_inside x (three_sound x h)
@@ -129,7 +129,10 @@ module _ (g : Graph) (set : List Bool) (starts : List ℕ) where
                   subst (IsIn three) (sym here) (c.kept _ (b.kept _ (near x here o (subst (IsNext g x) here next))))
 
           pub three_listed : (x : ℕ) → IsInRuns hs x → IsIn three x
-          three_listed x (k, l, low, high) = (entered.listed x (k, omega arith, l, low, high)).0
+          three_listed x (k, l, low, high) = (entered.listed x (k, omega (arith, ap length none), l, low, high)).0
+
+          pub three_fit : AreOfPoints g hs
+          three_fit = entered.fit (λ k h. absurd (omega (arith, ap length none, h)))
 
           followed : AreFollowedBut g set old three hs
           followed x h = ⊎_elim (λ o. inr (jumps o, o)) (λ (k, from, l, low, high). inl (k, l, low, high)) (entered.pending x h)
@@ -140,8 +143,9 @@ module _ (g : Graph) (set : List Bool) (starts : List ℕ) where
                   (λ w. land x t (b.kept x (a.kept x o)) jump (omega (arith, w.0, first), last t w.1 point))
                   (old_closed x t o (inl (jump_next g x t jump point)) inside)
 
-          pub resumes_points : IsSpread g set three four hs ks ended → ResumesPoints g set starts old four [] ks ended
-          resumes_points s = record {
+          -- and the walks go on
+          pub resumes_points : (four : List Bool) (ks : List Run) (ended : Bool) → IsSpread g set three four hs ks ended → ResumesPoints g set starts old four es ks ended
+          resumes_points four ks ended s = record {
             grows = grows_append g set (ReachesFrom g (IsIn set) starts) _ _ _ _ _ _ entered (grows_weaker g set (IsLedTo g set three) (ReachesFrom g (IsIn set) starts) (led_from three three_sound) _ _ _ _ s.grows);
             begun = λ p at inside. s.grows.kept p (⊎_elim (entered.kept p) (λ w. c.kept p (begin p at (omega (arith, w.0, first), last p w.1 (points p at)))) (old_begun p at inside));
             closed = λ x y h next inside. ⊎_elim
@@ -154,9 +158,9 @@ module _ (g : Graph) (set : List Bool) (starts : List ℕ) where
 
       -- ---- the whole
 
-      module _ (points_reached : List Bool) (list : List Run) (ended : Bool) (p : ResumesPoints g set starts old points_reached [] list ended) where
+      module _ (points_reached : List Bool) (es list : List Run) (ended : Bool) (p : ResumesPoints g set starts old points_reached es list ended) where
         reached_sound : (x : ℕ) → IsIn points_reached x → ReachesFrom g (IsIn set) starts x
-        reached_sound = sound_more old points_reached [] list old_sound p.grows
+        reached_sound = sound_more old points_reached es list old_sound p.grows
 
         -- where no end can be newly reached, that is all
         pub resumed : ended ≡ false → ((x : ℕ) → IsIn points_reached x → IsReturn g x → run.last < g.points) → IsReachedFrom g (IsIn set) starts points_reached
@@ -189,11 +193,11 @@ module _ (g : Graph) (set : List Bool) (starts : List ℕ) where
                 (f.cause y h)
             go_on y z h (inr back) inside = f.filled z (let low = back.1.0 in omega (arith, low, n_is)) inside
 
-        pub lists_resumed : ListsNew old points_reached [] list
-        lists_resumed = lists_grown g set (ReachesFrom g (IsIn set) starts) old points_reached list p.grows
+        pub lists_resumed : es ≡ [] → ListsNew old points_reached [] list
+        lists_resumed none = lists_grown g set (ReachesFrom g (IsIn set) starts) old points_reached list (subst (λ xs. Grows g set (ReachesFrom g (IsIn set) starts) old points_reached xs list) none p.grows)
 
-        pub lists_resumed_ends : (all : List Bool) (n : ℕ) (whole : List Run) → FillsFrom n set points_reached all → ListsNew points_reached all list whole → ListsNew old all [] whole
-        lists_resumed_ends all n whole f l = lists_append old points_reached all [] list whole p.grows.kept f.kept lists_resumed l
+        pub lists_resumed_ends : es ≡ [] → (all : List Bool) (n : ℕ) (whole : List Run) → FillsFrom n set points_reached all → ListsNew points_reached all list whole → ListsNew old all [] whole
+        lists_resumed_ends none all n whole f l = lists_append old points_reached all [] list whole p.grows.kept f.kept (lists_resumed none) l
 
 -- ---- the points from which walks begin
 
@@ -219,6 +223,22 @@ module _ (g : Graph) (set : List Bool) (starts : List ℕ) (first : ℕ) where
   }
 
 -- ---- the jumps that land in a run
+
+-- what is read past the end of a list of landings
+abbrev pub no_landing : Landing
+no_landing = record { to = 0; from = 0 }
+
+-- a landing at a place of the list of those in a run is a jump into the run
+pub landing_at : (g h : Graph) → h ≡ g → (list : List Landing) (part : Run) → ((l : Landing) → Contains list l ↔ (IsJump h l.from l.to × (part.first ≤ l.to) × (l.to ≤ part.last)))
+    → (k : ℕ) (d : Landing) → k < length list → IsJump g (get_or list k d).from (get_or list k d).to × IsWithin part (get_or list k d).to
+landing_at g h same list part each k d within =
+    let own = (each (get_or list k d)).0 (k, within, get_or_default list k (get_or list k d) d within) in
+    (subst (λ x. IsJump x (get_or list k d).from (get_or list k d).to) same own.0, (own.1, own.2))
+
+-- a jump leaves a point
+pub jump_from : (g : Graph) → IsSound g → (x t : ℕ) → IsJump g x t → x < g.points
+jump_from g sound x t (inl next) = (sound.edges_in_range x t next.0).0
+jump_from g sound x t (inr back) = sound.returns_in_range x back.0
 
 -- The first `count` landings of the list are gone through.
 pub record LandingOn (g : Graph) (set : List Bool) (list : List Landing) (old now : List Bool) (before after : List Run) (count : ℕ) : Type 0 where
@@ -253,6 +273,10 @@ module _ (g : Graph) (set : List Bool) (list : List Landing) (old : List Bool) (
       led x way =
           let source : IsLedTo g set old l.from = ⊎_elim (λ o. (l.from, o, reaches_first g (IsIn set) l.from (inside l.from o))) (λ w. w) (p.grows.cause l.from from) in
           (source.0, source.1, reaches_append g set source.0 l.to x (reaches_more g (IsIn set) source.0 l.from l.to source.2 (inl (jump_next g l.from l.to jump point)) here) way)
+
+  pub landing_end : (now : List Bool) (then : List Run) (count : ℕ) → length list ≤ count → LandingOn g set list old now before then count → (l : Landing) → Contains list l → IsIn old l.from → IsIn now l.to
+  landing_end now then count past p l (k, within, is) from =
+      subst (λ (m : Landing). IsIn now m.to) is (p.covers k l (omega (arith, within, past)) within (subst (λ (m : Landing). IsIn old m.from) (sym is) from))
 
 -- ---- more room
 

@@ -1,11 +1,11 @@
 -- Points that ascend, and the least of them that isn't below a number.
-use Rattle.std.proofs.Common.{◌≡◌, ◌⊎◌, ℕ, ◌<◌, ◌≤◌, true, false, ltb, List, [], ◌∷◌, ◌++◌, Contains, AllPairs, length, get_or, refl, sym, ap, ◌∙◌, subst, inl, inr, ⊎_elim, arith, zero, suc}
+use Rattle.std.proofs.Common.{◌≡◌, ℕ, ◌<◌, ◌≤◌, true, false, ltb, List, [], ◌∷◌, ◌++◌, Contains, length, get_or, ap, ◌∙◌, ⊎_elim, arith, zero, suc}
 use Rattle.std.proofs.lemmas.Bool.{cases_eq, cases_lt, ltb-true, ltb-false}
 use Rattle.std.proofs.lemmas.List.{get_or_default}
 use Rattle.std.proofs.lemmas.List.Quantifiers.{all_pairs_push}
-use Rattle.std.specs.List.Sorted.{IsPartitionPoint}
+use Rattle.std.specs.List.Sorted.{IsNonDecreasingBy, IsPartitionPoint}
+use Rattle.nll_problem.proofs.IndexLemmas.{keys_rise}
 use Rattle.nll_core.specs.Frontiers.{IsAscending}
-use Rattle.nll_core.proofs.SearchLemmas.{contains_from}
 
 -- numbers ascend with one more that is above all of them
 pub ascending_push : (at : ℕ) (xs : List ℕ) → IsAscending xs → ((x : ℕ) → Contains xs x → x < at) → IsAscending (xs ++ at ∷ [])
@@ -41,3 +41,7 @@ module _ (first from at : ℕ) (others : List ℕ) (up : IsAscending (first ∷ 
 pub first_least : (first : ℕ) (others : List ℕ) → IsAscending (first ∷ others) → (x : ℕ) → Contains (first ∷ others) x → first ≤ x
 first_least first others up x (zero, within, is) = omega (arith, is)
 first_least first others up x (suc k, within, is) = let less = up 0 (suc k) x (omega arith) within in omega (arith, less, is)
+
+-- the others rise
+pub others_rise : (first : ℕ) (others : List ℕ) → IsAscending (first ∷ others) → IsNonDecreasingBy (λ (x : ℕ). x) others
+others_rise first others up = keys_rise (λ (x : ℕ). x) (λ x y. x < y) (λ x y h. omega (arith, h)) others (λ i j d before within. up (suc i) (suc j) d (omega (arith, before)) (omega (arith, within)))

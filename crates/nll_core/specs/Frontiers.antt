@@ -8,7 +8,7 @@ use Rattle.std.specs.Prelude.{Contains, AllPairs}
 use Rattle.nll_sets.specs.ElementSet.{flag}
 use Rattle.nll_sets.specs.Runs.{first_of, last_of, IsInRunsFrom, AreApartFrom, IsWithin}
 use Rattle.nll_sets.specs.declared.run.Run.{Run}
-use Rattle.nll_problem.specs.Graph.{Graph, IsNext, IsStep, IsReturn}
+use Rattle.nll_problem.specs.Graph.{Graph, IsNext, IsReturn}
 use Rattle.nll_problem.specs.Walks.{Reaches}
 use Rattle.nll_core.specs.Search.{IsIn}
 use Rattle.nll_core.specs.Walking.{Grows}

@@ -47,7 +47,8 @@ pub fn resume(
     if !is_ended(lines, landings, run, reached, ended) {
         return Ok(());
     }
-    fill_from(seen, reached, found, points)
+    fill_from(seen, reached, found, points)?;
+    Ok(())
 }
 
 // Goes on to points alone. Answers whether a return point is newly reached.

@@ -25,8 +25,8 @@ pub loop-run-preserved : goal.loop-run-preserved
 loop-run-preserved c =
     let some = c.in-Some.ensures.some in
     let fills = c.in_ok-insert_run.ensures.ok in (
-      filling_more c.args.sub.now c.args.from c.args.reached.now c.loop-run.reached c.insert_run.new.self c.loop-run.next c.max-first.result c.in-Some.run'.last _ c.loop-run.invariant.0 refl refl (omega (arith, c.max-first.ensures)) (omega (arith, c.max-first.ensures, some.proper, some.reach))
-          (λ x a b. some.all x (omega (arith, a, c.max-first.ensures)) b) (λ x a b. some.none x a (omega (arith, a, b, c.max-first.ensures))) fills,
+      filling_more c.args.sub.now c.args.from c.args.reached.now c.loop-run.reached c.insert_run.new.self c.loop-run.next c.max.result c.in-Some.run'.last _ c.loop-run.invariant.0 refl refl (omega (arith, c.max.ensures)) (omega (arith, c.max.ensures, some.proper, some.reach))
+          (λ x a b. some.all x (omega (arith, a, c.max.ensures)) b) (λ x a b. some.none x a (omega (arith, a, b, c.max.ensures))) fills,
       lists_append c.args.reached.now c.loop-run.reached c.insert_run.new.self _ _ _ c.loop-run.invariant.0.kept fills.kept c.loop-run.invariant.1 (lists_gaps _ _ _ _ _ c.in_ok-gaps.ensures fills),
     )
 

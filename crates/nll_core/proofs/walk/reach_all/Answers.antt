@@ -24,7 +24,7 @@ pub fill_from-requires-clause-width : goal.fill_from-requires-clause-width
 fill_from-requires-clause-width c = c.in_ok-ends.ensures.grows.width ∙ (c.in_ok-enter_all.ensures.grows.width ∙ (c.requires.width ∙ sym c.requires.sub_width))
 
 pub returns-clause-width : goal.returns-clause-width
-returns-clause-width c = on_ok_weaker c.fill_from.result (λ f. f.width ∙ (c.in_ok-ends.ensures.grows.width ∙ c.in_ok-enter_all.ensures.grows.width)) c.fill_from.ensures
+returns-clause-width c = on_ok_weaker c.fill_from.result (λ f. f.width ∙ (c.in_ok-ends.ensures.grows.width ∙ c.in_ok-enter_all.ensures.grows.width)) c.fill_from.ensures.fills
 
 pub spread-requires-clause-inside : goal.spread-requires-clause-inside
 spread-requires-clause-inside c = start_inside _ _ _ _ _ _ c.requires.nothing (entered (goal.at.spread-requires-clause-inside c).In_ok-enter_all)
@@ -41,4 +41,4 @@ pub returns-clause-reached : goal.returns-clause-reached
 returns-clause-reached c =
     let d = (goal.at.returns-clause-reached c).In_ok-enter_all in
     on_ok_weaker c.fill_from.result (λ f. reached_ends c.args.lines.now c.args.sub.now c.points-points.ensures.sound c.args.pair.now c.args.reached.now c.enter_all.new.reached c.spread.new.reached _ _ c.in_ok-ends.ends c.requires.nothing (entered d) c.in_ok-enter_all.ensures.covers c.in_ok-ends.ensures c.fill_from.new.reached c.if-not-ends.false c.requires.sub_width
-    (subst (λ n. FillsFrom n c.args.sub.now c.spread.new.reached c.fill_from.new.reached) c.points-points.ensures.value f)) c.fill_from.ensures
+    (subst (λ n. FillsFrom n c.args.sub.now c.spread.new.reached c.fill_from.new.reached) c.points-points.ensures.value f)) c.fill_from.ensures.fills
