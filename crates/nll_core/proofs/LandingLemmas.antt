@@ -39,9 +39,9 @@ landed_more point targets before now count t is p = record { each = λ l. (forth
     back l (inl o) = Contains-append_left now (new ∷ []) l ((p.each l).1 (inl o))
     back l (inr (of, (k, low, high, at))) = ⊎_elim
         (λ here.
-            let to : t ≡ l.to = is ∙ ap (λ i. get_or targets i 0) (sym here) ∙ at in
-            let same : ◌≡◌ {A = Landing} new l = landing_same t l.to point l.from to (sym of) in
-            Contains-append_right now (new ∷ []) l (0, omega arith, same))
+        let to : t ≡ l.to = is ∙ ap (λ i. get_or targets i 0) (sym here) ∙ at in
+        let same : ◌≡◌ {A = Landing} new l = landing_same t l.to point l.from to (sym of) in
+        Contains-append_right now (new ∷ []) l (0, omega arith, same))
         (λ other. Contains-append_left now (new ∷ []) l ((p.each l).1 (inr (of, (k, low, omega (arith, high, other), at)))))
         (cases_eq k count)
       where

@@ -75,9 +75,9 @@ module _ (old middle new : List Bool) (xs ys zs : List Run) (first : (x : ℕ) �
     listed = λ x. (each x, λ h. back x h.0 h.1);
     apart = λ j k x from less l a b. ⊎_elim
         (λ mid. let at = q.front j mid in ⊎_elim
-            (λ both. let on = q.front k both in p.apart j k x from less both (omega (arith, a.0, at.0), omega (arith, a.1, at.1)) (omega (arith, b.0, on.0), omega (arith, b.1, on.1)))
-            (λ past. false≢true (sym ((q.listed x).0 (k, past, l, b.0, b.1)).1 ∙ ((p.listed x).0 (j, from, mid, omega (arith, a.0, at.0), omega (arith, a.1, at.1))).0))
-            (cases_lt k (length ys)))
+        (λ both. let on = q.front k both in p.apart j k x from less both (omega (arith, a.0, at.0), omega (arith, a.1, at.1)) (omega (arith, b.0, on.0), omega (arith, b.1, on.1)))
+        (λ past. false≢true (sym ((q.listed x).0 (k, past, l, b.0, b.1)).1 ∙ ((p.listed x).0 (j, from, mid, omega (arith, a.0, at.0), omega (arith, a.1, at.1))).0))
+        (cases_lt k (length ys)))
         (λ past. q.apart j k x past less l a b)
         (cases_lt j (length ys));
   }

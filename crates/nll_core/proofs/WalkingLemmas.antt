@@ -191,9 +191,9 @@ module _ (g : Graph) (sub : List Bool) where
           (q.pending x h);
       apart = λ j k x from less l a b. ⊎_elim
           (λ mid. let at = q.front j mid in ⊎_elim
-              (λ both. let on = q.front k both in p.apart j k x from less both (omega (arith, a.0, at.0), omega (arith, a.1, at.1)) (omega (arith, b.0, on.0), omega (arith, b.1, on.1)))
-              (λ past. false≢true (sym (q.listed x (k, past, l, b.0, b.1)).1 ∙ (p.listed x (j, from, mid, omega (arith, a.0, at.0), omega (arith, a.1, at.1))).0))
-              (cases_lt k (length ys)))
+          (λ both. let on = q.front k both in p.apart j k x from less both (omega (arith, a.0, at.0), omega (arith, a.1, at.1)) (omega (arith, b.0, on.0), omega (arith, b.1, on.1)))
+          (λ past. false≢true (sym (q.listed x (k, past, l, b.0, b.1)).1 ∙ (p.listed x (j, from, mid, omega (arith, a.0, at.0), omega (arith, a.1, at.1))).0))
+          (cases_lt k (length ys)))
           (λ past. q.apart j k x past less l a b)
           (cases_lt j (length ys));
       fit = λ h. q.fit (p.fit h);
@@ -316,11 +316,11 @@ module _ (g : Graph) (sub : List Bool) where
         pending = λ before told x h. ⊎_elim
             (λ o. ⊎_elim
             (λ (k, from, l, a, b). ⊎_elim
-                (λ here.
-                    let w : IsWithin run x = (omega (arith, a, first, ap (first_of todo) here), omega (arith, b, last, ap (last_of todo) here)) in
-                    inr (covers x w, λ jump. inl (or_right ends found (tells.1 (x, w, jump)))))
-                (λ other. let at = p.front k l in inl (k, omega (arith, from, other), omega (arith, l, p.longer), omega (arith, a, at.0), omega (arith, b, at.1)))
-                (cases_eq k place))
+            (λ here.
+            let w : IsWithin run x = (omega (arith, a, first, ap (first_of todo) here), omega (arith, b, last, ap (last_of todo) here)) in
+            inr (covers x w, λ jump. inl (or_right ends found (tells.1 (x, w, jump)))))
+            (λ other. let at = p.front k l in inl (k, omega (arith, from, other), omega (arith, l, p.longer), omega (arith, a, at.0), omega (arith, b, at.1)))
+            (cases_eq k place))
             (λ d. inr (λ t jump point in_sub. p.kept t (d.0 t jump point in_sub), λ jump. ⊎_elim (λ e. inl (or_left ends found e)) inr (d.1 jump)))
             (s.pending before told x o))
             (λ (k, from, l, a, b). inl (k, omega (arith, from, within), l, a, b))

@@ -14,13 +14,13 @@ ghost use Rattle.nll_owner.specs.Outboxes.{AreQueued, AreAllQueued};
 ghost use Rattle.nll_owner.specs.declared.error.OwnerError.TheVariants.{RankFull, Broken};
 
 use crate::error::OwnerError;
-use crate::following::Following;
+use crate::following::{Following, run_of};
 use crate::knowledge::Knowledge;
 use crate::outboxes::Outboxes;
 use nll_cut::Cut;
 use nll_mail::Growth;
 use nll_problem::{Problem, RegionId};
-use nll_sets::{Element, Memory, Run};
+use nll_sets::{Element, Memory};
 use std::alloc::Global;
 use std::marker::Model;
 
@@ -114,11 +114,7 @@ impl<'q> Owner<'q> {
         if self.knowledge.broken {
             return Err(OwnerError::Broken);
         }
-        let result = load_all(
-            &mut self.knowledge,
-            &mut self.following,
-            &mut self.outboxes,
-        );
+        let result = load_all(&mut self.knowledge, &mut self.following, &mut self.outboxes);
         self.knowledge.mark(result.is_ok(), result.is_err());
         result
     }
@@ -339,10 +335,7 @@ fn load_all(
 }
 
 // Enters the base elements, and settles.
-fn load_and_settle(
-    knowledge: &mut Knowledge,
-    following: &mut Following,
-) -> Result<(), OwnerError>
+fn load_and_settle(knowledge: &mut Knowledge, following: &mut Following) -> Result<(), OwnerError>
     requires sound { IsSound knowledge.old }
     requires following { IsFollowing Nothing knowledge.old following.old }
     ensures grows { Grows knowledge.old knowledge.new }
@@ -424,7 +417,7 @@ fn receive_and_settle(
         ..
     } = growth;
     knowledge.enter_received(from, growth)?;
-    pursue(knowledge, following, region, element.0)
+    pursue(knowledge, following, region, element)
 }
 
 // Follows up an element that the owner has got, and settles.
@@ -432,7 +425,7 @@ fn pursue(
     knowledge: &mut Knowledge,
     following: &mut Following,
     region: RegionId,
-    element: u32,
+    element: Element,
 ) -> Result<(), OwnerError>
     requires sound { IsSound knowledge.old }
     requires region { region < knowledge.old.problem.regions }
@@ -445,11 +438,7 @@ fn pursue(
     ensures full { result ≡ Err RankFull → 2 ^ 62 ≤ knowledge.new.clock }
     ensures whole { result ≡ Err Broken → ⊥ }
 {
-    let run = Run {
-        first: element,
-        last: element,
-    };
-    following.follow(knowledge, region, run)?;
+    following.follow(knowledge, region, run_of(element))?;
     following.settle(knowledge)?;
     Ok(())
 }

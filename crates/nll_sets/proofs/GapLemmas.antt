@@ -66,9 +66,9 @@ lists_gap set run before now next gap l g =
         λ h. ⊎_elim
             (λ old. let i = (l.listed x).1 (h.0, old, h.2) in let at = front_of now gap i.0 i.2 in (i.0, i.1, omega (arith, i.2, len), omega (arith, i.3, at.0), omega (arith, i.4, at.1)))
             (λ past. ⊎_elim
-                (λ held. absurd (false≢true (sym h.2 ∙ g.before x past held)))
-                (λ own. (length now, l.longer, omega (arith, len), omega (arith, own, there.0), omega (arith, h.1, there.1)))
-                (cases_lt x gap.first))
+            (λ held. absurd (false≢true (sym h.2 ∙ g.before x past held)))
+            (λ own. (length now, l.longer, omega (arith, len), omega (arith, own, there.0), omega (arith, h.1, there.1)))
+            (cases_lt x gap.first))
             (cases_lt x next),
       );
       apart = λ j k x from less lt a b. ⊎_elim

@@ -158,7 +158,11 @@ const GROWN: &[Row] = &[
         "|| 2 3| 0 1|",
     ),
     ("all at once", Asked(&[(0, 4)]), " 0 1 2 3|"),
-    ("a run, and a point before it", Asked(&[(1, 3), (0, 0)]), " 2 3| 0 1|"),
+    (
+        "a run, and a point before it",
+        Asked(&[(1, 3), (0, 0)]),
+        " 2 3| 0 1|",
+    ),
     // The hole at 1 is filled last; then the end is reached too.
     (
         "a hole is filled",
@@ -176,7 +180,11 @@ const GROWN: &[Row] = &[
         FrontierToEnd(&[(4, 4), (2, 2), (1, 1), (0, 0)]),
         "||| 0 1 2 4|",
     ),
-    ("all and the end at once", FrontierToEnd(&[(0, 4)]), " 0 1 2 3 4|"),
+    (
+        "all and the end at once",
+        FrontierToEnd(&[(0, 4)]),
+        " 0 1 2 3 4|",
+    ),
     (
         "points and ends in one run, then what leads to them",
         FrontierToEnd(&[(2, 4), (0, 0), (1, 1)]),

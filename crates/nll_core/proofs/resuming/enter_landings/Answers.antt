@@ -29,13 +29,13 @@ loop-landing-preserved c =
     let own = landing_at c.args.lines.now c.args.landings.now c.requires.landings list c.args.part c.landing_in-landing-items.ensures place no_landing c.loop-landing-test.true in
     elim c.if-has.branch [
       | then-has+in_ok-enter_point w ↦ rw w.reached-is (rw w.found-is (
-        landing_more c.args.lines.now c.args.seen.now list c.args.reached.now c.args.found.now.items c.requires.inside c.loop-landing.reached _ c.loop-landing.found.items _ place landing
-            (λ d. get_or_default list place d no_landing c.loop-landing-test.true) own.0 (omega (arith, own.1.1, c.requires.points)) (c.requires.part _ own.1) (sym c.has.ensures ∙ w.if-has.true) c.loop-landing.invariant w.in_ok-enter_point.ensures.grows w.in_ok-enter_point.ensures.covers
-      ))
+          landing_more c.args.lines.now c.args.seen.now list c.args.reached.now c.args.found.now.items c.requires.inside c.loop-landing.reached _ c.loop-landing.found.items _ place landing
+          (λ d. get_or_default list place d no_landing c.loop-landing-test.true) own.0 (omega (arith, own.1.1, c.requires.points)) (c.requires.part _ own.1) (sym c.has.ensures ∙ w.if-has.true) c.loop-landing.invariant w.in_ok-enter_point.ensures.grows w.in_ok-enter_point.ensures.covers
+          ))
       | else-has w ↦ rw w.reached-is (rw w.found-is (
-        landing_passed c.args.lines.now c.args.seen.now list c.args.reached.now c.args.found.now.items c.loop-landing.reached c.loop-landing.found.items place landing
-            (λ d. get_or_default list place d no_landing c.loop-landing-test.true) (sym c.has.ensures ∙ w.if-has.false) c.loop-landing.invariant
-      ))
+          landing_passed c.args.lines.now c.args.seen.now list c.args.reached.now c.args.found.now.items c.loop-landing.reached c.loop-landing.found.items place landing
+          (λ d. get_or_default list place d no_landing c.loop-landing-test.true) (sym c.has.ensures ∙ w.if-has.false) c.loop-landing.invariant
+          ))
     ]
 
 pub returns-clause-covers : goal.returns-clause-covers

@@ -14,9 +14,9 @@ returns c =
           (point - 1, back, sym c.has.ensures ∙ c.if-not-has.false, subst (IsNext g (point - 1)) back (c.line_end.ensures.line (point - 1) (omega arith) (omega (arith, low, back)))),
       λ w. le-leb point end (⊎_elim
           (λ early. absurd (
-            let here : w.0 ≡ end = omega (arith, early, w.1, c.line_end.ensures.above) in
-            let next : point ≡ end + 1 = omega (arith, here, w.1) in
-            c.line_end.ensures.last (subst (IsNext g end) next (subst (λ x. IsNext g x point) here w.3))
+          let here : w.0 ≡ end = omega (arith, early, w.1, c.line_end.ensures.above) in
+          let next : point ≡ end + 1 = omega (arith, here, w.1) in
+          c.line_end.ensures.last (subst (IsNext g end) next (subst (λ x. IsNext g x point) here w.3))
           ))
           (λ late. omega (arith, late))
           (cases_lt end point)),

@@ -6,5 +6,5 @@ use Rattle.nll_owner.proofs.knowledge.Knowledge.grow_run.Given as goal
 abbrev pub invariant-loop-element : goal.invariant-loop-element
 invariant-loop-element l = record {
   grows : Grows l.fn.self l.self;
-  covers : (x : ℕ) → l.run.first ≤ x → x < l.element → Has l.self l.region x;
+  covers : (x : ℕ) → l.fn.run.first ≤ x → x < l.element → Has l.self l.region x;
 }
