@@ -162,18 +162,19 @@ class Checking(unittest.TestCase):
 
     def test_a_body_concerns_its_crate_and_the_tests_above(self):
         self.write("crates/low/src/lib.rt", "pub fn f() { 2 }\n")
-        wanted = ["all low_tests", "all high_tests", "test low_tests", "test high_tests"]
+        wanted = ["fmt low", "all low_tests", "all high_tests", "test low_tests", "test high_tests"]
         self.assertEqual(self.check()[1], wanted)
 
     def test_a_clause_concerns_the_crates_above_too(self):
         self.write("crates/high/src/lib.rt", "pub fn f() ensures { 1 } { 1 }\n")
         self.write("crates/beside/src/more.rt", "pub fn f() { 1 }\n")
-        self.assertEqual(self.check()[1], ["all beside", "all high_tests", "test high_tests"])
+        wanted = ["fmt high", "fmt beside", "all beside", "all high_tests", "test high_tests"]
+        self.assertEqual(self.check()[1], wanted)
 
     def test_a_line_of_the_list_of_crates_concerns_its_crate(self):
         self.write("crates.txt", (self.root / "crates.txt").read_text().replace("beside:", "beside: clap"))
         self.assertEqual(changes.changes_since(self.root, "HEAD"), ({"beside"}, {"beside"}, set()))
-        self.assertEqual(self.check()[1], ["all beside"])
+        self.assertEqual(self.check()[1], ["fmt beside", "all beside"])
 
     def test_what_the_gate_adds_is_told(self):
         self.write("crates/low/src/lib.rt", "pub fn f() { 2 }\n")
@@ -186,7 +187,7 @@ class Checking(unittest.TestCase):
     def test_what_stands_on_a_crate_that_fails_is_not_checked(self):
         self.write("crates/low/src/lib.rt", "pub fn f() { 2 }\n")
         ended, asked, told = self.check(fails="low_tests")
-        self.assertEqual((ended, asked), (1, ["all low_tests", "all high_tests", "test high_tests"]))
+        self.assertEqual((ended, asked), (1, ["fmt low", "all low_tests", "all high_tests", "test high_tests"]))
         self.assertIn("low_tests: NOT PROVED", told)
         log = pathlib.Path(told.split("what rt printed: ")[1].strip())
         self.assertIn("logic=not-proved", log.read_text())
