@@ -78,14 +78,12 @@ fn write_grown(
     Ok(())
 }
 
-// Writes what a frontier from the point 0, and from the point 2 where that is told, newly reaches as
-// runs come into a set that has none.
-fn write_begun(
+// Writes what a frontier from the point 0 newly reaches as runs come into a set that has none.
+fn write_one(
     out: &mut Transcript,
     steps: &Steps,
     elements: u32,
     seen: &mut RunSet,
-    both: bool,
     runs: &[(u32, u32)],
 )
     requires elements { elements ≡ element_count steps.now }
@@ -94,11 +92,30 @@ fn write_begun(
 {
     let mut found = Vec::new(out.alloc);
     let mut frontier = Frontier::new(out.alloc, Element(0));
-    if both {
-        out.note(frontier.add_point(Element(2)));
-    }
     let told = write_grown(out, steps, elements, seen, &mut frontier, runs, &mut found);
     out.note(told);
+    drop(frontier);
+    drop(found);
+}
+
+// The same of a frontier from the points 0 and 2.
+fn write_both(
+    out: &mut Transcript,
+    steps: &Steps,
+    elements: u32,
+    seen: &mut RunSet,
+    runs: &[(u32, u32)],
+)
+    requires elements { elements ≡ element_count steps.now }
+    requires points { 2 < steps.now.points }
+    requires none { seen.old ≡ replicate (element_count steps.now) false }
+{
+    let mut found = Vec::new(out.alloc);
+    let mut frontier = Frontier::new(out.alloc, Element(0));
+    if let Ok(()) = frontier.add_point(Element(2)) {
+        let told = write_grown(out, steps, elements, seen, &mut frontier, runs, &mut found);
+        out.note(told);
+    }
     drop(frontier);
     drop(found);
 }
@@ -111,7 +128,11 @@ fn write_over(out: &mut Transcript, graph: &Graph, both: bool, runs: &[(u32, u32
     if let Ok(steps) = Steps::of(out.alloc, graph) {
         let elements = graph.points() + graph.universals();
         if let Ok(mut seen) = RunSet::empty(out.alloc, elements) {
-            write_begun(out, &steps, elements, &mut seen, both, runs);
+            if both {
+                write_both(out, &steps, elements, &mut seen, runs);
+            } else {
+                write_one(out, &steps, elements, &mut seen, runs);
+            }
             drop(seen);
         }
         drop(steps);
