@@ -1,166 +1,288 @@
--- A frontier goes on from an element, and is again what walks reach.
-use Rattle.std.proofs.Common.{◌≡◌, ◌≢◌, ◌⊎◌, ◌↔◌, ℕ, zero, suc, ◌<◌, ◌≤◌, Bool, true, false, List, [], ◌∷◌, ◌++◌, Contains, AllPairs, length, get_or, set, replicate, Result, Ok, Err, refl, sym, ap, ◌∙◌, subst, inl, inr, ⊎_elim, arith}
-use Rattle.std.specs.Prelude.{⊤}
-use Rattle.std.specs.List.Sorted.{IsBinarySearchResult}
-use Rattle.std.specs.Ordering.{nat_cmp}
-use Rattle.std.specs.Result.{is_ok}
+-- A frontier goes on from a run, and is again what walks reach.
+use Rattle.std.proofs.Common.{◌≡◌, ◌⊎◌, ◌↔◌, ℕ, ◌+◌, ◌<◌, ◌≤◌, Bool, false, List, [], Contains, length, get_or, replicate, refl, sym, ap, ◌∙◌, subst, inl, inr, ⊎_elim, arith}
 use Rattle.std.proofs.lemmas.Bool.{cases_eq, cases_lt, false≢true}
-use Rattle.std.proofs.lemmas.List.Quantifiers.{all_pairs_push}
-use Rattle.std.proofs.lemmas.List.Sorted.{searched}
-use Rattle.std.proofs.lemmas.List.{get_or_default, get_or-set_other}
+use Rattle.std.proofs.lemmas.List.{get_or_default}
 use Rattle.nll_sets.specs.ElementSet.{flag}
-use Rattle.nll_problem.specs.Graph.{Graph, IsStep}
-use Rattle.nll_problem.proofs.WalkLemmas.{reaches_first, reaches_starts, reaches_more, reaches_carries, reaches_weaker}
-use Rattle.nll_core.specs.Search.{Search, LeadsTo, IsIn, IsStepInside, Adds, Visits, IsPending, Spreads}
-use Rattle.nll_core.specs.Frontiers.{Frontier, ReachesFrom, IsFrontierIn, IsOtherOf, ListsNew, IsReachable, IsClosedBut, Resumes, IsAscending}
-use Rattle.nll_core.proofs.SearchLemmas.{none_in_empty, adds_append, adds_weaker, contains_at, contains_from, leads_first, leads_carries}
+use Rattle.nll_sets.specs.Runs.{IsInRuns, IsWithin, Fills}
+use Rattle.nll_sets.specs.declared.run.Run.{Run}
+use Rattle.nll_problem.specs.Graph.{Graph, element_count, IsNext, IsReturn, IsStep, IsSound}
+use Rattle.nll_problem.specs.Walks.{Reaches}
+use Rattle.nll_problem.proofs.WalkLemmas.{reaches_first, reaches_starts, reaches_inside, reaches_more, reaches_carries, reaches_weaker}
+use Rattle.nll_core.specs.Search.{IsIn}
+use Rattle.nll_core.specs.Lines.{IsJump}
+use Rattle.nll_core.specs.Walking.{Grows, IsLedTo, IsSpread, IsLineClosed, IsFollowed, AreFollowedBut, AreOfPoints, FillsFrom}
+use Rattle.nll_core.specs.Frontiers.{Frontier, ReachesFrom, IsReachedFrom, IsFrontierIn, IsBeside, ResumesPoints, ListsNew}
+use Rattle.nll_core.specs.declared.landing.Landing.{Landing}
+use Rattle.nll_core.proofs.SearchLemmas.{none_in_empty, flag_within}
+use Rattle.nll_core.proofs.WalkingLemmas.{grows_none, grows_append, grows_weaker, line_closed, reaches_append}
+use Rattle.nll_core.proofs.ListingLemmas.{lists_grown, lists_append}
 
--- ---- where walks begin
+-- ---- runs and jumps
 
-ascending_le : (xs : List ℕ) → IsAscending xs → (i j : ℕ) → i ≤ j → j < length xs → get_or xs i 0 ≤ get_or xs j 0
-ascending_le xs up i j l h = ⊎_elim
-    (λ same. subst (λ k. get_or xs i 0 ≤ get_or xs k 0) same (omega arith))
-    (λ other. (let a = up i j 0 (omega arith) h in omega arith))
-    (cases_eq i j)
+-- a number is in a run, or below it, or above it
+within_or : (run : Run) (x : ℕ) → IsWithin run x ⊎ ((x < run.first) ⊎ (run.last < x))
+within_or run x = ⊎_elim
+    (λ low. inr (inl low))
+    (λ from. ⊎_elim (λ high. inr (inr high)) (λ to. inl (omega (arith, from), omega (arith, to))) (cases_lt run.last x))
+    (cases_lt x run.first)
 
--- a binary search finds a number just where it is there
-pub found_in : (xs : List ℕ) (x : ℕ) → IsAscending xs → (r : Result ℕ ℕ) → IsBinarySearchResult (λ y. nat_cmp y x) xs r → (is_ok r ≡ true) ↔ Contains xs x
-found_in xs x up (Ok at) is =
-    let m = searched xs x (Ok at) is (ascending_le xs up) in
-    (λ h. contains_from xs x at m.0 m.1, λ h. refl)
-found_in xs x up (Err at) is =
-    let m = searched xs x (Err at) is (ascending_le xs up) in (
-      λ h. absurd (false≢true h),
-      λ h. absurd (⊎_elim
-          (λ low. (let a = m.1 h.0 low in omega (arith, a, contains_at xs x h)))
-          (λ high. (let a = m.2 h.0 high h.1 in omega (arith, a, contains_at xs x h)))
-          (cases_lt h.0 at)),
-    )
+-- a jump to a point is a step to it
+jump_next : (g : Graph) (x t : ℕ) → IsJump g x t → t < g.points → IsNext g x t
+jump_next g x t (inl next) point = next.0
+jump_next g x t (inr back) point = absurd (omega (arith, back.1, point))
 
--- a number that isn't the first one is there where it is behind it
-pub behind_first : (first x : ℕ) (xs : List ℕ) → x ≢ first → Contains xs x ↔ Contains (first ∷ xs) x
-behind_first first x xs other = (λ h. (suc h.0, omega (arith, h.1), h.2), back)
-  where
-    back : Contains (first ∷ xs) x → Contains xs x
-    back (zero, l, h) = absurd (other (sym h))
-    back (suc k, l, h) = (k, omega arith, h)
+-- a jump to the ends is one from a return point
+pub jump_return : (g : Graph) → IsSound g → (x : ℕ) → IsJump g x g.points → IsReturn g x
+jump_return g sound x (inl next) = absurd (omega (arith, (sound.edges_in_range x g.points next.0).1))
+jump_return g sound x (inr back) = back.0
 
--- numbers ascend with one more that is above all of them and the first one
-pub ascending_push : (first at : ℕ) (xs : List ℕ) → IsAscending xs → ((x : ℕ) → Contains (first ∷ xs) x → x < at) → IsAscending (xs ++ at ∷ [])
-ascending_push first at xs up below = all_pairs_push (λ x y. x < y) xs at up
-    (λ k d l. below (get_or xs k d) (suc k, omega arith, get_or_default xs k (get_or xs k d) d l))
+-- ---- what walks reach inside a set
 
--- ---- one visit, and what it spreads to
+module _ (g : Graph) (set : List Bool) (starts : List ℕ) where
+  -- what is led to from what is reached is reached
+  pub led_from : (reached : List Bool) → ((x : ℕ) → IsIn reached x → ReachesFrom g (IsIn set) starts x) → (x : ℕ) → IsLedTo g set reached x → ReachesFrom g (IsIn set) starts x
+  led_from reached sound x w = let from = sound w.0 w.1 in (from.0, from.1, reaches_append g set from.0 w.0 x from.2 w.2)
 
-module _ (g : Graph) (set : List Bool) (e : ℕ) (old first new : Search) (none : old.list ≡ []) (v : Visits (λ x. x ≡ e) old first) where
-  empty : length old.list ≡ 0
-  empty = ap length none
+  pub sound_more : (old new : List Bool) (before after : List Run) → ((x : ℕ) → IsIn old x → ReachesFrom g (IsIn set) starts x) → Grows g set (ReachesFrom g (IsIn set) starts) old new before after → (x : ℕ) → IsIn new x → ReachesFrom g (IsIn set) starts x
+  sound_more old new before after sound p x h = ⊎_elim (sound x) (λ k. k) (p.cause x h)
 
-  -- all that is listed is still to be expanded
-  pub pending_one : IsClosedBut g set e old.reached → IsPending (IsStepInside g set) first 0
-  pending_one closed = record {
-    within = omega arith;
-    listed = λ k l h. v.adds.inside k (omega (arith, empty)) h;
-    others = λ x h. ⊎_elim
-        (λ before. inr (λ y step. ⊎_elim (λ is. v.all y is) (λ in_old. v.adds.kept y in_old) (closed x y before step.0 step.1)))
-        (λ w. inl (w.0, omega arith, w.2, w.3))
-        (v.adds.only x h);
+  -- what walks reach is inside
+  pub from_inside : (x : ℕ) → ReachesFrom g (IsIn set) starts x → IsIn set x
+  from_inside x w = reaches_inside g (IsIn set) w.0 x w.2
+
+  -- ---- a run has come into the set
+
+  module _ (run : Run) (old : List Bool) (before : IsReachedFrom g (IsBeside set run) starts old) where
+    pub old_sound : (x : ℕ) → IsIn old x → ReachesFrom g (IsIn set) starts x
+    old_sound x h = let w = (before x).0 h in (w.0, w.1, reaches_weaker g (IsBeside set run) w.0 (IsIn set) (λ y t. t.0) x w.2)
+
+    pub old_inside : (x : ℕ) → IsIn old x → IsIn set x
+    old_inside x h = from_inside x (old_sound x h)
+
+    old_beside : (x : ℕ) → IsIn old x → IsWithin run x → ⊥
+    old_beside x h = let w = (before x).0 h in (reaches_inside g (IsBeside set run) w.0 x w.2).1
+
+    -- a step inside the set from what is reached leads to what is reached, or into the run
+    old_closed : (x y : ℕ) → IsIn old x → IsStep g x y → IsIn set y → IsIn old y ⊎ IsWithin run y
+    old_closed x y h step inside =
+        let w = (before x).0 h in
+        let more : (IsWithin run y → ⊥) → IsIn old y = λ out. (before y).1 (w.0, w.1, reaches_more g (IsBeside set run) w.0 x y w.2 step (inside, out)) in
+        ⊎_elim inr (λ out. inl (more (outside out))) (within_or run y)
+      where
+        outside : (y < run.first) ⊎ (run.last < y) → IsWithin run y → ⊥
+        outside (inl low) w = omega (arith, low, w.0)
+        outside (inr high) w = omega (arith, high, w.1)
+
+    old_begun : (p : ℕ) → Contains starts p → IsIn set p → IsIn old p ⊎ IsWithin run p
+    old_begun p at inside =
+        let more : (IsWithin run p → ⊥) → IsIn old p = λ out. (before p).1 (p, at, reaches_first g (IsBeside set run) p (inside, out)) in
+        ⊎_elim inr (λ out. inl (more (outside out))) (within_or run p)
+      where
+        outside : (p < run.first) ⊎ (run.last < p) → IsWithin run p → ⊥
+        outside (inl low) w = omega (arith, low, w.0)
+        outside (inr high) w = omega (arith, high, w.1)
+
+    module _ (sound : IsSound g) (points : (p : ℕ) → Contains starts p → p < g.points) where
+      -- where the run has no point, no point is newly reached
+      pub resumes_none : (runs : List Run) → g.points ≤ run.first → ResumesPoints g set starts old old runs runs false
+      resumes_none runs past = record {
+        grows = grows_none g set (ReachesFrom g (IsIn set) starts) old runs;
+        begun = λ p at inside. ⊎_elim (λ o. o) (λ w. absurd (omega (arith, w.0, past, points p at))) (old_begun p at inside);
+        closed = λ x y h next inside. ⊎_elim (λ o. o) (λ w. absurd (omega (arith, w.0, past, (sound.edges_in_range x y next).1))) (old_closed x y h (inl next) inside);
+        ends_from = λ e. absurd (false≢true e);
+        ends = λ x h back. inr h;
+      }
+
+      -- else its points are entered from which walks go on
+      module _ (part : Run) (first : part.first ≡ run.first) (last : (x : ℕ) → x ≤ run.last → x < g.points → x ≤ part.last) (es : List Run) (none : es ≡ [])
+          (one two : List Bool) (fs gs : List Run) (a : Grows g set (IsLedTo g set old) old one es fs) (near : (x : ℕ) → x + 1 ≡ part.first → IsIn old x → IsNext g x part.first → IsIn one part.first)
+          (b : Grows g set (ReachesFrom g (IsIn set) starts) one two fs gs) where
+        one_sound : (x : ℕ) → IsIn one x → ReachesFrom g (IsIn set) starts x
+        one_sound x h = ⊎_elim (old_sound x) (led_from old old_sound x) (a.cause x h)
+
+        two_sound : (x : ℕ) → IsIn two x → ReachesFrom g (IsIn set) starts x
+        two_sound = sound_more one two fs gs one_sound b
+
+        pub two_inside : (x : ℕ) → IsIn two x → IsIn set x
+        two_inside x h = from_inside x (two_sound x h)
+
+        module _ (begin : (p : ℕ) → Contains starts p → IsWithin part p → IsIn two p) (three : List Bool) (hs : List Run)
+            (c : Grows g set (IsLedTo g set two) two three gs hs) (land : (x t : ℕ) → IsIn two x → IsJump g x t → IsWithin part t → IsIn three t) where
+          entered : Grows g set (ReachesFrom g (IsIn set) starts) old three es hs
+          entered = grows_append g set (ReachesFrom g (IsIn set) starts) _ _ _ _ _ _
+              (grows_append g set (ReachesFrom g (IsIn set) starts) _ _ _ _ _ _ (grows_weaker g set (IsLedTo g set old) (ReachesFrom g (IsIn set) starts) (led_from old old_sound) _ _ _ _ a) b)
+              (grows_weaker g set (IsLedTo g set two) (ReachesFrom g (IsIn set) starts) (led_from two two_sound) _ _ _ _ c)
+
+          three_sound : (x : ℕ) → IsIn three x → ReachesFrom g (IsIn set) starts x
+          three_sound = sound_more old three es hs old_sound entered
+
+          pub three_inside : (x : ℕ) → IsIn three x → IsIn set x
+          three_inside x h = from_inside x (three_sound x h)
+
+          pub three_closed : IsLineClosed g set three
+          three_closed x h next inside = ⊎_elim (λ i. i) (λ o. ⊎_elim (entered.kept (x + 1)) (λ w. from_run o w) (old_closed x (x + 1) o (inl next) inside)) (entered.closed x h next inside)
+            where
+              -- the line leads into the run at its first point alone
+              from_run : IsIn old x → IsWithin run (x + 1) → IsIn three (x + 1)
+              from_run o w =
+                  let here : x + 1 ≡ part.first = ⊎_elim (λ lt. absurd (old_beside x o (omega (arith, lt), omega (arith, w.1)))) (λ ge. omega (arith, ge, w.0, first)) (cases_lt run.first (x + 1)) in
+                  subst (IsIn three) (sym here) (c.kept _ (b.kept _ (near x here o (subst (IsNext g x) here next))))
+
+          pub three_listed : (x : ℕ) → IsInRuns hs x → IsIn three x
+          three_listed x (k, l, low, high) = (entered.listed x (k, omega (arith, ap length none), l, low, high)).0
+
+          pub three_fit : AreOfPoints g hs
+          three_fit = entered.fit (λ k h. absurd (omega (arith, ap length none, h)))
+
+          followed : AreFollowedBut g set old three hs
+          followed x h = ⊎_elim (λ o. inr (jumps o, o)) (λ (k, from, l, low, high). inl (k, l, low, high)) (entered.pending x h)
+            where
+              jumps : IsIn old x → IsFollowed g set three x
+              jumps o t jump point inside = ⊎_elim
+                  (entered.kept t)
+                  (λ w. land x t (b.kept x (a.kept x o)) jump (omega (arith, w.0, first), last t w.1 point))
+                  (old_closed x t o (inl (jump_next g x t jump point)) inside)
+
+          -- and the walks go on
+          pub resumes_points : (four : List Bool) (ks : List Run) (ended : Bool) → IsSpread g set three four hs ks ended → ResumesPoints g set starts old four es ks ended
+          resumes_points four ks ended s = record {
+            grows = grows_append g set (ReachesFrom g (IsIn set) starts) _ _ _ _ _ _ entered (grows_weaker g set (IsLedTo g set three) (ReachesFrom g (IsIn set) starts) (led_from three three_sound) _ _ _ _ s.grows);
+            begun = λ p at inside. s.grows.kept p (⊎_elim (entered.kept p) (λ w. c.kept p (begin p at (omega (arith, w.0, first), last p w.1 (points p at)))) (old_begun p at inside));
+            closed = λ x y h next inside. ⊎_elim
+                (λ same. subst (IsIn four) (sym same) (line_closed g set (IsLedTo g set three) _ _ _ _ s.grows three_closed x h (subst (IsNext g x) same next) (subst (IsIn set) same inside)))
+                (λ other. (s.followed old followed x h).0 y (inl (next, other)) (sound.edges_in_range x y next).1 inside)
+                (cases_eq y (x + 1));
+            ends_from = λ e. let w = s.ends_from e in (w.0, w.1, jump_return g sound w.0 w.2);
+            ends = λ x h back. (s.followed old followed x h).1 (inr (back, refl));
+          }
+
+      -- ---- the whole
+
+      module _ (points_reached : List Bool) (es list : List Run) (ended : Bool) (p : ResumesPoints g set starts old points_reached es list ended) where
+        reached_sound : (x : ℕ) → IsIn points_reached x → ReachesFrom g (IsIn set) starts x
+        reached_sound = sound_more old points_reached es list old_sound p.grows
+
+        -- where no end can be newly reached, that is all
+        pub resumed : ended ≡ false → ((x : ℕ) → IsIn points_reached x → IsReturn g x → run.last < g.points) → IsReachedFrom g (IsIn set) starts points_reached
+        resumed none never x = (
+          reached_sound x,
+          λ (w : ReachesFrom g (IsIn set) starts x). reaches_carries g (IsIn set) w.0 (IsIn points_reached) go_on x (p.begun w.0 w.1 (reaches_starts g (IsIn set) w.0 x w.2)) w.2,
+        )
+          where
+            go_on : (y z : ℕ) → IsIn points_reached y → IsStep g y z → IsIn set z → IsIn points_reached z
+            go_on y z h (inl next) inside = p.closed y z h next inside
+            go_on y z h (inr back) inside = ⊎_elim
+                (λ e. absurd (false≢true (sym none ∙ e)))
+                (λ o. ⊎_elim (p.grows.kept z) (λ w. absurd (let low = never y h back.0 in omega (arith, low, w.1, back.1.0))) (old_closed y z o (inr back) inside))
+                (p.ends y h back.0)
+
+        -- else all ends in the set come to it
+        pub resumed_ends : (all : List Bool) (n : ℕ) → n ≡ g.points → length set ≡ element_count g → (x : ℕ) × IsIn points_reached x × IsReturn g x → FillsFrom n set points_reached all → IsReachedFrom g (IsIn set) starts all
+        resumed_ends all n n_is wide some f x = (
+          λ h. ⊎_elim
+              (reached_sound x)
+              (λ own. let w = reached_sound some.0 some.1 in (w.0, w.1, reaches_more g (IsIn set) w.0 some.0 x w.2 (inr (some.2, (omega (arith, own.0, n_is), omega (arith, flag_within set x own.1, wide)))) own.1))
+              (f.cause x h),
+          λ (w : ReachesFrom g (IsIn set) starts x). reaches_carries g (IsIn set) w.0 (IsIn all) go_on x (f.kept w.0 (p.begun w.0 w.1 (reaches_starts g (IsIn set) w.0 x w.2))) w.2,
+        )
+          where
+            go_on : (y z : ℕ) → IsIn all y → IsStep g y z → IsIn set z → IsIn all z
+            go_on y z h (inl next) inside = ⊎_elim
+                (λ i. f.kept z (p.closed y z i next inside))
+                (λ own. absurd (omega (arith, own.0, n_is, (sound.edges_in_range y z next).0)))
+                (f.cause y h)
+            go_on y z h (inr back) inside = f.filled z (let low = back.1.0 in omega (arith, low, n_is)) inside
+
+        pub lists_resumed : es ≡ [] → ListsNew old points_reached [] list
+        lists_resumed none = lists_grown g set (ReachesFrom g (IsIn set) starts) old points_reached list (subst (λ xs. Grows g set (ReachesFrom g (IsIn set) starts) old points_reached xs list) none p.grows)
+
+        pub lists_resumed_ends : es ≡ [] → (all : List Bool) (n : ℕ) (whole : List Run) → FillsFrom n set points_reached all → ListsNew points_reached all list whole → ListsNew old all [] whole
+        lists_resumed_ends none all n whole f l = lists_append old points_reached all [] list whole p.grows.kept f.kept (lists_resumed none) l
+
+-- ---- the points from which walks begin
+
+-- The points of the list from the first number of the run up to `next` are entered.
+pub record Beginning (g : Graph) (set : List Bool) (starts : List ℕ) (first : ℕ) (old now : List Bool) (before after : List Run) (next : ℕ) : Type 0 where
+  pub grows : Grows g set (ReachesFrom g (IsIn set) starts) old now before after
+  pub low : first ≤ next
+  pub covers : (p : ℕ) → Contains starts p → first ≤ p → p < next → IsIn now p
+
+module _ (g : Graph) (set : List Bool) (starts : List ℕ) (first : ℕ) where
+  pub beginning_first : (old : List Bool) (before : List Run) → Beginning g set starts first old old before before first
+  beginning_first old before = record { grows = grows_none g set (ReachesFrom g (IsIn set) starts) old before; low = omega arith; covers = λ p at a b. absurd (omega (arith, a, b)) }
+
+  pub beginning_more : (old now new : List Bool) (before then after : List Run) (next start : ℕ) → Contains starts start → next ≤ start → ((x : ℕ) → Contains starts x → next ≤ x → start ≤ x)
+      → Beginning g set starts first old now before then next → Grows g set (Reaches g (IsIn set) start) now new then after → IsIn new start → Beginning g set starts first old new before after (start + 1)
+  beginning_more old now new before then after next start at past least b p here = record {
+    grows = grows_append g set (ReachesFrom g (IsIn set) starts) _ _ _ _ _ _ b.grows (grows_weaker g set (Reaches g (IsIn set) start) (ReachesFrom g (IsIn set) starts) (λ x way. (start, at, way)) _ _ _ _ p);
+    low = omega (arith, b.low, past);
+    covers = λ q listed low high. ⊎_elim
+        (λ front. p.kept q (b.covers q listed low front))
+        (λ back. let same : q ≡ start = omega (arith, high, least q listed (omega (arith, back))) in subst (IsIn new) (sym same) here)
+        (cases_lt q next);
   }
 
-  module _ (s : Spreads (IsStepInside g set) first new) where
-    pub resumes_one : Resumes g set e old.reached new.reached
-    resumes_one = record {
-      kept = λ x h. s.adds.kept x (v.adds.kept x h);
-      here = s.adds.kept e (v.all e refl);
-      cause = λ x h. ⊎_elim
-          (λ early. ⊎_elim inl (λ w. inr (e, inl refl, subst (LeadsTo (IsStepInside g set) e) (sym (v.adds.cause w.0 w.1 w.2) ∙ w.3) (leads_first (IsStepInside g set) e))) (v.adds.only x early))
-          (λ w. let led = s.adds.cause w.0 w.1 w.2 in inr (led.0, source led.0 led.1, subst (LeadsTo (IsStepInside g set) led.0) w.3 led.2))
-          (s.adds.only x h);
-      closed = λ x y h step inside. s.closed x h y (step, inside);
-    }
-      where
-        source : (y : ℕ) → IsIn first.reached y → (y ≡ e) ⊎ IsIn old.reached y
-        source y h = ⊎_elim inr (λ w. inl (sym w.3 ∙ v.adds.cause w.0 w.1 w.2)) (v.adds.only y h)
+-- ---- the jumps that land in a run
 
-    all : Adds (λ _. ⊤) old new
-    all = adds_append (λ _. ⊤) old first new (adds_weaker _ (λ _. ⊤) (λ x h. tt) old first v.adds) (adds_weaker _ (λ _. ⊤) (λ x h. tt) first new s.adds)
+-- what is read past the end of a list of landings
+abbrev pub no_landing : Landing
+no_landing = record { to = 0; from = 0 }
 
-    pub lists_one : (before after : List ℕ) → after ≡ before ++ new.list → ListsNew old.reached new.reached before after
-    lists_one before after is = (new.list, is, each, once)
-      where
-        each : (x : ℕ) → Contains new.list x ↔ (IsIn new.reached x × (flag old.reached x ≡ false))
-        each x = (
-          λ h. subst (λ z. IsIn new.reached z × (flag old.reached z ≡ false)) (contains_at new.list x h) (all.inside h.0 (omega (arith, empty)) h.1, all.fresh h.0 (omega (arith, empty)) h.1),
-          λ h. ⊎_elim
-              (λ before. absurd (false≢true (sym h.1 ∙ before)))
-              (λ w. contains_from new.list x w.0 w.2 w.3)
-              (all.only x h.0),
-        )
+-- a landing at a place of the list of those in a run is a jump into the run
+pub landing_at : (g h : Graph) → h ≡ g → (list : List Landing) (part : Run) → ((l : Landing) → Contains list l ↔ (IsJump h l.from l.to × (part.first ≤ l.to) × (l.to ≤ part.last)))
+    → (k : ℕ) (d : Landing) → k < length list → IsJump g (get_or list k d).from (get_or list k d).to × IsWithin part (get_or list k d).to
+landing_at g h same list part each k d within =
+    let own = (each (get_or list k d)).0 (k, within, get_or_default list k (get_or list k d) d within) in
+    (subst (λ x. IsJump x (get_or list k d).from (get_or list k d).to) same own.0, (own.1, own.2))
 
-        once : AllPairs (λ x y. x ≢ y) new.list
-        once i j d before within same = all.once i (omega (arith, empty)) j (omega (arith, before)) within
-            (get_or_default new.list i 0 d (omega (arith, before, within)) ∙ (same ∙ get_or_default new.list j d 0 within))
+-- a jump leaves a point
+pub jump_from : (g : Graph) → IsSound g → (x t : ℕ) → IsJump g x t → x < g.points
+jump_from g sound x t (inl next) = (sound.edges_in_range x t next.0).0
+jump_from g sound x t (inr back) = sound.returns_in_range x back.0
 
--- ---- what walks reach
+-- The first `count` landings of the list are gone through.
+pub record LandingOn (g : Graph) (set : List Bool) (list : List Landing) (old now : List Bool) (before after : List Run) (count : ℕ) : Type 0 where
+  pub grows : Grows g set (IsLedTo g set old) old now before after
+  pub covers : (k : ℕ) (d : Landing) → k < count → k < length list → IsIn old (get_or list k d).from → IsIn now (get_or list k d).to
 
-module _ (g : Graph) (set : List Bool) (e : ℕ) (f : Frontier) (inside : IsIn set e) (old : IsFrontierIn g (IsOtherOf set e) f) where
-  -- a step inside the set from what is reached leads to what is reached, or to the new element
-  pub closed_but : IsClosedBut g set e f.reached
-  closed_but x y h step within = ⊎_elim inl
-      (λ other. let w = (old x).0 h in inr ((old y).1 (w.0, w.1, reaches_more g (IsOtherOf set e) w.0 x y w.2 step (within, other))))
-      (cases_eq y e)
+module _ (g : Graph) (set : List Bool) (list : List Landing) (old : List Bool) (before : List Run) where
+  pub landing_first : LandingOn g set list old old before before 0
+  landing_first = record { grows = grows_none g set (IsLedTo g set old) old before; covers = λ k d h. absurd (omega (arith, h)) }
 
-  more : (x : ℕ) → IsIn f.reached x → ReachesFrom g (IsIn set) f.starts x
-  more x h = let w = (old x).0 h in (w.0, w.1, reaches_weaker g (IsOtherOf set e) w.0 (IsIn set) (λ y t. t.0) x w.2)
+  -- a jump from what isn't reached is passed over
+  pub landing_passed : (now : List Bool) (then : List Run) (count : ℕ) (l : Landing) → ((d : Landing) → get_or list count d ≡ l) → flag now l.from ≡ false → LandingOn g set list old now before then count → LandingOn g set list old now before then (count + 1)
+  landing_passed now then count l is out p = record {
+    grows = p.grows;
+    covers = λ k d lt within from. ⊎_elim
+        (λ here. absurd (let same = ap (λ i. get_or list i d) here ∙ is d in false≢true (sym out ∙ p.grows.kept l.from (subst (λ (m : Landing). IsIn old m.from) same from))))
+        (λ other. p.covers k d (omega (arith, lt, other)) within from)
+        (cases_eq k count);
+  }
 
-  start : (p : ℕ) → Contains f.starts p → IsIn set p → (p ≡ e) ⊎ IsIn f.reached p
-  start p at within = ⊎_elim inl (λ other. inr ((old p).1 (p, at, reaches_first g (IsOtherOf set e) p (within, other)))) (cases_eq p e)
-
-  -- where no walk can come to the new element, nothing more is reached
-  pub frontier_same : (IsReachable g f e → ⊥) → (reached : List Bool) → ((x : ℕ) → flag reached x ≡ flag f.reached x) → (x : ℕ) → IsIn reached x ↔ ReachesFrom g (IsIn set) f.starts x
-  frontier_same never reached same x = (
-    λ h. more x (sym (same x) ∙ h),
-    λ (w : ReachesFrom g (IsIn set) f.starts x). same x ∙ reaches_carries g (IsIn set) w.0 (IsIn f.reached)
-        (λ y z h step within. ⊎_elim (λ is. absurd (never (inr (y, h, subst (IsStep g y) is step)))) (λ in_old. in_old) (closed_but y z h step within))
-        x
-        (⊎_elim (λ is. absurd (never (inl (subst (Contains f.starts) is w.1)))) (λ in_old. in_old) (start w.0 w.1 (reaches_starts g (IsIn set) w.0 x w.2)))
-        w.2,
-  )
-
-  -- where a walk can, what it leads to is reached
-  pub frontier_more : IsReachable g f e → (middle new : List Bool) → ((x : ℕ) → flag middle x ≡ flag f.reached x) → Resumes g set e middle new → (x : ℕ) → IsIn new x ↔ ReachesFrom g (IsIn set) f.starts x
-  frontier_more can middle new same r x = (
-    λ h. ⊎_elim
-        (λ early. more x (sym (same x) ∙ early))
-        (λ (w : (y : ℕ) × ((y ≡ e) ⊎ IsIn middle y) × LeadsTo (IsStepInside g set) y x). leads_carries (IsStepInside g set) (ReachesFrom g (IsIn set) f.starts)
-        (λ y z t step. (t.0, t.1, reaches_more g (IsIn set) t.0 y z t.2 step.0 step.1))
-        w.0 x
-        (⊎_elim (λ is. subst (ReachesFrom g (IsIn set) f.starts) (sym is) here) (λ in_old. more w.0 (sym (same w.0) ∙ in_old)) w.1)
-        w.2)
-        (r.cause x h),
-    λ (w : ReachesFrom g (IsIn set) f.starts x). reaches_carries g (IsIn set) w.0 (IsIn new)
-        (λ y z h step within. r.closed y z h step within)
-        x
-        (⊎_elim (λ is. subst (IsIn new) (sym is) r.here) (λ in_old. r.kept w.0 (same w.0 ∙ in_old)) (start w.0 w.1 (reaches_starts g (IsIn set) w.0 x w.2)))
-        w.2,
-  )
+  pub landing_more : ((x : ℕ) → IsIn old x → IsIn set x) → (now new : List Bool) (then after : List Run) (count : ℕ) (l : Landing) → ((d : Landing) → get_or list count d ≡ l) → IsJump g l.from l.to → l.to < g.points → IsIn set l.to → IsIn now l.from
+      → LandingOn g set list old now before then count → Grows g set (Reaches g (IsIn set) l.to) now new then after → IsIn new l.to → LandingOn g set list old new before after (count + 1)
+  landing_more inside now new then after count l is jump point here from p q there = record {
+    grows = grows_append g set (IsLedTo g set old) _ _ _ _ _ _ p.grows (grows_weaker g set (Reaches g (IsIn set) l.to) (IsLedTo g set old) (λ x way. led x way) _ _ _ _ q);
+    covers = λ k d lt within of. ⊎_elim
+        (λ same. subst (λ (m : Landing). IsIn new m.to) (sym (ap (λ i. get_or list i d) same ∙ is d)) there)
+        (λ other. q.kept _ (p.covers k d (omega (arith, lt, other)) within of))
+        (cases_eq k count);
+  }
     where
-      here : ReachesFrom g (IsIn set) f.starts e
-      here = ⊎_elim
-          (λ at. (e, at, reaches_first g (IsIn set) e inside))
-          (λ (w : (x : ℕ) × IsIn f.reached x × IsStep g x e). let t = more w.0 w.1 in (t.0, t.1, reaches_more g (IsIn set) t.0 w.0 e t.2 w.2 inside))
-          can
+      led : (x : ℕ) → Reaches g (IsIn set) l.to x → IsLedTo g set old x
+      led x way =
+          let source : IsLedTo g set old l.from = ⊎_elim (λ o. (l.from, o, reaches_first g (IsIn set) l.from (inside l.from o))) (λ w. w) (p.grows.cause l.from from) in
+          (source.0, source.1, reaches_append g set source.0 l.to x (reaches_more g (IsIn set) source.0 l.from l.to source.2 (inl (jump_next g l.from l.to jump point)) here) way)
+
+  pub landing_end : (now : List Bool) (then : List Run) (count : ℕ) → length list ≤ count → LandingOn g set list old now before then count → (l : Landing) → Contains list l → IsIn old l.from → IsIn now l.to
+  landing_end now then count past p l (k, within, is) from =
+      subst (λ (m : Landing). IsIn now m.to) is (p.covers k l (omega (arith, within, past)) within (subst (λ (m : Landing). IsIn old m.from) (sym is) from))
 
 -- ---- more room
 
-module _ (old new : List Bool) (same : (x : ℕ) → flag new x ≡ flag old x) where
-  -- a frontier with more room is of the same walks
-  pub frontier_widened : (g : Graph) (inside : ℕ → Type 0) (starts : List ℕ) → ((x : ℕ) → IsIn old x ↔ ReachesFrom g inside starts x) → (x : ℕ) → IsIn new x ↔ ReachesFrom g inside starts x
-  frontier_widened g inside starts h x = (λ k. (h x).0 (sym (same x) ∙ k), λ k. same x ∙ (h x).1 k)
-
-  -- and a list has what is new after it just where it had what is new before
-  pub lists_widened : (last : List Bool) (before after : List ℕ) → ListsNew new last before after → ListsNew old last before after
-  lists_widened last before after w = (w.0, w.1, λ x. (λ h. (((w.2 x).0 h).0, sym (same x) ∙ ((w.2 x).0 h).1), λ h. (w.2 x).1 (h.0, same x ∙ h.1)), w.3)
+-- a frontier with more room is of the same walks
+pub frontier_widened : (g : Graph) (inside : ℕ → Type 0) (starts : List ℕ) (old wide : List Bool) → ((x : ℕ) → flag wide x ≡ flag old x) → IsReachedFrom g inside starts old → IsReachedFrom g inside starts wide
+frontier_widened g inside starts old wide same h x = (λ k. (h x).0 (sym (same x) ∙ k), λ k. same x ∙ (h x).1 k)
 
 -- ---- other words for the same set
 
@@ -171,13 +293,11 @@ frontier_alike g inside other f same is x = (
   λ w. (is x).1 (w.0, w.1, reaches_weaker g other w.0 inside (λ y t. (same y).1 t) x w.2),
 )
 
--- what a set had before an element came is what it has beside it
-pub other_of_inserted : (old : List Bool) (e : ℕ) → flag old e ≡ false → (x : ℕ) → IsIn old x ↔ IsOtherOf (set old e true) e x
-other_of_inserted old e fresh x = (
-  λ h.
-      let other : x ≢ e = λ is. false≢true (sym fresh ∙ subst (IsIn old) is h) in
-      (get_or-set_other old e x true false other ∙ h, other),
-  λ h. sym (get_or-set_other old e x true false h.1) ∙ h.0,
+-- what a set had before a run of others came is what it has beside the run
+pub beside_filled : (old new : List Bool) (run : Run) → Fills old new run → ((x : ℕ) → IsWithin run x → flag old x ≡ false) → (x : ℕ) → IsIn old x ↔ IsBeside new run x
+beside_filled old new run f lacks x = (
+  λ h. (f.kept x h, λ own. false≢true (sym (lacks x own) ∙ h)),
+  λ h. ⊎_elim (λ early. early) (λ own. absurd (h.1 own)) (f.cause x h.0),
 )
 
 -- a frontier that has reached nothing is one of walks inside the empty set

@@ -4,9 +4,12 @@ pub mod SolverLemmas
 pub mod BaseLemmas
 pub mod FaultLemmas
 pub mod LineLemmas
+pub mod LandingLemmas
 pub mod JumpLemmas
 pub mod WalkingLemmas
 pub mod RunValueLemmas
 pub mod WorklistLemmas
 pub mod OrderLemmas
+pub mod ListingLemmas
+pub mod StartLemmas
 pub mod FrontierLemmas

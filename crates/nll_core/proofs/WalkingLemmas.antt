@@ -1,15 +1,16 @@
 -- A walk by stretches of lines: what it adds, step after step, and what it has reached at its end.
 use Rattle.std.proofs.Common.{◌≡◌, ◌⊎◌, ◌↔◌, ℕ, ◌+◌, ◌-◌, ◌<◌, ◌≤◌, Bool, true, false, not, cond, min, ◌||◌, List, [], ◌∷◌, ◌++◌, Contains, length, get_or, refl, sym, ap, ◌∙◌, subst, inl, inr, ⊎_elim, arith, zero, suc, length-append}
 use Rattle.std.proofs.lemmas.Bool.{cases_lt, cases_eq, false≢true, true≢false}
-use Rattle.std.proofs.lemmas.List.{get_or_append_left, get_or_at, get_or_default}
+use Rattle.std.proofs.lemmas.List.{get_or_default}
 use Rattle.std.proofs.lemmas.List.Sums.{sum_by-cons}
 use Rattle.nll_sets.specs.ElementSet.{flag}
 use Rattle.nll_problem.specs.Graph.{Graph, element_count, IsNext, IsStep, IsSound, IsEnd}
 use Rattle.nll_problem.specs.Walks.{Reaches}
 use Rattle.nll_core.specs.Search.{missing, IsIn}
-use Rattle.nll_sets.specs.Runs.{no_run, IsInRuns, IsWithin, IsRunFrom, Fills}
+use Rattle.nll_sets.specs.Runs.{first_of, last_of, IsInRuns, IsInRunsFrom, IsWithin, IsRunFrom, Fills}
+use Rattle.nll_sets.proofs.GapLemmas.{front_of, last_there}
 use Rattle.nll_core.specs.Lines.{IsJump, IsLineEnd}
-use Rattle.nll_core.specs.Walking.{IsLineClosed, IsStretch, IsFreeTo, Grows, IsJumpedTo, IsFollowed, AreOfPoints, IsLedTo, IsSpread, FillsFrom, constraint_at, no_constraint, PointsAscend, IsLedFrom, AreLedFrom, NoneInside}
+use Rattle.nll_core.specs.Walking.{IsLineClosed, IsStretch, IsFreeTo, Grows, IsJumpedTo, IsFollowed, AreFollowedBut, IsLedTo, IsSpread, FillsFrom, constraint_at, no_constraint, PointsAscend, IsLedFrom, AreLedFrom, NoneInside}
 use Rattle.nll_sets.specs.declared.run.Run.{Run}
 use Rattle.nll_problem.specs.declared.constraint.Constraint.{Constraint}
 use Rattle.nll_problem.proofs.WalkLemmas.{reaches_first, reaches_more, reaches_starts, reaches_carries, reaches_inside}
@@ -53,27 +54,6 @@ missing_less (true ∷ old) (true ∷ new) (suc x) e kept a b = omega (arith, no
 missing_less (true ∷ old) (false ∷ new) (suc x) e kept a b = absurd (false≢true (kept 0 refl))
 missing_less (false ∷ old) (true ∷ new) (suc x) e kept a b = omega (arith, one_more old, none_more new, missing_less old new x (omega (arith, e)) (λ x h. kept (suc x) h) a b)
 missing_less (false ∷ old) (false ∷ new) (suc x) e kept a b = omega (arith, one_more old, one_more new, missing_less old new x (omega (arith, e)) (λ x h. kept (suc x) h) a b)
-
--- ---- one run more in a list
-
-pub in_pushed : (runs : List Run) (run : Run) (x : ℕ) → IsInRuns (runs ++ run ∷ []) x → IsInRuns runs x ⊎ IsWithin run x
-in_pushed runs run x (k, l, a, b) =
-    let len = length-append runs (run ∷ []) in
-    ⊎_elim
-    (λ front. inl (k, front, omega (arith, a, ap (λ (r : Run). r.first) (get_or_append_left runs (run ∷ []) no_run k front)), omega (arith, b, ap (λ (r : Run). r.last) (get_or_append_left runs (run ∷ []) no_run k front))))
-    (λ other. inr (omega (arith, a, ap (λ (r : Run). r.first) (get_or_at runs run [] no_run k (omega (arith, l, other, len)))), omega (arith, b, ap (λ (r : Run). r.last) (get_or_at runs run [] no_run k (omega (arith, l, other, len))))))
-    (cases_lt k (length runs))
-
-pub pushed_kept : (runs : List Run) (run : Run) (x : ℕ) → IsInRuns runs x → IsInRuns (runs ++ run ∷ []) x
-pushed_kept runs run x (k, l, a, b) =
-    let len = length-append runs (run ∷ []) in
-    (k, omega (arith, l, len), omega (arith, a, ap (λ (r : Run). r.first) (get_or_append_left runs (run ∷ []) no_run k l)), omega (arith, b, ap (λ (r : Run). r.last) (get_or_append_left runs (run ∷ []) no_run k l)))
-
-pub pushed_last : (runs : List Run) (run : Run) (x : ℕ) → IsWithin run x → IsInRuns (runs ++ run ∷ []) x
-pushed_last runs run x (a, b) =
-    let len = length-append runs (run ∷ []) in
-    let at = get_or_at runs run [] no_run (length runs) (omega arith) in
-    (length runs, omega (arith, len), omega (arith, a, ap (λ (r : Run). r.first) at), omega (arith, b, ap (λ (r : Run). r.last) at))
 
 -- ---- the elements of a set from a number on, run by run
 
@@ -133,7 +113,7 @@ module _ (g : Graph) (sub : List Bool) where
     points = omega (arith, end_is, last_is, line.point);
     inside = λ x a b. from.all x (omega (arith, a, before)) (omega (arith, b, end_is, last_is));
     line = λ x a b. line.line x a (omega (arith, b, end_is, last_is));
-    new = free.new point (omega arith) free.above;
+    new = λ x a b. free.new x a (omega (arith, b, end_is, free.above));
     closing = λ next in_sub. ⊎_elim
         (λ early. ⊎_elim
         (λ more. let here : limit ≡ run.last + 1 = omega (arith, early, end_is, free.above) in subst (IsIn reached) here more)
@@ -149,48 +129,91 @@ module _ (g : Graph) (sub : List Bool) where
   pub grows_stretch : (old new : List Bool) (before : List Run) (point : ℕ) (run : Run) → IsStretch g sub old point run → Fills old new run → Grows g sub (Reaches g (IsIn sub) point) old new before (before ++ run ∷ [])
   grows_stretch old new before point run s f =
       let len = length-append before (run ∷ []) in
+      let there = last_there before run (length before) refl in
       record {
         width = f.width;
         kept = f.kept;
         cause = λ x h. ⊎_elim inl (λ own.
             let way = line_reaches point (x - point) (λ y a b. s.inside y a (omega (arith, b, own.0, own.1, s.first))) (λ y a b. s.line y a (omega (arith, b, own.0, own.1, s.first))) in
             inr (subst (Reaches g (IsIn sub) point) (omega (arith, own.0, s.first)) way)) (f.cause x h);
-        closed = λ all x h next in_sub. ⊎_elim
-            (λ o. f.kept (x + 1) (all x o next in_sub))
+        closed = λ x h next in_sub. ⊎_elim
+            inr
             (λ own. ⊎_elim
-            (λ here. f.kept (x + 1) (subst (λ y. IsNext g y (y + 1) → IsIn sub (y + 1) → IsIn old (y + 1)) (sym here) s.closing next in_sub))
-            (λ other. f.filled (x + 1) (omega (arith, own.0)) (omega (arith, own.1, other)))
+            (λ here. inl (f.kept (x + 1) (subst (λ y. IsNext g y (y + 1) → IsIn sub (y + 1) → IsIn old (y + 1)) (sym here) s.closing next in_sub)))
+            (λ other. inl (f.filled (x + 1) (omega (arith, own.0)) (omega (arith, own.1, other))))
             (cases_eq x run.last))
             (f.cause x h);
-        listed = λ x i. ⊎_elim inl (λ own. inr (f.filled x own.0 own.1)) (in_pushed before run x i);
-        stays = λ x i. pushed_kept before run x i;
-        pending = λ x h. ⊎_elim inl (λ own. inr (pushed_last before run x own)) (f.cause x h);
+        longer = omega (arith, len);
+        front = λ k l. front_of before run k l;
+        listed = λ x (k, from, l, a, b).
+            let at = last_there before run k (omega (arith, from, l, len)) in
+            (f.filled x (omega (arith, a, at.0)) (omega (arith, b, at.1)), s.new x (omega (arith, a, at.0, s.first)) (omega (arith, b, at.1)));
+        pending = λ x h. ⊎_elim inl (λ own. inr (length before, omega arith, omega (arith, len), omega (arith, own.0, there.0), omega (arith, own.1, there.1))) (f.cause x h);
+        apart = λ j k x from less l a b. omega (arith, from, less, l, len);
         fit = λ all k l. ⊎_elim
-            (λ front. let o = all k front in let at = get_or_append_left before (run ∷ []) no_run k front in (omega (arith, o.0, ap (λ (r : Run). r.first) at, ap (λ (r : Run). r.last) at), omega (arith, o.1, ap (λ (r : Run). r.last) at)))
-            (λ other. let at = get_or_at before run [] no_run k (omega (arith, l, other, len)) in (omega (arith, s.first, s.proper, ap (λ (r : Run). r.first) at, ap (λ (r : Run). r.last) at), omega (arith, s.points, ap (λ (r : Run). r.last) at)))
+            (λ front. let o = all k front in let at = front_of before run k front in (omega (arith, o.0, at.0, at.1), omega (arith, o.1, at.1)))
+            (λ other. let at = last_there before run k (omega (arith, l, other, len)) in (omega (arith, s.first, s.proper, at.0, at.1), omega (arith, s.points, at.1)))
             (cases_lt k (length before));
-        count = omega (arith, len, missing_less old new point f.width f.kept s.new (f.filled point (omega (arith, s.first)) s.proper));
+        count = omega (arith, len, missing_less old new point f.width f.kept (s.new point (omega arith) s.proper) (f.filled point (omega (arith, s.first)) s.proper));
       }
 
   module _ (kind : ℕ → Type 0) where
     pub grows_none : (flags : List Bool) (runs : List Run) → Grows g sub kind flags flags runs runs
-    grows_none flags runs = record { width = refl; kept = λ x h. h; cause = λ x h. inl h; closed = λ h. h; listed = λ x h. inl h; stays = λ x h. h; pending = λ x h. inl h; fit = λ h. h; count = omega arith }
+    grows_none flags runs = record {
+      width = refl;
+      kept = λ x h. h;
+      cause = λ x h. inl h;
+      closed = λ x h next in_sub. inr h;
+      longer = omega arith;
+      front = λ k l. (refl, refl);
+      listed = λ x (k, from, l, a, b). absurd (omega (arith, from, l));
+      pending = λ x h. inl h;
+      apart = λ j k x from less l a b. omega (arith, from, less, l);
+      fit = λ h. h;
+      count = omega arith;
+    }
 
     pub grows_append : (old middle new : List Bool) (xs ys zs : List Run) → Grows g sub kind old middle xs ys → Grows g sub kind middle new ys zs → Grows g sub kind old new xs zs
     grows_append old middle new xs ys zs p q = record {
       width = q.width ∙ p.width;
       kept = λ x h. q.kept x (p.kept x h);
       cause = λ x h. ⊎_elim (p.cause x) inr (q.cause x h);
-      closed = λ h. q.closed (p.closed h);
-      listed = λ x h. ⊎_elim (λ i. ⊎_elim inl (λ o. inr (q.kept x o)) (p.listed x i)) inr (q.listed x h);
-      stays = λ x h. q.stays x (p.stays x h);
-      pending = λ x h. ⊎_elim (λ m. ⊎_elim inl (λ i. inr (q.stays x i)) (p.pending x m)) inr (q.pending x h);
+      closed = λ x h next in_sub. ⊎_elim inl (λ m. ⊎_elim (λ i. inl (q.kept (x + 1) i)) inr (p.closed x m next in_sub)) (q.closed x h next in_sub);
+      longer = omega (arith, p.longer, q.longer);
+      front = λ k l. let a = p.front k l in let b = q.front k (omega (arith, l, p.longer)) in (b.0 ∙ a.0, b.1 ∙ a.1);
+      listed = λ x (k, from, l, a, b). ⊎_elim
+          (λ mid. let at = q.front k mid in let o = p.listed x (k, from, mid, omega (arith, a, at.0), omega (arith, b, at.1)) in (q.kept x o.0, o.1))
+          (λ past. let o = q.listed x (k, past, l, a, b) in (o.0, not_before x o.1))
+          (cases_lt k (length ys));
+      pending = λ x h. ⊎_elim
+          (λ m. ⊎_elim inl (λ (k, from, l, a, b). let at = q.front k l in inr (k, from, omega (arith, l, q.longer), omega (arith, a, at.0), omega (arith, b, at.1))) (p.pending x m))
+          (λ (k, from, l, a, b). inr (k, omega (arith, from, p.longer), l, a, b))
+          (q.pending x h);
+      apart = λ j k x from less l a b. ⊎_elim
+          (λ mid. let at = q.front j mid in ⊎_elim
+          (λ both. let on = q.front k both in p.apart j k x from less both (omega (arith, a.0, at.0), omega (arith, a.1, at.1)) (omega (arith, b.0, on.0), omega (arith, b.1, on.1)))
+          (λ past. false≢true (sym (q.listed x (k, past, l, b.0, b.1)).1 ∙ (p.listed x (j, from, mid, omega (arith, a.0, at.0), omega (arith, a.1, at.1))).0))
+          (cases_lt k (length ys)))
+          (λ past. q.apart j k x past less l a b)
+          (cases_lt j (length ys));
       fit = λ h. q.fit (p.fit h);
       count = omega (arith, p.count, q.count);
     }
+      where
+        -- what isn't in the middle one wasn't in the old one
+        not_before : (x : ℕ) → flag middle x ≡ false → flag old x ≡ false
+        not_before x h = by (flag old x) refl
+          where
+            by : (b : Bool) → flag old x ≡ b → flag old x ≡ false
+            by false is = is
+            by true is = absurd (false≢true (sym h ∙ p.kept x is))
+
+  -- what was closed along lines stays so
+  pub line_closed : (kind : ℕ → Type 0) (old new : List Bool) (xs ys : List Run) → Grows g sub kind old new xs ys → IsLineClosed g sub old → IsLineClosed g sub new
+  line_closed kind old new xs ys p all x h next in_sub = ⊎_elim (λ i. i) (λ o. p.kept (x + 1) (all x o next in_sub)) (p.closed x h next in_sub)
 
   pub grows_weaker : (kind larger : ℕ → Type 0) → ((x : ℕ) → kind x → larger x) → (old new : List Bool) (xs ys : List Run) → Grows g sub kind old new xs ys → Grows g sub larger old new xs ys
-  grows_weaker kind larger has old new xs ys p = record { width = p.width; kept = p.kept; cause = λ x h. ⊎_elim inl (λ k. inr (has x k)) (p.cause x h); closed = p.closed; listed = p.listed; stays = p.stays; pending = p.pending; fit = p.fit; count = p.count }
+  grows_weaker kind larger has old new xs ys p = record { width = p.width; kept = p.kept; cause = λ x h. ⊎_elim inl (λ k. inr (has x k)) (p.cause x h); closed = p.closed; longer = p.longer; front = p.front; listed = p.listed; pending = p.pending; apart = p.apart; fit = p.fit; count = p.count }
 
   -- ---- the targets of a run's jumps, one after another
 
@@ -240,17 +263,32 @@ module _ (g : Graph) (sub : List Bool) where
   jump_to_ends sound x t past (inl next) = absurd (omega (arith, past, (sound.edges_in_range x t next.0).1))
   jump_to_ends sound x t past (inr back) = inr (back.0, refl)
 
+  -- a walk goes on with another one
+  pub reaches_append : (a b c : ℕ) → Reaches g (IsIn sub) a b → Reaches g (IsIn sub) b c → Reaches g (IsIn sub) a c
+  reaches_append a b c p q = reaches_carries g (IsIn sub) b (Reaches g (IsIn sub) a) (λ u v h step within. reaches_more g (IsIn sub) a u v h step within) c p q
+
   -- ---- the list, run by run
 
-  pub record Spreading (start now : List Bool) (todo : List Run) (ends : Bool) : Type 0 where
-    pub width : length now ≡ length start
-    pub fit : AreOfPoints g todo
-    pub listed : (x : ℕ) → IsInRuns todo x → IsIn now x
-    pub kept : (x : ℕ) → IsIn start x → IsIn now x
-    pub sound : (x : ℕ) → IsIn now x → IsLedTo g sub start x
-    pub closed : IsLineClosed g sub now
-    pub pending : (x : ℕ) → IsIn now x → IsInRuns todo x ⊎ (IsFollowed g sub now x × (IsJump g x g.points → ends ≡ true))
+  pub record Spreading (start now : List Bool) (listed todo : List Run) (place : ℕ) (ends : Bool) : Type 0 where
+    pub grows : Grows g sub (IsLedTo g sub start) start now listed todo
     pub ends_from : ends ≡ true → (x : ℕ) × IsIn now x × IsJump g x g.points
+    pub pending : (before : List Bool) → AreFollowedBut g sub before start listed → (x : ℕ) → IsIn now x → IsInRunsFrom place todo x ⊎ (IsFollowed g sub now x × (IsJump g x g.points → (ends ≡ true) ⊎ IsIn before x))
+    pub within : place ≤ length todo
+
+  -- each number of the list is reached
+  pub listed_in : (kind : ℕ → Type 0) (start now : List Bool) (listed todo : List Run) → Grows g sub kind start now listed todo → ((x : ℕ) → IsInRuns listed x → IsIn start x) → (x : ℕ) → IsInRuns todo x → IsIn now x
+  listed_in kind start now listed todo p all x (k, l, a, b) = ⊎_elim
+      (λ front. let at = p.front k front in p.kept x (all x (k, front, omega (arith, a, at.0), omega (arith, b, at.1))))
+      (λ past. (p.listed x (k, past, l, a, b)).0)
+      (cases_lt k (length listed))
+
+  pub spreading_first : (start : List Bool) (listed : List Run) → Spreading start start listed listed 0 false
+  spreading_first start listed = record {
+    grows = grows_none (IsLedTo g sub start) start listed;
+    ends_from = λ h. absurd (false≢true h);
+    pending = λ before all x h. ⊎_elim (λ (k, l, a, b). inl (k, omega arith, l, a, b)) (λ (f, d). inr (f, λ jump. inr d)) (all x h);
+    within = omega arith;
+  }
 
   or_left : (a b : Bool) → a ≡ true → (a || b) ≡ true
   or_left true b h = refl
@@ -264,47 +302,42 @@ module _ (g : Graph) (sub : List Bool) where
   either true b h = inl refl
   either false b h = inr h
 
-  pub spreading_more : (start now new : List Bool) (rest after : List Run) (run : Run) (ends found : Bool) → Spreading start now (rest ++ run ∷ []) ends → Grows g sub (IsJumpedTo g sub run) now new rest after
-      → ((x : ℕ) → IsWithin run x → IsFollowed g sub new x) → ((found ≡ true → (x : ℕ) × IsWithin run x × IsJump g x g.points) × (((x : ℕ) × IsWithin run x × IsJump g x g.points) → found ≡ true)) → Spreading start new after (ends || found)
-  spreading_more start now new rest after run ends found s p covers tells =
-      let of_run : (x : ℕ) → IsWithin run x → IsIn now x = λ x w. s.listed x (pushed_last rest run x w) in
+  pub spreading_more : (start now new : List Bool) (listed todo after : List Run) (place : ℕ) (run : Run) (ends found : Bool)
+      → run.first ≡ first_of todo place → run.last ≡ last_of todo place → place < length todo → ((x : ℕ) → IsInRuns listed x → IsIn start x)
+      → Spreading start now listed todo place ends → Grows g sub (IsJumpedTo g sub run) now new todo after
+      → ((x : ℕ) → IsWithin run x → IsFollowed g sub new x) → ((found ≡ true → (x : ℕ) × IsWithin run x × IsJump g x g.points) × (((x : ℕ) × IsWithin run x × IsJump g x g.points) → found ≡ true))
+      → ((x : ℕ) → IsIn start x → IsIn sub x) → Spreading start new listed after (place + 1) (ends || found)
+  spreading_more start now new listed todo after place run ends found first last within all s p covers tells inside =
+      let of_run : (x : ℕ) → IsWithin run x → IsIn now x = λ x w. listed_in (IsLedTo g sub start) start now listed todo s.grows all x (place, within, omega (arith, w.0, first), omega (arith, w.1, last)) in
+      let sound : (x : ℕ) → IsIn now x → IsLedTo g sub start x = λ x h. ⊎_elim (λ o. (x, o, reaches_first g (IsIn sub) x (inside x o))) (λ way. way) (s.grows.cause x h) in
       record {
-        width = p.width ∙ s.width;
-        fit = p.fit (λ k l. let at = get_or_append_left rest (run ∷ []) no_run k l in let o = s.fit k (omega (arith, l, length-append rest (run ∷ []))) in (omega (arith, o.0, ap (λ (r : Run). r.first) at, ap (λ (r : Run). r.last) at), omega (arith, o.1, ap (λ (r : Run). r.last) at)));
-        listed = λ x i. ⊎_elim (λ o. p.kept x (s.listed x (pushed_kept rest run x o))) (λ h. h) (p.listed x i);
-        kept = λ x h. p.kept x (s.kept x h);
-        sound = λ x h. ⊎_elim (s.sound x) (λ (y, t, w, jump, point, way). led x y t (s.sound y (of_run y w)) jump point way) (p.cause x h);
-        closed = p.closed s.closed;
-        pending = λ x h. ⊎_elim
+        grows = grows_append (IsLedTo g sub start) _ _ _ _ _ _ s.grows (grows_weaker (IsJumpedTo g sub run) (IsLedTo g sub start) (λ x (y, t, w, jump, point, way). led x y t (sound y (of_run y w)) jump point way) _ _ _ _ p);
+        within = omega (arith, within, p.longer);
+        pending = λ before told x h. ⊎_elim
             (λ o. ⊎_elim
-            (λ i. ⊎_elim (λ r. inl (p.stays x r)) (λ w. inr (covers x w, λ jump. or_right ends found (tells.1 (x, w, jump)))) (in_pushed rest run x i))
-            (λ d. inr (λ t jump point in_sub. p.kept t (d.0 t jump point in_sub), λ jump. or_left ends found (d.1 jump)))
-            (s.pending x o))
-            inl
+            (λ (k, from, l, a, b). ⊎_elim
+            (λ here.
+            let w : IsWithin run x = (omega (arith, a, first, ap (first_of todo) here), omega (arith, b, last, ap (last_of todo) here)) in
+            inr (covers x w, λ jump. inl (or_right ends found (tells.1 (x, w, jump)))))
+            (λ other. let at = p.front k l in inl (k, omega (arith, from, other), omega (arith, l, p.longer), omega (arith, a, at.0), omega (arith, b, at.1)))
+            (cases_eq k place))
+            (λ d. inr (λ t jump point in_sub. p.kept t (d.0 t jump point in_sub), λ jump. ⊎_elim (λ e. inl (or_left ends found e)) inr (d.1 jump)))
+            (s.pending before told x o))
+            (λ (k, from, l, a, b). inl (k, omega (arith, from, within), l, a, b))
             (p.pending x h);
         ends_from = λ h. ⊎_elim (λ e. let w = s.ends_from e in (w.0, p.kept w.0 w.1, w.2)) (λ e. let w = tells.0 e in (w.0, p.kept w.0 (of_run w.0 w.1), w.2)) (either ends found h);
       }
     where
       led : (x y t : ℕ) → IsLedTo g sub start y → IsJump g y t → t < g.points → Reaches g (IsIn sub) t x → IsLedTo g sub start x
-      led x y t from (inl next) point way = (from.0, from.1, append from.0 t x (reaches_more g (IsIn sub) from.0 y t from.2 (inl next.0) (reaches_starts g (IsIn sub) t x way)) way)
-        where
-          append : (a b c : ℕ) → Reaches g (IsIn sub) a b → Reaches g (IsIn sub) b c → Reaches g (IsIn sub) a c
-          append a b c p q = reaches_carries g (IsIn sub) b (Reaches g (IsIn sub) a) (λ u v h step within. reaches_more g (IsIn sub) a u v h step within) c p q
+      led x y t from (inl next) point way = (from.0, from.1, reaches_append from.0 t x (reaches_more g (IsIn sub) from.0 y t from.2 (inl next.0) (reaches_starts g (IsIn sub) t x way)) way)
       led x y t from (inr back) point way = absurd (omega (arith, back.1, point))
 
-  pub spread_end : (start now : List Bool) (todo : List Run) (ends : Bool) → ((x : ℕ) → IsInRuns todo x → ⊥) → Spreading start now todo ends → IsSpread g sub start now ends
-  spread_end start now todo ends none s = record {
-    width = s.width;
-    kept = s.kept;
-    sound = s.sound;
-    closed = s.closed;
+  pub spread_end : (start now : List Bool) (listed todo : List Run) (place : ℕ) (ends : Bool) → length todo ≤ place → Spreading start now listed todo place ends → IsSpread g sub start now listed todo ends
+  spread_end start now listed todo place ends past s = record {
+    grows = s.grows;
     ends_from = s.ends_from;
-    followed = λ x h. ⊎_elim (λ i. absurd (none x i)) (λ d. d.0) (s.pending x h);
-    ends_to = λ x h jump. ⊎_elim (λ i. absurd (none x i)) (λ d. d.1 jump) (s.pending x h);
+    followed = λ before all x h. ⊎_elim (λ (k, from, l, a, b). absurd (omega (arith, from, l, past))) (λ d. d) (s.pending before all x h);
   }
-
-  reaches_append : (a b c : ℕ) → Reaches g (IsIn sub) a b → Reaches g (IsIn sub) b c → Reaches g (IsIn sub) a c
-  reaches_append a b c p q = reaches_carries g (IsIn sub) b (Reaches g (IsIn sub) a) (λ u v h step within. reaches_more g (IsIn sub) a u v h step within) c p q
 
   -- along a line inside `sub` all from a reached point on is reached
   along : (reached : List Bool) → IsLineClosed g sub reached → (p k : ℕ) → IsIn reached p → ((x : ℕ) → p ≤ x → x < p + k → IsNext g x (x + 1)) → ((x : ℕ) → p ≤ x → x ≤ p + k → IsIn sub x) → IsIn reached (p + k)
@@ -336,7 +369,7 @@ module _ (g : Graph) (sub : List Bool) where
       → place' ≤ length pair → ((k : ℕ) → place + 1 ≤ k → k < place' → (constraint_at pair k).at < least) → Entering pair old new before next place'
   entering_more pair old now new before then next place point least place' ascending is within e p settled own bound passed = record {
     grows = grows_append (IsLedFrom g sub pair) _ _ _ _ _ _ e.grows (grows_weaker _ (IsLedFrom g sub pair) (λ x way. (constraint_at pair place, contained_at pair place within, subst (λ y. Reaches g (IsIn sub) y x) is way)) _ _ _ _ p);
-    closed = p.closed e.closed;
+    closed = line_closed (Reaches g (IsIn sub) point) _ _ _ _ p e.closed;
     covers = λ k h s. ⊎_elim
         (λ front. p.kept _ (e.covers k front s))
         (λ other. ⊎_elim
@@ -358,13 +391,22 @@ module _ (g : Graph) (sub : List Bool) where
 
   -- ---- the whole
 
-  module _ (sound : IsSound g) (pair : List Constraint) (old middle new : List Bool) (list : List Run) (ends : Bool) (nothing : (x : ℕ) → flag old x ≡ false)
-      (p : Grows g sub (IsLedFrom g sub pair) old middle [] list) (covers : (c : Constraint) → Contains pair c → IsIn sub c.at → IsIn middle c.at) (s : IsSpread g sub middle new ends) where
+  module _ (sound : IsSound g) (pair : List Constraint) (old middle new : List Bool) (list : List Run) (all_runs : List Run) (ends : Bool) (nothing : (x : ℕ) → flag old x ≡ false)
+      (p : Grows g sub (IsLedFrom g sub pair) old middle [] list) (covers : (c : Constraint) → Contains pair c → IsIn sub c.at → IsIn middle c.at) (s : IsSpread g sub middle new list all_runs ends) where
+    entered : (x : ℕ) → IsIn middle x → IsLedFrom g sub pair x
+    entered x h = ⊎_elim (λ o. absurd (false≢true (sym (nothing x) ∙ o))) (λ from. from) (p.cause x h)
+
     led : (x : ℕ) → IsIn new x → IsLedFrom g sub pair x
-    led x h = let w = s.sound x h in ⊎_elim
-        (λ o. absurd (false≢true (sym (nothing w.0) ∙ o)))
-        (λ from. (from.0, from.1, reaches_append from.0.at w.0 x from.2 w.2))
-        (p.cause w.0 w.1)
+    led x h = ⊎_elim
+        (entered x)
+        (λ w. let from = entered w.0 w.1 in (from.0, from.1, reaches_append from.0.at w.0 x from.2 w.2))
+        (s.grows.cause x h)
+
+    all_listed : AreFollowedBut g sub [] middle list
+    all_listed x h = ⊎_elim (λ o. absurd (false≢true (sym (nothing x) ∙ o))) (λ (k, from, l, a, b). inl (k, l, a, b)) (p.pending x h)
+
+    closed : IsLineClosed g sub new
+    closed = line_closed (IsLedTo g sub middle) _ _ _ _ s.grows (line_closed (IsLedFrom g sub pair) _ _ _ _ p (λ x h. absurd (false≢true (sym (nothing x) ∙ h))))
 
     from_return : (y x : ℕ) → IsIn new y → IsJump g y g.points → IsEnd g x → IsIn sub x → IsLedFrom g sub pair x
     from_return y x h (inl next) is_end in_sub = absurd (omega (arith, (sound.edges_in_range y g.points next.0).1))
@@ -372,18 +414,18 @@ module _ (g : Graph) (sub : List Bool) where
 
     along_edge : (y z : ℕ) → IsIn new y → IsNext g y z → IsIn sub z → IsIn new z
     along_edge y z h next in_sub = ⊎_elim
-        (λ same. subst (IsIn new) (sym same) (s.closed y h (subst (IsNext g y) same next) (subst (IsIn sub) same in_sub)))
-        (λ other. s.followed y h z (inl (next, other)) (sound.edges_in_range y z next).1 in_sub)
+        (λ same. subst (IsIn new) (sym same) (closed y h (subst (IsNext g y) same next) (subst (IsIn sub) same in_sub)))
+        (λ other. (s.followed [] all_listed y h).0 z (inl (next, other)) (sound.edges_in_range y z next).1 in_sub)
         (cases_eq z (y + 1))
 
     go_on : (y z : ℕ) → IsIn new y ⊎ (IsEnd g y × (ends ≡ true)) → IsStep g y z → IsIn sub z → IsIn new z ⊎ (IsEnd g z × (ends ≡ true))
     go_on y z (inl h) (inl next) in_sub = inl (along_edge y z h next in_sub)
-    go_on y z (inl h) (inr back) in_sub = inr (back.1, s.ends_to y h (inr (back.0, refl)))
+    go_on y z (inl h) (inr back) in_sub = inr (back.1, ⊎_elim (λ e. e) (λ none. absurd (false≢true none)) ((s.followed [] all_listed y h).1 (inr (back.0, refl))))
     go_on y z (inr h) (inl next) in_sub = absurd (omega (arith, h.0.0, (sound.edges_in_range y z next).0))
     go_on y z (inr h) (inr back) in_sub = absurd (omega (arith, h.0.0, sound.returns_in_range y back.0))
 
     complete : (x : ℕ) → IsLedFrom g sub pair x → IsIn new x ⊎ (IsEnd g x × (ends ≡ true))
-    complete x (c, listed, way) = reaches_carries g (IsIn sub) c.at (λ y. IsIn new y ⊎ (IsEnd g y × (ends ≡ true))) go_on x (inl (s.kept c.at (covers c listed (reaches_starts g (IsIn sub) c.at x way)))) way
+    complete x (c, listed, way) = reaches_carries g (IsIn sub) c.at (λ y. IsIn new y ⊎ (IsEnd g y × (ends ≡ true))) go_on x (inl (s.grows.kept c.at (covers c listed (reaches_starts g (IsIn sub) c.at x way)))) way
 
     -- where no return point is reached, that is all
     pub reached_points : ends ≡ false → AreLedFrom g sub pair new
@@ -402,8 +444,8 @@ module _ (g : Graph) (sub : List Bool) where
   module _ (pair : List Constraint) (old middle : List Bool) (list : List Run) (nothing : (x : ℕ) → flag old x ≡ false) (p : Grows g sub (IsLedFrom g sub pair) old middle [] list) where
     pub start_listed : (x : ℕ) → IsInRuns list x ↔ IsIn middle x
     start_listed x = (
-      λ i. ⊎_elim (λ (k, l, a, b). absurd (omega (arith, l))) (λ h. h) (p.listed x i),
-      λ h. ⊎_elim (λ o. absurd (false≢true (sym (nothing x) ∙ o))) (λ i. i) (p.pending x h),
+      λ (k, l, a, b). (p.listed x (k, omega arith, l, a, b)).0,
+      λ h. ⊎_elim (λ o. absurd (false≢true (sym (nothing x) ∙ o))) (λ (k, from, l, a, b). (k, l, a, b)) (p.pending x h),
     )
 
     pub start_inside : (x : ℕ) → IsIn middle x → IsIn sub x

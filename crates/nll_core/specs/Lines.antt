@@ -1,8 +1,9 @@
 -- The lines of a graph: the points that follow each other by number, and the steps that leave them.
 -- Source: project's choice. Private contracts alone cite this file.
 use Rattle.std.specs.Prelude.{◌≡◌, ◌≢◌, ◌⊎◌, ◌↔◌, ℕ, ◌+◌, ◌≤◌, ◌<◌, List, length}
-use Rattle.std.specs.Prelude.{slice_index}
-use Rattle.nll_problem.specs.Graph.{Graph, IsNext, IsReturn}
+use Rattle.std.specs.Prelude.{slice_index, Contains, AllPairs}
+use Rattle.nll_problem.specs.Graph.{Graph, IsNext, IsReturn, IsSound}
+use Rattle.nll_core.specs.declared.landing.Landing.{Landing}
 
 -- e is the last point of the line of x
 pub record IsLineEnd (g : Graph) (x e : ℕ) : Type 0 where
@@ -46,3 +47,17 @@ pub record Pushes (kind : ℕ → Type 0) (old new : List ℕ) : Type 0 where
   pub longer : length old ≤ length new
   pub front : (k : ℕ) → k < length old → slice_index new k ≡ slice_index old k
   pub each : (t : ℕ) → kind t ↔ StandsIn new (length old) (length new) t
+
+-- The list has just the jumps of the graph, by where they land, ascending.
+pub record AreLandings (g : Graph) (list : List Landing) : Type 0 where
+  pub each : (l : Landing) → Contains list l ↔ IsJump g l.from l.to
+  pub ascending : AllPairs (λ (l m : Landing). l.to ≤ m.to) list
+
+-- These are the points, the ends of lines and the jumps of the graph.
+pub record AreLinesOf (g : Graph) (points universals : ℕ) (ends starts targets : List ℕ)
+    : Type 0 where
+  pub sound : IsSound g
+  pub points_are : points ≡ g.points
+  pub universals_are : universals ≡ g.universals
+  pub line_ends : AreLineEnds g ends
+  pub jumps : AreJumps g g.points starts targets

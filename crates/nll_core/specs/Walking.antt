@@ -4,7 +4,7 @@
 use Rattle.std.specs.Prelude.{◌≡◌, ◌⊎◌, ◌↔◌, ℕ, ◌+◌, ◌≤◌, ◌<◌, Bool, true, false}
 use Rattle.std.specs.Prelude.{List, length, Contains, slice_index_or}
 use Rattle.nll_sets.specs.ElementSet.{flag}
-use Rattle.nll_sets.specs.Runs.{first_of, last_of, IsInRuns, IsWithin}
+use Rattle.nll_sets.specs.Runs.{first_of, last_of, IsInRuns, IsInRunsFrom, AreApartFrom, IsWithin}
 use Rattle.nll_sets.specs.declared.run.Run.{Run}
 use Rattle.nll_problem.specs.Graph.{Graph, IsNext}
 use Rattle.nll_problem.specs.Walks.{Reaches}
@@ -27,7 +27,7 @@ pub record IsStretch (g : Graph) (sub reached : List Bool) (point : ℕ) (run : 
   pub points : run.last < g.points
   pub inside : (x : ℕ) → point ≤ x → x ≤ run.last → IsIn sub x
   pub line : (x : ℕ) → point ≤ x → x < run.last → IsNext g x (x + 1)
-  pub new : flag reached point ≡ false
+  pub new : (x : ℕ) → point ≤ x → x ≤ run.last → flag reached x ≡ false
   pub closing :
       IsNext g run.last (run.last + 1) → IsIn sub (run.last + 1) → IsIn reached (run.last + 1)
 
@@ -50,16 +50,21 @@ AreOfPoints g runs =
 abbrev pub AreIn : List Bool → Run → Type 0
 AreIn flags run = (x : ℕ) → IsWithin run x → IsIn flags x
 
--- The set got elements of this kind, and the list has each of them.
+-- The set got elements of this kind, and the list their runs at its end, each element once.
 pub record Grows (g : Graph) (sub : List Bool) (kind : ℕ → Type 0)
     (old new : List Bool) (before after : List Run) : Type 0 where
   pub width : length new ≡ length old
   pub kept : (x : ℕ) → IsIn old x → IsIn new x
   pub cause : (x : ℕ) → IsIn new x → IsIn old x ⊎ kind x
-  pub closed : IsLineClosed g sub old → IsLineClosed g sub new
-  pub listed : (x : ℕ) → IsInRuns after x → IsInRuns before x ⊎ IsIn new x
-  pub stays : (x : ℕ) → IsInRuns before x → IsInRuns after x
-  pub pending : (x : ℕ) → IsIn new x → IsIn old x ⊎ IsInRuns after x
+  pub closed : (x : ℕ) → IsIn new x → IsNext g x (x + 1) → IsIn sub (x + 1)
+      → IsIn new (x + 1) ⊎ IsIn old x
+  pub longer : length before ≤ length after
+  pub front : (k : ℕ) → k < length before
+      → (first_of after k ≡ first_of before k) × (last_of after k ≡ last_of before k)
+  pub listed : (x : ℕ) → IsInRunsFrom (length before) after x
+      → IsIn new x × (flag old x ≡ false)
+  pub pending : (x : ℕ) → IsIn new x → IsIn old x ⊎ IsInRunsFrom (length before) after x
+  pub apart : AreApartFrom (length before) after
   pub fit : AreOfPoints g before → AreOfPoints g after
   pub count : missing new + length after ≤ missing old + length before
 
@@ -78,16 +83,21 @@ IsFollowed g sub reached x = (t : ℕ) → IsJump g x t → t < g.points → IsI
 abbrev pub IsLedTo : Graph → List Bool → List Bool → ℕ → Type 0
 IsLedTo g sub start x = (y : ℕ) × IsIn start y × Reaches g (IsIn sub) y x
 
--- The set has its start and what walks inside `sub` reach from it, points alone; `ends` says
--- whether a return point is among them.
-pub record IsSpread (g : Graph) (sub start new : List Bool) (ends : Bool) : Type 0 where
-  pub width : length new ≡ length start
-  pub kept : (x : ℕ) → IsIn start x → IsIn new x
-  pub sound : (x : ℕ) → IsIn new x → IsLedTo g sub start x
-  pub closed : IsLineClosed g sub new
-  pub followed : (x : ℕ) → IsIn new x → IsFollowed g sub new x
+-- what is reached and doesn't stand in the list was followed before
+abbrev pub AreFollowedBut : Graph → List Bool → List Bool → List Bool → List Run → Type 0
+AreFollowedBut g sub before reached list =
+    (x : ℕ) → IsIn reached x → IsInRuns list x ⊎ (IsFollowed g sub reached x × IsIn before x)
+
+-- The set got what walks inside `sub` reach from it, points alone, and the list their runs; `ends`
+-- says whether a return point is among what was followed now.
+pub record IsSpread (g : Graph) (sub start new : List Bool) (listed all : List Run) (ends : Bool)
+    : Type 0 where
+  pub grows : Grows g sub (IsLedTo g sub start) start new listed all
   pub ends_from : ends ≡ true → (x : ℕ) × IsIn new x × IsJump g x g.points
-  pub ends_to : (x : ℕ) → IsIn new x → IsJump g x g.points → ends ≡ true
+  pub followed :
+      (before : List Bool) → AreFollowedBut g sub before start listed
+      → (x : ℕ) → IsIn new x
+      → IsFollowed g sub new x × (IsJump g x g.points → (ends ≡ true) ⊎ IsIn before x)
 
 -- the set got the elements of `sub` from a number on
 pub record FillsFrom (from : ℕ) (sub old new : List Bool) : Type 0 where

@@ -1,16 +1,20 @@
 //! The least solution of a problem of location-aware regions, and its faults.
 //! The problem is that of `nll_problem`, the sets are those of `nll_sets`; both are found here too.
 //!
-//! Reading order: `values`, `bases`, `lines` (with `line_ends`, `jumps`), `stretches`, `walk`,
-//! `pairs`, `meeting`, `order`, `solver`; `search`, `reachability`, `frontier`, `outliving`,
-//! `fault_check`.
+//! Reading order: `values`, `bases`, `lines` (with `line_ends`, `jumps`), `stretches`, `filling`,
+//! `walk`, `pairs`, `meeting`, `order`, `solver`; `landings`, `steps`, `starts`, `resuming`,
+//! `frontier`;
+//! `search`, `reachability`, `outliving`, `fault_check`.
 //! The definitions are in specs/.
 #![tactic(auto)]
 
 mod bases;
 mod fault_check;
+mod filling;
 mod frontier;
 mod jumps;
+mod landing;
+mod landings;
 mod line_ends;
 mod lines;
 mod meeting;
@@ -19,8 +23,11 @@ mod outliving;
 mod pairs;
 mod reachability;
 mod region_elements;
+mod resuming;
 mod search;
 mod solver;
+mod starts;
+mod steps;
 mod stretches;
 mod values;
 mod walk;
@@ -36,4 +43,5 @@ pub use nll_sets::{BitSet, Element, ElementSet, Elements, Memory, Run, RunSet};
 pub use reachability::reached_from;
 pub use region_elements::RegionElements;
 pub use solver::solve;
+pub use steps::Steps;
 pub use values::Values;

@@ -1,7 +1,7 @@
 //! The lines of a graph: points that follow each other by number, and the steps that leave them.
 
 ghost use Rattle.std.specs.Prelude.{◌≡◌, ◌↔◌, ◌≤◌, ◌<◌, ℕ, Contains, IfOk};
-ghost use Rattle.nll_problem.specs.Graph.{IsSound};
+ghost use Rattle.nll_problem.specs.Graph.{IsSound, element_count};
 ghost use Rattle.nll_sets.specs.Runs.{IsWithin};
 ghost use Rattle.nll_core.specs.Lines.{IsJump, IsLineEnd};
 
@@ -10,6 +10,7 @@ use nll_problem::Graph;
 use nll_sets::{Memory, Run};
 use std::alloc::Global;
 use std::marker::Model;
+use std::snapshot::Snapshot;
 
 /// A graph as its lines, and the jumps: the steps that don't go along one. A jump to the number of
 /// points stands for the steps of a return point to all ends. Contracts see it as the graph.
@@ -17,34 +18,41 @@ use std::marker::Model;
 /// # Cost
 /// What it answers it reads off lists that are made once (not proved).
 #[derive(Drop)]
-pub struct Lines<'a> {
-    graph: &'a Graph,
+pub struct Lines {
+    // For contracts alone.
+    graph: Snapshot<Graph>,
+    points: u32,
+    universals: u32,
     // The last point of the line of each point.
     ends: Vec<u32>,
     jumps: Jumps,
 }
 
-impl<'a> Model for Lines<'a> {
+impl Model for Lines {
     ghost use Rattle.nll_problem.specs.Graph as spec;
-    ghost use Rattle.nll_core.specs.Lines.{AreJumps, AreLineEnds};
+    ghost use Rattle.nll_core.specs.Lines.{AreLinesOf};
 
     ghost Value = { spec.Graph };
 
-    ghost view = { λ lines. lines.graph.now };
+    ghost view = { λ lines. lines.graph.value };
 
-    ghost invariant = { λ lines.
-        AreLineEnds lines.graph.now lines.ends.items
-        × AreJumps lines.graph.now lines.graph.now.points
-        lines.jumps.starts.items lines.jumps.targets.items };
+    ghost invariant = { λ lines. AreLinesOf lines.graph.value lines.points lines.universals
+        lines.ends.items lines.jumps.starts.items lines.jumps.targets.items };
 }
 
-impl<'a> Lines<'a> {
+impl Lines {
     /// The lines of a graph.
-    pub fn of(alloc: Global, graph: &'a Graph) -> Result<Lines<'a>, Memory>
+    pub fn of(alloc: Global, graph: &Graph) -> Result<Lines, Memory>
         ensures { IfOk result (λ lines. lines ≡ graph.now) }
     {
         let (jumps, ends) = jumps_of(alloc, graph)?;
-        Ok(Lines { graph, ends, jumps })
+        Ok(Lines {
+            graph: Snapshot::of(graph),
+            points: graph.points(),
+            universals: graph.universals(),
+            ends,
+            jumps,
+        })
     }
 
     /// How many points there are.
@@ -52,7 +60,15 @@ impl<'a> Lines<'a> {
         ensures value { result ≡ self.now.points }
         ensures sound { IsSound self.now }
     {
-        self.graph.points()
+        self.points
+    }
+
+    /// How many elements there are.
+    pub fn elements(&self) -> u32
+        ensures value { result ≡ element_count self.now }
+        ensures sound { IsSound self.now }
+    {
+        self.points + self.universals
     }
 
     /// The last point of the line of a point.

@@ -4,11 +4,10 @@
 //! a list in the order in which they came, whose end is the work that is left.
 
 ghost use Rattle.std.specs.Prelude.{◌≡◌, ℕ, ◌<◌, false, [], length, replicate, slice_index};
-ghost use Rattle.std.specs.Prelude.{IfOk, OnOk, OnErr, ◌++◌, max};
-ghost use Rattle.nll_sets.specs.ElementSet.{flag};
+ghost use Rattle.std.specs.Prelude.{IfOk, OnOk};
 ghost use Rattle.nll_core.specs.Search.{Visits, IsPending, Spreads, IsFound};
 
-use nll_sets::{Element, ElementSet, Memory, RunSet};
+use nll_sets::{Element, ElementSet, Memory};
 use std::alloc::Global;
 use std::marker::Model;
 
@@ -30,7 +29,7 @@ pub trait Relation {
         ensures { OnOk result (Visits (step self.now from) search.old search.new) };
 }
 
-/// What a search has reached. It owns no relation, so one that is kept can go on through another.
+/// What a search has reached.
 #[derive(Drop)]
 pub struct Search<R: ElementSet> {
     reached: R,
@@ -83,24 +82,6 @@ impl<R: ElementSet> Search<R> {
         Ok(())
     }
 
-    /// Whether an element is reached.
-    pub fn has(&self, element: Element) -> bool
-        requires { element < length self.now.reached }
-        ensures { result ≡ flag self.now.reached element }
-    {
-        self.reached.has(element)
-    }
-
-    /// Moves the list to the end of another one.
-    pub fn hand_over(&mut self, out: &mut Vec<Element>) -> Result<(), Memory>
-        ensures ok { OnOk result (self.new ≡ record self.old { list = [] }) }
-        ensures out { OnOk result (out.new.items ≡ out.old.items ++ self.old.list) }
-        ensures err { OnErr result ((self.new ≡ self.old) × (out.new.items ≡ out.old.items)) }
-    {
-        out.append(&mut self.list)?;
-        Ok(())
-    }
-
     // How many elements were reached.
     fn len(&self) -> usize
         ensures { result ≡ length self.now.list }
@@ -128,27 +109,6 @@ impl<R: ElementSet> Search<R> {
         ensures { result.items ≡ self.list }
     {
         self.list
-    }
-}
-
-impl Search<RunSet> {
-    /// A search among no elements. Takes no memory.
-    pub fn of_none(alloc: Global) -> Search<RunSet>
-        ensures { result ≡ record { reached = []; list = [] } }
-    {
-        Search {
-            reached: RunSet::new(alloc),
-            list: Vec::new(alloc),
-        }
-    }
-
-    /// Makes room for the elements below a number. Takes no memory.
-    pub fn widen(&mut self, count: u32)
-        ensures width { length self.new.reached ≡ max (length self.old.reached) count }
-        ensures same { (x : ℕ) → flag self.new.reached x ≡ flag self.old.reached x }
-        ensures list { self.new.list ≡ self.old.list }
-    {
-        self.reached.widen(count);
     }
 }
 

@@ -173,24 +173,29 @@ fn follow(
     Ok(ends)
 }
 
-/// Follows the stretches of the list until it is empty. Answers whether a return point is reached.
+/// Follows the stretches of a list, and those that it comes to, which it puts at the end of the
+/// list. Answers whether one of them has a return point.
 pub fn spread(
     lines: &Lines,
     sub: &RunSet,
     reached: &mut RunSet,
-    todo: &mut Vec<Run>,
+    list: &mut Vec<Run>,
 ) -> Result<bool, Memory>
     requires widths { lines.now.points ≤ length reached.old }
-    requires fit { AreOfPoints lines.now todo.old.items }
-    requires inside { (x : ℕ) → IsIn reached.old x → IsIn sub.now x }
+    requires fit { AreOfPoints lines.now list.old.items }
     requires closed { IsLineClosed lines.now sub.now reached.old }
-    requires listed { (x : ℕ) → IsInRuns todo.old.items x ↔ IsIn reached.old x }
-    ensures { IfOk result (IsSpread lines.now sub.now reached.old reached.new) }
+    requires listed { (x : ℕ) → IsInRuns list.old.items x → IsIn reached.old x }
+    requires inside { (x : ℕ) → IsIn reached.old x → IsIn sub.now x }
+    ensures { IfOk result (IsSpread lines.now sub.now reached.old reached.new
+        list.old.items list.new.items) }
 {
     let mut ended = false;
     let mut near = 0;
-    while let Some(run) = todo.pop() {
-        ended |= follow(lines, sub, &mut near, reached, todo, run)?;
+    let mut place = 0;
+    while place < list.len() {
+        let run = list[place];
+        place += 1;
+        ended |= follow(lines, sub, &mut near, reached, list, run)?;
     }
     Ok(ended)
 }

@@ -62,13 +62,17 @@ impl Values {
         self.sets[region.0 as usize].insert(element)
     }
 
-    // Puts the elements of a run into the value of a region, and answers whether one is new.
-    pub(crate) fn insert_run(&mut self, region: RegionId, run: Run) -> Result<bool, Memory>
+    /// Puts the elements of a run into the value of a region, and answers whether one is new.
+    ///
+    /// # Errors
+    /// - `Memory`: the values are as before.
+    pub fn insert_run(&mut self, region: RegionId, run: Run) -> Result<bool, Memory>
         requires region { region < length self.old }
         requires proper { run.first ≤ run.last }
         requires below { run.last < length (set_of self.old region) }
         ensures gains { OnOk result
             (Gains (λ r e. (r ≡ region) × IsWithin run e) self.old self.new) }
+        ensures err { OnErr result (self.new ≡ self.old) }
         ensures covers { OnOk result ((e : ℕ) → IsWithin run e → IsHeld self.new region e) }
         ensures tells { IfOk result (λ new. Tells new self.old self.new) }
     {
@@ -95,7 +99,7 @@ impl Values {
         self.sets[region.0 as usize].as_runs()
     }
 
-    // The set of a region.
+    /// The set of a region.
     pub fn set(&self, region: RegionId) -> &RunSet
         requires { region < length self.now }
         ensures { result.now ≡ set_of self.now region }

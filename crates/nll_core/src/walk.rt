@@ -6,10 +6,11 @@ ghost use Rattle.nll_sets.specs.ElementSet.{flag};
 ghost use Rattle.nll_problem.specs.Graph.{element_count};
 ghost use Rattle.nll_problem.specs.declared.constraint.Constraint as spec;
 ghost use Rattle.nll_core.specs.Search.{IsIn};
-ghost use Rattle.nll_core.specs.Walking.{Grows, IsLineClosed, FillsFrom, PointsAscend, AreAtPoints};
+ghost use Rattle.nll_core.specs.Walking.{Grows, IsLineClosed, PointsAscend, AreAtPoints};
 ghost use Rattle.nll_core.specs.Walking.{IsLedFrom, AreLedFrom, NoneInside, constraint_at};
 ghost use Rattle.nll_sets.specs.Runs.{IsRunFrom, IsWithin};
 
+use crate::filling::fill_from;
 use crate::lines::Lines;
 use crate::stretches::{enter, spread};
 use nll_problem::Constraint;
@@ -74,7 +75,7 @@ fn reach_all(
     if !ends {
         return Ok(());
     }
-    fill_from(sub, reached, points)
+    fill_from(sub, reached, todo, points)
 }
 
 // Enters the points of the constraints that are in `sub`; those that an entry settles are passed
@@ -163,22 +164,4 @@ fn place_from(pair: &[Constraint], from: usize, least: u32) -> usize
         }
     }
     low
-}
-
-// Puts the elements of `sub` from a number on into a set.
-fn fill_from(sub: &RunSet, reached: &mut RunSet, from: u32) -> Result<(), Memory>
-    requires width { length reached.old ≡ length sub.now }
-    requires short { length sub.now < 4294967296 }
-    ensures { OnOk result (FillsFrom from sub.now reached.old reached.new) }
-{
-    let mut next = from;
-    while let Some(run) = sub.run_from(next) {
-        let first = run.first.max(next);
-        reached.insert_run(Run {
-            first,
-            last: run.last,
-        })?;
-        next = run.last + 1;
-    }
-    Ok(())
 }

@@ -6,6 +6,7 @@ ghost use Rattle.std.specs.Prelude.{IsTrue, map};
 ghost use Rattle.std.specs.Prelude.{replicate, IfOk, OnOk, OnErr, IfSome, IfNone};
 ghost use Rattle.std.specs.Prelude.{min, ◌-◌};
 ghost use Rattle.std.specs.List.{sum, sum_by};
+ghost use Rattle.nll_sets.specs.Runs.{IsInRuns, IsWithin};
 ghost use Rattle.nll_problem.specs.Graph.{element_count};
 ghost use Rattle.nll_cut.specs.Partition.{owner_of, reads};
 ghost use Rattle.nll_mail.specs.declared.growth.Growth.{Growth};
@@ -23,7 +24,7 @@ use nll_core::Values;
 use nll_cut::{Cut, Readers};
 use nll_mail::Growth;
 use nll_problem::{Problem, RegionId};
-use nll_sets::{Element, Memory};
+use nll_sets::{Element, Memory, Run};
 use std::alloc::Global;
 use std::marker::Model;
 
@@ -128,21 +129,40 @@ impl<'q> Knowledge<'q> {
         Ok(())
     }
 
-    /// Grows an own region by elements that are called for.
-    pub fn grow_all(&mut self, region: RegionId, found: &[Element]) -> Result<(), OwnerError>
+    /// Grows an own region by the elements of runs, which are called for.
+    pub fn grow_runs(&mut self, region: RegionId, found: &[Run]) -> Result<(), OwnerError>
         requires sound { IsSound self.old }
         requires own { owner_of self.old.cut region ≡ self.old.me }
         requires region { region < self.old.problem.regions }
         requires elements { let graph = self.old.problem.graph in
-            (x : ℕ) → Contains found.now x → x < element_count graph }
-        requires called { (x : ℕ) → Contains found.now x → IsCalled self.old region x }
+            (x : ℕ) → IsInRuns found.now x → x < element_count graph }
+        requires called { (x : ℕ) → IsInRuns found.now x → IsCalled self.old region x }
         ensures grows { Grows self.old self.new }
-        ensures covers { OnOk result ((x : ℕ) → Contains found.now x → Has self.new region x) }
+        ensures covers { OnOk result ((x : ℕ) → IsInRuns found.now x → Has self.new region x) }
         ensures full { result ≡ Err RankFull → 2 ^ 62 ≤ self.new.clock }
         ensures whole { result ≡ Err Broken → ⊥ }
     {
-        for element in found {
-            self.grow(region, *element)?;
+        for run in found {
+            self.grow_run(region, *run)?;
+        }
+        Ok(())
+    }
+
+    // Grows an own region by the elements of a run, which are called for.
+    fn grow_run(&mut self, region: RegionId, run: Run) -> Result<(), OwnerError>
+        requires sound { IsSound self.old }
+        requires own { owner_of self.old.cut region ≡ self.old.me }
+        requires region { region < self.old.problem.regions }
+        requires elements { let graph = self.old.problem.graph in
+            (x : ℕ) → IsWithin run x → x < element_count graph }
+        requires called { (x : ℕ) → IsWithin run x → IsCalled self.old region x }
+        ensures grows { Grows self.old self.new }
+        ensures covers { OnOk result ((x : ℕ) → IsWithin run x → Has self.new region x) }
+        ensures full { result ≡ Err RankFull → 2 ^ 62 ≤ self.new.clock }
+        ensures whole { result ≡ Err Broken → ⊥ }
+    {
+        for element in run.first..=run.last {
+            self.grow(region, Element(element))?;
         }
         Ok(())
     }

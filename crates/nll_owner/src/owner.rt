@@ -9,12 +9,12 @@ ghost use Rattle.nll_owner.specs.Logs.{IsPrefix};
 ghost use Rattle.nll_owner.specs.Owner.{IsSound, IsDone, IsReady, Has, Passes, part_for, given_to};
 ghost use Rattle.nll_owner.specs.Owner.{received_from, with_growth, first_owner};
 ghost use Rattle.nll_owner.specs.Keeping.{Grows, IsClosed};
-ghost use Rattle.nll_owner.specs.Following.{IsFollowing, Nothing, Pair};
+ghost use Rattle.nll_owner.specs.Following.{IsFollowing, Nothing, OfRun};
 ghost use Rattle.nll_owner.specs.Outboxes.{AreQueued, AreAllQueued};
 ghost use Rattle.nll_owner.specs.declared.error.OwnerError.TheVariants.{RankFull, Broken};
 
 use crate::error::OwnerError;
-use crate::following::Following;
+use crate::following::{Following, run_of};
 use crate::knowledge::Knowledge;
 use crate::outboxes::Outboxes;
 use nll_cut::Cut;
@@ -41,10 +41,9 @@ pub struct Counts {
 /// RFC 2094, "Solving constraints"; that the regions are dealt to owners is project's choice.
 #[derive(Drop)]
 pub struct Owner<'q> {
-    alloc: Global,
     knowledge: Knowledge<'q>,
     // Nothing is known of these two once a call was refused.
-    following: Following<'q>,
+    following: Following,
     outboxes: Outboxes,
 }
 
@@ -81,7 +80,6 @@ impl<'q> Owner<'q> {
         let outboxes = Outboxes::new(alloc, cut.owners())?;
         match parts_of(alloc, problem, cut, me) {
             Ok((knowledge, following)) => Ok(Owner {
-                alloc,
                 knowledge,
                 following,
                 outboxes,
@@ -116,12 +114,7 @@ impl<'q> Owner<'q> {
         if self.knowledge.broken {
             return Err(OwnerError::Broken);
         }
-        let result = load_all(
-            self.alloc,
-            &mut self.knowledge,
-            &mut self.following,
-            &mut self.outboxes,
-        );
+        let result = load_all(&mut self.knowledge, &mut self.following, &mut self.outboxes);
         self.knowledge.mark(result.is_ok(), result.is_err());
         result
     }
@@ -157,10 +150,8 @@ impl<'q> Owner<'q> {
         if self.knowledge.broken {
             return Err(OwnerError::Broken);
         }
-        let alloc = self.alloc;
         let loaded = self.knowledge.loaded;
         let result = receive_all(
-            alloc,
             &mut self.knowledge,
             &mut self.following,
             &mut self.outboxes,
@@ -307,7 +298,7 @@ fn parts_of<'q>(
     problem: &'q Problem,
     cut: &'q Cut,
     me: u16,
-) -> Result<(Knowledge<'q>, Following<'q>), Memory>
+) -> Result<(Knowledge<'q>, Following), Memory>
     requires cut { length cut.now.list ≡ problem.now.regions }
     requires me { me < cut.now.owners }
     ensures owner { IfOk result (λ parts. parts.0 ≡ first_owner problem.now cut.now me) }
@@ -324,7 +315,6 @@ fn parts_of<'q>(
 
 // Enters the base elements, settles, and queues what the log got.
 fn load_all(
-    alloc: Global,
     knowledge: &mut Knowledge,
     following: &mut Following,
     outboxes: &mut Outboxes,
@@ -339,17 +329,13 @@ fn load_all(
     ensures full { result ≡ Err RankFull → 2 ^ 62 ≤ knowledge.new.clock }
     ensures whole { result ≡ Err Broken → ⊥ }
 {
-    load_and_settle(alloc, knowledge, following)?;
+    load_and_settle(knowledge, following)?;
     knowledge.queue(outboxes)?;
     Ok(())
 }
 
 // Enters the base elements, and settles.
-fn load_and_settle(
-    alloc: Global,
-    knowledge: &mut Knowledge,
-    following: &mut Following,
-) -> Result<(), OwnerError>
+fn load_and_settle(knowledge: &mut Knowledge, following: &mut Following) -> Result<(), OwnerError>
     requires sound { IsSound knowledge.old }
     requires following { IsFollowing Nothing knowledge.old following.old }
     ensures grows { Grows knowledge.old knowledge.new }
@@ -359,13 +345,12 @@ fn load_and_settle(
     ensures whole { result ≡ Err Broken → ⊥ }
 {
     knowledge.enter_bases()?;
-    following.settle(alloc, knowledge)?;
+    following.settle(knowledge)?;
     Ok(())
 }
 
 // Enters a growth into the copy of its region, settles, and queues what the log got.
 fn receive_all(
-    alloc: Global,
     knowledge: &mut Knowledge,
     following: &mut Following,
     outboxes: &mut Outboxes,
@@ -394,14 +379,13 @@ fn receive_all(
     ensures whole { result ≡ Err Broken → ⊥ }
     ensures sound { IsSound knowledge.new }
 {
-    receive_and_settle(alloc, knowledge, following, from, growth)?;
+    receive_and_settle(knowledge, following, from, growth)?;
     knowledge.queue(outboxes)?;
     Ok(())
 }
 
 // Enters a growth into the copy of its region, and settles.
 fn receive_and_settle(
-    alloc: Global,
     knowledge: &mut Knowledge,
     following: &mut Following,
     from: u16,
@@ -433,12 +417,11 @@ fn receive_and_settle(
         ..
     } = growth;
     knowledge.enter_received(from, growth)?;
-    pursue(alloc, knowledge, following, region, element)
+    pursue(knowledge, following, region, element)
 }
 
 // Follows up an element that the owner has got, and settles.
 fn pursue(
-    alloc: Global,
     knowledge: &mut Knowledge,
     following: &mut Following,
     region: RegionId,
@@ -448,14 +431,14 @@ fn pursue(
     requires region { region < knowledge.old.problem.regions }
     requires element { element < element_count knowledge.old.problem.graph }
     requires has { Has knowledge.old region element }
-    requires following { IsFollowing (Pair region element) knowledge.old following.old }
+    requires following { IsFollowing (OfRun region element element) knowledge.old following.old }
     ensures grows { Grows knowledge.old knowledge.new }
     ensures following { OnOk result (IsFollowing Nothing knowledge.new following.new) }
     ensures closed { OnOk result (IsClosed knowledge.new) }
     ensures full { result ≡ Err RankFull → 2 ^ 62 ≤ knowledge.new.clock }
     ensures whole { result ≡ Err Broken → ⊥ }
 {
-    following.follow(alloc, knowledge, region, element)?;
-    following.settle(alloc, knowledge)?;
+    following.follow(knowledge, region, run_of(element))?;
+    following.settle(knowledge)?;
     Ok(())
 }

@@ -7,7 +7,6 @@
 #[cfg(test)]
 mod driving;
 #[cfg(test)]
-mod frontiers;
 #[cfg(test)]
 mod memory;
 #[cfg(test)]

@@ -63,9 +63,9 @@ rest_of {X} xs first = take (length xs - first) (drop first xs)
 pub rest_keys_rise : {X : Type 0} (key : X → ℕ) (xs : List X) (first : ℕ) → IsNonDecreasingBy key xs → IsNonDecreasingBy key (rest_of xs first)
 rest_keys_rise key xs first rise = IsNonDecreasingBy-take key (length xs - first) _ (IsNonDecreasingBy-drop key first xs rise)
 
-module _ {X : Type 0} (key : X → ℕ) (xs : List X) (wanted first count : ℕ) (within_all : first ≤ length xs) (within : count ≤ length (rest_of xs first))
-    (parted : IsPartitionPoint (λ (x : X). ltb (key x) wanted ≡ true) (λ (x : X). ltb (key x) wanted ≡ false) xs first)
-    (parted_rest : IsPartitionPoint (λ (x : X). leb (key x) wanted ≡ true) (λ (x : X). leb (key x) wanted ≡ false) (rest_of xs first) count) where
+module _ {X : Type 0} (key : X → ℕ) (xs : List X) (low high first count : ℕ) (within_all : first ≤ length xs) (within : count ≤ length (rest_of xs first))
+    (parted : IsPartitionPoint (λ (x : X). ltb (key x) low ≡ true) (λ (x : X). ltb (key x) low ≡ false) xs first)
+    (parted_rest : IsPartitionPoint (λ (x : X). leb (key x) high ≡ true) (λ (x : X). leb (key x) high ≡ false) (rest_of xs first) count) where
   length_rest : length (rest_of xs first) ≡ length xs - first
   length_rest = let a = length-take (length xs - first) (drop first xs) in let b = length-drop first xs in omega arith
 
@@ -78,40 +78,44 @@ module _ {X : Type 0} (key : X → ℕ) (xs : List X) (wanted first count : ℕ)
   at_part : (k : ℕ) (d : X) → k < count → get_or (take count (rest_of xs first)) k d ≡ get_or xs (first + k) d
   at_part k d lt = get_or-take count (rest_of xs first) k d lt ∙ at_rest k d (omega (arith, length_rest, within))
 
-  has_key : (k : ℕ) (d : X) → k < count → key (get_or xs (first + k) d) ≡ wanted
+  has_key : (k : ℕ) (d : X) → k < count → (low ≤ key (get_or xs (first + k) d)) × (key (get_or xs (first + k) d) ≤ high)
   has_key k d lt =
-      let low = ltb-false _ wanted (parted.1 (first + k) d (omega arith) (omega (arith, length_rest, within))) in
-      let high = leb-true _ wanted (parted_rest.0 k d (omega arith) lt) in
-      omega (arith, ap key (at_rest k d (omega (arith, length_rest, within))))
+      let not_below = ltb-false _ low (parted.1 (first + k) d (omega arith) (omega (arith, length_rest, within))) in
+      let not_above = leb-true _ high (parted_rest.0 k d (omega arith) lt) in
+      let at = ap key (at_rest k d (omega (arith, length_rest, within))) in
+      (omega (arith, not_below), omega (arith, not_above, at))
 
-  -- the part has just the elements of the key
-  pub key_part_has : (x : X) → Contains (take count (rest_of xs first)) x ↔ (Contains xs x × (key x ≡ wanted))
-  key_part_has x = (
+  -- the part has just the elements whose keys lie between two numbers
+  pub key_range_has : (x : X) → Contains (take count (rest_of xs first)) x ↔ (Contains xs x × (low ≤ key x) × (key x ≤ high))
+  key_range_has x = (
     λ h.
         let lt : h.0 < count = omega (arith, h.1, length_part) in
         let is = sym (at_part h.0 x lt) ∙ h.2 in
-        ((first + h.0, omega (arith, length_rest, within), is), subst (λ (y : X). key y ≡ wanted) is (has_key h.0 x lt)),
-    λ h. there h.0.0 h.0.1 h.0.2 h.1,
+        let own = has_key h.0 x lt in
+        ((first + h.0, omega (arith, length_rest, within), is), omega (arith, own.0, ap key is), omega (arith, own.1, ap key is)),
+    λ h. there h.0.0 h.0.1 h.0.2 h.1 h.2,
   )
     where
-      there : (k : ℕ) → k < length xs → get_or xs k x ≡ x → key x ≡ wanted → Contains (take count (rest_of xs first)) x
-      there k below is of_key =
+      there : (k : ℕ) → k < length xs → get_or xs k x ≡ x → low ≤ key x → key x ≤ high → Contains (take count (rest_of xs first)) x
+      there k below is above under =
           let read = ap key is in
-          let past_first : first ≤ k = ⊎_elim (λ lt. absurd (omega (arith, ltb-true _ wanted (parted.0 k x (omega arith) lt)))) (λ le. le) (cases_lt k first) in
+          let past_first : first ≤ k = ⊎_elim (λ lt. absurd (omega (arith, ltb-true _ low (parted.0 k x (omega arith) lt)))) (λ le. le) (cases_lt k first) in
           let moved : first + (k - first) ≡ k = omega arith in
           let at : get_or (rest_of xs first) (k - first) x ≡ x = at_rest (k - first) x (omega arith) ∙ ap (λ n. get_or xs n x) moved ∙ is in
           let lt : k - first < count = ⊎_elim
           (λ lt. lt)
-          (λ le. absurd (omega (arith, leb-false _ wanted (parted_rest.1 (k - first) x le (omega (arith, length_rest))), ap key at)))
+          (λ le. absurd (omega (arith, leb-false _ high (parted_rest.1 (k - first) x le (omega (arith, length_rest))), ap key at)))
           (cases_lt (k - first) count) in
           (k - first, omega (arith, length_part, lt), at_part (k - first) x lt ∙ ap (λ n. get_or xs n x) moved ∙ is)
 
-  -- and these stand to one another as in the list
-  pub key_part_pairs : (L : X → X → Type 0) → AllPairs L xs → AllPairs (λ x y. (key x ≡ wanted) × (key y ≡ wanted) × L x y) (take count (rest_of xs first))
-  key_part_pairs L pairs i j d before inside =
-      let lt : j < count = omega (arith, inside, length_part) in
-      rw (at_part i d (omega arith), at_part j d lt)
-      (has_key i d (omega arith), has_key j d lt, pairs (first + i) (first + j) d (omega arith) (omega (arith, length_rest, within)))
+-- those of one key, where both numbers are that key
+pub key_part_has : {X : Type 0} (key : X → ℕ) (xs : List X) (wanted first count : ℕ) → first ≤ length xs → count ≤ length (rest_of xs first)
+    → IsPartitionPoint (λ (x : X). ltb (key x) wanted ≡ true) (λ (x : X). ltb (key x) wanted ≡ false) xs first
+    → IsPartitionPoint (λ (x : X). leb (key x) wanted ≡ true) (λ (x : X). leb (key x) wanted ≡ false) (rest_of xs first) count
+    → (x : X) → Contains (take count (rest_of xs first)) x ↔ (Contains xs x × (key x ≡ wanted))
+key_part_has key xs wanted first count within_all within parted parted_rest x =
+    let has = key_range_has key xs wanted wanted first count within_all within parted parted_rest x in
+    (λ h. let own = has.0 h in (own.0, omega (arith, own.1, own.2)), λ h. has.1 (h.0, omega (arith, h.1), omega (arith, h.1)))
 
 -- ---- the part of one region
 

@@ -4,3 +4,4 @@ pub mod RunListLemmas
 pub mod RunSetLemmas
 pub mod RunCountLemmas
 pub mod RunNumberLemmas
+pub mod GapLemmas

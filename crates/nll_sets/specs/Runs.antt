@@ -36,6 +36,18 @@ last_of runs k = (slice_index_or runs k no_run).last
 abbrev pub IsInRuns : List Run → ℕ → Type 0
 IsInRuns runs x = (k : ℕ) × (k < length runs) × (first_of runs k ≤ x) × (x ≤ last_of runs k)
 
+-- x is a number of a run that stands in the list at a place or behind it
+abbrev pub IsInRunsFrom : ℕ → List Run → ℕ → Type 0
+IsInRunsFrom place runs x =
+    (k : ℕ) × (place ≤ k) × (k < length runs) × (first_of runs k ≤ x) × (x ≤ last_of runs k)
+
+-- of the runs that stand in the list at a place or behind it no two have a number in common
+abbrev pub AreApartFrom : ℕ → List Run → Type 0
+AreApartFrom place runs =
+    (j k x : ℕ) → place ≤ j → j < k → k < length runs
+    → (first_of runs j ≤ x) × (x ≤ last_of runs j)
+    → (first_of runs k ≤ x) × (x ≤ last_of runs k) → ⊥
+
 -- ---- sets
 
 -- the set has just the numbers of the runs
@@ -70,3 +82,21 @@ pub record IsRunFrom (flags : List Bool) (e : ℕ) (run : Run) : Type 0 where
   pub all : (x : ℕ) → run.first ≤ x → x ≤ run.last → flag flags x ≡ true
   pub none : (x : ℕ) → e ≤ x → x < run.first → flag flags x ≡ false
   pub end : flag flags (run.last + 1) ≡ false
+
+-- The run is of numbers that the set lacks, from `start` up to `end`, and the set has those before it.
+pub record IsGapFrom (flags : List Bool) (start end : ℕ) (gap : Run) : Type 0 where
+  pub above : start ≤ gap.first
+  pub proper : gap.first ≤ gap.last
+  pub below : gap.last ≤ end
+  pub before : (x : ℕ) → start ≤ x → x < gap.first → flag flags x ≡ true
+  pub lacks : (x : ℕ) → gap.first ≤ x → x ≤ gap.last → flag flags x ≡ false
+
+-- A list got runs at its end, of just the numbers of this run that the set lacks, each once.
+pub record ListsGaps (flags : List Bool) (run : Run) (before after : List Run) : Type 0 where
+  pub longer : length before ≤ length after
+  pub front : (k : ℕ) → k < length before
+      → (first_of after k ≡ first_of before k) × (last_of after k ≡ last_of before k)
+  pub proper : (k : ℕ) → length before ≤ k → k < length after → first_of after k ≤ last_of after k
+  pub listed : (x : ℕ) → IsInRunsFrom (length before) after x
+      ↔ (IsWithin run x × (flag flags x ≡ false))
+  pub apart : AreApartFrom (length before) after

@@ -5,7 +5,7 @@ ghost use Rattle.std.specs.Prelude.{replicate, max, [], IfOk, IsOk, IsOkAnd, OnO
 ghost use Rattle.std.specs.Prelude.{IfNone};
 ghost use Rattle.nll_sets.specs.ElementSet.{flag, elements};
 ghost use Rattle.nll_sets.specs.Runs.{first_of, last_of, run_of, IsRunFrom, IsRunCount, MakeUp};
-ghost use Rattle.nll_sets.specs.Runs.{Fills, IsWithin, Touches, numbers};
+ghost use Rattle.nll_sets.specs.Runs.{Fills, IsWithin, Touches, numbers, IsGapFrom, ListsGaps};
 
 use crate::element::Element;
 use crate::element_set::ElementSet;
@@ -181,6 +181,57 @@ impl RunSet {
         ensures err { OnErr result (self.new ≡ self.old) }
     {
         join(&mut self.runs, run)
+    }
+
+    /// Puts the runs of those elements of a run that the set lacks at the end of a list, ascending.
+    ///
+    /// # Errors
+    /// - `Memory`: some of them were perhaps put there.
+    pub fn gaps(&self, run: Run, out: &mut Vec<Run>) -> Result<(), Memory>
+        requires proper { run.first ≤ run.last }
+        requires below { run.last < length self.now }
+        ensures { OnOk result (ListsGaps self.now run out.old.items out.new.items) }
+    {
+        // Behind the last element there is still a number of 32 bits.
+        prove!(self.len <= u32::MAX);
+        let mut next = run.first;
+        while let Some(gap) = self.gap_from(next, run.last) {
+            out.push(gap)?;
+            next = gap.last + 1;
+        }
+        Ok(())
+    }
+
+    /// The first run, from a number on up to another, of elements that the set lacks.
+    pub fn gap_from(&self, from: u32, last: u32) -> Option<Run>
+        requires { last < length self.now }
+        ensures some { IfSome result (IsGapFrom self.now from last) }
+        ensures none { IfNone result ((x : ℕ) → from ≤ x → x ≤ last → flag self.now x ≡ true) }
+    {
+        // `free_from` asks for a length of 32 bits.
+        prove!(self.len <= u32::MAX);
+        let first = self.free_from(from);
+        if first > last {
+            return None;
+        }
+        let last = match self.run_from(first) {
+            Some(next) => last.min(next.first - 1),
+            None => last,
+        };
+        Some(Run { first, last })
+    }
+
+    // The first element, from one on, that the set lacks.
+    fn free_from(&self, from: u32) -> u32
+        requires short { length self.now < 4294967296 }
+        ensures low { from ≤ result }
+        ensures has { (x : ℕ) → from ≤ x → x < result → flag self.now x ≡ true }
+        ensures free { flag self.now result ≡ false }
+    {
+        match self.run_from(from) {
+            Some(run) if run.first <= from => run.last + 1,
+            _ => from,
+        }
     }
 
     /// Takes all elements out of the set. The memory that it has stays with it.

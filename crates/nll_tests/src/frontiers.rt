@@ -1,143 +1,224 @@
-//! Frontiers of several points, where elements come into the set.
-ghost use Rattle.std.specs.Prelude.{◌≡◌, ◌≤◌, ◌<◌, false, length, replicate, OnOk};
+//! Frontiers, where runs of elements come into the set.
+ghost use Rattle.std.specs.Prelude.{◌≡◌, ◌≤◌, ◌<◌, ℕ, false, length, Contains, OnOk, replicate};
 ghost use Rattle.nll_problem.specs.Graph.{element_count};
 ghost use Rattle.nll_core.specs.Search.{IsIn};
 ghost use Rattle.nll_core.specs.Frontiers.{IsFrontierIn};
 
-use super::rows::Asked::Frontier as Asked;
+use super::rows::Asked::{Frontier as Asked, FrontierToEnd};
 use super::rows::{Row, compare_rows};
 use super::transcript::Transcript;
-use nll_core::{BitSet, Element, ElementSet, Frontier, Graph, Memory};
-use nll_problem::{GraphBuilder, Predecessors};
+use nll_core::{Element, ElementSet, Frontier, Graph, Memory, Run, RunSet, Steps};
+use nll_problem::GraphBuilder;
 
-// Puts an element into a set, and lets the frontier go on; puts what it newly reaches into a list.
+// Puts the first gap of a run into a set, and lets the frontier go on; lists what it newly reaches.
 fn grow(
-    graph: &Graph,
-    previous: &Predecessors<'_>,
-    seen: &mut BitSet,
+    steps: &Steps,
+    seen: &mut RunSet,
     frontier: &mut Frontier,
-    element: Element,
-    found: &mut Vec<Element>,
+    run: Run,
+    found: &mut Vec<Run>,
 ) -> Result<(), Memory>
-    requires previous { previous.now ≡ graph.now }
-    requires width { length seen.old ≡ element_count graph.now }
-    requires fits { length frontier.old.reached ≤ element_count graph.now }
+    requires width { length seen.old ≡ element_count steps.now }
+    requires fits { length frontier.old.reached ≤ element_count steps.now }
     requires whole { frontier.old.refused ≡ false }
-    requires element { element < element_count graph.now }
-    requires reached { IsFrontierIn graph.now (IsIn seen.old) frontier.old }
-    ensures width { OnOk result (length seen.new ≡ element_count graph.now) }
-    ensures fits { OnOk result (length frontier.new.reached ≤ element_count graph.now) }
+    requires starts { (p : ℕ) → Contains frontier.old.starts p → p < steps.now.points }
+    requires last { run.last < element_count steps.now }
+    requires reached { IsFrontierIn steps.now (IsIn seen.old) frontier.old }
+    ensures width { OnOk result (length seen.new ≡ element_count steps.now) }
+    ensures fits { OnOk result (length frontier.new.reached ≤ element_count steps.now) }
     ensures whole { OnOk result (frontier.new.refused ≡ false) }
-    ensures reached { OnOk result (IsFrontierIn graph.now (IsIn seen.new) frontier.new) }
+    ensures starts { frontier.new.starts ≡ frontier.old.starts }
+    ensures reached { OnOk result (IsFrontierIn steps.now (IsIn seen.new) frontier.new) }
 {
-    if seen.has(element) {
+    found.clear();
+    let Some(gap) = seen.gap_from(run.first, run.last) else {
         return Ok(());
-    }
-    seen.insert(element)?;
-    frontier.grow(graph, previous, seen, element, found)
+    };
+    seen.insert_run(gap)?;
+    frontier.grow(steps, seen, gap, found)
 }
 
-// Writes elements, ascending, and clears their list.
-fn write_found(out: &mut Transcript, found: &mut Vec<Element>) {
-    found.sort_unstable();
-    for element in found.as_slice() {
-        out.number(" ", element.0, "");
+// Writes the elements of runs, in the order of the first ones of these.
+fn write_found(out: &mut Transcript, found: &mut Vec<Run>) {
+    found.sort_unstable_by_key(|run| run.first);
+    for run in found.as_slice() {
+        for element in run.first..=run.last {
+            out.number(" ", element, "");
+        }
     }
     out.say("|");
-    found.clear();
 }
 
-// Lets a frontier go on where elements come into the set, up to one that there isn't, and writes
+// Lets a frontier go on where runs come into the set, up to one past the last element, and writes
 // what it newly reaches.
 fn write_grown(
     out: &mut Transcript,
-    graph: &Graph,
-    previous: &Predecessors<'_>,
-    seen: &mut BitSet,
+    steps: &Steps,
+    elements: u32,
+    seen: &mut RunSet,
     frontier: &mut Frontier,
-    numbers: &[u32],
-    found: &mut Vec<Element>,
+    runs: &[(u32, u32)],
+    found: &mut Vec<Run>,
 ) -> Result<(), Memory>
-    requires previous { previous.now ≡ graph.now }
-    requires width { length seen.old ≡ element_count graph.now }
-    requires fits { length frontier.old.reached ≤ element_count graph.now }
+    requires elements { elements ≡ element_count steps.now }
+    requires width { length seen.old ≡ element_count steps.now }
+    requires fits { length frontier.old.reached ≤ element_count steps.now }
     requires whole { frontier.old.refused ≡ false }
-    requires reached { IsFrontierIn graph.now (IsIn seen.old) frontier.old }
+    requires starts { (p : ℕ) → Contains frontier.old.starts p → p < steps.now.points }
+    requires reached { IsFrontierIn steps.now (IsIn seen.old) frontier.old }
 {
-    for number in numbers {
-        if *number >= graph.points() + graph.universals() {
+    for run in runs {
+        let (first, last) = *run;
+        if last >= elements {
             return Ok(());
         }
-        grow(graph, previous, seen, frontier, Element(*number), found)?;
+        grow(steps, seen, frontier, Run { first, last }, found)?;
         write_found(out, found);
     }
     Ok(())
 }
 
-// Writes what a frontier from the points 0 and 2 newly reaches as elements come into a set that has
-// none.
-fn write_begun(
+// Writes what a frontier from the point 0 newly reaches as runs come into a set that has none.
+fn write_one(
     out: &mut Transcript,
-    graph: &Graph,
-    previous: &Predecessors<'_>,
-    seen: &mut BitSet,
-    numbers: &[u32],
+    steps: &Steps,
+    elements: u32,
+    seen: &mut RunSet,
+    runs: &[(u32, u32)],
 )
-    requires previous { previous.now ≡ graph.now }
-    requires none { seen.old ≡ replicate (element_count graph.now) false }
+    requires elements { elements ≡ element_count steps.now }
+    requires points { 2 < steps.now.points }
+    requires none { seen.old ≡ replicate (element_count steps.now) false }
+{
+    let mut found = Vec::new(out.alloc);
+    let mut frontier = Frontier::new(out.alloc, Element(0));
+    let told = write_grown(out, steps, elements, seen, &mut frontier, runs, &mut found);
+    out.note(told);
+    drop(frontier);
+    drop(found);
+}
+
+// The same of a frontier from the points 0 and 2.
+fn write_both(
+    out: &mut Transcript,
+    steps: &Steps,
+    elements: u32,
+    seen: &mut RunSet,
+    runs: &[(u32, u32)],
+)
+    requires elements { elements ≡ element_count steps.now }
+    requires points { 2 < steps.now.points }
+    requires none { seen.old ≡ replicate (element_count steps.now) false }
 {
     let mut found = Vec::new(out.alloc);
     let mut frontier = Frontier::new(out.alloc, Element(0));
     if let Ok(()) = frontier.add_point(Element(2)) {
-        let told = write_grown(
-            out,
-            graph,
-            previous,
-            seen,
-            &mut frontier,
-            numbers,
-            &mut found,
-        );
+        let told = write_grown(out, steps, elements, seen, &mut frontier, runs, &mut found);
         out.note(told);
     }
+    drop(frontier);
     drop(found);
 }
 
 // The same of a set that is made for it.
-fn write_over(out: &mut Transcript, graph: &Graph, numbers: &[u32]) {
-    if let Ok(previous) = Predecessors::of(out.alloc, graph) {
-        let width = graph.points() + graph.universals();
-        if let Ok(mut seen) = BitSet::empty(out.alloc, width) {
-            write_begun(out, graph, &previous, &mut seen, numbers);
+fn write_over(out: &mut Transcript, graph: &Graph, both: bool, runs: &[(u32, u32)]) {
+    if graph.points() <= 2 {
+        return;
+    }
+    if let Ok(steps) = Steps::of(out.alloc, graph) {
+        let elements = graph.points() + graph.universals();
+        if let Ok(mut seen) = RunSet::empty(out.alloc, elements) {
+            if both {
+                write_both(out, &steps, elements, &mut seen, runs);
+            } else {
+                write_one(out, &steps, elements, &mut seen, runs);
+            }
             drop(seen);
         }
-        drop(previous);
+        drop(steps);
     }
 }
 
-/// Writes the same over the graph of four points with the edges 0 to 1 and 2 to 3.
-pub fn write_frontier(out: &mut Transcript, numbers: &[u32]) {
+/// Writes the same of walks from both points over the graph of four points with the edges 0 to 1 and
+/// 2 to 3.
+pub fn write_frontier(out: &mut Transcript, runs: &[(u32, u32)]) {
     if let Ok(mut builder) = GraphBuilder::new(out.alloc, 4, 1) {
         out.note(builder.next(0, 1));
         out.note(builder.next(2, 3));
         let graph = builder.finish();
-        write_over(out, &graph, numbers);
+        write_over(out, &graph, true, runs);
         drop(graph);
     }
 }
 
-// Elements that come into the set, and what is newly reached with each.
+/// Writes the same of walks from the point 0 over the graph of four points with the edges 0 to 1, 1
+/// to 2 and 1 to 3, of which 2 is a return point.
+pub fn write_frontier_to_end(out: &mut Transcript, runs: &[(u32, u32)]) {
+    if let Ok(mut builder) = GraphBuilder::new(out.alloc, 4, 1) {
+        out.note(builder.next(0, 1));
+        out.note(builder.next(1, 2));
+        out.note(builder.next(1, 3));
+        out.note(builder.ret(2));
+        let graph = builder.finish();
+        write_over(out, &graph, false, runs);
+        drop(graph);
+    }
+}
+
+// Runs that come into the set, and what is newly reached with each.
 const GROWN: &[Row] = &[
-    ("each point in turn", Asked(&[0, 1, 2, 3]), " 0| 1| 2| 3|"),
+    (
+        "each point in turn",
+        Asked(&[(0, 0), (1, 1), (2, 2), (3, 3)]),
+        " 0| 1| 2| 3|",
+    ),
     // Nothing leads to 1 or 3 but from where walks begin.
     (
         "the points behind them first",
-        Asked(&[1, 3, 2, 0]),
+        Asked(&[(1, 1), (3, 3), (2, 2), (0, 0)]),
         "|| 2 3| 0 1|",
+    ),
+    ("all at once", Asked(&[(0, 4)]), " 0 1 2 3|"),
+    (
+        "a run, and a point before it",
+        Asked(&[(1, 3), (0, 0)]),
+        " 2 3| 0 1|",
+    ),
+    // The hole at 1 is filled last; then the end is reached too.
+    (
+        "a hole is filled",
+        FrontierToEnd(&[(0, 0), (2, 2), (4, 4), (1, 1)]),
+        " 0||| 1 2 4|",
+    ),
+    (
+        "each as it comes",
+        FrontierToEnd(&[(0, 0), (1, 1), (2, 2), (4, 4)]),
+        " 0| 1| 2| 4|",
+    ),
+    // Nothing is reached before the point where walks begin.
+    (
+        "from the end to the start",
+        FrontierToEnd(&[(4, 4), (2, 2), (1, 1), (0, 0)]),
+        "||| 0 1 2 4|",
+    ),
+    (
+        "all and the end at once",
+        FrontierToEnd(&[(0, 4)]),
+        " 0 1 2 3 4|",
+    ),
+    (
+        "points and ends in one run, then what leads to them",
+        FrontierToEnd(&[(2, 4), (0, 0), (1, 1)]),
+        "| 0| 1 2 3 4|",
+    ),
+    (
+        "a jump into a later run",
+        FrontierToEnd(&[(0, 1), (3, 3), (2, 2)]),
+        " 0 1| 3| 2|",
     ),
 ];
 
-// Walks begin at the point that was added as at the first.
+// Walks begin at the point that was added as at the first, and go on at a hole that is filled.
 #[test]
 fn a_frontier_goes_on_from_each_of_its_points(rt: HostRuntime) {
     compare_rows(&rt, rt.alloc(), GROWN);

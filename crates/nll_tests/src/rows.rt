@@ -3,7 +3,7 @@
 use super::building::write_new;
 use super::calls::{Call, Calls, write_behind, write_problem, write_random};
 use super::cuts::{Deal, write_cut};
-use super::frontiers::write_frontier;
+use super::frontiers::{write_frontier, write_frontier_to_end};
 use super::graphs::{Then, write_graph_then};
 use super::lines::{OfLine, write_line};
 use super::messages::{write_memory, write_messages};
@@ -35,8 +35,10 @@ pub enum Asked {
     Random(u32),
     /// Of points, universal regions and calls: what becomes of the graph that they make.
     Graph((u32, u32), &'static [Call], Then),
-    /// Of elements that come into a set: what a frontier reaches.
-    Frontier(&'static [u32]),
+    /// Of runs that come into a set: what a frontier reaches.
+    Frontier(&'static [(u32, u32)]),
+    /// The same where walks may come to an end.
+    FrontierToEnd(&'static [(u32, u32)]),
     /// Of so many regions and owners: how they are dealt.
     Cut(u32, u16, Deal),
     /// Of a set of a length: what it tells as elements are put in, and of the next element from
@@ -69,7 +71,8 @@ fn write_told(out: &mut Transcript, says: &str, asked: Asked) {
         }
         Asked::Random(seed) => write_random(out, seed),
         Asked::Graph(numbers, calls, then) => write_graph_then(out, numbers, calls, then),
-        Asked::Frontier(numbers) => write_frontier(out, numbers),
+        Asked::Frontier(runs) => write_frontier(out, runs),
+        Asked::FrontierToEnd(runs) => write_frontier_to_end(out, runs),
         Asked::Cut(regions, owners, deal) => write_cut(out, (regions, owners), deal),
         Asked::Sets(len, inserted, from) => write_sets(out, len, inserted, from),
         Asked::LastBit => write_last_bit(out),

@@ -4,7 +4,7 @@ use Rattle.nll_core.specs.Search.{IsIn}
 use Rattle.nll_core.specs.Walking.{Grows}
 use Rattle.nll_sets.specs.Runs.{IsRunFrom}
 use Rattle.nll_sets.specs.declared.run.Run.{Run}
-use Rattle.nll_core.proofs.WalkingLemmas.{grows_stretch, settled_entry, stretch_of}
+use Rattle.nll_core.proofs.WalkingLemmas.{grows_stretch, line_closed, settled_entry, stretch_of}
 use Rattle.nll_core.proofs.stretches.enter_run.Goals as goal
 use Rattle.nll_core.proofs.stretches.enter_run.Goals.{In_ok-push}
 
@@ -24,7 +24,7 @@ returns-clause-grows c = grows (goal.at.returns-clause-grows c).In_ok-push
 pub returns-clause-settled : goal.returns-clause-settled
 returns-clause-settled c = λ sub from closed x a b.
     let d = (goal.at.returns-clause-settled c).In_ok-push in
-    settled_entry c.args.lines.now sub c.insert_run.new.self c.args.point c.min-last.result ((grows d sub from).closed closed)
+    settled_entry c.args.lines.now sub c.insert_run.new.self c.args.point c.min-last.result (line_closed c.args.lines.now sub (Reaches c.args.lines.now (IsIn sub) c.args.point) _ _ _ _ (grows d sub from) closed)
     (c.in_ok-insert_run.ensures.ok.filled c.args.point (omega arith) (omega (arith, c.min.ensures, c.min-last.ensures, c.requires.free.above, c.line_end.ensures.above, c.requires.inside.1)))
     (λ y h k. c.line_end.ensures.line y h (omega (arith, k, c.min-last.ensures)))
     (λ y h k. from.all y (omega (arith, h, c.requires.inside.0)) (omega (arith, k, c.min-last.ensures)))

@@ -1,13 +1,14 @@
-use Rattle.std.proofs.Common.{◌≡◌, ◌≤◌, false, length}
+use Rattle.std.proofs.Common.{◌≡◌, ◌≤◌, ◌<◌, ℕ, false, length, Contains}
 use Rattle.nll_problem.specs.Graph.{element_count}
 use Rattle.nll_core.specs.Search.{IsIn}
 use Rattle.nll_core.specs.Frontiers.{IsFrontierIn}
 use Rattle.nll_tests.proofs.frontiers.write_grown.Given as goal
 
-abbrev pub invariant-loop-number : goal.invariant-loop-number
-invariant-loop-number l = record {
-  width : length l.seen ≡ element_count l.graph;
-  fits : length l.frontier.reached ≤ element_count l.graph;
+abbrev pub invariant-loop-run : goal.invariant-loop-run
+invariant-loop-run l = record {
+  width : length l.seen ≡ element_count l.steps;
+  fits : length l.frontier.reached ≤ element_count l.steps;
   whole : l.frontier.refused ≡ false;
-  reached : IsFrontierIn l.graph (IsIn l.seen) l.frontier;
+  starts : (p : ℕ) → Contains l.frontier.starts p → p < l.steps.points;
+  reached : IsFrontierIn l.steps (IsIn l.seen) l.frontier;
 }

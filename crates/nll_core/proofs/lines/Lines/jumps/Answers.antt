@@ -7,18 +7,18 @@ use Rattle.nll_core.proofs.JumpLemmas.{part_jumps, part_ordered}
 use Rattle.nll_core.proofs.lines.Lines.jumps.Goals as goal
 
 pub index-from-requires : goal.index-from-requires
-index-from-requires c = omega (arith, subst (λ (x : Graph). c.args.run.last < x.points) (sym c.self.view_is) c.requires.points, c.requires.proper, c.self.invariant.1.sized)
+index-from-requires c = omega (arith, subst (λ (x : Graph). c.args.run.last < x.points) (sym c.self.view_is) c.requires.points, c.requires.proper, c.self.invariant.jumps.sized)
 
 pub index-to-requires : goal.index-to-requires
-index-to-requires c = omega (arith, subst (λ (x : Graph). c.args.run.last < x.points) (sym c.self.view_is) c.requires.points, c.self.invariant.1.sized)
+index-to-requires c = omega (arith, subst (λ (x : Graph). c.args.run.last < x.points) (sym c.self.view_is) c.requires.points, c.self.invariant.jumps.sized)
 
 pub slice_bounds-result-count : goal.slice_bounds-result-count
 slice_bounds-result-count c =
-    let g = c.self.inside.graph.now in
+    let g = c.self.inside.graph.value in
     let starts = c.self.inside.jumps.starts.items in
     let first = c.args.run.first in
     let last = c.args.run.last in
-    let j = c.self.invariant.1 in
+    let j = c.self.invariant.jumps in
     let point : last < g.points = subst (λ (x : Graph). c.args.run.last < x.points) (sym c.self.view_is) c.requires.points in
     let from_is = c.index-from.ensures ∙ get_or_default starts first c.index-from.result.now 0 (omega (arith, point, c.requires.proper, j.sized)) in
     let to_is = c.index-to.ensures ∙ get_or_default starts (last + 1) c.index-to.result.now 0 (omega (arith, point, j.sized)) in
@@ -26,12 +26,12 @@ slice_bounds-result-count c =
 
 pub returns : goal.returns
 returns c =
-    let g = c.self.inside.graph.now in
+    let g = c.self.inside.graph.value in
     let starts = c.self.inside.jumps.starts.items in
     let targets = c.self.inside.jumps.targets.items in
     let first = c.args.run.first in
     let last = c.args.run.last in
-    let j = c.self.invariant.1 in
+    let j = c.self.invariant.jumps in
     let point : last < g.points = subst (λ (x : Graph). last < x.points) (sym c.self.view_is) c.requires.points in
     let from_is = c.index-from.ensures ∙ get_or_default starts first c.index-from.result.now 0 (omega (arith, point, c.requires.proper, j.sized)) in
     let to_is = c.index-to.ensures ∙ get_or_default starts (last + 1) c.index-to.result.now 0 (omega (arith, point, j.sized)) in

@@ -1,4 +1,4 @@
-use Rattle.std.proofs.Common.{◌≡◌, refl, sym, ◌∙◌, subst}
+use Rattle.std.proofs.Common.{sym, ◌∙◌, subst}
 use Rattle.std.proofs.lemmas.Bool.{false≢true}
 use Rattle.nll_core.specs.Search.{IsIn}
 use Rattle.nll_core.proofs.SearchLemmas.{adds_none, adds_weaker}

@@ -1,4 +1,4 @@
-use Rattle.std.proofs.Common.{◌≡◌, ◌≤◌, ◌<◌, max, length, refl, sym, ap, ◌∙◌, arith}
+use Rattle.std.proofs.Common.{max, refl, sym, ap, ◌∙◌, arith}
 use Rattle.nll_sets.specs.RunLists.{HoldsRuns, run_flags}
 use Rattle.nll_sets.proofs.RunSetLemmas.{flag_have, width, length-run_flags}
 use Rattle.nll_sets.proofs.run_set.RunSet.widen.Goals as goal

@@ -1,0 +1,86 @@
+-- The jumps of a graph, gathered point by point.
+use Rattle.std.proofs.Common.{◌≡◌, ◌⊎◌, ◌↔◌, ℕ, ◌+◌, ◌<◌, ◌≤◌, List, [], ◌∷◌, ◌++◌, Contains, length, get_or, refl, sym, ap, ◌∙◌, subst, inl, inr, ⊎_elim, arith, zero, suc}
+use Rattle.std.proofs.lemmas.Bool.{cases_eq, cases_lt}
+use Rattle.std.proofs.lemmas.List.{get_or_default}
+use Rattle.std.proofs.lemmas.List.Elements.{Contains-append_left, Contains-append_right, Contains-append_cases}
+use Rattle.nll_problem.specs.Graph.{Graph, IsSound}
+use Rattle.nll_sets.specs.Runs.{IsWithin}
+use Rattle.nll_sets.specs.declared.run.Run.{Run}
+use Rattle.nll_core.specs.Lines.{IsJump, StandsIn}
+use Rattle.nll_core.specs.declared.landing.Landing.{Landing}
+
+-- of a list of one element that element is all
+single : {X : Type 0} (y x : X) → Contains (y ∷ []) x → y ≡ x
+single y x (zero, l, is) = is
+single y x (suc k, l, is) = absurd (omega (arith, l))
+
+-- ---- the jumps of one point
+
+-- The list got the jumps of the point to the first `count` targets.
+pub record Landed (point : ℕ) (targets : List ℕ) (before now : List Landing) (count : ℕ) : Type 0 where
+  pub each : (l : Landing) → Contains now l ↔ (Contains before l ⊎ ((l.from ≡ point) × StandsIn targets 0 count l.to))
+
+pub landed_first : (point : ℕ) (targets : List ℕ) (before : List Landing) → Landed point targets before before 0
+landed_first point targets before = record { each = λ l. (inl, λ h. ⊎_elim (λ o. o) (λ (of, (k, low, high, at)). absurd (omega (arith, high))) h) }
+
+pub landed_more : (point : ℕ) (targets : List ℕ) (before now : List Landing) (count t : ℕ) → t ≡ get_or targets count 0 → Landed point targets before now count → Landed point targets before (now ++ (record { to = t; from = point }) ∷ []) (count + 1)
+landed_more point targets before now count t is p = record { each = λ l. (forth l, back l) }
+  where
+    new : Landing
+    new = record { to = t; from = point }
+
+    forth : (l : Landing) → Contains (now ++ new ∷ []) l → Contains before l ⊎ ((l.from ≡ point) × StandsIn targets 0 (count + 1) l.to)
+    forth l h = ⊎_elim
+        (λ o. ⊎_elim inl (λ (of, (k, low, high, at)). inr (of, (k, omega arith, omega (arith, high), at))) ((p.each l).0 o))
+        (λ o. let same = single new l o in inr (sym (ap (λ (m : Landing). m.from) same), (count, omega arith, omega arith, sym is ∙ ap (λ (m : Landing). m.to) same)))
+        (Contains-append_cases now (new ∷ []) l h)
+
+    back : (l : Landing) → Contains before l ⊎ ((l.from ≡ point) × StandsIn targets 0 (count + 1) l.to) → Contains (now ++ new ∷ []) l
+    back l (inl o) = Contains-append_left now (new ∷ []) l ((p.each l).1 (inl o))
+    back l (inr (of, (k, low, high, at))) = ⊎_elim
+        (λ here.
+        let to : t ≡ l.to = is ∙ ap (λ i. get_or targets i 0) (sym here) ∙ at in
+        let same : ◌≡◌ {A = Landing} new l = landing_same t l.to point l.from to (sym of) in
+        Contains-append_right now (new ∷ []) l (0, omega arith, same))
+        (λ other. Contains-append_left now (new ∷ []) l ((p.each l).1 (inr (of, (k, low, omega (arith, high, other), at)))))
+        (cases_eq k count)
+      where
+        landing_same : (a b c d : ℕ) → a ≡ b → c ≡ d → ◌≡◌ {A = Landing} (record { to = a; from = c }) (record { to = b; from = d })
+        landing_same a b c d e f = cc
+
+-- where the targets are those of all jumps from the point, the list got just these
+pub landed_end : (g : Graph) (point : ℕ) (targets : List ℕ) (before now : List Landing) (count : ℕ) → count ≡ length targets
+    → ((t : ℕ) → Contains targets t ↔ ((x : ℕ) × ((point ≤ x) × (x ≤ point)) × IsJump g x t)) → Landed point targets before now count
+    → (l : Landing) → Contains now l ↔ (Contains before l ⊎ (IsJump g l.from l.to × (l.from ≡ point)))
+landed_end g point targets before now count count_is jumps p l = (
+  λ h. ⊎_elim inl (λ (of, (k, low, high, at)).
+      let within : k < length targets = omega (arith, high, count_is) in
+      let from = (jumps l.to).0 (k, within, get_or_default targets k l.to 0 within ∙ at) in
+      let same : from.0 ≡ l.from = omega (arith, from.1.0, from.1.1, of) in
+      inr (subst (λ x. IsJump g x l.to) same from.2, of)) ((p.each l).0 h),
+  λ h. ⊎_elim (λ o. (p.each l).1 (inl o)) (λ own.
+      let at = (jumps l.to).1 (l.from, (omega (arith, own.1), omega (arith, own.1)), own.0) in
+      (p.each l).1 (inr (own.1, (at.0, omega arith, omega (arith, at.1, count_is), sym (get_or_default targets at.0 l.to 0 at.1) ∙ at.2)))) h,
+)
+
+-- ---- the jumps of all points
+
+-- the list has the jumps of the points before `count`
+abbrev pub AreLandingsTo : Graph → ℕ → List Landing → Type 0
+AreLandingsTo g count list = (l : Landing) → Contains list l ↔ (IsJump g l.from l.to × (l.from < count))
+
+pub landings_none : (g : Graph) → AreLandingsTo g 0 []
+landings_none g l = (λ (k, within, is). absurd (omega (arith, within)), λ h. absurd (omega (arith, h.1)))
+
+pub landings_more : (g : Graph) (count : ℕ) (before now : List Landing) → AreLandingsTo g count before → ((l : Landing) → Contains now l ↔ (Contains before l ⊎ (IsJump g l.from l.to × (l.from ≡ count)))) → AreLandingsTo g (count + 1) now
+landings_more g count before now all more l = (
+  λ h. ⊎_elim (λ o. let own = (all l).0 o in (own.0, omega (arith, own.1))) (λ own. (own.0, omega (arith, own.1))) ((more l).0 h),
+  λ h. (more l).1 (⊎_elim (λ here. inr (h.0, here)) (λ other. inl ((all l).1 (h.0, omega (arith, h.1, other)))) (cases_eq l.from count)),
+)
+
+pub landings_all : (g : Graph) → IsSound g → (count : ℕ) (list : List Landing) → count ≡ g.points → AreLandingsTo g count list → (l : Landing) → Contains list l ↔ IsJump g l.from l.to
+landings_all g sound count list is all l = (λ h. ((all l).0 h).0, λ jump. (all l).1 (jump, omega (arith, is, jumps_within l.from l.to jump)))
+  where
+    jumps_within : (x t : ℕ) → IsJump g x t → x < g.points
+    jumps_within x t (inl next) = (sound.edges_in_range x t next.0).0
+    jumps_within x t (inr back) = sound.returns_in_range x back.0

@@ -1,0 +1,243 @@
+//! How the walks of a frontier go on once a run is in the set in which they may go.
+
+ghost use Rattle.std.specs.Prelude.{◌≡◌, ◌↔◌, ℕ, ◌+◌, ◌≤◌, ◌<◌, true, false, [], Contains, length};
+ghost use Rattle.std.specs.Prelude.{OnOk, IfOk};
+ghost use Rattle.nll_problem.specs.Graph.{element_count, IsNext, IsReturn};
+ghost use Rattle.nll_problem.specs.Walks.{Reaches};
+ghost use Rattle.nll_sets.specs.Runs.{IsWithin};
+ghost use Rattle.nll_core.specs.Lines.{IsJump};
+ghost use Rattle.nll_core.specs.Search.{IsIn};
+ghost use Rattle.nll_core.specs.Walking.{AreIn, Grows, IsLedTo, IsLineClosed};
+ghost use Rattle.nll_core.specs.Frontiers.{IsBeside, IsReachedFrom, ReachesFrom, ListsNew};
+ghost use Rattle.nll_core.specs.Frontiers.{ResumesPoints};
+
+use crate::filling::fill_from;
+use crate::landings::Landings;
+use crate::lines::Lines;
+use crate::starts::Starts;
+use crate::stretches::{enter, spread};
+use nll_sets::{Element, ElementSet, Memory, Run, RunSet};
+
+/// Reaches what walks from some points reach inside a set that has got a run, and puts the runs of
+/// what is new into an empty list.
+pub fn resume(
+    lines: &Lines,
+    landings: &Landings,
+    seen: &RunSet,
+    starts: &Starts,
+    run: Run,
+    reached: &mut RunSet,
+    found: &mut Vec<Run>,
+) -> Result<(), Memory>
+    requires landings { landings.now ≡ lines.now }
+    requires seen_width { length seen.now ≡ element_count lines.now }
+    requires width { length reached.old ≡ element_count lines.now }
+    requires starts { (p : ℕ) → Contains starts.now p → p < lines.now.points }
+    requires run { AreIn seen.now run }
+    requires proper { run.first ≤ run.last }
+    requires before { IsReachedFrom lines.now (IsBeside seen.now run) starts.now reached.old }
+    requires none { found.old.items ≡ [] }
+    ensures width { OnOk result (length reached.new ≡ length reached.old) }
+    ensures after { OnOk result
+        (IsReachedFrom lines.now (IsIn seen.now) starts.now reached.new) }
+    ensures found { OnOk result (ListsNew reached.old reached.new [] found.new.items) }
+{
+    let points = lines.points();
+    let ended = resume_points(lines, landings, seen, starts, run, reached, found)?;
+    if !is_ended(lines, landings, run, reached, ended) {
+        return Ok(());
+    }
+    fill_from(seen, reached, found, points)?;
+    Ok(())
+}
+
+// Goes on to points alone. Answers whether a return point is newly reached.
+fn resume_points(
+    lines: &Lines,
+    landings: &Landings,
+    seen: &RunSet,
+    starts: &Starts,
+    run: Run,
+    reached: &mut RunSet,
+    found: &mut Vec<Run>,
+) -> Result<bool, Memory>
+    requires landings { landings.now ≡ lines.now }
+    requires width { lines.now.points ≤ length reached.old }
+    requires starts { (p : ℕ) → Contains starts.now p → p < lines.now.points }
+    requires run { AreIn seen.now run }
+    requires proper { run.first ≤ run.last }
+    requires before { IsReachedFrom lines.now (IsBeside seen.now run) starts.now reached.old }
+    requires none { found.old.items ≡ [] }
+    ensures { IfOk result (ResumesPoints lines.now seen.now starts.now
+        reached.old reached.new found.old.items found.new.items) }
+{
+    let points = lines.points();
+    if run.first >= points {
+        return Ok(false);
+    }
+    let part = Run {
+        first: run.first,
+        last: run.last.min(points - 1),
+    };
+    enter_next(lines, seen, reached, found, part.first)?;
+    enter_starts(lines, seen, starts, part, reached, found)?;
+    enter_landings(lines, landings, seen, part, reached, found)?;
+    spread(lines, seen, reached, found)
+}
+
+// Enters a point to which the line leads from one that is reached.
+fn enter_next(
+    lines: &Lines,
+    seen: &RunSet,
+    reached: &mut RunSet,
+    found: &mut Vec<Run>,
+    point: u32,
+) -> Result<(), Memory>
+    requires point { point < lines.now.points }
+    requires width { lines.now.points ≤ length reached.old }
+    requires seen { IsIn seen.now point }
+    requires inside { (x : ℕ) → IsIn reached.old x → IsIn seen.now x }
+    ensures grows { OnOk result (Grows lines.now seen.now
+        (IsLedTo lines.now seen.now reached.old)
+        reached.old reached.new found.old.items found.new.items) }
+    ensures covers { OnOk result ((x : ℕ) → x + 1 ≡ point
+        → IsIn reached.old x → IsNext lines.now x point → IsIn reached.new point) }
+{
+    if is_next(lines, reached, point) {
+        enter_point(lines, seen, reached, found, point)?;
+    }
+    Ok(())
+}
+
+// Whether the line leads to a point from one that is reached.
+fn is_next(lines: &Lines, reached: &RunSet, point: u32) -> bool
+    requires point { point < lines.now.points }
+    requires width { lines.now.points ≤ length reached.now }
+    ensures { (result ≡ true) ↔ ((x : ℕ) × (x + 1 ≡ point) × IsIn reached.now x
+        × IsNext lines.now x point) }
+{
+    if point == 0 {
+        return false;
+    }
+    if !reached.has(Element(point - 1)) {
+        return false;
+    }
+    lines.line_end(point - 1) >= point
+}
+
+// Enters the points of a run from which walks go.
+fn enter_starts(
+    lines: &Lines,
+    seen: &RunSet,
+    starts: &Starts,
+    part: Run,
+    reached: &mut RunSet,
+    found: &mut Vec<Run>,
+) -> Result<(), Memory>
+    requires points { part.last < lines.now.points }
+    requires width { lines.now.points ≤ length reached.old }
+    requires part { AreIn seen.now part }
+    ensures grows { OnOk result (Grows lines.now seen.now
+        (ReachesFrom lines.now (IsIn seen.now) starts.now)
+        reached.old reached.new found.old.items found.new.items) }
+    ensures covers { OnOk result
+        ((p : ℕ) → Contains starts.now p → IsWithin part p → IsIn reached.new p) }
+{
+    let _points = lines.points();
+    let mut next = part.first;
+    while let Some(start) = starts.next_in(next, part.last) {
+        enter_point(lines, seen, reached, found, start)?;
+        next = start + 1;
+    }
+    Ok(())
+}
+
+// Enters the points of a run to which jumps lead from what is reached.
+fn enter_landings(
+    lines: &Lines,
+    landings: &Landings,
+    seen: &RunSet,
+    part: Run,
+    reached: &mut RunSet,
+    found: &mut Vec<Run>,
+) -> Result<(), Memory>
+    requires landings { landings.now ≡ lines.now }
+    requires points { part.last < lines.now.points }
+    requires width { lines.now.points ≤ length reached.old }
+    requires part { AreIn seen.now part }
+    requires inside { (x : ℕ) → IsIn reached.old x → IsIn seen.now x }
+    ensures grows { OnOk result (Grows lines.now seen.now
+        (IsLedTo lines.now seen.now reached.old)
+        reached.old reached.new found.old.items found.new.items) }
+    ensures covers { OnOk result ((x t : ℕ) → IsIn reached.old x → IsJump lines.now x t
+        → IsWithin part t → IsIn reached.new t) }
+{
+    let _points = lines.points();
+    for landing in landings.landing_in(part) {
+        if reached.has(Element(landing.from)) {
+            enter_point(lines, seen, reached, found, landing.to)?;
+        }
+    }
+    Ok(())
+}
+
+// Enters a point of the set, from which walks go on.
+fn enter_point(
+    lines: &Lines,
+    seen: &RunSet,
+    reached: &mut RunSet,
+    found: &mut Vec<Run>,
+    point: u32,
+) -> Result<(), Memory>
+    requires point { point < lines.now.points }
+    requires width { lines.now.points ≤ length reached.old }
+    requires seen { IsIn seen.now point }
+    ensures grows { OnOk result (Grows lines.now seen.now
+        (Reaches lines.now (IsIn seen.now) point)
+        reached.old reached.new found.old.items found.new.items) }
+    ensures covers { OnOk result (IsIn reached.new point) }
+{
+    let Some(inside) = seen.run_from(point) else {
+        unreachable!();
+    };
+    enter(lines, inside, reached, found, point)?;
+    Ok(())
+}
+
+// Whether the ends in the set are reached: a return point is newly reached, or one is reached and an
+// end perhaps in the run.
+fn is_ended(lines: &Lines, landings: &Landings, run: Run, reached: &RunSet, ended: bool) -> bool
+    requires landings { landings.now ≡ lines.now }
+    requires width { lines.now.points ≤ length reached.now }
+    requires ended { ended ≡ true → (x : ℕ) × IsIn reached.now x × IsReturn lines.now x }
+    ensures some { result ≡ true → (x : ℕ) × IsIn reached.now x × IsReturn lines.now x }
+    ensures none { result ≡ false → (ended ≡ false)
+        × ((x : ℕ) → IsIn reached.now x → IsReturn lines.now x → run.last < lines.now.points) }
+{
+    if ended {
+        return true;
+    }
+    if run.last < lines.points() {
+        return false;
+    }
+    has_return(lines, landings, reached)
+}
+
+// Whether a return point is reached.
+fn has_return(lines: &Lines, landings: &Landings, reached: &RunSet) -> bool
+    requires landings { landings.now ≡ lines.now }
+    requires width { lines.now.points ≤ length reached.now }
+    ensures { (result ≡ true) ↔ ((x : ℕ) × IsIn reached.now x × IsReturn lines.now x) }
+{
+    let points = lines.points();
+    let ends = Run {
+        first: points,
+        last: points,
+    };
+    for landing in landings.landing_in(ends) {
+        if reached.has(Element(landing.from)) {
+            return true;
+        }
+    }
+    false
+}

@@ -1,0 +1,11 @@
+use Rattle.std.proofs.Common.{List, ℕ, Contains, subst}
+use Rattle.nll_tests.proofs.frontiers.write_grown.Goals as goal
+
+pub loop-run-preserved : goal.loop-run-preserved
+loop-run-preserved c = record {
+  width = c.in_ok-grow.ensures.width;
+  fits = c.in_ok-grow.ensures.fits;
+  whole = c.in_ok-grow.ensures.whole;
+  starts = λ p h. c.loop-run.invariant.starts p (subst (λ (ps : List ℕ). Contains ps p) c.grow.ensures.starts h);
+  reached = c.in_ok-grow.ensures.reached;
+}
