@@ -55,6 +55,29 @@ missing_less (true ∷ old) (false ∷ new) (suc x) e kept a b = absurd (false�
 missing_less (false ∷ old) (true ∷ new) (suc x) e kept a b = omega (arith, one_more old, none_more new, missing_less old new x (omega (arith, e)) (λ x h. kept (suc x) h) a b)
 missing_less (false ∷ old) (false ∷ new) (suc x) e kept a b = omega (arith, one_more old, one_more new, missing_less old new x (omega (arith, e)) (λ x h. kept (suc x) h) a b)
 
+-- where none of a run was there, as many fewer are missing as the run has numbers
+pub missing_run : (old new : List Bool) (first count : ℕ) → length new ≡ length old → ((x : ℕ) → flag old x ≡ true → flag new x ≡ true)
+    → ((x : ℕ) → first ≤ x → x < first + count → flag old x ≡ false) → ((x : ℕ) → first ≤ x → x < first + count → flag new x ≡ true)
+    → missing new + count ≤ missing old
+missing_run old new first zero e kept lacks has = omega (arith, missing_most old new e kept)
+missing_run [] [] first (suc n) e kept lacks has = absurd (false≢true (has first (omega arith) (omega arith)))
+missing_run [] (c ∷ new) first (suc n) e kept lacks has = absurd (omega (arith, e))
+missing_run (c ∷ old) [] first (suc n) e kept lacks has = absurd (omega (arith, e))
+missing_run (false ∷ old) (true ∷ new) zero (suc n) e kept lacks has =
+    let rest = missing_run old new zero n (omega (arith, e)) (λ x h. kept (suc x) h) (λ x a b. lacks (suc x) (omega arith) (omega (arith, b))) (λ x a b. has (suc x) (omega arith) (omega (arith, b))) in
+    omega (arith, one_more old, none_more new, rest)
+missing_run (true ∷ old) (c ∷ new) zero (suc n) e kept lacks has = absurd (true≢false (lacks 0 (omega arith) (omega arith)))
+missing_run (false ∷ old) (false ∷ new) zero (suc n) e kept lacks has = absurd (false≢true (has 0 (omega arith) (omega arith)))
+missing_run (c ∷ old) (d ∷ new) (suc first) (suc n) e kept lacks has =
+    let rest = missing_run old new first (suc n) (omega (arith, e)) (λ x h. kept (suc x) h) (λ x a b. lacks (suc x) (omega (arith, a)) (omega (arith, b))) (λ x a b. has (suc x) (omega (arith, a)) (omega (arith, b))) in
+    go c d (kept 0) rest
+  where
+    go : (c d : Bool) → (c ≡ true → d ≡ true) → missing new + suc n ≤ missing old → missing (d ∷ new) + suc n ≤ missing (c ∷ old)
+    go true true k r = omega (arith, none_more old, none_more new, r)
+    go true false k r = absurd (false≢true (k refl))
+    go false true k r = omega (arith, one_more old, none_more new, r)
+    go false false k r = omega (arith, one_more old, one_more new, r)
+
 -- ---- the elements of a set from a number on, run by run
 
 module _ (sub : List Bool) where

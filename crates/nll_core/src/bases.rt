@@ -67,16 +67,16 @@ fn insert_bases(problem: &Problem, values: &mut Values) -> Result<(), Memory>
     let mut place = 0;
     while place < facts.len() {
         let (region, first) = facts[place];
-        let (end, last) = run_end(facts, place);
+        let (end, last) = base_run_end(facts, place);
         values.insert_run(region, Run { first, last })?;
         place = end;
     }
     Ok(())
 }
 
-// The place up to which, from one on, the facts give one region points that follow each other by
-// number, and the last of these points.
-fn run_end(facts: &[(RegionId, u32)], place: usize) -> (usize, u32)
+/// The place up to which, from one on, the facts give one region points that follow each other by
+/// number, and the last of these points.
+pub fn base_run_end(facts: &[(RegionId, u32)], place: usize) -> (usize, u32)
     requires { place < length facts.now }
     ensures more { place < result.0 }
     ensures bound { result.0 ≤ length facts.now }

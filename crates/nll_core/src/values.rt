@@ -1,9 +1,10 @@
 //! The values of regions: a set of elements for each.
 
-ghost use Rattle.std.specs.Prelude.{◌≡◌, ℕ, ◌+◌, ◌≤◌, ◌<◌, not, length, IfOk, OnOk, OnErr};
+ghost use Rattle.std.specs.Prelude.{◌≡◌, ℕ, ◌+◌, ◌-◌, ◌≤◌, ◌<◌, not, length, IfOk, OnOk};
+ghost use Rattle.std.specs.Prelude.{OnErr};
 ghost use Rattle.nll_sets.specs.ElementSet.{elements};
 ghost use Rattle.nll_sets.specs.Runs.{first_of, last_of, numbers, IsWithin};
-ghost use Rattle.nll_core.specs.Growing.{Gains, Tells};
+ghost use Rattle.nll_core.specs.Growing.{Gains, Tells, missing_pairs};
 ghost use Rattle.nll_core.specs.Values.{set_of, holds, with_element, empty_values, IsHeld};
 
 use crate::region_elements::RegionElements;
@@ -75,6 +76,8 @@ impl Values {
         ensures err { OnErr result (self.new ≡ self.old) }
         ensures covers { OnOk result ((e : ℕ) → IsWithin run e → IsHeld self.new region e) }
         ensures tells { IfOk result (λ new. Tells new self.old self.new) }
+        ensures fewer { OnOk result (((e : ℕ) → IsWithin run e → IsHeld self.old region e → ⊥)
+            → missing_pairs self.new + (run.last + 1 - run.first) ≤ missing_pairs self.old) }
     {
         self.sets[region.0 as usize].insert_run(run)
     }

@@ -4,7 +4,7 @@ ghost use Rattle.std.specs.Prelude.{◌≡◌, ◌⊎◌, ◌↔◌, ℕ, ◌+�
 ghost use Rattle.std.specs.Prelude.{Some, Err, Contains, length, take, slice_get, slice_set};
 ghost use Rattle.std.specs.Prelude.{IsTrue, map};
 ghost use Rattle.std.specs.Prelude.{replicate, IfOk, OnOk, OnErr, IfSome, IfNone};
-ghost use Rattle.std.specs.Prelude.{min, ◌-◌};
+ghost use Rattle.std.specs.Prelude.{min, ◌-◌, ◌++◌, vec_len, vec_capacity};
 ghost use Rattle.std.specs.List.{sum, sum_by};
 ghost use Rattle.nll_sets.specs.Runs.{IsInRuns, IsWithin};
 ghost use Rattle.nll_problem.specs.Graph.{element_count};
@@ -14,7 +14,7 @@ ghost use Rattle.nll_owner.specs.Logs.{part};
 ghost use Rattle.nll_owner.specs.Owner.{IsSound, IsCalled, Has, HasBases, Passes};
 ghost use Rattle.nll_owner.specs.Owner.{part_for, given_to, received_from, with_growth};
 ghost use Rattle.nll_owner.specs.Owner.{first_owner};
-ghost use Rattle.nll_owner.specs.Keeping.{Grows, HasBeside};
+ghost use Rattle.nll_owner.specs.Keeping.{Grows, HasBeside, growths};
 ghost use Rattle.nll_owner.specs.Outboxes.{AreQueued, AreAllQueued};
 ghost use Rattle.nll_owner.specs.declared.error.OwnerError.TheVariants.{RankFull, Broken};
 
@@ -101,34 +101,6 @@ impl<'q> Knowledge<'q> {
         })
     }
 
-    /// Grows an own region by an element that is called for, where it is new.
-    pub fn grow(&mut self, region: RegionId, element: Element) -> Result<(), OwnerError>
-        requires own { owner_of self.old.cut region ≡ self.old.me }
-        requires region { region < self.old.problem.regions }
-        requires element { element < element_count self.old.problem.graph }
-        requires called { IsCalled self.old region element }
-        ensures grows { Grows self.old self.new }
-        ensures has { OnOk result (Has self.new region element) }
-        ensures full { result ≡ Err RankFull → 2 ^ 62 ≤ self.new.clock }
-        ensures whole { result ≡ Err Broken → ⊥ }
-    {
-        if self.values.has(region, element) {
-            return Ok(());
-        }
-        if self.clock >= MAX_RANK {
-            return Err(OwnerError::RankFull);
-        }
-        self.log.reserve(1)?;
-        self.values.insert(region, element)?;
-        self.clock += 1;
-        self.log.push_reserved(Growth {
-            region,
-            element,
-            rank: self.clock,
-        });
-        Ok(())
-    }
-
     /// Grows an own region by the elements of runs, which are called for.
     pub fn grow_runs(&mut self, region: RegionId, found: &[Run]) -> Result<(), OwnerError>
         requires sound { IsSound self.old }
@@ -148,8 +120,8 @@ impl<'q> Knowledge<'q> {
         Ok(())
     }
 
-    // Grows an own region by the elements of a run, which are called for.
-    fn grow_run(&mut self, region: RegionId, run: Run) -> Result<(), OwnerError>
+    /// Grows an own region by the elements of a run, which are called for, where they are new.
+    pub fn grow_run(&mut self, region: RegionId, run: Run) -> Result<(), OwnerError>
         requires sound { IsSound self.old }
         requires own { owner_of self.old.cut region ≡ self.old.me }
         requires region { region < self.old.problem.regions }
@@ -161,9 +133,36 @@ impl<'q> Knowledge<'q> {
         ensures full { result ≡ Err RankFull → 2 ^ 62 ≤ self.new.clock }
         ensures whole { result ≡ Err Broken → ⊥ }
     {
-        for element in run.first..=run.last {
-            self.grow(region, Element(element))?;
+        if run.last < run.first {
+            return Ok(());
         }
+        let mut next = run.first;
+        while let Some(gap) = self.values.set(region).gap_from(next, run.last) {
+            let ranked = front_with_ranks(gap, self.clock)?;
+            self.grow_gap(region, ranked)?;
+            next = ranked.last + 1;
+        }
+        Ok(())
+    }
+
+    // Grows an own region by the elements of a run, which are called for and new.
+    fn grow_gap(&mut self, region: RegionId, gap: Run) -> Result<(), Memory>
+        requires own { owner_of self.old.cut region ≡ self.old.me }
+        requires region { region < self.old.problem.regions }
+        requires proper { gap.first ≤ gap.last }
+        requires elements { gap.last < element_count self.old.problem.graph }
+        requires called { (x : ℕ) → IsWithin gap x → IsCalled self.old region x }
+        requires lacks { (x : ℕ) → IsWithin gap x → Has self.old region x → ⊥ }
+        requires ranks { self.old.clock + (gap.last + 1 - gap.first) ≤ 2 ^ 62 }
+        ensures grows { Grows self.old self.new }
+        ensures covers { OnOk result ((x : ℕ) → IsWithin gap x → Has self.new region x) }
+    {
+        let clock = self.clock;
+        let count = gap.last - gap.first + 1;
+        self.log.reserve(count as usize)?;
+        self.values.insert_run(region, gap)?;
+        push_growths(&mut self.log, region, gap.first, count, clock);
+        self.clock = clock + count as u64;
         Ok(())
     }
 
@@ -297,6 +296,43 @@ impl<'q> Knowledge<'q> {
             return &self.log[..0];
         }
         &self.received[from as usize]
+    }
+}
+
+// Of a run the first elements for which there are ranks behind a clock.
+fn front_with_ranks(run: Run, clock: u64) -> Result<Run, OwnerError>
+    requires { run.first ≤ run.last }
+    ensures first { IfOk result (λ front. front.first ≡ run.first) }
+    ensures proper { IfOk result (λ front. front.first ≤ front.last) }
+    ensures within { IfOk result (λ front. front.last ≤ run.last) }
+    ensures ranks { IfOk result (λ front. clock + (front.last + 1 - front.first) ≤ 2 ^ 62) }
+    ensures full { result ≡ Err RankFull → 2 ^ 62 ≤ clock }
+    ensures whole { result ≡ Err Broken → ⊥ }
+{
+    if clock >= MAX_RANK {
+        return Err(OwnerError::RankFull);
+    }
+    let room = MAX_RANK - clock - 1;
+    let more = room.min((run.last - run.first) as u64);
+    Ok(Run {
+        first: run.first,
+        last: run.first + more as u32,
+    })
+}
+
+// Puts the growths of a region by so many elements at the end of a log, which has room for them.
+fn push_growths(log: &mut Vec<Growth>, region: RegionId, first: u32, count: u32, clock: u64)
+    requires room { vec_len log.old + count ≤ vec_capacity log.old }
+    requires elements { first + count ≤ 2 ^ 32 }
+    requires ranks { clock + count < 2 ^ 64 }
+    ensures { log.new.items ≡ log.old.items ++ growths region first clock count }
+{
+    for number in 0..count {
+        log.push_reserved(Growth {
+            region,
+            element: Element(first + number),
+            rank: clock + number as u64 + 1,
+        });
     }
 }
 

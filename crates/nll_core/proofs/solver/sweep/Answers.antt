@@ -1,4 +1,4 @@
-use Rattle.std.proofs.Common.{ℕ, Bool, List}
+use Rattle.std.proofs.Common.{Bool, List}
 use Rattle.nll_problem.specs.Problem.{Problem}
 use Rattle.nll_core.specs.Worklist.{IsOnTheWay, Turns}
 use Rattle.nll_core.proofs.WorklistLemmas.{closed_clean}

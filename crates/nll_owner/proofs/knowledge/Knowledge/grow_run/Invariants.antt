@@ -1,10 +1,14 @@
-use Rattle.std.proofs.Common.{ℕ, ◌<◌, ◌≤◌}
+use Rattle.std.proofs.Common.{ℕ, ◌+◌, ◌-◌, ◌<◌, ◌≤◌}
 use Rattle.nll_owner.specs.Owner.{Has}
 use Rattle.nll_owner.specs.Keeping.{Grows}
 use Rattle.nll_owner.proofs.knowledge.Knowledge.grow_run.Given as goal
 
-abbrev pub invariant-loop-element : goal.invariant-loop-element
-invariant-loop-element l = record {
+abbrev pub invariant-loop-gap : goal.invariant-loop-gap
+invariant-loop-gap l = record {
   grows : Grows l.fn.self l.self;
-  covers : (x : ℕ) → l.fn.run.first ≤ x → x < l.element → Has l.self l.region x;
+  low : l.run.first ≤ l.next;
+  covers : (x : ℕ) → l.run.first ≤ x → x < l.next → Has l.self l.region x;
 }
+
+abbrev pub decreases-loop-gap : goal.decreases-loop-gap
+decreases-loop-gap l = l.run.last + 1 - l.next
