@@ -15,7 +15,7 @@ ghost use Rattle.nll_owner.specs.Owner.{IsSound, IsCalled, Has, HasBases, Passes
 ghost use Rattle.nll_owner.specs.Owner.{part_for, given_to, received_from, with_growth};
 ghost use Rattle.nll_owner.specs.Owner.{first_owner};
 ghost use Rattle.nll_owner.specs.Keeping.{Grows, HasBeside, growths};
-ghost use Rattle.nll_owner.specs.Outboxes.{AreQueued, AreAllQueued};
+ghost use Rattle.nll_owner.specs.Outboxes.{AreQueued, AreAllQueued, TellsAs};
 ghost use Rattle.nll_owner.specs.declared.error.OwnerError.TheVariants.{RankFull, Broken};
 
 use crate::error::OwnerError;
@@ -41,7 +41,6 @@ pub struct Knowledge<'q> {
     pub problem: &'q Problem,
     pub cut: &'q Cut,
     pub me: u16,
-    pub readers: Readers,
     pub values: Values,
     pub log: Vec<Growth>,
     pub received: Vec<Vec<Growth>>,
@@ -64,7 +63,7 @@ impl<'q> Model for Knowledge<'q> {
     ghost invariant = { λ o. IsKept
         (owner_of_parts o.problem.now o.cut.now o.me o.log.items
         (map (λ list. list.items) o.received.items) o.given.items o.clock o.loaded o.broken)
-        o.values o.readers };
+        o.values };
 }
 
 impl<'q> Knowledge<'q> {
@@ -82,7 +81,6 @@ impl<'q> Knowledge<'q> {
     {
         let owners = cut.owners();
         let _regions = problem.regions();
-        let readers = cut.readers(alloc, problem)?;
         let values = Values::empty(alloc, problem)?;
         let received = empty_lists(alloc, owners)?;
         let given = vec![in alloc; 0u64; owners as usize]?;
@@ -90,7 +88,6 @@ impl<'q> Knowledge<'q> {
             problem,
             cut,
             me,
-            readers,
             values,
             log: Vec::new(alloc),
             received,
@@ -214,15 +211,17 @@ impl<'q> Knowledge<'q> {
     }
 
     /// Queues the growths of the log that aren't queued yet.
-    pub fn queue(&self, outboxes: &mut Outboxes) -> Result<(), Memory>
-        requires { AreQueued self.now outboxes.old }
+    pub fn queue(&self, readers: &Readers, outboxes: &mut Outboxes) -> Result<(), Memory>
+        requires tells { TellsAs self.now readers.now }
+        requires queued { AreQueued self.now outboxes.old }
         ensures { OnOk result (AreAllQueued self.now outboxes.new) }
     {
-        outboxes.take_up(&self.readers, &self.log)
+        outboxes.take_up(readers, &self.log)
     }
 
     /// Whether the owner may be told a growth by another one.
-    pub fn passes(&self, from: u16, growth: &Growth) -> bool
+    pub fn passes(&self, readers: &Readers, from: u16, growth: &Growth) -> bool
+        requires { TellsAs self.now readers.now }
         ensures { IsTrue result
             ↔ Passes self.now.problem self.now.cut self.now.me from growth.now }
     {
@@ -235,7 +234,7 @@ impl<'q> Knowledge<'q> {
             return false;
         }
         // A region that is read is of the problem.
-        if !self.readers.reads(self.me, region) {
+        if !readers.reads(self.me, region) {
             return false;
         }
         self.cut.owner_of(region) == from

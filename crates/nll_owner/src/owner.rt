@@ -8,6 +8,8 @@ ghost use Rattle.nll_problem.specs.Graph.{element_count};
 ghost use Rattle.nll_owner.specs.Logs.{IsPrefix};
 ghost use Rattle.nll_owner.specs.Owner.{IsSound, IsDone, IsReady, Has, Passes, part_for, given_to};
 ghost use Rattle.nll_owner.specs.Owner.{received_from, with_growth, first_owner};
+ghost use Rattle.std.specs.Cow.{cow_value};
+ghost use Rattle.nll_owner.specs.Tables.{AreTables};
 ghost use Rattle.nll_owner.specs.Keeping.{Grows, IsClosed};
 ghost use Rattle.nll_owner.specs.Following.{IsFollowing, Nothing, OfRun};
 ghost use Rattle.nll_owner.specs.Outboxes.{AreQueued, AreAllQueued};
@@ -17,11 +19,14 @@ use crate::error::OwnerError;
 use crate::following::{Following, run_of};
 use crate::knowledge::Knowledge;
 use crate::outboxes::Outboxes;
+use crate::tables::Tables;
+use nll_core::Steps;
 use nll_cut::Cut;
 use nll_mail::Growth;
 use nll_problem::{Problem, RegionId};
 use nll_sets::{Element, Memory};
 use std::alloc::Global;
+use std::borrow::Cow;
 use std::marker::Model;
 
 /// How many growths an owner has grown, has given out, and has received. A number that is too large
@@ -41,6 +46,7 @@ pub struct Counts {
 /// RFC 2094, "Solving constraints"; that the regions are dealt to owners is project's choice.
 #[derive(Drop)]
 pub struct Owner<'q> {
+    tables: Cow<'q, Tables>,
     knowledge: Knowledge<'q>,
     // Nothing is known of these two once a call was refused.
     following: Following,
@@ -49,7 +55,9 @@ pub struct Owner<'q> {
 
 impl<'q> Model for Owner<'q> {
     ghost use Rattle.std.specs.Prelude.{◌≡◌, false};
+    ghost use Rattle.std.specs.Cow.{cow_value};
     ghost use Rattle.nll_owner.specs.Owner as spec;
+    ghost use Rattle.nll_owner.specs.Tables.{AreTables};
     ghost use Rattle.nll_owner.specs.Following.{IsFollowing, Nothing};
     ghost use Rattle.nll_owner.specs.Outboxes.{AreAllQueued};
 
@@ -58,15 +66,19 @@ impl<'q> Model for Owner<'q> {
     ghost view = { λ o. o.knowledge };
 
     ghost invariant = { λ o. spec.IsSound o.knowledge
+        × AreTables o.knowledge.problem o.knowledge.cut (cow_value o.tables)
         × (o.knowledge.broken ≡ false → IsFollowing Nothing o.knowledge o.following
         × AreAllQueued o.knowledge o.outboxes) };
 }
 
 impl<'q> Owner<'q> {
-    /// An owner that has done nothing yet.
+    /// An owner that has done nothing yet, with tables of its own.
     ///
     /// # Errors
     /// - `Memory`.
+    ///
+    /// # Cost
+    /// That of the tables, and that of an owner on lent ones (not proved).
     pub fn new(
         alloc: Global,
         problem: &'q Problem,
@@ -77,9 +89,47 @@ impl<'q> Owner<'q> {
         requires me { me < cut.now.owners }
         ensures { IfOk result (λ o. o ≡ first_owner problem.now cut.now me) }
     {
-        let outboxes = Outboxes::new(alloc, cut.owners())?;
-        match parts_of(alloc, problem, cut, me) {
-            Ok((knowledge, following)) => Ok(Owner {
+        match Tables::of(alloc, problem, cut) {
+            Ok(tables) => Owner::of_tables(alloc, problem, cut, Cow::Owned(tables), me),
+            Err(error) => Err(error),
+        }
+    }
+
+    /// An owner that has done nothing yet, on tables that are lent to it.
+    ///
+    /// # Errors
+    /// - `Memory`.
+    pub fn on(
+        alloc: Global,
+        problem: &'q Problem,
+        cut: &'q Cut,
+        tables: &'q Tables,
+        me: u16,
+    ) -> Result<Owner<'q>, Memory>
+        requires cut { length cut.now.list ≡ problem.now.regions }
+        requires tables { AreTables problem.now cut.now tables.now }
+        requires me { me < cut.now.owners }
+        ensures { IfOk result (λ o. o ≡ first_owner problem.now cut.now me) }
+    {
+        Owner::of_tables(alloc, problem, cut, Cow::Borrowed(tables), me)
+    }
+
+    // An owner that has done nothing yet, on these tables.
+    fn of_tables(
+        alloc: Global,
+        problem: &'q Problem,
+        cut: &'q Cut,
+        tables: Cow<'q, Tables>,
+        me: u16,
+    ) -> Result<Owner<'q>, Memory>
+        requires cut { length cut.now.list ≡ problem.now.regions }
+        requires tables { AreTables problem.now cut.now (cow_value tables) }
+        requires me { me < cut.now.owners }
+        ensures { IfOk result (λ o. o ≡ first_owner problem.now cut.now me) }
+    {
+        match parts_of(alloc, problem, cut, tables.as_ref(), me) {
+            Ok((knowledge, following, outboxes)) => Ok(Owner {
+                tables,
                 knowledge,
                 following,
                 outboxes,
@@ -114,7 +164,12 @@ impl<'q> Owner<'q> {
         if self.knowledge.broken {
             return Err(OwnerError::Broken);
         }
-        let result = load_all(&mut self.knowledge, &mut self.following, &mut self.outboxes);
+        let result = load_all(
+            &mut self.knowledge,
+            &mut self.following,
+            &mut self.outboxes,
+            self.tables.as_ref(),
+        );
         self.knowledge.mark(result.is_ok(), result.is_err());
         result
     }
@@ -155,6 +210,7 @@ impl<'q> Owner<'q> {
             &mut self.knowledge,
             &mut self.following,
             &mut self.outboxes,
+            self.tables.as_ref(),
             from,
             growth,
         );
@@ -168,7 +224,8 @@ impl<'q> Owner<'q> {
         ensures { IsTrue result
             ↔ Passes self.now.problem self.now.cut self.now.me from growth.now }
     {
-        self.knowledge.passes(from, growth)
+        self.knowledge
+            .passes(&self.tables.as_ref().readers, from, growth)
     }
 
     /// The problem whose regions are dealt to owners.
@@ -292,23 +349,28 @@ impl<'q> Owner<'q> {
     }
 }
 
-// What an owner knows and has followed up that has done nothing yet.
+// What an owner knows, has followed up and is to tell that has done nothing yet.
 fn parts_of<'q>(
     alloc: Global,
     problem: &'q Problem,
     cut: &'q Cut,
+    tables: &Tables,
     me: u16,
-) -> Result<(Knowledge<'q>, Following), Memory>
+) -> Result<(Knowledge<'q>, Following, Outboxes), Memory>
     requires cut { length cut.now.list ≡ problem.now.regions }
+    requires tables { AreTables problem.now cut.now tables.now }
     requires me { me < cut.now.owners }
     ensures owner { IfOk result (λ parts. parts.0 ≡ first_owner problem.now cut.now me) }
     ensures sound { IfOk result (λ parts. IsSound parts.0) }
     ensures following { IfOk result
         (λ parts. IsFollowing Nothing (first_owner problem.now cut.now me) parts.1) }
+    ensures queued { IfOk result
+        (λ parts. AreAllQueued (first_owner problem.now cut.now me) parts.2) }
 {
-    let following = Following::new(alloc, problem, cut, me)?;
+    let outboxes = Outboxes::new(alloc, cut.owners())?;
+    let following = Following::new(alloc, problem, cut, &tables.index, me)?;
     match Knowledge::new(alloc, problem, cut, me) {
-        Ok(knowledge) => Ok((knowledge, following)),
+        Ok(knowledge) => Ok((knowledge, following, outboxes)),
         Err(error) => Err(error),
     }
 }
@@ -318,8 +380,10 @@ fn load_all(
     knowledge: &mut Knowledge,
     following: &mut Following,
     outboxes: &mut Outboxes,
+    tables: &Tables,
 ) -> Result<(), OwnerError>
     requires sound { IsSound knowledge.old }
+    requires tables { AreTables knowledge.old.problem knowledge.old.cut tables.now }
     requires following { IsFollowing Nothing knowledge.old following.old }
     requires queued { AreQueued knowledge.old outboxes.old }
     ensures grows { Grows knowledge.old knowledge.new }
@@ -329,14 +393,19 @@ fn load_all(
     ensures full { result ≡ Err RankFull → 2 ^ 62 ≤ knowledge.new.clock }
     ensures whole { result ≡ Err Broken → ⊥ }
 {
-    load_and_settle(knowledge, following)?;
-    knowledge.queue(outboxes)?;
+    load_and_settle(knowledge, following, &tables.steps)?;
+    knowledge.queue(&tables.readers, outboxes)?;
     Ok(())
 }
 
 // Enters the base elements, and settles.
-fn load_and_settle(knowledge: &mut Knowledge, following: &mut Following) -> Result<(), OwnerError>
+fn load_and_settle(
+    knowledge: &mut Knowledge,
+    following: &mut Following,
+    steps: &Steps,
+) -> Result<(), OwnerError>
     requires sound { IsSound knowledge.old }
+    requires steps { steps.now ≡ knowledge.old.problem.graph }
     requires following { IsFollowing Nothing knowledge.old following.old }
     ensures grows { Grows knowledge.old knowledge.new }
     ensures following { OnOk result (IsFollowing Nothing knowledge.new following.new) }
@@ -345,7 +414,7 @@ fn load_and_settle(knowledge: &mut Knowledge, following: &mut Following) -> Resu
     ensures whole { result ≡ Err Broken → ⊥ }
 {
     knowledge.enter_bases()?;
-    following.settle(knowledge)?;
+    following.settle(knowledge, steps)?;
     Ok(())
 }
 
@@ -354,10 +423,12 @@ fn receive_all(
     knowledge: &mut Knowledge,
     following: &mut Following,
     outboxes: &mut Outboxes,
+    tables: &Tables,
     from: u16,
     growth: Growth,
 ) -> Result<(), OwnerError>
     requires sound { IsSound knowledge.old }
+    requires tables { AreTables knowledge.old.problem knowledge.old.cut tables.now }
     requires loaded { knowledge.old.loaded ≡ true }
     requires following { IsFollowing Nothing knowledge.old following.old }
     requires queued { AreQueued knowledge.old outboxes.old }
@@ -379,8 +450,8 @@ fn receive_all(
     ensures whole { result ≡ Err Broken → ⊥ }
     ensures sound { IsSound knowledge.new }
 {
-    receive_and_settle(knowledge, following, from, growth)?;
-    knowledge.queue(outboxes)?;
+    receive_and_settle(knowledge, following, &tables.steps, from, growth)?;
+    knowledge.queue(&tables.readers, outboxes)?;
     Ok(())
 }
 
@@ -388,10 +459,12 @@ fn receive_all(
 fn receive_and_settle(
     knowledge: &mut Knowledge,
     following: &mut Following,
+    steps: &Steps,
     from: u16,
     growth: Growth,
 ) -> Result<(), OwnerError>
     requires sound { IsSound knowledge.old }
+    requires steps { steps.now ≡ knowledge.old.problem.graph }
     requires loaded { knowledge.old.loaded ≡ true }
     requires following { IsFollowing Nothing knowledge.old following.old }
     requires passes { Passes knowledge.old.problem knowledge.old.cut knowledge.old.me from growth }
@@ -417,17 +490,19 @@ fn receive_and_settle(
         ..
     } = growth;
     knowledge.enter_received(from, growth)?;
-    pursue(knowledge, following, region, element)
+    pursue(knowledge, following, steps, region, element)
 }
 
 // Follows up an element that the owner has got, and settles.
 fn pursue(
     knowledge: &mut Knowledge,
     following: &mut Following,
+    steps: &Steps,
     region: RegionId,
     element: Element,
 ) -> Result<(), OwnerError>
     requires sound { IsSound knowledge.old }
+    requires steps { steps.now ≡ knowledge.old.problem.graph }
     requires region { region < knowledge.old.problem.regions }
     requires element { element < element_count knowledge.old.problem.graph }
     requires has { Has knowledge.old region element }
@@ -438,7 +513,7 @@ fn pursue(
     ensures full { result ≡ Err RankFull → 2 ^ 62 ≤ knowledge.new.clock }
     ensures whole { result ≡ Err Broken → ⊥ }
 {
-    following.follow(knowledge, region, run_of(element))?;
-    following.settle(knowledge)?;
+    following.follow(knowledge, steps, region, run_of(element))?;
+    following.settle(knowledge, steps)?;
     Ok(())
 }

@@ -8,7 +8,7 @@ use Rattle.nll_owner.proofs.owner.Owner.next_for.Goals as goal
 use Rattle.nll_owner.proofs.owner.Owner.next_for.Goals.{After-entries}
 
 all_queued : (c : After-entries) → AreAllQueued c.self.inside.knowledge c.self.inside.outboxes
-all_queued c = (c.self.invariant.1 (sym (ap (λ (o : Inside). o.knowledge.broken) c.self-inside.view_is) ∙ c.if-self.false)).1
+all_queued c = (c.self.invariant.2 (sym (ap (λ (o : Inside). o.knowledge.broken) c.self-inside.view_is) ∙ c.if-self.false)).1
 
 first : (c : After-entries) → slice_get (queue_of c.self.inside.outboxes c.args.to) 0 ≡ Some c.in_ok-place.place
 first c = sym (c.first.ensures ∙ ap (λ (o : Inside). slice_get (queue_of o.outboxes c.args.to) 0) c.self-inside.view_is) ∙ c.in_ok-place.was
