@@ -1,7 +1,7 @@
 //! The values of regions: a set of elements for each.
 
 ghost use Rattle.std.specs.Prelude.{◌≡◌, ℕ, ◌+◌, ◌-◌, ◌≤◌, ◌<◌, not, length, IfOk, OnOk};
-ghost use Rattle.std.specs.Prelude.{OnErr};
+ghost use Rattle.std.specs.Prelude.{OnErr, false, replicate};
 ghost use Rattle.nll_sets.specs.ElementSet.{elements};
 ghost use Rattle.nll_sets.specs.Runs.{first_of, last_of, numbers, IsWithin};
 ghost use Rattle.nll_core.specs.Growing.{Gains, Tells, missing_pairs};
@@ -33,8 +33,15 @@ impl Values {
         ensures { IfOk result (λ values. values ≡ empty_values problem.now) }
     {
         let len = problem.points() + problem.universals();
+        Values::of(alloc, problem.regions(), len)
+    }
+
+    /// So many sets of elements below a length that hold nothing.
+    pub fn of(alloc: Global, count: u32, len: u32) -> Result<Values, Memory>
+        ensures { IfOk result (λ values. values ≡ replicate count (replicate len false)) }
+    {
         let mut sets = Vec::new(alloc);
-        for _ in 0..problem.regions() {
+        for _ in 0..count {
             sets.push(RunSet::empty(alloc, len)?)?;
         }
         Ok(Values { sets })

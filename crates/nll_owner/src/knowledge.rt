@@ -14,12 +14,14 @@ ghost use Rattle.nll_owner.specs.Logs.{part};
 ghost use Rattle.nll_owner.specs.Owner.{IsSound, IsCalled, Has, HasBases, Passes};
 ghost use Rattle.nll_owner.specs.Owner.{part_for, given_to, received_from, with_growth};
 ghost use Rattle.nll_owner.specs.Owner.{first_owner};
-ghost use Rattle.nll_owner.specs.Keeping.{Grows, HasBeside, growths};
+ghost use Rattle.nll_owner.specs.Keeping.{Grows, HasBeside, growths, IsSlot};
+ghost use Rattle.nll_owner.specs.Keeping.{held_regions, holds_region};
 ghost use Rattle.nll_owner.specs.Outboxes.{AreQueued, AreAllQueued, TellsAs};
 ghost use Rattle.nll_owner.specs.declared.error.OwnerError.TheVariants.{RankFull, Broken};
 
 use crate::error::OwnerError;
 use crate::outboxes::Outboxes;
+use crate::slots::{Slot, Slots};
 use nll_core::Values;
 use nll_cut::{Cut, Readers};
 use nll_mail::Growth;
@@ -41,6 +43,8 @@ pub struct Knowledge<'q> {
     pub problem: &'q Problem,
     pub cut: &'q Cut,
     pub me: u16,
+    pub slots: Slots,
+    // By slot.
     pub values: Values,
     pub log: Vec<Growth>,
     pub received: Vec<Vec<Growth>>,
@@ -63,7 +67,7 @@ impl<'q> Model for Knowledge<'q> {
     ghost invariant = { λ o. IsKept
         (owner_of_parts o.problem.now o.cut.now o.me o.log.items
         (map (λ list. list.items) o.received.items) o.given.items o.clock o.loaded o.broken)
-        o.values };
+        o.slots o.values };
 }
 
 impl<'q> Knowledge<'q> {
@@ -72,22 +76,25 @@ impl<'q> Knowledge<'q> {
         alloc: Global,
         problem: &'q Problem,
         cut: &'q Cut,
+        slots: Slots,
         me: u16,
     ) -> Result<Knowledge<'q>, Memory>
         requires cut { length cut.now.list ≡ problem.now.regions }
+        requires slots { slots ≡ held_regions (first_owner problem.now cut.now me) }
         requires me { me < cut.now.owners }
         ensures owner { IfOk result (λ o. o ≡ first_owner problem.now cut.now me) }
         ensures sound { IfOk result IsSound }
     {
         let owners = cut.owners();
-        let _regions = problem.regions();
-        let values = Values::empty(alloc, problem)?;
+        let len = problem.points() + problem.universals();
+        let values = Values::of(alloc, slots.len(), len)?;
         let received = empty_lists(alloc, owners)?;
         let given = vec![in alloc; 0u64; owners as usize]?;
         Ok(Knowledge {
             problem,
             cut,
             me,
+            slots,
             values,
             log: Vec::new(alloc),
             received,
@@ -133,19 +140,20 @@ impl<'q> Knowledge<'q> {
         if run.last < run.first {
             return Ok(());
         }
+        let slot = self.slot(region);
         let mut next = run.first;
-        while let Some(gap) = self.values.set(region).gap_from(next, run.last) {
+        while let Some(gap) = self.values.set(slot).gap_from(next, run.last) {
             let ranked = front_with_ranks(gap, self.clock)?;
-            self.grow_gap(region, ranked)?;
+            self.grow_gap(region, slot, ranked)?;
             next = ranked.last + 1;
         }
         Ok(())
     }
 
     // Grows an own region by the elements of a run, which are called for and new.
-    fn grow_gap(&mut self, region: RegionId, gap: Run) -> Result<(), Memory>
+    fn grow_gap(&mut self, region: RegionId, slot: Slot, gap: Run) -> Result<(), Memory>
         requires own { owner_of self.old.cut region ≡ self.old.me }
-        requires region { region < self.old.problem.regions }
+        requires slot { IsSlot self.old slot region }
         requires proper { gap.first ≤ gap.last }
         requires elements { gap.last < element_count self.old.problem.graph }
         requires called { (x : ℕ) → IsWithin gap x → IsCalled self.old region x }
@@ -157,7 +165,7 @@ impl<'q> Knowledge<'q> {
         let clock = self.clock;
         let count = gap.last - gap.first + 1;
         self.log.reserve(count as usize)?;
-        self.values.insert_run(region, gap)?;
+        self.values.insert_run(slot, gap)?;
         push_growths(&mut self.log, region, gap.first, count, clock);
         self.clock = clock + count as u64;
         Ok(())
@@ -177,9 +185,10 @@ impl<'q> Knowledge<'q> {
         ensures sound { IsSound self.new }
     {
         let clock = self.clock.max(growth.rank);
+        let slot = self.slot(growth.region);
         let list = &mut self.received[from as usize];
         list.reserve(1)?;
-        self.values.insert(growth.region, growth.element)?;
+        self.values.insert(slot, growth.element)?;
         list.push_reserved(growth);
         self.clock = clock;
         Ok(())
@@ -246,7 +255,20 @@ impl<'q> Knowledge<'q> {
         requires element { element < element_count self.now.problem.graph }
         ensures { IsTrue result ↔ Has self.now region element }
     {
-        self.values.has(region, element)
+        match self.slots.find(region) {
+            Some(slot) => self.values.has(slot, element),
+            None => false,
+        }
+    }
+
+    /// The slot of a region that the owner holds.
+    pub fn slot(&self, region: RegionId) -> Slot
+        requires region { region < self.now.problem.regions }
+        requires held { let o = self.now in
+            holds_region o.cut o.me (reads o.problem o.cut o.me) region ≡ true }
+        ensures { IsSlot self.now result region }
+    {
+        self.slots.find(region).unwrap()
     }
 
     /// All growths of the own regions so far.

@@ -36,9 +36,9 @@ returns-clause-given c =
 pub invariant_of-self : goal.invariant_of-self
 invariant_of-self c =
     let d = (goal.at.invariant_of-self c).After-index_mut in
-    given_kept _ _ c.self.invariant c.args.to c.index_mut.result.now (to_in d) (n_is d) (rw (← c.self.view_is) at c.requires.more)
+    given_kept _ _ _ c.self.invariant c.args.to c.index_mut.result.now (to_in d) (n_is d) (rw (← c.self.view_is) at c.requires.more)
 
 pub returns-clause-sound : goal.returns-clause-sound
 returns-clause-sound c =
     let d = (goal.at.returns-clause-sound c).After-index_mut in
-    given_sound _ _ c.self.invariant c.args.to c.index_mut.result.now (to_in d) (n_is d) (rw (← c.self.view_is) at c.requires.more)
+    given_sound _ _ _ c.self.invariant c.args.to c.index_mut.result.now (to_in d) (n_is d) (rw (← c.self.view_is) at c.requires.more)

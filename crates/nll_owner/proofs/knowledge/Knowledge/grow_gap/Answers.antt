@@ -11,21 +11,21 @@ pub invariant_of-self-2 : goal.invariant_of-self-2
 invariant_of-self-2 c =
     let d = (goal.at.invariant_of-self-2 c).After-push_growths in
     rw (log_is d)
-    (run_kept _ _ c.insert_run.new.self c.self.invariant c.args.region c.args.gap (rw (← c.self.view_is) at c.requires.own) c.requires.proper (rw (← c.self.view_is) at c.requires.elements) (rw (← c.self.view_is) at c.requires.called) (rw (← c.self.view_is) at c.requires.lacks)
+    (run_kept _ _ _ c.insert_run.new.self c.self.invariant c.args.region c.args.slot (rw (← c.self.view_is) at c.requires.slot) c.args.gap (rw (← c.self.view_is) at c.requires.own) c.requires.proper (rw (← c.self.view_is) at c.requires.elements) (rw (← c.self.view_is) at c.requires.called) (rw (← c.self.view_is) at c.requires.lacks)
     c.in_ok-insert_run.ensures.gains c.in_ok-insert_run.ensures.covers c.in_ok-insert_run.ensures.fewer)
 
 pub returns-clause-grows : goal.returns-clause-grows
 returns-clause-grows c =
     let d = (goal.at.returns-clause-grows c).After-push_growths in
     rw (← c.self.view_is, log_is d)
-    (run_grows _ _ c.insert_run.new.self c.self.invariant c.args.region c.args.gap (rw (← c.self.view_is) at c.requires.own) c.requires.proper (rw (← c.self.view_is) at c.requires.elements) (rw (← c.self.view_is) at c.requires.called) (rw (← c.self.view_is) at c.requires.lacks)
+    (run_grows _ _ _ c.insert_run.new.self c.self.invariant c.args.region c.args.slot (rw (← c.self.view_is) at c.requires.slot) c.args.gap (rw (← c.self.view_is) at c.requires.own) c.requires.proper (rw (← c.self.view_is) at c.requires.elements) (rw (← c.self.view_is) at c.requires.called) (rw (← c.self.view_is) at c.requires.lacks)
     c.in_ok-insert_run.ensures.gains c.in_ok-insert_run.ensures.covers c.in_ok-insert_run.ensures.fewer)
 
 pub returns-clause-covers : goal.returns-clause-covers
 returns-clause-covers c =
     let d = (goal.at.returns-clause-covers c).After-push_growths in
     rw (log_is d)
-    (run_has _ _ c.insert_run.new.self c.self.invariant c.args.region c.args.gap (rw (← c.self.view_is) at c.requires.own) c.requires.proper (rw (← c.self.view_is) at c.requires.elements) (rw (← c.self.view_is) at c.requires.called) (rw (← c.self.view_is) at c.requires.lacks)
+    (run_has _ _ _ c.insert_run.new.self c.self.invariant c.args.region c.args.slot (rw (← c.self.view_is) at c.requires.slot) c.args.gap (rw (← c.self.view_is) at c.requires.own) c.requires.proper (rw (← c.self.view_is) at c.requires.elements) (rw (← c.self.view_is) at c.requires.called) (rw (← c.self.view_is) at c.requires.lacks)
     c.in_ok-insert_run.ensures.gains c.in_ok-insert_run.ensures.covers c.in_ok-insert_run.ensures.fewer)
 
 pub overflow_add-count : goal.overflow_add-count

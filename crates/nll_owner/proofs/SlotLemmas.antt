@@ -1,0 +1,150 @@
+-- The slots of the regions that an owner holds.
+use Rattle.std.proofs.Common.{◌≡◌, ℕ, zero, suc, ◌+◌, ◌<◌, ◌≤◌, Bool, true, false, cond, ◌||◌, List, [], ◌∷◌, ◌++◌, length, get_or, AllPairs, Contains, ltb, refl, sym, ap, ◌∙◌, subst, ⊎_elim, arith}
+use Rattle.std.specs.Prelude.{Option, Some, None, IfNone, IsSome}
+use Rattle.std.specs.List.{filter, range_with_len}
+use Rattle.std.proofs.lemmas.Bool.{cases_eq, cases_lt, eq-eqb, ltb-true, ltb-false}
+use Rattle.std.specs.List.Sorted.{IsNonDecreasingBy, IsPartitionPoint}
+use Rattle.nll_problem.proofs.IndexLemmas.{keys_rise}
+use Rattle.std.proofs.lemmas.List.{get_or_default}
+use Rattle.std.proofs.lemmas.List.Elements.{filter-append}
+use Rattle.std.proofs.lemmas.List.FromFn.{length-range_with_len, get_or-range_with_len}
+use Rattle.nll_core.specs.Growing.{Gains}
+use Rattle.nll_cut.specs.Partition.{Cut, owner_of, reads}
+use Rattle.nll_owner.specs.Owner.{Owner, Has, IsSound, received_from}
+use Rattle.nll_owner.specs.Keeping.{holds_region, held_below, held_regions, IsSlot, AreSlotted}
+use Rattle.nll_owner.proofs.LogLemmas.{filter_from, filter_to, list_other}
+
+-- ---- numbers that follow each other
+
+range_within : (a n x : ℕ) → Contains (range_with_len a n) x → (a ≤ x) × (x < a + n)
+range_within a n x h =
+    let low : h.0 < n = (let l = h.1 in omega (arith, l, length-range_with_len a n)) in
+    let is : x ≡ a + h.0 = sym h.2 ∙ get_or-range_with_len a n h.0 x low in
+    (omega (arith, is), omega (arith, is, low))
+
+range_has : (n x : ℕ) → x < n → Contains (range_with_len 0 n) x
+range_has n x low = (x, omega (arith, low, length-range_with_len 0 n), omega (arith, get_or-range_with_len 0 n x x low))
+
+range_push : (a n : ℕ) → range_with_len a (suc n) ≡ range_with_len a n ++ (a + n) ∷ []
+range_push a zero = let on : a ≡ a + 0 = omega arith in ap (λ x. x ∷ []) on
+range_push a (suc n) = let on : a + 1 + n ≡ a + suc n = omega arith in ap (λ xs. a ∷ xs) (range_push (a + 1) n) ∙ ap (λ x. a ∷ (range_with_len (a + 1) n ++ x ∷ [])) on
+
+-- ---- those of them that pass a test
+
+pub filter_alike : (p q : ℕ → Bool) (xs : List ℕ) → ((x : ℕ) → p x ≡ q x) → filter p xs ≡ filter q xs
+filter_alike p q [] same = refl
+filter_alike p q (x ∷ xs) same = ap (λ b. cond b (x ∷ filter p xs) (filter p xs)) (same x) ∙ ap (λ ys. cond (q x) (x ∷ ys) ys) (filter_alike p q xs same)
+
+pub held_more : (n : ℕ) (c : Cut) (i : ℕ) (reading : ℕ → Bool) → held_below (n + 1) c i reading ≡ held_below n c i reading ++ cond (holds_region c i reading n) (n ∷ []) []
+held_more n c i reading =
+    let on : n + 1 ≡ suc n = omega arith in
+    let at : 0 + n ≡ n = omega arith in
+    ap (λ m. held_below m c i reading) on ∙ (ap (filter (holds_region c i reading)) (range_push 0 n ∙ ap (λ x. range_with_len 0 n ++ x ∷ []) at) ∙ filter-append (holds_region c i reading) (range_with_len 0 n) (n ∷ []))
+
+ascends_cons : (x : ℕ) (xs : List ℕ) → ((y : ℕ) → Contains xs y → x < y) → AllPairs {X = ℕ} (λ r s. r < s) xs → (j k d : ℕ) → j < k → k < length (x ∷ xs) → get_or (x ∷ xs) j d < get_or (x ∷ xs) k d
+ascends_cons x xs low up j zero d l m = absurd (omega (arith, l))
+ascends_cons x xs low up zero (suc k) d l m = low (get_or xs k d) (k, omega (arith, m), get_or_default xs k (get_or xs k d) d (omega (arith, m)))
+ascends_cons x xs low up (suc j) (suc k) d l m = up j k d (omega (arith, l)) (omega (arith, m))
+
+filter_ascends : (p : ℕ → Bool) (a n : ℕ) → AllPairs {X = ℕ} (λ r s. r < s) (filter p (range_with_len a n))
+filter_ascends p a zero = λ j k d l m. absurd (omega (arith, m))
+filter_ascends p a (suc n) = go (p a) (filter_ascends p (a + 1) n)
+  where
+    rest : List ℕ
+    rest = filter p (range_with_len (a + 1) n)
+
+    go : (b : Bool) → AllPairs {X = ℕ} (λ r s. r < s) rest → AllPairs {X = ℕ} (λ r s. r < s) (cond b (a ∷ rest) rest)
+    go true up = ascends_cons a rest (λ y h. (let w = (range_within (a + 1) n y (filter_from p (range_with_len (a + 1) n) y h).0).0 in omega (arith, w))) up
+    go false up = up
+
+pub held_ascends : (n : ℕ) (c : Cut) (i : ℕ) (reading : ℕ → Bool) → AllPairs {X = ℕ} (λ r s. r < s) (held_below n c i reading)
+held_ascends n c i reading = filter_ascends (holds_region c i reading) 0 n
+
+filter_short : (p : ℕ → Bool) (xs : List ℕ) → length (filter p xs) ≤ length xs
+filter_short p [] = omega arith
+filter_short p (x ∷ xs) = go (p x) (filter_short p xs)
+  where
+    go : (b : Bool) → length (filter p xs) ≤ length xs → length (cond b (x ∷ filter p xs) (filter p xs)) ≤ suc (length xs)
+    go true h = omega (arith, h)
+    go false h = omega (arith, h)
+
+pub held_short : (n : ℕ) (c : Cut) (i : ℕ) (reading : ℕ → Bool) → length (held_below n c i reading) ≤ n
+held_short n c i reading = omega (arith, filter_short (holds_region c i reading) (range_with_len 0 n), length-range_with_len 0 n)
+
+-- ---- slots
+
+-- a slot is of one region
+pub slot_same : (o : Owner) (s r q : ℕ) → IsSlot o s r → IsSlot o s q → r ≡ q
+slot_same o s r q a b = sym a.1 ∙ (get_or_default (held_regions o) s r q a.0 ∙ b.1)
+
+-- and a region has one slot
+pub slots_apart : (o : Owner) (s t r : ℕ) → IsSlot o s r → IsSlot o t r → s ≡ t
+slots_apart o s t r a b = ⊎_elim
+    (λ same. same)
+    (λ other. absurd (⊎_elim
+    (λ below. let l = held_ascends o.problem.regions o.cut o.me (reads o.problem o.cut o.me) s t r below b.0 in omega (arith, l, a.1, b.1))
+    (λ above.
+    let l = held_ascends o.problem.regions o.cut o.me (reads o.problem o.cut o.me) t s r (omega (arith, above, other)) a.0 in
+    omega (arith, l, a.1, b.1))
+    (cases_lt s t)))
+    (cases_eq s t)
+
+-- each region that is held has one
+pub slot_of : (o : Owner) (r : ℕ) → r < o.problem.regions → holds_region o.cut o.me (reads o.problem o.cut o.me) r ≡ true → (s : ℕ) × IsSlot o s r
+slot_of o r low holds =
+    let h = filter_to (holds_region o.cut o.me (reads o.problem o.cut o.me)) (range_with_len 0 o.problem.regions) r (range_has o.problem.regions r low) holds in
+    (h.0, (h.1, h.2))
+
+pub slot_region : (o : Owner) (s r : ℕ) → IsSlot o s r → r < o.problem.regions
+slot_region o s r h = let w = (range_within 0 o.problem.regions r (filter_from (holds_region o.cut o.me (reads o.problem o.cut o.me)) (range_with_len 0 o.problem.regions) r (s, h.0, h.1)).0).1 in omega (arith, w)
+
+-- a region that stands in the list is found
+pub find_some : (slots : List ℕ) (r : ℕ) (found : Option ℕ) → IfNone found (Contains slots r → ⊥) → Contains slots r → IsSome found
+find_some slots r (Some s) none h = refl
+find_some slots r None none h = absurd (none h)
+
+or_left : (a b : Bool) → a ≡ true → (a || b) ≡ true
+or_left a b h = ap (λ x. x || b) h
+
+or_right : (a b : Bool) → b ≡ true → (a || b) ≡ true
+or_right true b h = refl
+or_right false b h = h
+
+pub own_held : (o : Owner) (r : ℕ) → owner_of o.cut r ≡ o.me → holds_region o.cut o.me (reads o.problem o.cut o.me) r ≡ true
+own_held o r own = or_left _ (reads o.problem o.cut o.me r) (eq-eqb _ _ own)
+
+pub read_held : (o : Owner) (r : ℕ) → reads o.problem o.cut o.me r ≡ true → holds_region o.cut o.me (reads o.problem o.cut o.me) r ≡ true
+read_held o r reading = or_right _ _ reading
+
+-- what the owner has is of regions that it holds
+pub has_held : (o : Owner) → IsSound o → (r e : ℕ) → Has o r e → holds_region o.cut o.me (reads o.problem o.cut o.me) r ≡ true
+has_held o sound r e h = ⊎_elim
+    (λ own. own_held o r own)
+    (λ other.
+    let heard = sound.heard (owner_of o.cut r) h.0 (subst (λ xs. Contains xs h.0) (list_other o.cut o.me o.log (received_from o) r other) h.1) in
+    read_held o r (subst (λ x. reads o.problem o.cut o.me x ≡ true) h.2 heard.1))
+    (cases_eq (owner_of o.cut r) o.me)
+
+pub slotted_gains : (o : Owner) (kind : ℕ → ℕ → Type 0) (old new : List (List Bool)) → AreSlotted o old → Gains kind old new → AreSlotted o new
+slotted_gains o kind old new w g = record { slots = g.width ∙ w.slots; elements = λ s low. g.widths s ∙ w.elements s low }
+
+-- ---- a search
+
+module _ (xs : List ℕ) (r at : ℕ) (up : AllPairs {X = ℕ} (λ r s. r < s) xs) (parted : IsPartitionPoint (λ x. ltb x r ≡ true) (λ x. ltb x r ≡ false) xs at) where
+  -- where a list has the region, it stands at the place that the search tells
+  pub found_at : Contains xs r → (at < length xs) × (get_or xs at r ≡ r)
+  found_at h =
+      let from : at ≤ h.0 = ⊎_elim (λ early. absurd (let l = ltb-true _ r (parted.0 h.0 r (omega arith) early) in omega (arith, l, h.2))) (λ le. le) (cases_lt h.0 at) in
+      let within : at < length xs = (let l = h.1 in omega (arith, l, from)) in (
+        within,
+        ⊎_elim
+            (λ (same : at ≡ h.0). ap (λ i. get_or xs i r) same ∙ h.2)
+            (λ other. absurd (
+            let less = up at h.0 r (omega (arith, from, other)) h.1 in
+            let high = ltb-false _ r (parted.1 at r (omega arith) within) in
+            omega (arith, less, high, h.2)))
+            (cases_eq at h.0),
+      )
+
+pub numbers_rise : (xs : List ℕ) → AllPairs {X = ℕ} (λ r s. r < s) xs → IsNonDecreasingBy (λ (x : ℕ). x) xs
+numbers_rise xs up = keys_rise (λ (x : ℕ). x) (λ x y. x < y) (λ x y h. omega (arith, h)) xs up

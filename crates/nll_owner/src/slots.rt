@@ -1,0 +1,98 @@
+//! The regions that an owner holds.
+
+ghost use Rattle.std.specs.Prelude.{◌≡◌, ◌<◌, ◌≤◌, ℕ, Bool, Contains, length, IfOk, IfSome, IfNone};
+ghost use Rattle.nll_problem.specs.Limits.{most_regions};
+ghost use Rattle.nll_cut.specs.Readers.{is_read};
+ghost use Rattle.nll_owner.specs.Keeping.{held_below, holds_region, IsSlotIn};
+
+use nll_cut::{Cut, Readers};
+use nll_problem::RegionId;
+use nll_sets::Memory;
+use std::alloc::Global;
+use std::marker::Model;
+
+/// The slot of a region: its number among those that an owner holds.
+pub type Slot = RegionId;
+
+/// The regions that an owner holds: its own ones and those that it reads, ascending.
+#[derive(Drop)]
+pub struct Slots {
+    regions: Vec<u32>,
+}
+
+impl Model for Slots {
+    ghost use Rattle.std.specs.Prelude.{◌<◌, ◌≤◌, ℕ, List, AllPairs, length};
+    ghost use Rattle.nll_problem.specs.Limits.{most_regions};
+
+    ghost Value = { List ℕ };
+
+    ghost view = { λ slots. slots.regions.items };
+
+    ghost invariant = { λ slots. AllPairs {X = ℕ} (λ r s. r < s) slots.regions.items
+        × (length slots.regions.items ≤ most_regions) };
+}
+
+impl Slots {
+    /// Those of an owner of a cut.
+    ///
+    /// # Cost
+    /// A look at each region (not proved).
+    pub fn of(
+        alloc: Global,
+        cut: &Cut,
+        readers: &Readers,
+        me: u16,
+        regions: u32,
+    ) -> Result<Slots, Memory>
+        requires regions { length cut.now.list ≡ regions }
+        requires few { regions ≤ most_regions }
+        ensures { IfOk result (λ slots.
+            slots ≡ held_below regions cut.now me (λ r. is_read readers.now me r)) }
+    {
+        let mut held = Vec::new(alloc);
+        for number in 0..regions {
+            if holds(cut, readers, me, RegionId(number)) {
+                held.push(number)?;
+            }
+        }
+        Ok(Slots { regions: held })
+    }
+
+    /// How many there are.
+    pub fn len(&self) -> u32
+        ensures { result ≡ length self.now }
+    {
+        self.regions.len() as u32
+    }
+
+    /// The region that has a slot.
+    pub fn region(&self, slot: u32) -> RegionId
+        requires { slot < length self.now }
+        ensures { IsSlotIn self.now slot result }
+    {
+        RegionId(self.regions[slot as usize])
+    }
+
+    /// The slot of a region, if it has one.
+    ///
+    /// # Cost
+    /// Logarithmic in the number of regions that are held (not proved).
+    pub fn find(&self, region: RegionId) -> Option<Slot>
+        ensures some { IfSome result (λ slot. IsSlotIn self.now slot region) }
+        ensures none { IfNone result (Contains self.now region → ⊥) }
+    {
+        let at = self.regions.partition_point(|held| *held < region.0);
+        if at < self.regions.len() && self.regions[at] == region.0 {
+            return Some(RegionId(at as u32));
+        }
+        None
+    }
+}
+
+// Whether an owner holds a region.
+fn holds(cut: &Cut, readers: &Readers, me: u16, region: RegionId) -> bool
+    requires { region < length cut.now.list }
+    ensures { result ≡ holds_region cut.now me (λ r. is_read readers.now me r) region }
+{
+    cut.owner_of(region) == me || readers.reads(me, region)
+}
