@@ -1,5 +1,5 @@
 -- Owners and the mailboxes between them: what they say once they are settled.
-use Rattle.std.proofs.Common.{◌≡◌, ◌≢◌, ◌⊎◌, inl, inr, ℕ, zero, suc, ◌+◌, ◌<◌, ◌≤◌, Bool, true, List, [], ◌∷◌, length, map, set, replicate, take, get_or, slice_get, Some, Contains, AllPairs, refl, sym, ap, ◌∙◌, subst, ⊎_elim, arith}
+use Rattle.std.proofs.Common.{◌≡◌, ◌≢◌, ◌⊎◌, inl, inr, ℕ, zero, suc, ◌<◌, ◌≤◌, Bool, true, List, [], ◌∷◌, length, map, set, replicate, take, get_or, slice_get, Some, Contains, AllPairs, refl, sym, ap, ◌∙◌, subst, ⊎_elim, arith}
 use Rattle.std.proofs.lemmas.Bool.{cases_eq, cases_lt, false≢true}
 use Rattle.std.proofs.lemmas.List.{get_or-map, get_or-set_same, get_or-set_other, get_or-replicate, get_or_default, get_or_past, length-map, length-replicate, length-set}
 use Rattle.std.proofs.Math.Seq.{map-set_same}
@@ -17,18 +17,18 @@ use Rattle.nll_owner.proofs.LawLemmas.{least_exact}
 use Rattle.nll_owner.proofs.OwnerLemmas.{get_at, first_sound}
 use Rattle.nll_driver.proofs.PairLemmas.{pair_is}
 use Rattle.nll_driver.proofs.PostingLemmas.{take_all}
-use Rattle.nll_driver.specs.Network.{GivesAll, Hears, IsPair, IsOwner, AreOwners, AreAllPairs, IsCarried, InStep, AreGiven, AreLoaded, AreDelivered, SayLeast, SaysOf, SayOfAll, logs_of}
+use Rattle.nll_driver.specs.Network.{Channel, GivesAll, Hears, IsPair, IsOwner, AreOwners, AreAllPairs, IsCarried, AreInStep, AreGiven, AreLoaded, AreDelivered, SayLeast, SaysOf, SayOfAll, ends_of, logs_of}
 
 -- ---- lists of what a function gives
 
-contains_mapped : {X Y : Type 0} (f : X → Y) (xs : List X) (y : Y) → Contains (map f xs) y → (x : X) × Contains xs x × (f x ≡ y)
+pub contains_mapped : {X Y : Type 0} (f : X → Y) (xs : List X) (y : Y) → Contains (map f xs) y → (x : X) × Contains xs x × (f x ≡ y)
 contains_mapped f [] y h = absurd (let l = h.1 in omega arith)
 contains_mapped f (x ∷ xs) y h = ⊎_elim
     (λ (is : f x ≡ y). (x, contains_head x xs, is))
     (λ (w : Contains (map f xs) y). let r = contains_mapped f xs y w in (r.0, contains_tail x xs r.0 r.1, r.2))
     (contains_cases (f x) (map f xs) y h)
 
-contains_map : {X Y : Type 0} (f : X → Y) (xs : List X) (x : X) → Contains xs x → Contains (map f xs) (f x)
+pub contains_map : {X Y : Type 0} (f : X → Y) (xs : List X) (x : X) → Contains xs x → Contains (map f xs) (f x)
 contains_map f [] x h = absurd (let l = h.1 in omega arith)
 contains_map f (z ∷ xs) x h = ⊎_elim
     (λ (same : z ≡ x). subst (λ y. Contains (f z ∷ map f xs) (f y)) same (contains_head (f z) (map f xs)))
@@ -52,7 +52,7 @@ set_cases (x ∷ xs) (suc i) (suc j) y z h = ⊎_elim
     (set_cases xs i j y z h)
 
 -- at the place itself stands what was put there
-set_there : {X : Type 0} (xs : List X) (i : ℕ) (y z : X) → i < length xs → slice_get (set xs i y) i ≡ Some z → z ≡ y
+pub set_there : {X : Type 0} (xs : List X) (i : ℕ) (y z : X) → i < length xs → slice_get (set xs i y) i ≡ Some z → z ≡ y
 set_there [] i y z l h = absurd (omega arith)
 set_there (x ∷ xs) zero y z l h = sym (cc h)
 set_there (x ∷ xs) (suc i) y z l h = set_there xs i y z (omega arith) h
@@ -65,14 +65,14 @@ in_set xs k y within z h = ⊎_elim
     (cases_eq h.0 k)
 
 -- two places of a list in which nothing is twice hold different things
-differ_at : {X : Type 0} (xs : List X) (j k : ℕ) (x y : X) → AllPairs (λ a b. a ≢ b) xs → j ≢ k → j < length xs → k < length xs → get_or xs j x ≡ x → get_or xs k y ≡ y → x ≢ y
+pub differ_at : {X : Type 0} (xs : List X) (j k : ℕ) (x y : X) → AllPairs (λ a b. a ≢ b) xs → j ≢ k → j < length xs → k < length xs → get_or xs j x ≡ x → get_or xs k y ≡ y → x ≢ y
 differ_at xs j k x y once other lj lk is_x is_y same = ⊎_elim
     (λ (less : j < k). once j k x less lk (is_x ∙ (same ∙ sym (get_or_default xs k x y lk ∙ is_y))))
     (λ (more : k ≤ j). once k j x (omega (arith, more, other)) lj (get_or_default xs k x y lk ∙ (is_y ∙ (sym same ∙ sym is_x))))
     (cases_lt j k)
 
-module _ {C : Type 0} (tied : C → Type 0) (ends : C → ℕ × ℕ) (sent received : C → List Growth) (q : Problem) (c : Cut) (owners : List Owner) (channels : List C)
-    (s : InStep tied ends sent received q c owners channels) (i : ℕ) (o n : Owner) (at_i : slice_get owners i ≡ Some o) (is_owner : IsOwner q c i n) where
+module _ (q : Problem) (c : Cut) (owners : List Owner) (channels : List Channel)
+    (s : AreInStep q c owners channels) (i : ℕ) (o n : Owner) (at_i : slice_get owners i ≡ Some o) (is_owner : IsOwner q c i n) where
   are_owners_then : AreOwners q c (set owners i n)
   are_owners_then = record {
     count = length-set owners i n ∙ s.are_owners.count;
@@ -83,53 +83,49 @@ module _ {C : Type 0} (tied : C → Type 0) (ends : C → ℕ × ℕ) (sent rece
   }
 
   -- a channel of the list that isn't between the changed ends carries what it carried
-  module _ (x : C) (pair : ℕ × ℕ) (gives : i ≡ pair.0 → (j : ℕ) → j ≢ pair.1 → take (given_to n j) (part_for n j) ≡ take (given_to o j) (part_for o j))
+  module _ (x : Channel) (pair : ℕ × ℕ) (gives : i ≡ pair.0 → (j : ℕ) → j ≢ pair.1 → take (given_to n j) (part_for n j) ≡ take (given_to o j) (part_for o j))
       (gives_not : i ≢ pair.0 → (j : ℕ) → take (given_to n j) (part_for n j) ≡ take (given_to o j) (part_for o j))
       (hears : i ≡ pair.1 → (j : ℕ) → j ≢ pair.0 → received_from n j ≡ received_from o j)
       (hears_not : i ≢ pair.1 → (j : ℕ) → received_from n j ≡ received_from o j) where
-    carried_other : (z : C) → Contains channels z → ends z ≢ pair → IsCarried (set owners i n) (ends z) (sent z) (received z)
+    carried_other : (z : Channel) → Contains channels z → ends_of z ≢ pair → IsCarried (set owners i n) (ends_of z) z.sent z.received
     carried_other z h other = record {
       given_out = λ p at. ⊎_elim
-          (λ (t : ((ends z).0 ≡ i) × (p ≡ n)).
+          (λ (t : (z.from ≡ i) × (p ≡ n)).
           let before = (s.are_carried z h).given_out o (subst (λ j. slice_get owners j ≡ Some o) (sym t.0) at_i) in
-          subst (λ y. sent z ≡ take (given_to y (ends z).1) (part_for y (ends z).1)) (sym t.1) (before ∙ sym (⊎_elim
-          (λ (first : i ≡ pair.0). gives first (ends z).1 (λ last. other (pair_is (ends z) pair (t.0 ∙ first) last)))
-          (λ not_first. gives_not not_first (ends z).1)
+          subst (λ y. z.sent ≡ take (given_to y z.to) (part_for y z.to)) (sym t.1) (before ∙ sym (⊎_elim
+          (λ (first : i ≡ pair.0). gives first z.to (λ last. other (pair_is (ends_of z) pair (t.0 ∙ first) last)))
+          (λ not_first. gives_not not_first z.to)
           (cases_eq i pair.0))))
-          (λ (t : slice_get owners (ends z).0 ≡ Some p). (s.are_carried z h).given_out p t)
-          (set_cases owners i (ends z).0 n p at);
+          (λ (t : slice_get owners z.from ≡ Some p). (s.are_carried z h).given_out p t)
+          (set_cases owners i z.from n p at);
       taken = λ p at. ⊎_elim
-          (λ (t : ((ends z).1 ≡ i) × (p ≡ n)).
+          (λ (t : (z.to ≡ i) × (p ≡ n)).
           let before = (s.are_carried z h).taken o (subst (λ j. slice_get owners j ≡ Some o) (sym t.0) at_i) in
-          subst (λ y. received z ≡ received_from y (ends z).0) (sym t.1) (before ∙ sym (⊎_elim
-          (λ (last : i ≡ pair.1). hears last (ends z).0 (λ first. other (pair_is (ends z) pair first (t.0 ∙ last))))
-          (λ not_last. hears_not not_last (ends z).0)
+          subst (λ y. z.received ≡ received_from y z.from) (sym t.1) (before ∙ sym (⊎_elim
+          (λ (last : i ≡ pair.1). hears last z.from (λ first. other (pair_is (ends_of z) pair first (t.0 ∙ last))))
+          (λ not_last. hears_not not_last z.from)
           (cases_eq i pair.1))))
-          (λ (t : slice_get owners (ends z).1 ≡ Some p). (s.are_carried z h).taken p t)
-          (set_cases owners i (ends z).1 n p at);
+          (λ (t : slice_get owners z.to ≡ Some p). (s.are_carried z h).taken p t)
+          (set_cases owners i z.to n p at);
     }
 
     -- the channel at the place is another end of the same mailbox, and carries what the owners say
-    pub in_step_then : (k : ℕ) (y : C) → k < length channels → get_or channels k x ≡ x → ends x ≡ pair → ends y ≡ pair → tied y → IsCarried (set owners i n) pair (sent y) (received y)
-        → InStep tied ends sent received q c (set owners i n) (set channels k y)
-    in_step_then k y within is_x ends_x ends_y tied_y carried = record {
+    pub in_step_then : (k : ℕ) (y : Channel) → k < length channels → get_or channels k x ≡ x → ends_of x ≡ pair → ends_of y ≡ pair → IsCarried (set owners i n) pair y.sent y.received
+        → AreInStep q c (set owners i n) (set channels k y)
+    in_step_then k y within is_x ends_x ends_y carried = record {
       problem = s.problem;
       cut = s.cut;
       are_owners = are_owners_then;
-      all_pairs = subst (AreAllPairs c.owners) (sym (map-set_same ends channels k y x (ends_y ∙ (sym ends_x ∙ ap ends (sym is_x))))) s.all_pairs;
-      are_tied = λ z h. ⊎_elim
-          (λ (same : z ≡ y). subst tied (sym same) tied_y)
-          (λ (before : Contains channels z). s.are_tied z before)
-          (in_set channels k y within z h);
+      all_pairs = subst (AreAllPairs c.owners) (sym (map-set_same ends_of channels k y x (ends_y ∙ (sym ends_x ∙ ap ends_of (sym is_x))))) s.all_pairs;
       are_carried = λ z h. ⊎_elim
           (λ (here : h.0 ≡ k).
           let same : z ≡ y = sym h.2 ∙ (ap (λ j. get_or (set channels k y) j z) here ∙ get_or-set_same channels k y z within) in
-          subst (λ w. IsCarried (set owners i n) (ends w) (sent w) (received w)) (sym same) (subst (λ e. IsCarried (set owners i n) e (sent y) (received y)) (sym ends_y) carried))
+          subst (λ w. IsCarried (set owners i n) (ends_of w) w.sent w.received) (sym same) (subst (λ e. IsCarried (set owners i n) e y.sent y.received) (sym ends_y) carried))
           (λ elsewhere.
           let low : h.0 < length channels = (let l = h.1 in omega (arith, l, length-set channels k y)) in
           let is_z : get_or channels h.0 z ≡ z = sym (get_or-set_other channels k h.0 y z elsewhere) ∙ h.2 in
-          carried_other z (h.0, low, is_z) (λ same. differ_at (map ends channels) h.0 k (ends z) (ends x) s.all_pairs.once elsewhere (omega (arith, low, length-map channels ends)) (omega (arith, within, length-map channels ends))
-          (get_or-map ends channels h.0 z (ends z) low ∙ ap ends is_z) (get_or-map ends channels k x (ends x) within ∙ ap ends is_x) (same ∙ sym ends_x)))
+          carried_other z (h.0, low, is_z) (λ same. differ_at (map ends_of channels) h.0 k (ends_of z) (ends_of x) s.all_pairs.once elsewhere (omega (arith, low, length-map channels ends_of)) (omega (arith, within, length-map channels ends_of))
+          (get_or-map ends_of channels h.0 z (ends_of z) low ∙ ap ends_of is_z) (get_or-map ends_of channels k x (ends_of x) within ∙ ap ends_of is_x) (same ∙ sym ends_x)))
           (cases_eq h.0 k);
     }
 
@@ -179,51 +175,51 @@ module _ (q : Problem) (c : Cut) (i : ℕ) (o n : Owner) (w : IsOwner q c i o) (
   }
 
 -- what stands at a place of the owners and of the channels
-module _ {C : Type 0} (tied : C → Type 0) (ends : C → ℕ × ℕ) (sent received : C → List Growth) (q : Problem) (c : Cut) (owners : List Owner) (channels : List C)
-    (s : InStep tied ends sent received q c owners channels) where
+module _ (q : Problem) (c : Cut) (owners : List Owner) (channels : List Channel)
+    (s : AreInStep q c owners channels) where
   pub owner_is : (i : ℕ) (d : Owner) → i < length owners → IsOwner q c i (get_or owners i d)
   owner_is i d within = s.are_owners.each i (get_or owners i d) (slice_get-get_or owners i d within)
 
-  module _ (k : ℕ) (d : C) (within : k < length channels) where
+  module _ (k : ℕ) (d : Channel) (within : k < length channels) where
     pub channel_in : Contains channels (get_or channels k d)
     channel_in = (k, within, get_or_again channels k d within)
 
-    pub pair_at : IsPair c.owners (ends (get_or channels k d))
-    pair_at = (s.all_pairs.each (ends (get_or channels k d))).0 (contains_map ends channels (get_or channels k d) channel_in)
+    pub pair_at : IsPair c.owners (ends_of (get_or channels k d))
+    pair_at = (s.all_pairs.each (ends_of (get_or channels k d))).0 (contains_map ends_of channels (get_or channels k d) channel_in)
 
     -- the owners of its ends are there
-    pub first_within : (ends (get_or channels k d)).0 < length owners
+    pub first_within : (ends_of (get_or channels k d)).0 < length owners
     first_within = let l = pair_at.0 in omega (arith, l, s.are_owners.count)
 
-    pub last_within : (ends (get_or channels k d)).1 < length owners
+    pub last_within : (ends_of (get_or channels k d)).1 < length owners
     last_within = let l = pair_at.1 in omega (arith, l, s.are_owners.count)
 
-module _ {C : Type 0} (tied : C → Type 0) (ends : C → ℕ × ℕ) (sent received : C → List Growth) (q : Problem) (c : Cut) (owners : List Owner) (channels : List C)
-    (s : InStep tied ends sent received q c owners channels) (o n : Owner) (k : ℕ) (x y : C) (within : k < length channels) (is_x : get_or channels k x ≡ x)
-    (same_ends : ends y ≡ ends x) (tied_y : tied x → tied y) (sound : IsSound n) where
+module _ (q : Problem) (c : Cut) (owners : List Owner) (channels : List Channel)
+    (s : AreInStep q c owners channels) (o n : Owner) (k : ℕ) (x y : Channel) (within : k < length channels) (is_x : get_or channels k x ≡ x)
+    (same_ends : ends_of y ≡ ends_of x) (sound : IsSound n) where
   in_channels : Contains channels x
   in_channels = (k, within, is_x)
 
-  is_pair : IsPair c.owners (ends x)
-  is_pair = (s.all_pairs.each (ends x)).0 (contains_map ends channels x in_channels)
+  is_pair : IsPair c.owners (ends_of x)
+  is_pair = (s.all_pairs.each (ends_of x)).0 (contains_map ends_of channels x in_channels)
 
   -- the owner of the one end gave out all that it had for the other, and it was posted
-  pub given_step : slice_get owners (ends x).0 ≡ Some o → GivesAll (ends x).1 o n → sent y ≡ part_for o (ends x).1 → received y ≡ received x
-      → InStep tied ends sent received q c (set owners (ends x).0 n) (set channels k y)
+  pub given_step : slice_get owners x.from ≡ Some o → GivesAll x.to o n → y.sent ≡ part_for o x.to → y.received ≡ x.received
+      → AreInStep q c (set owners x.from n) (set channels k y)
   given_step at g posted heard =
-      in_step_then tied ends sent received q c owners channels s (ends x).0 o n at (owner_given q c (ends x).0 o n (s.are_owners.each (ends x).0 o at) sound (ends x).1 g) x (ends x)
+      in_step_then q c owners channels s x.from o n at (owner_given q c x.from o n (s.are_owners.each x.from o at) sound x.to g) x (ends_of x)
       (λ _ j other. ap (λ m. take m (part_for n j)) (g.other_given j other) ∙ ap (λ xs. take (given_to o j) xs) (part_same j))
       (λ not_first. absurd (not_first refl))
       (λ _ j _. received_same j)
       (λ _ j. received_same j)
-      k y within is_x refl same_ends (tied_y (s.are_tied x in_channels))
+      k y within is_x refl same_ends
       (record {
-        given_out = λ p h. subst (λ z. sent y ≡ take (given_to z (ends x).1) (part_for z (ends x).1)) (sym (set_there owners (ends x).0 n p (slice_get_within owners (ends x).0 o at) h))
-            (posted ∙ sym (ap (λ m. take m (part_for n (ends x).1)) g.given ∙ (ap (λ xs. take (length (part_for o (ends x).1)) xs) (part_same (ends x).1) ∙ take_all (part_for o (ends x).1))));
+        given_out = λ p h. subst (λ z. y.sent ≡ take (given_to z x.to) (part_for z x.to)) (sym (set_there owners x.from n p (slice_get_within owners x.from o at) h))
+            (posted ∙ sym (ap (λ m. take m (part_for n x.to)) g.given ∙ (ap (λ xs. take (length (part_for o x.to)) xs) (part_same x.to) ∙ take_all (part_for o x.to))));
         taken = λ p h. ⊎_elim
-            (λ (t : ((ends x).1 ≡ (ends x).0) × (p ≡ n)). absurd (is_pair.2 (sym t.0)))
-            (λ (t : slice_get owners (ends x).1 ≡ Some p). heard ∙ (s.are_carried x in_channels).taken p t)
-            (set_cases owners (ends x).0 (ends x).1 n p h);
+            (λ (t : (x.to ≡ x.from) × (p ≡ n)). absurd (is_pair.2 (sym t.0)))
+            (λ (t : slice_get owners x.to ≡ Some p). heard ∙ (s.are_carried x in_channels).taken p t)
+            (set_cases owners x.from x.to n p h);
       })
     where
       part_same : (j : ℕ) → part_for n j ≡ part_for o j
@@ -233,81 +229,49 @@ module _ {C : Type 0} (tied : C → Type 0) (ends : C → ℕ × ℕ) (sent rece
       received_same j = ap (λ (z : Owner). received_from z j) g.others
 
   -- the owner of the other end heard what was taken, or nothing was
-  pub heard_step : slice_get owners (ends x).1 ≡ Some o → Hears (ends x).0 (received y) o n → n ≡ record o { log = n.log; received = n.received; clock = n.clock } → (n.loaded ≡ true → IsDone n)
-      → sent y ≡ sent x → InStep tied ends sent received q c (set owners (ends x).1 n) (set channels k y)
+  pub heard_step : slice_get owners x.to ≡ Some o → Hears x.from y.received o n → n ≡ record o { log = n.log; received = n.received; clock = n.clock } → (n.loaded ≡ true → IsDone n)
+      → y.sent ≡ x.sent → AreInStep q c (set owners x.to n) (set channels k y)
   heard_step at h others done same_sent =
-      in_step_then tied ends sent received q c owners channels s (ends x).1 o n at (owner_heard q c (ends x).1 o n (s.are_owners.each (ends x).1 o at) sound others done) x (ends x)
+      in_step_then q c owners channels s x.to o n at (owner_heard q c x.to o n (s.are_owners.each x.to o at) sound others done) x (ends_of x)
       (λ first. absurd (is_pair.2 (sym first)))
       (λ _ j. taken_same j)
       (λ _ j other. h.from_others j other)
       (λ not_last. absurd (not_last refl))
-      k y within is_x refl same_ends (tied_y (s.are_tied x in_channels))
+      k y within is_x refl same_ends
       (record {
         given_out = λ p g. ⊎_elim
-            (λ (t : ((ends x).0 ≡ (ends x).1) × (p ≡ n)). absurd (is_pair.2 t.0))
-            (λ (t : slice_get owners (ends x).0 ≡ Some p). same_sent ∙ (s.are_carried x in_channels).given_out p t)
-            (set_cases owners (ends x).1 (ends x).0 n p g);
-        taken = λ p g. subst (λ z. received y ≡ received_from z (ends x).0) (sym (set_there owners (ends x).1 n p (slice_get_within owners (ends x).1 o at) g)) (sym h.from_it);
+            (λ (t : (x.from ≡ x.to) × (p ≡ n)). absurd (is_pair.2 t.0))
+            (λ (t : slice_get owners x.from ≡ Some p). same_sent ∙ (s.are_carried x in_channels).given_out p t)
+            (set_cases owners x.to x.from n p g);
+        taken = λ p g. subst (λ z. y.received ≡ received_from z x.from) (sym (set_there owners x.to n p (slice_get_within owners x.to o at) g)) (sym h.from_it);
       })
     where
       taken_same : (j : ℕ) → take (given_to n j) (part_for n j) ≡ take (given_to o j) (part_for o j)
       taken_same j =
           ap (λ (xs : List ℕ). take (get_or xs j 0) (part_for n j)) h.given
-          ∙ part_begins o n j (ap (λ (z : Owner). z.problem) others) (ap (λ (z : Owner). z.cut) others) h.begins (given_to o j) ((s.are_owners.each (ends x).1 o at).sound.given j)
-
--- the channel at the place carries all too
-pub given_more : {C : Type 0} (ends : C → ℕ × ℕ) (sent : C → List Growth) (owners : List Owner) (channels : List C) (o n : Owner) (k : ℕ) (x y : C) → k < length channels → ends y ≡ ends x
-    → slice_get owners (ends x).0 ≡ Some o → GivesAll (ends x).1 o n → sent y ≡ part_for o (ends x).1 → AreGiven ends sent owners channels k → AreGiven ends sent (set owners (ends x).0 n) (set channels k y) (k + 1)
-given_more ends sent owners channels o n k x y within same at g posted given j z p low here there = ⊎_elim
-    (λ (is : j ≡ k).
-    let z_is : z ≡ y = set_there channels k y z within (subst (λ m. slice_get (set channels k y) m ≡ Some z) is here) in
-    let ends_is : ends z ≡ ends x = ap ends z_is ∙ same in
-    let p_is : p ≡ n = set_there owners (ends x).0 n p (slice_get_within owners (ends x).0 o at) (subst (λ e. slice_get (set owners (ends x).0 n) e.0 ≡ Some p) ends_is there) in
-    ap sent z_is ∙ (posted ∙ (sym (part_same (ends x).1) ∙ (ap (λ w. part_for w (ends x).1) (sym p_is) ∙ ap (λ (e : ℕ × ℕ). part_for p e.1) (sym ends_is)))))
-    (λ other. ⊎_elim
-    (λ (t : (j ≡ k) × (z ≡ y)). absurd (other t.0))
-    (λ (before : slice_get channels j ≡ Some z).
-    let lower : j < k = omega (arith, low, other) in
-    ⊎_elim
-    (λ (t : ((ends z).0 ≡ (ends x).0) × (p ≡ n)).
-    given j z o lower before (subst (λ i. slice_get owners i ≡ Some o) (sym t.0) at) ∙ (sym (part_same (ends z).1) ∙ ap (λ w. part_for w (ends z).1) (sym t.1)))
-    (λ (old : slice_get owners (ends z).0 ≡ Some p). given j z p lower before old)
-    (set_cases owners (ends x).0 (ends z).0 n p there))
-    (set_cases channels k j y z here))
-    (cases_eq j k)
-  where
-    part_same : (i : ℕ) → part_for n i ≡ part_for o i
-    part_same i = ap (λ (w : Owner). part_for w i) g.others
-
--- the owners were loaded, if they were before
-pub loaded_more : (owners : List Owner) (i to : ℕ) (o n : Owner) → slice_get owners i ≡ Some o → GivesAll to o n → AreLoaded owners → AreLoaded (set owners i n)
-loaded_more owners i to o n at g loaded j p here = ⊎_elim
-    (λ (t : (j ≡ i) × (p ≡ n)). ap (λ (w : Owner). w.loaded) t.1 ∙ (ap (λ (w : Owner). w.loaded) g.others ∙ loaded i o at))
-    (λ (before : slice_get owners j ≡ Some p). loaded j p before)
-    (set_cases owners i j n p here)
+          ∙ part_begins o n j (ap (λ (z : Owner). z.problem) others) (ap (λ (z : Owner). z.cut) others) h.begins (given_to o j) ((s.are_owners.each x.to o at).sound.given j)
 
 -- an owner was loaded
-module _ {C : Type 0} (tied : C → Type 0) (ends : C → ℕ × ℕ) (sent received : C → List Growth) (q : Problem) (c : Cut) (owners : List Owner) (channels : List C)
-    (s : InStep tied ends sent received q c owners channels) (i : ℕ) (o n : Owner) (at : slice_get owners i ≡ Some o) (sound : IsSound n)
+module _ (q : Problem) (c : Cut) (owners : List Owner) (channels : List Channel)
+    (s : AreInStep q c owners channels) (i : ℕ) (o n : Owner) (at : slice_get owners i ≡ Some o) (sound : IsSound n)
     (others : n ≡ record o { log = n.log; clock = n.clock; loaded = true }) (begins : IsPrefix o.log n.log) (done : IsDone n) where
-  pub loaded_step : InStep tied ends sent received q c (set owners i n) channels
+  pub loaded_step : AreInStep q c (set owners i n) channels
   loaded_step = record {
     problem = s.problem;
     cut = s.cut;
-    are_owners = are_owners_then tied ends sent received q c owners channels s i o n at (owner_loaded q c i o n (s.are_owners.each i o at) sound others done);
+    are_owners = are_owners_then q c owners channels s i o n at (owner_loaded q c i o n (s.are_owners.each i o at) sound others done);
     all_pairs = s.all_pairs;
-    are_tied = s.are_tied;
     are_carried = λ z h. record {
       given_out = λ p g. ⊎_elim
-          (λ (t : ((ends z).0 ≡ i) × (p ≡ n)). subst (λ w. sent z ≡ take (given_to w (ends z).1) (part_for w (ends z).1)) (sym t.1)
-          ((s.are_carried z h).given_out o (subst (λ j. slice_get owners j ≡ Some o) (sym t.0) at) ∙ sym (taken_same (ends z).1)))
-          (λ (t : slice_get owners (ends z).0 ≡ Some p). (s.are_carried z h).given_out p t)
-          (set_cases owners i (ends z).0 n p g);
+          (λ (t : (z.from ≡ i) × (p ≡ n)). subst (λ w. z.sent ≡ take (given_to w z.to) (part_for w z.to)) (sym t.1)
+          ((s.are_carried z h).given_out o (subst (λ j. slice_get owners j ≡ Some o) (sym t.0) at) ∙ sym (taken_same z.to)))
+          (λ (t : slice_get owners z.from ≡ Some p). (s.are_carried z h).given_out p t)
+          (set_cases owners i z.from n p g);
       taken = λ p g. ⊎_elim
-          (λ (t : ((ends z).1 ≡ i) × (p ≡ n)). subst (λ w. received z ≡ received_from w (ends z).0) (sym t.1)
-          ((s.are_carried z h).taken o (subst (λ j. slice_get owners j ≡ Some o) (sym t.0) at) ∙ sym (ap (λ (w : Owner). received_from w (ends z).0) others)))
-          (λ (t : slice_get owners (ends z).1 ≡ Some p). (s.are_carried z h).taken p t)
-          (set_cases owners i (ends z).1 n p g);
+          (λ (t : (z.to ≡ i) × (p ≡ n)). subst (λ w. z.received ≡ received_from w z.from) (sym t.1)
+          ((s.are_carried z h).taken o (subst (λ j. slice_get owners j ≡ Some o) (sym t.0) at) ∙ sym (ap (λ (w : Owner). received_from w z.from) others)))
+          (λ (t : slice_get owners z.to ≡ Some p). (s.are_carried z h).taken p t)
+          (set_cases owners i z.to n p g);
     };
   }
     where
@@ -338,10 +302,10 @@ first_is q c i problem cut me = record {
   done = λ loaded. absurd (false≢true loaded);
 }
 
-module _ {C : Type 0} (tied : C → Type 0) (ends : C → ℕ × ℕ) (sent received : C → List Growth) (q : Problem) (c : Cut) (owners : List Owner) (channels : List C) where
-  pub first_in_step : IsSoundProblem q → IsCutOf q c → length owners ≡ c.owners → ((i : ℕ) (o : Owner) → slice_get owners i ≡ Some o → o ≡ first_owner q c i) → AreAllPairs c.owners (map ends channels)
-      → ((x : C) → Contains channels x → tied x) → ((x : C) → Contains channels x → (sent x ≡ []) × (received x ≡ [])) → InStep tied ends sent received q c owners channels
-  first_in_step problem cut count first pairs are_tied new = record {
+module _ (q : Problem) (c : Cut) (owners : List Owner) (channels : List Channel) where
+  pub first_in_step : IsSoundProblem q → IsCutOf q c → length owners ≡ c.owners → ((i : ℕ) (o : Owner) → slice_get owners i ≡ Some o → o ≡ first_owner q c i) → AreAllPairs c.owners (map ends_of channels)
+      → ((x : Channel) → Contains channels x → (x.sent ≡ []) × (x.received ≡ [])) → AreInStep q c owners channels
+  first_in_step problem cut count first pairs new = record {
     problem = problem;
     cut = cut;
     are_owners = record {
@@ -349,17 +313,16 @@ module _ {C : Type 0} (tied : C → Type 0) (ends : C → ℕ × ℕ) (sent rece
       each = λ i o at. subst (IsOwner q c i) (sym (first i o at)) (first_is q c i problem cut (let l = slice_get_within owners i o at in omega (arith, l, count)));
     };
     all_pairs = pairs;
-    are_tied = are_tied;
     are_carried = λ x h. record {
-      given_out = λ o at. (new x h).0 ∙ sym (ap (λ (z : Owner). take (given_to z (ends x).1) (part_for z (ends x).1)) (first (ends x).0 o at) ∙ take_nil (given_to (first_owner q c (ends x).0) (ends x).1) (part_for (first_owner q c (ends x).0) (ends x).1) refl);
-      taken = λ o at. (new x h).1 ∙ sym (ap (λ (z : Owner). received_from z (ends x).0) (first (ends x).1 o at) ∙ no_list c.owners (ends x).0);
+      given_out = λ o at. (new x h).0 ∙ sym (ap (λ (z : Owner). take (given_to z x.to) (part_for z x.to)) (first x.from o at) ∙ take_nil (given_to (first_owner q c x.from) x.to) (part_for (first_owner q c x.from) x.to) refl);
+      taken = λ o at. (new x h).1 ∙ sym (ap (λ (z : Owner). received_from z x.from) (first x.to o at) ∙ no_list c.owners x.from);
     };
   }
 
-module _ {C P : Type 0} (tied : C → Type 0) (ends : C → ℕ × ℕ) (sent received : C → List Growth) (post_ends : P → ℕ × ℕ) (post_sent post_received : P → List Growth)
-    (q : Problem) (c : Cut) (owners : List Owner) (channels : List C) (posts : List P)
-    (s : InStep tied ends sent received q c owners channels) (given : AreGiven ends sent owners channels (length channels)) (loaded : AreLoaded owners)
-    (says : SayOfAll (SaysOf ends sent received post_ends post_sent post_received) channels posts) where
+module _ {P : Type 0} (post_ends : P → ℕ × ℕ) (post_sent post_received : P → List Growth)
+    (q : Problem) (c : Cut) (owners : List Owner) (channels : List Channel) (posts : List P)
+    (s : AreInStep q c owners channels) (given : AreGiven owners channels (length channels)) (loaded : AreLoaded owners c.owners)
+    (says : SayOfAll (SaysOf post_ends post_sent post_received) channels posts) where
   abbrev logs : List (List Growth)
   logs = logs_of owners
 
@@ -398,34 +361,34 @@ module _ {C P : Type 0} (tied : C → Type 0) (ends : C → ℕ × ℕ) (sent re
 
   saturated : (i : ℕ) → i < c.owners → IsSaturated q c i (list_of c i (log_of logs i) (heard i))
   saturated i l = subst (λ log. IsSaturated q c i (list_of c i log (heard i))) (sym (log_at i l))
-      (move (λ p d m. IsSaturated p d m (list_of d m (owner_at i).log (heard i))) i l ((is i l).done (loaded i (owner_at i) (at i l))))
+      (move (λ p d m. IsSaturated p d m (list_of d m (owner_at i).log (heard i))) i l ((is i l).done (loaded i (owner_at i) l (at i l))))
 
   -- ---- each channel
 
-  pair_of : (x : C) → Contains channels x → IsPair c.owners (ends x)
-  pair_of x h = (s.all_pairs.each (ends x)).0 (contains_map ends channels x h)
+  pair_of : (x : Channel) → Contains channels x → IsPair c.owners (ends_of x)
+  pair_of x h = (s.all_pairs.each (ends_of x)).0 (contains_map ends_of channels x h)
 
-  sent_is : (x : C) → Contains channels x → sent x ≡ part q c (ends x).1 (log_of logs (ends x).0)
+  sent_is : (x : Channel) → Contains channels x → x.sent ≡ part q c x.to (log_of logs x.from)
   sent_is x h =
-      let i : ℕ = (ends x).0 in
-      let j : ℕ = (ends x).1 in
+      let i : ℕ = x.from in
+      let j : ℕ = x.to in
       let l : i < c.owners = (pair_of x h).0 in
       let o : Owner = owner_at i in
       let w = is i l in
       given h.0 x o h.1 (get_at channels h.0 x h.1 h.2) (at i l)
       ∙ (ap (λ p. part p o.cut j o.log) w.problem ∙ (ap (λ d. part q d j o.log) w.cut ∙ ap (λ log. part q c j log) (sym (log_at i l))))
 
-  received_is : (x : C) → Contains channels x → received x ≡ heard (ends x).1 (ends x).0
-  received_is x h = (s.are_carried x h).taken (owner_at (ends x).1) (at (ends x).1 (pair_of x h).1)
+  received_is : (x : Channel) → Contains channels x → x.received ≡ heard x.to x.from
+  received_is x h = (s.are_carried x h).taken (owner_at x.to) (at x.to (pair_of x h).1)
 
-  all_received : (x : C) → Contains channels x → received x ≡ sent x
+  all_received : (x : Channel) → Contains channels x → x.received ≡ x.sent
   all_received x h =
       let w = says.each x h in
       sym w.2.same_received ∙ (w.2.all_of_it ∙ w.2.same_sent)
 
   told : (i j : ℕ) → i < c.owners → j < c.owners → i ≢ j → heard i j ≡ part q c i (log_of logs j)
   told i j li lj differ =
-      let w = contains_mapped ends channels (j, i) ((s.all_pairs.each (j, i)).1 (lj, li, λ e. differ (sym e))) in
+      let w = contains_mapped ends_of channels (j, i) ((s.all_pairs.each (j, i)).1 (lj, li, λ e. differ (sym e))) in
       sym (ap (λ (e : ℕ × ℕ). heard e.1 e.0) w.2)
       ∙ (sym (received_is w.0 w.1) ∙ (all_received w.0 w.1 ∙ (sent_is w.0 w.1 ∙ ap (λ (e : ℕ × ℕ). part q c e.1 (log_of logs e.0)) w.2)))
 
@@ -456,7 +419,7 @@ module _ {C P : Type 0} (tied : C → Type 0) (ends : C → ℕ × ℕ) (sent re
           let w = says.only p.0 p.1 in
           subst (IsPair c.owners) (sym w.2.same_ends ∙ p.2) (pair_of w.0 w.1),
       λ h.
-          let x = contains_mapped ends channels pair ((s.all_pairs.each pair).1 h) in
+          let x = contains_mapped ends_of channels pair ((s.all_pairs.each pair).1 h) in
           let w = says.each x.0 x.1 in
           subst (Contains (map post_ends posts)) (w.2.same_ends ∙ x.2) (contains_map post_ends posts w.0 w.1),
     );

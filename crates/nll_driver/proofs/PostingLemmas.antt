@@ -1,14 +1,14 @@
 -- What an owner gives out to another, one growth after the other.
-use Rattle.std.proofs.Common.{◌≡◌, ◌≢◌, ℕ, zero, suc, ◌+◌, ◌-◌, ◌^◌, ◌<◌, ◌≤◌, List, [], ◌∷◌, ◌++◌, length, take, drop, set, get_or, slice_get, Some, refl, sym, ap, ◌∙◌, subst, arith, append-nil, length-append}
+use Rattle.std.proofs.Common.{◌≡◌, ◌≢◌, ℕ, zero, suc, ◌+◌, ◌-◌, ◌^◌, ◌<◌, ◌≤◌, List, [], ◌∷◌, ◌++◌, length, take, set, get_or, slice_get, Some, refl, sym, ap, ◌∙◌, subst, arith, append-nil, length-append}
 use Rattle.std.proofs.lemmas.Option.{slice_get_within}
-use Rattle.std.proofs.lemmas.List.{get_or-set_same, get_or-set_other, take-append-le}
+use Rattle.std.proofs.lemmas.List.{get_or-set_same, get_or-set_other}
 use Rattle.nll_cut.specs.Partition.{reads}
 use Rattle.nll_cut.proofs.ReadLemmas.{reads_tells}
 use Rattle.nll_mail.specs.declared.growth.Growth.{Growth}
 use Rattle.nll_owner.specs.Logs.{IsPrefix}
 use Rattle.nll_owner.specs.Owner.{Owner, IsSound, Passes, part_for, given_to, received_from, with_growth}
 use Rattle.nll_owner.proofs.OwnerLemmas.{pair_small, filter_le}
-use Rattle.nll_driver.specs.Network.{GivesAll, Hears}
+use Rattle.nll_driver.specs.Network.{Channel, GivesAll, Hears}
 
 take_suc : {X : Type 0} (xs : List X) (n : ℕ) (x : X) → slice_get xs n ≡ Some x → take (suc n) xs ≡ take n xs ++ x ∷ []
 take_suc [] n x h = absurd (let l = slice_get_within [] n x h in omega arith)
@@ -27,10 +27,6 @@ take_length (x ∷ xs) (suc n) l = ap suc (take_length xs n (omega arith))
 pub take_all : {X : Type 0} (xs : List X) → take (length xs) xs ≡ xs
 take_all [] = refl
 take_all (x ∷ xs) = ap (λ zs. x ∷ zs) (take_all xs)
-
--- a list that was written over a list of its length
-pub written_over : {X : Type 0} (len : ℕ) (new old : List X) → length new ≡ len → take len (new ++ drop (length new) old) ≡ new
-written_over len new old same = take-append-le len new (drop (length new) old) (omega (arith, same)) ∙ (ap (λ k. take k new) (sym same) ∙ take_all new)
 
 -- The owner gave out more to `to`, and just that was posted.
 pub record Posting (first now : Owner) (to : ℕ) (sent : List Growth) : Type 0 where
@@ -89,6 +85,26 @@ module _ (first now : Owner) (to : ℕ) (sent : List Growth) (p : Posting first 
       let few = filter_le (λ (g : Growth). reads now.problem now.cut to g.region) now.log in
       let small = pair_small now.problem p.sound.problem in
       omega (arith, l, n, few, p.sound.few, small)
+
+-- one growth more was sent through a channel
+pub sent_more : (first now next : Channel) (sent : List Growth) → now ≡ record first { sent = now.sent } → next ≡ record now { sent = sent } → next ≡ record first { sent = next.sent }
+sent_more first now next sent same is = is ∙ (ap (λ (x : Channel). record x { sent = sent }) same ∙ ap (λ ys. record first { sent = ys }) (sym (ap (λ (x : Channel). x.sent) is)))
+
+module _ (o : Owner) (to : ℕ) (left : ℕ) (count : given_to o to + left ≡ length (part_for o to)) where
+  -- all was given out before
+  pub gives_none : left ≡ 0 → GivesAll to o o
+  gives_none none = record { given = omega (arith, count, none); other_given = λ j other. refl; others = refl }
+
+  pub sent_before : (sent : List Growth) → left ≡ 0 → sent ≡ take (given_to o to) (part_for o to) → sent ≡ part_for o to
+  sent_before sent none is =
+      let all : given_to o to ≡ length (part_for o to) = omega (arith, count, none) in
+      is ∙ (ap (λ n. take n (part_for o to)) all ∙ take_all (part_for o to))
+
+  -- less was given out before than there is
+  pub sent_less : (sent : List Growth) → left ≢ 0 → sent ≡ take (given_to o to) (part_for o to) → length sent < length (part_for o to)
+  sent_less sent some is =
+      let l : length sent ≡ given_to o to = ap length is ∙ take_length (part_for o to) (given_to o to) (omega (arith, count)) in
+      omega (arith, l, count, some)
 
 -- ---- what an owner hears
 

@@ -1,10 +1,11 @@
 //! What owners have and answer, written.
 ghost use Rattle.std.specs.Prelude.{◌≡◌, length};
 
+use super::failure::Failure;
 use super::problems::{Written, problem_of};
 use nll_core::{Element, Problem, RegionId};
 use nll_cut::Cut;
-use nll_driver::{Stop, Turn, drive};
+use nll_driver::{Network, Turn, drive_by_turns};
 use nll_mail::{Growth, Mail};
 use nll_owner::Owner;
 use std::alloc::{AllocError, Global};
@@ -25,14 +26,14 @@ fn write_region(out: &mut String, owner: &Owner, region: RegionId) -> Result<(),
 }
 
 // Writes the value of each region, as its owner has it.
-fn write_values(out: &mut String, owners: &[Owner], cut: &Cut, regions: u32) -> Result<(), Stop>
+fn write_values(out: &mut String, owners: &[Owner], cut: &Cut, regions: u32) -> Result<(), Failure>
     requires { length cut.now.list ≡ regions }
 {
     for number in 0..regions {
         let region = RegionId(number);
         match owners.get(cut.owner_of(region) as usize) {
             Some(owner) => write_region(out, owner, region)?,
-            None => return Err(Stop::Wrong),
+            None => return Err(Failure::Length),
         }
     }
     Ok(())
@@ -59,11 +60,11 @@ pub fn driven_over<M: Mail>(
     problem: &Problem,
     cut: &Cut,
     turns: &[Turn],
-) -> Result<String, Stop>
+) -> Result<String, Failure>
     requires { length cut.now.list ≡ problem.now.regions }
 {
     let mut out = String::new(alloc);
-    let settled = drive(alloc, mail, problem, cut, turns)?;
+    let settled = drive_by_turns(alloc, mail, problem, cut, turns)?;
     let values = write_values(&mut out, &settled.owners, cut, problem.regions());
     let counts = write_counts(&mut out, &settled.owners);
     drop(settled);
@@ -80,7 +81,7 @@ pub fn driven<M: Mail>(
     written: Written,
     owners: u16,
     turns: &[Turn],
-) -> Result<String, Stop> {
+) -> Result<String, Failure> {
     let problem = problem_of(alloc, written)?;
     let told = driven_round(alloc, mail, &problem, owners, turns);
     drop(problem);
@@ -94,10 +95,75 @@ fn driven_round<M: Mail>(
     problem: &Problem,
     owners: u16,
     turns: &[Turn],
-) -> Result<String, Stop> {
+) -> Result<String, Failure> {
     let cut = Cut::round(alloc, problem.regions(), owners)?;
     let told = driven_over(alloc, mail, problem, &cut, turns);
     drop(cut);
+    told
+}
+
+// Writes what each turn answers, and how many growths each owner has grown, given and received then.
+fn write_turns<M: Mail>(
+    out: &mut String,
+    network: &mut Network<'_, M>,
+    turns: &[Turn],
+) -> Result<(), AllocError> {
+    for turn in turns {
+        if network.is_refused() {
+            return out.push_str("refused");
+        }
+        let told = network.take(*turn);
+        write!(out, "{told:?} ")?;
+        write_counts(out, network.owners())?;
+        out.push(' ')?;
+    }
+    Ok(())
+}
+
+// What the turns of the owners of a cut answer.
+fn answers_over<M: Mail>(
+    alloc: Global,
+    mail: &M,
+    problem: &Problem,
+    cut: &Cut,
+    turns: &[Turn],
+) -> Result<String, Failure>
+    requires { length cut.now.list ≡ problem.now.regions }
+{
+    let mut out = String::new(alloc);
+    let mut network = Network::new(alloc, mail, problem, cut)?;
+    let written = write_turns(&mut out, &mut network, turns);
+    drop(network);
+    written?;
+    Ok(out)
+}
+
+// The same, where the regions of a problem are dealt in turns.
+fn answers_round<M: Mail>(
+    alloc: Global,
+    mail: &M,
+    problem: &Problem,
+    owners: u16,
+    turns: &[Turn],
+) -> Result<String, Failure> {
+    let cut = Cut::round(alloc, problem.regions(), owners)?;
+    let told = answers_over(alloc, mail, problem, &cut, turns);
+    drop(cut);
+    told
+}
+
+/// What each turn answers of the owners of a problem, to whom the regions are dealt in turns, and how
+/// many growths each owner has grown, given and received then.
+pub fn answers_of<M: Mail>(
+    alloc: Global,
+    mail: &M,
+    written: Written,
+    owners: u16,
+    turns: &[Turn],
+) -> Result<String, Failure> {
+    let problem = problem_of(alloc, written)?;
+    let told = answers_round(alloc, mail, &problem, owners, turns);
+    drop(problem);
     told
 }
 
@@ -130,7 +196,7 @@ fn write_last_answers(out: &mut String, owner: &mut Owner) -> Result<(), AllocEr
 }
 
 // What the first of two owners answers to them, and what it has for the other then.
-fn last_answers_over(alloc: Global, problem: &Problem, cut: &Cut) -> Result<String, Stop>
+fn last_answers_over(alloc: Global, problem: &Problem, cut: &Cut) -> Result<String, Failure>
     requires { length cut.now.list ≡ problem.now.regions }
 {
     let mut out = String::new(alloc);
@@ -146,7 +212,7 @@ fn last_answers_over(alloc: Global, problem: &Problem, cut: &Cut) -> Result<Stri
 }
 
 // The same, where the regions of a problem are dealt in turns.
-fn last_answers_round(alloc: Global, problem: &Problem) -> Result<String, Stop> {
+fn last_answers_round(alloc: Global, problem: &Problem) -> Result<String, Failure> {
     let cut = Cut::round(alloc, problem.regions(), 2)?;
     let told = last_answers_over(alloc, problem, &cut);
     drop(cut);
@@ -155,7 +221,7 @@ fn last_answers_round(alloc: Global, problem: &Problem) -> Result<String, Stop> 
 
 /// What the first of two owners of a problem answers, once it is loaded, to a growth of the highest
 /// rank, to one that asks it to grow, and to that one again; and what it has for the other then.
-pub fn answers_at_the_last_rank(alloc: Global, written: Written) -> Result<String, Stop> {
+pub fn answers_at_the_last_rank(alloc: Global, written: Written) -> Result<String, Failure> {
     let problem = problem_of(alloc, written)?;
     let told = last_answers_round(alloc, &problem);
     drop(problem);

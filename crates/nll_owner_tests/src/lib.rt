@@ -1,12 +1,13 @@
 //! Tests of owners, by their public calls alone. Expected values are found by hand from the
 //! definitions.
 //!
-//! Reading order: `problems`, `driving`, then each module of tests.
+//! Reading order: `problems`, `failure`, `driving`, then each module of tests.
 #![tactic(auto)]
 
 #[cfg(test)]
 mod driving;
 #[cfg(test)]
+mod failure;
 #[cfg(test)]
 mod memory;
 #[cfg(test)]

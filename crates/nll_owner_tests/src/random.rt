@@ -3,9 +3,9 @@
 ghost use Rattle.std.specs.Prelude.{◌≡◌, ◌<◌, ◌≤◌, length};
 
 use super::driving::driven_over;
+use super::failure::Failure;
 use nll_core::{BuildError, Constraint, Problem, ProblemBuilder, RegionId, Values, solve};
 use nll_cut::Cut;
-use nll_driver::Stop;
 use nll_driver::Turn::{self, Load, Post, Take};
 use nll_mail::{Mail, QueueMail};
 use std::alloc::{AllocError, Global};
@@ -109,7 +109,7 @@ fn write_all(out: &mut String, values: &Values, regions: u32) -> Result<(), Allo
 }
 
 // The least values, as `solve` gives them.
-fn solved(alloc: Global, problem: &Problem) -> Result<String, Stop> {
+fn solved(alloc: Global, problem: &Problem) -> Result<String, Failure> {
     let mut out = String::new(alloc);
     let values = solve(alloc, problem)?;
     let written = write_all(&mut out, &values, problem.regions());
@@ -125,7 +125,7 @@ fn agree_over<M: Mail>(
     problem: &Problem,
     cut: &Cut,
     turns: &[Turn],
-) -> Result<bool, Stop>
+) -> Result<bool, Failure>
     requires { length cut.now.list ≡ problem.now.regions }
 {
     let told = driven_over(alloc, mail, problem, cut, turns)?;
@@ -134,12 +134,17 @@ fn agree_over<M: Mail>(
 }
 
 // The same for a random cut and random turns.
-fn agree_on<M: Mail>(alloc: Global, mail: &M, problem: &Problem, seed: u32) -> Result<bool, Stop> {
+fn agree_on<M: Mail>(
+    alloc: Global,
+    mail: &M,
+    problem: &Problem,
+    seed: u32,
+) -> Result<bool, Failure> {
     let owners = (1 + seed % 4) as u16;
     let list = list_of(alloc, problem.regions(), owners, seed)?;
     let turns = turns_of(alloc, owners, seed)?;
     if list.len() != problem.regions() as usize {
-        return Err(Stop::Wrong);
+        return Err(Failure::Length);
     }
     let cut = Cut::from_list(alloc, problem.regions(), owners, &list)?;
     let told = agree_over(alloc, mail, problem, &cut, &turns);
@@ -148,7 +153,7 @@ fn agree_on<M: Mail>(alloc: Global, mail: &M, problem: &Problem, seed: u32) -> R
 }
 
 // The same for a random problem.
-fn agree<M: Mail>(alloc: Global, mail: &M, seed: u32) -> Result<bool, Stop> {
+fn agree<M: Mail>(alloc: Global, mail: &M, seed: u32) -> Result<bool, Failure> {
     let problem = problem_of(alloc, seed)?;
     let told = agree_on(alloc, mail, &problem, seed);
     drop(problem);

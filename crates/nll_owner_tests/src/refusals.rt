@@ -1,7 +1,6 @@
 //! What an owner answers once no rank is left.
 use super::driving::answers_at_the_last_rank;
 use super::problems::BY_TURNS;
-use nll_driver::Stop;
 
 #[test]
 fn an_owner_without_ranks_is_refused(rt: HostRuntime) {
@@ -9,6 +8,6 @@ fn an_owner_without_ranks_is_refused(rt: HostRuntime) {
     let want = "Ok(())|Err(RankFull)|Err(Broken)|0 None None|4";
     match told {
         Ok(text) => assert!(rt; text.as_str() == want, "{text}"),
-        Err(stop) => assert!(rt; false, "{stop:?}"),
+        Err(failure) => assert!(rt; false, "{failure:?}"),
     }
 }

@@ -1,5 +1,6 @@
 //! Owners that are driven by all orders of turns that are named here come to the same values.
-use super::driving::driven;
+use super::driving::{answers_of, driven};
+use super::failure::Failure;
 use super::problems::{BY_TURNS, FILLED_HOLE, REACHED, Written};
 use nll_driver::Stop;
 use nll_driver::Turn::{self, Load, Post, Take};
@@ -126,11 +127,75 @@ const ROWS: &[Row] = &[
     ),
 ];
 
-// Drives the owners of a problem, and compares what they have in the end.
-fn compare(rt: &impl Abort, told: Result<String, Stop>, want: &str) {
+// The turns that are named here are taken, each once and in this order: problems, how many owners
+// there are, turns, and for each turn what it answers and what each owner has grown, given and
+// received then.
+type Taken = (Written, u16, &'static [Turn], &'static str);
+
+const TAKEN: &[Taken] = &[
+    (
+        REACHED,
+        2,
+        &[
+            Take(1, 0),
+            Load(0),
+            Load(0),
+            Take(1, 0),
+            Load(1),
+            Post(0, 1),
+            Post(1, 0),
+            Post(1, 0),
+            Take(1, 0),
+            Load(2),
+            Post(1, 1),
+            Take(0, 2),
+            Take(1, 0),
+            Take(1, 0),
+        ],
+        "Ok(false) 0 0 0|0 0 0| Ok(true) 4 0 0|0 0 0| Ok(false) 4 0 0|0 0 0| \
+         Ok(false) 4 0 0|0 0 0| Ok(true) 4 0 0|2 0 0| Ok(false) 4 0 0|2 0 0| \
+         Ok(true) 4 0 0|2 2 0| Ok(false) 4 0 0|2 2 0| Ok(true) 5 0 1|2 2 0| \
+         Err(Wrong) 5 0 1|2 2 0| Err(Wrong) 5 0 1|2 2 0| Err(Wrong) 5 0 1|2 2 0| \
+         Ok(true) 6 0 2|2 2 0| Ok(false) 6 0 2|2 2 0| ",
+    ),
+    (
+        BY_TURNS,
+        2,
+        &[
+            Load(0),
+            Load(1),
+            Post(0, 1),
+            Take(0, 1),
+            Post(1, 0),
+            Take(1, 0),
+            Post(0, 1),
+            Take(0, 1),
+            Post(1, 0),
+            Take(1, 0),
+        ],
+        "Ok(true) 4 0 0|0 0 0| Ok(true) 4 0 0|1 0 0| Ok(true) 4 1 0|1 0 0| \
+         Ok(true) 4 1 0|1 0 1| Ok(true) 4 1 0|1 1 1| Ok(true) 5 1 1|1 1 1| \
+         Ok(true) 5 2 1|1 1 1| Ok(true) 5 2 1|2 1 2| Ok(true) 5 2 1|2 2 2| \
+         Ok(true) 5 2 2|2 2 2| ",
+    ),
+];
+
+// Turns that name no owner of two, or one owner twice.
+const WRONG: &[Turn] = &[
+    Load(2),
+    Post(0, 2),
+    Post(2, 0),
+    Post(1, 1),
+    Take(0, 2),
+    Take(2, 0),
+    Take(1, 1),
+];
+
+// Compares what was told.
+fn compare(rt: &impl Abort, told: Result<String, Failure>, want: &str) {
     match told {
         Ok(text) => assert!(rt; text.as_str() == want, "{text} for {want}"),
-        Err(stop) => assert!(rt; false, "{stop:?} for {want}"),
+        Err(failure) => assert!(rt; false, "{failure:?} for {want}"),
     }
 }
 
@@ -141,5 +206,28 @@ fn driven_owners_come_to_the_least_values(rt: HostRuntime) {
             let told = driven(rt.alloc(), &QueueMail::new(rt), *written, *owners, turns);
             compare(&rt, told, want);
         }
+    }
+}
+
+#[test]
+fn named_turns_are_taken_in_their_order(rt: HostRuntime) {
+    for (written, owners, turns, want) in TAKEN {
+        let told = answers_of(rt.alloc(), &QueueMail::new(rt), *written, *owners, turns);
+        compare(&rt, told, want);
+    }
+}
+
+#[test]
+fn a_turn_of_no_owner_is_wrong(rt: HostRuntime) {
+    for turn in WRONG {
+        let told = driven(
+            rt.alloc(),
+            &QueueMail::new(rt),
+            BY_TURNS,
+            2,
+            &[Load(0), *turn],
+        );
+        let is_right = told.err() == Some(Failure::Stop(Stop::Wrong));
+        assert!(rt; is_right, "{turn:?}");
     }
 }

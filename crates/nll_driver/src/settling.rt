@@ -1,0 +1,33 @@
+//! Mailboxes that are settled.
+
+ghost use Rattle.std.specs.Prelude.{◌≡◌, [], IfErr, OnOk};
+ghost use Rattle.nll_driver.specs.Network.{SaysOf, SayOfAll};
+ghost use Rattle.nll_driver.specs.Turns.{Unfinished};
+
+use crate::channel::Channel;
+use crate::stop::Stop;
+use nll_mail::Mail;
+
+/// Settles the channels. All that was sent was received.
+///
+/// # Errors
+/// - `Left`: one kept growths back.
+/// - `Memory`.
+pub fn settle_all<M: Mail>(
+    mut channels: Vec<Channel<M>>,
+    posts: &mut Vec<M::Post>,
+) -> Result<(), Stop>
+    requires { posts.old.items ≡ [] }
+    ensures says { OnOk result (SayOfAll
+        (SaysOf M.post_ends M.post_sent M.post_received) channels.items posts.new.items) }
+    ensures unfinished { IfErr result
+        (Unfinished M.post_ends M.post_sent M.post_received channels.items) }
+{
+    while let Some(channel) = channels.pop() {
+        match channel.settle() {
+            Ok(post) => posts.push(post)?,
+            Err(_) => return Err(Stop::Left),
+        }
+    }
+    Ok(())
+}

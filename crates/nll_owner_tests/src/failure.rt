@@ -1,0 +1,60 @@
+//! Why what a test asks for couldn't be had.
+use nll_core::{BuildError, Memory};
+use nll_cut::CutError;
+use nll_driver::Stop;
+use nll_owner::OwnerError;
+use std::alloc::{AllocError, AllocFailed};
+
+/// Why what a test asks for couldn't be had.
+#[derive(Clone, Copy, Debug, PartialEq, Eq)]
+pub enum Failure {
+    Problem(BuildError),
+    Cut(CutError),
+    Owner(OwnerError),
+    Stop(Stop),
+    Memory,
+    /// A list doesn't have an entry for each region, or for each owner.
+    Length,
+}
+
+impl From<BuildError> for Failure {
+    fn from(error: BuildError) -> Failure {
+        Failure::Problem(error)
+    }
+}
+
+impl From<CutError> for Failure {
+    fn from(error: CutError) -> Failure {
+        Failure::Cut(error)
+    }
+}
+
+impl From<OwnerError> for Failure {
+    fn from(error: OwnerError) -> Failure {
+        Failure::Owner(error)
+    }
+}
+
+impl From<Stop> for Failure {
+    fn from(stop: Stop) -> Failure {
+        Failure::Stop(stop)
+    }
+}
+
+impl From<Memory> for Failure {
+    fn from(_: Memory) -> Failure {
+        Failure::Memory
+    }
+}
+
+impl From<AllocError> for Failure {
+    fn from(_: AllocError) -> Failure {
+        Failure::Memory
+    }
+}
+
+impl<T: Drop> From<AllocFailed<T>> for Failure {
+    fn from(_: AllocFailed<T>) -> Failure {
+        Failure::Memory
+    }
+}
