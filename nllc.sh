@@ -39,7 +39,8 @@ if [ "$1" = rust ]; then
     exec python3 "$here/tools/nll-rust" "$@"
 elif [ "$#" = 1 ] && [ "$1" = --prove ]; then
     needs_rt
-    say "proving the program and what it stands on takes 20 to 40 minutes; $here/out/prove.log has what rt prints"
+    say "proving the program and what it stands on takes some 35 minutes on four processors;" \
+        "$here/out/prove.log has what rt prints"
     exec python3 "$here/tools/prove.py"
 elif is_current "$proved"; then
     exec "$proved" "$@"
