@@ -10,10 +10,10 @@ Every text depends on its arguments and its seed alone.
     generate_mir.py random [--seed S]            a small body
     generate_mir.py worked --into DIR            the worked texts
     generate_mir.py mutations FILE --into DIR    each small change of a text
-    generate_mir.py limits --into DIR            texts at the limits of the format
-    generate_mir.py hostile --into DIR           deep types, and types that grow without end
+    generate_mir.py limits --into DIR [NAME ..]  texts at the limits of the format
+    generate_mir.py hostile --into DIR [NAME ..] deep types, and types that grow without end
 
-All but those with `--into` write to standard output.
+All but those with `--into` write to standard output. Where names are given, only these texts are made.
 """
 
 import argparse
@@ -123,6 +123,9 @@ def wide(regions, points):
 
 # The words of the command line
 
+FOLDERS = {"worked": WORKED.items, "limits": limits, "hostile": hostile}
+
+
 def save(directory, name, text):
     os.makedirs(directory, exist_ok=True)
     with open(os.path.join(directory, name + ".mir"), "wb") as file:
@@ -150,8 +153,10 @@ def words():
     command = commands.add_parser("mutations")
     command.add_argument("file")
     command.add_argument("--into", required=True)
-    for name in ("worked", "limits", "hostile"):
-        commands.add_parser(name).add_argument("--into", required=True)
+    for name in FOLDERS:
+        command = commands.add_parser(name)
+        command.add_argument("--into", required=True)
+        command.add_argument("names", nargs="*", metavar="NAME", help="make only these texts")
     return parser.parse_args()
 
 
@@ -162,12 +167,10 @@ def main():
             text = file.read()
         for number, changed in enumerate(mutations(text)):
             save(args.into, f"{number:06}", changed)
-    elif args.command == "worked":
-        for name, text in WORKED.items():
-            save(args.into, name, text)
-    elif args.command in ("limits", "hostile"):
-        for name, text, _ in limits() if args.command == "limits" else hostile():
-            save(args.into, name, text)
+    elif args.command in FOLDERS:
+        for name, text, *_ in FOLDERS[args.command]():
+            if not args.names or name in args.names:
+                save(args.into, name, text)
     else:
         made = {
             "body": lambda: body(args.points, args.variables, args.refused, args.seed),

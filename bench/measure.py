@@ -6,6 +6,7 @@
     measure.py real --nllc PATH --baseline PATH --inputs FOLDER --outputs FOLDER [--runs N]
     measure.py line --nllc PATH --texts FOLDER [--most MIB]
     measure.py solving --nllc PATH --baseline PATH --texts FOLDER --outputs FOLDER [--runs N]
+    measure.py limits --nllc PATH --baseline PATH --texts FOLDER [--runs N]
 
 Wall time is from start to end of a process, user time and peak memory are the system's own figures
 of it (`wait4`). A process that is started counts the memory of the one that starts it as its own
@@ -121,18 +122,17 @@ def bodies_rows(args, name):
         ends = {(one.status, one.err) for found in runs.values() for one in found}
         alike = len(ends) == 1 and None not in next(iter(ends))
         fine = fine and alike
-        best = {who: min(one.wall for one in found) for who, found in runs.items()}
+        base = median(one.wall for one in runs["baseline"])
         for who, found in runs.items():
+            best = min(one.wall for one in found)
             wall = median(one.wall for one in found)
             peak = max(one.peak for one in found)
-            print(f"| {name} | {part} | {who} | {best[who]:.3f} | {wall:.3f} | {peak:.1f} "
-                  f"| {best[who] / best['baseline']:.2f} |{'' if alike else f' UNLIKE {ends}'}",
-                  flush=True)
+            print(f"| {name} | {part} | {who} | {best:.3f} | {wall:.3f} | {peak:.1f} "
+                  f"| {wall / base:.2f} |{'' if alike else f' UNLIKE {ends}'}", flush=True)
     return fine
 
 
 def bodies(args):
-    """The ratios here are of best times."""
     names = sorted({name.rsplit(".", 1)[0] for name in os.listdir(args.texts)})
     print(f"Whole bodies, {args.runs} runs of each program in turn; {machine(args)}")
     print("| body | part | program | best wall s | median wall s | peak MiB | ratio |")
@@ -202,6 +202,33 @@ def line(args):
     return 0 < len(fine) == sum(fine)
 
 
+def limits_row(args, name):
+    """The row of one text at a limit: what `check` says of it, and the best times of both programs."""
+    path = os.path.join(args.texts, name)
+    runs = {program: [] for program in (args.nllc, args.baseline)}
+    for _ in range(args.runs):
+        for program, found in runs.items():
+            found.append(run([program, "check", path], args.seconds))
+    ends = {(one.status, one.err) for found in runs.values() for one in found}
+    same = len(ends) == 1 and None not in next(iter(ends))
+    told = next(iter(ends))[1].removeprefix("nllc: ") or "no fault"
+    best = [min(one.wall for one in found) for found in runs.values()]
+    peak = [max(one.peak for one in found) for found in runs.values()]
+    print(f"| {name.rsplit('.', 1)[0]} | {os.path.getsize(path) / (1 << 20):.2f} "
+          f"| {told if same else f'UNLIKE {ends}'} | {best[0]:.3f} | {best[1]:.3f} | {best[0] / best[1]:.1f} "
+          f"| {peak[0]:.1f} | {peak[1]:.1f} |", flush=True)
+    return same
+
+
+def limits(args):
+    print(f"`check` of texts at the limits, best wall seconds of {args.runs} runs of each program in "
+          f"turn; {machine(args)}")
+    print("| text | MiB | answer | nllc s | baseline s | ratio | nllc peak MiB | baseline peak MiB |")
+    print("|---|---|---|---|---|---|---|---|")
+    fine = [limits_row(args, name) for name in sorted(os.listdir(args.texts))]
+    return 0 < len(fine) == sum(fine)
+
+
 def solving_runs(args, name):
     """Runs the programs in turn on one text: for each the best times, the peak, and the output."""
     programs = {"nllc": [args.nllc], "partner, runs": [args.baseline, "--runs"],
@@ -249,9 +276,12 @@ def solving(args):
     return 0 < len(fine) == sum(fine)
 
 
+WHAT = {"reading": reading, "bodies": bodies, "real": real, "line": line, "solving": solving, "limits": limits}
+
+
 def main():
     parser = argparse.ArgumentParser(description=__doc__.split("\n", maxsplit=1)[0])
-    parser.add_argument("what", choices=["reading", "bodies", "real", "line", "solving"])
+    parser.add_argument("what", choices=WHAT)
     parser.add_argument("--nllc", required=True)
     parser.add_argument("--baseline", help="the program to compare with; not for `line`")
     parser.add_argument("--most", type=float, default=8.0,
@@ -266,8 +296,7 @@ def main():
     parser.add_argument("--seconds", type=float, default=60.0, help="time limit of a run")
     parser.add_argument("--commit", default="none", help="told beside the figures")
     args = parser.parse_args()
-    what = {"reading": reading, "bodies": bodies, "real": real, "line": line, "solving": solving}[args.what]
-    return 0 if what(args) else 1
+    return 0 if WHAT[args.what](args) else 1
 
 
 if __name__ == "__main__":
