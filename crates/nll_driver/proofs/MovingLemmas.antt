@@ -75,9 +75,6 @@ module _ (channels : List Channel) (k : ℕ) (x y : Channel) (at : slice_get cha
 
 -- ---- turns one after the other
 
-pub moves_none : (n : Network) → n.refused ≡ false → Moves false n n
-moves_none n whole = record { problem = refl; cut = refl; channels = refl; whole = whole; idle = λ h. refl; less = λ h. absurd (false≢true h) }
-
 moves_le : (did : Bool) (old new : Network) → Moves did old new → left_to_do new ≤ left_to_do old
 moves_le true old new m = (let l = m.less refl in omega (arith, l))
 moves_le false old new m = (let e = ap left_to_do (m.idle refl) in omega (arith, e))
@@ -107,17 +104,11 @@ or_false false b h = (refl, h)
 
 -- ---- all was said
 
-pub loaded_none : (owners : List Owner) → AreLoaded owners 0
-loaded_none owners i o low at = absurd (omega (arith, low))
-
 pub loaded_next : (owners : List Owner) (n : ℕ) → AreLoaded owners n → ((o : Owner) → slice_get owners n ≡ Some o → o.loaded ≡ true) → AreLoaded owners (n + 1)
 loaded_next owners n before here i o low at = ⊎_elim
     (λ (same : i ≡ n). here o (subst (λ j. slice_get owners j ≡ Some o) same at))
     (λ other. before i o (omega (arith, low, other)) at)
     (cases_eq i n)
-
-pub given_none : (owners : List Owner) (channels : List Channel) → AreGiven owners channels 0
-given_none owners channels k x o low at = absurd (omega (arith, low))
 
 pub given_next : (owners : List Owner) (channels : List Channel) (n : ℕ) → AreGiven owners channels n
     → ((x : Channel) (o : Owner) → slice_get channels n ≡ Some x → slice_get owners x.from ≡ Some o → x.sent ≡ part_for o x.to) → AreGiven owners channels (n + 1)

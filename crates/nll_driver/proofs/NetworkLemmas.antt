@@ -35,9 +35,6 @@ contains_map f (z ∷ xs) x h = ⊎_elim
     (λ (w : Contains xs x). contains_tail (f z) (map f xs) (f x) (contains_map f xs x w))
     (contains_cases z xs x h)
 
-pub get_or_again : {X : Type 0} (xs : List X) (k : ℕ) (d : X) → k < length xs → get_or xs k (get_or xs k d) ≡ get_or xs k d
-get_or_again xs k d within = get_or_default xs k (get_or xs k d) d within
-
 -- ---- one owner and one channel change
 
 set_cases : {X : Type 0} (xs : List X) (i j : ℕ) (y z : X) → slice_get (set xs i y) j ≡ Some z → ((j ≡ i) × (z ≡ y)) ⊎ (slice_get xs j ≡ Some z)
@@ -56,13 +53,6 @@ pub set_there : {X : Type 0} (xs : List X) (i : ℕ) (y z : X) → i < length xs
 set_there [] i y z l h = absurd (omega arith)
 set_there (x ∷ xs) zero y z l h = sym (cc h)
 set_there (x ∷ xs) (suc i) y z l h = set_there xs i y z (omega arith) h
-
--- what stands in the list then is what was put there, or stood there before
-in_set : {X : Type 0} (xs : List X) (k : ℕ) (y : X) → k < length xs → (z : X) → Contains (set xs k y) z → (z ≡ y) ⊎ Contains xs z
-in_set xs k y within z h = ⊎_elim
-    (λ (here : h.0 ≡ k). inl (sym h.2 ∙ (ap (λ j. get_or (set xs k y) j z) here ∙ get_or-set_same xs k y z within)))
-    (λ elsewhere. inr (h.0, (let l = h.1 in omega (arith, l, length-set xs k y)), sym (get_or-set_other xs k h.0 y z elsewhere) ∙ h.2))
-    (cases_eq h.0 k)
 
 -- two places of a list in which nothing is twice hold different things
 pub differ_at : {X : Type 0} (xs : List X) (j k : ℕ) (x y : X) → AllPairs (λ a b. a ≢ b) xs → j ≢ k → j < length xs → k < length xs → get_or xs j x ≡ x → get_or xs k y ≡ y → x ≢ y
@@ -173,26 +163,6 @@ module _ (q : Problem) (c : Cut) (i : ℕ) (o n : Owner) (w : IsOwner q c i o) (
     whole = ap (λ (x : Owner). x.broken) others ∙ w.whole;
     done = λ _. done;
   }
-
--- what stands at a place of the owners and of the channels
-module _ (q : Problem) (c : Cut) (owners : List Owner) (channels : List Channel)
-    (s : AreInStep q c owners channels) where
-  pub owner_is : (i : ℕ) (d : Owner) → i < length owners → IsOwner q c i (get_or owners i d)
-  owner_is i d within = s.are_owners.each i (get_or owners i d) (slice_get-get_or owners i d within)
-
-  module _ (k : ℕ) (d : Channel) (within : k < length channels) where
-    pub channel_in : Contains channels (get_or channels k d)
-    channel_in = (k, within, get_or_again channels k d within)
-
-    pub pair_at : IsPair c.owners (ends_of (get_or channels k d))
-    pair_at = (s.all_pairs.each (ends_of (get_or channels k d))).0 (contains_map ends_of channels (get_or channels k d) channel_in)
-
-    -- the owners of its ends are there
-    pub first_within : (ends_of (get_or channels k d)).0 < length owners
-    first_within = let l = pair_at.0 in omega (arith, l, s.are_owners.count)
-
-    pub last_within : (ends_of (get_or channels k d)).1 < length owners
-    last_within = let l = pair_at.1 in omega (arith, l, s.are_owners.count)
 
 module _ (q : Problem) (c : Cut) (owners : List Owner) (channels : List Channel)
     (s : AreInStep q c owners channels) (o n : Owner) (k : ℕ) (x y : Channel) (within : k < length channels) (is_x : get_or channels k x ≡ x)

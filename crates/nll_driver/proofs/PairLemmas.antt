@@ -9,12 +9,6 @@ use Rattle.nll_driver.specs.Network.{IsPair, IsBefore, AreAllBefore, AreAllPairs
 pub pair_is : (x y : ℕ × ℕ) → x.0 ≡ y.0 → x.1 ≡ y.1 → x ≡ y
 pair_is x y first last = ap (λ n. (n, x.1)) first ∙ ap (λ n. (y.0, n)) last
 
-pub before_none : (n : ℕ) → AreAllBefore n 0 0 []
-before_none n = record {
-  each = λ pair. (λ h. absurd (let l = h.1 in omega arith), λ h. absurd (⊎_elim (λ (l : pair.0 < 0). omega arith) (λ (t : (pair.0 ≡ 0) × (pair.1 < 0)). (let l = t.1 in omega arith)) h.1));
-  once = λ i j d l h. absurd (omega (arith, h));
-}
-
 module _ (n f t : ℕ) (xs : List (ℕ × ℕ)) (w : AreAllBefore n f t xs) where
   wider : (pair : ℕ × ℕ) → IsBefore f t pair → IsBefore f (t + 1) pair
   wider pair b = ⊎_elim (λ (l : pair.0 < f). inl l) (λ (s : (pair.0 ≡ f) × (pair.1 < t)). inr (s.0, (let l = s.1 in omega arith))) b

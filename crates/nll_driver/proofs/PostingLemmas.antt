@@ -91,15 +91,6 @@ pub sent_more : (first now next : Channel) (sent : List Growth) → now ≡ reco
 sent_more first now next sent same is = is ∙ (ap (λ (x : Channel). record x { sent = sent }) same ∙ ap (λ ys. record first { sent = ys }) (sym (ap (λ (x : Channel). x.sent) is)))
 
 module _ (o : Owner) (to : ℕ) (left : ℕ) (count : given_to o to + left ≡ length (part_for o to)) where
-  -- all was given out before
-  pub gives_none : left ≡ 0 → GivesAll to o o
-  gives_none none = record { given = omega (arith, count, none); other_given = λ j other. refl; others = refl }
-
-  pub sent_before : (sent : List Growth) → left ≡ 0 → sent ≡ take (given_to o to) (part_for o to) → sent ≡ part_for o to
-  sent_before sent none is =
-      let all : given_to o to ≡ length (part_for o to) = omega (arith, count, none) in
-      is ∙ (ap (λ n. take n (part_for o to)) all ∙ take_all (part_for o to))
-
   -- less was given out before than there is
   pub sent_less : (sent : List Growth) → left ≢ 0 → sent ≡ take (given_to o to) (part_for o to) → length sent < length (part_for o to)
   sent_less sent some is =

@@ -1,5 +1,5 @@
 -- What a turn does to a network, from what it does to one owner and one channel.
-use Rattle.std.proofs.Common.{◌≡◌, ⊎_elim, ℕ, ◌+◌, ◌<◌, Bool, true, false, ◌||◌, List, [], ◌∷◌, ◌++◌, length, map, set, get_or, slice_get, Some, Contains, refl, sym, ap, ◌∙◌, subst, arith, length-append}
+use Rattle.std.proofs.Common.{◌≡◌, ⊎_elim, ℕ, ◌+◌, ◌<◌, Bool, true, false, List, [], ◌∷◌, ◌++◌, length, map, set, get_or, slice_get, Some, Contains, refl, sym, ap, ◌∙◌, subst, arith, length-append}
 use Rattle.std.proofs.lemmas.Bool.{cases_eq, false≢true}
 use Rattle.std.proofs.lemmas.List.{get_or-map, get_or-set_same, length-map, length-set, set-get_or}
 use Rattle.std.proofs.lemmas.Option.{slice_get-get_or, slice_get_within, get_or_from_slice_get}
@@ -9,11 +9,11 @@ use Rattle.nll_problem.specs.Problem.{Problem}
 use Rattle.nll_cut.specs.Partition.{Cut}
 use Rattle.nll_mail.specs.declared.growth.Growth.{Growth}
 use Rattle.nll_owner.specs.Owner.{Owner, part_for, received_from}
-use Rattle.nll_driver.specs.Network.{Channel, Network, IsPair, IsCarried, AreAllPairs, AreGiven, AreLoaded, HasSaidAll, AreInStep, GivesAll, Hears, ends_of}
+use Rattle.nll_driver.specs.Network.{Channel, Network, IsPair, IsCarried, AreAllPairs, AreGiven, AreLoaded, AreInStep, GivesAll, Hears, ends_of}
 use Rattle.nll_driver.specs.Turns.{Moves, Loads, Posts, Takes}
 use Rattle.nll_driver.proofs.NetworkLemmas.{contains_map, differ_at, set_there}
 use Rattle.nll_driver.proofs.PostingLemmas.{posted_few, posting_none}
-use Rattle.nll_driver.proofs.MovingLemmas.{get_other, channel_other, logs_same, loads_same, loads_less, growths_sent, growths_received, found_in, given_next, loaded_next, or_false}
+use Rattle.nll_driver.proofs.MovingLemmas.{get_other, channel_other, logs_same, loads_same, loads_less, growths_sent, growths_received, found_in, given_next, loaded_next}
 
 -- the network of these parts
 abbrev pub network_of : Problem → Cut → List Owner → List Channel → Bool → Network
@@ -59,17 +59,6 @@ module _ (q : Problem) (c : Cut) (owners : List Owner) (channels : List Channel)
 module _ (q : Problem) (c : Cut) (owners : List Owner) (channels : List Channel) (refused : Bool) (whole : refused ≡ false) where
   abbrev before : Network
   before = network_of q c owners channels refused
-
-  -- nothing was done
-  pub idle_moves : (others : List Channel) → others ≡ channels → Moves false before (network_of q c owners others refused)
-  idle_moves others same = record {
-    problem = refl;
-    cut = refl;
-    channels = ap (map ends_of) same;
-    whole = whole;
-    idle = λ _. ap (λ zs. network_of q c owners zs refused) same;
-    less = λ h. absurd (false≢true h);
-  }
 
   -- ---- an owner was loaded, or was before
 
@@ -195,16 +184,3 @@ given_idle old new k same before posts = given_next new.owners new.channels k (s
 -- an owner more is loaded, where it was loaded before
 pub loaded_idle : (old new : Network) (i : ℕ) → new ≡ old → AreLoaded old.owners i → Loads i old new → AreLoaded new.owners (i + 1)
 loaded_idle old new i same before loads = loaded_next new.owners i (subst (λ (n : Network). AreLoaded n.owners i) (sym same) before) loads.loaded
-
--- after a round in which nothing was done all was said
-pub said_all : (a b d : Bool) (first middle last : Network) → Moves b first middle → Moves d middle last → (a ≡ false → AreLoaded first.owners first.cut.owners) → (b ≡ false → AreGiven middle.owners middle.channels (length middle.channels))
-    → ((a || b) || d) ≡ false → HasSaidAll last
-said_all a b d first middle last m n loaded given none =
-    let outer = or_false (a || b) d none in
-    let inner = or_false a b outer.0 in
-    let same : last ≡ middle = n.idle outer.1 in
-    let before : last ≡ first = same ∙ m.idle inner.1 in
-    record {
-      loaded = subst (λ (w : Network). AreLoaded w.owners w.cut.owners) (sym before) (loaded inner.0);
-      given = subst (λ (w : Network). AreGiven w.owners w.channels (length w.channels)) (sym same) (given inner.1);
-    }
