@@ -214,6 +214,19 @@ def trickle_family(rng, changes=300, runs=1_000):
     return problem_text(points, 1, changes + 1, facts)
 
 
+def full_family(rng, regions=65_000, points=1_048_576, constraints=1_000_000):
+    """As many points, and nearly as many regions and constraints, as a text may have. Nothing is read of a
+    universal region, and of sixteen constraints one meets a point that its sub-region has."""
+    facts = list(steps(points))
+    bases = [rng.randrange(points) for _ in range(regions)]
+    facts += [b"base 'r%d %d" % base for base in enumerate(bases)]
+    for _ in range(constraints):
+        sub = rng.randrange(regions)
+        at = bases[sub] if rng.randrange(16) == 0 else rng.randrange(points)
+        facts.append(asks(rng.randrange(regions), sub, at))
+    return problem_text(points, 0, regions, facts)
+
+
 FAMILIES = {
     "chain": lambda rng: chain(1_000_000, 3),
     "dense": dense_family,
@@ -223,6 +236,7 @@ FAMILIES = {
     "stairs": stairs_family,
     "most": most_family,
     "trickle": trickle_family,
+    "full": full_family,
 }
 
 

@@ -1,17 +1,23 @@
 //! A plain Rust program that reads facts and MIR texts (version 1) and answers as `nllc` does,
 //! written by hand without any proof: the partner of `nllc` in measurements and in differential
 //! tests. Reading order: `main`, `text` (lines, tokens, which fault is told), `tables`, `facts`,
-//! `problem`, `solve`, `runs`, `report`; for MIR texts `shapes`, `body`, `mir`, `rules`.
+//! `problem`, `solve`, `runs`, `report`; for MIR texts `shapes`, `body`, `mir`, `rules`; for owners
+//! `ground`, `link`, `owner`, `owners`.
 //!
 //! `baseline read FILE` and `baseline problem FILE` print one line of counts, of what is read and
 //! of the problem that it means; `baseline bases FILE` prints those of a body with its base
 //! elements (of a facts text it is `problem`); `baseline values FILE` and `baseline check FILE` print what
-//! `nllc` prints; with `--runs` before the command, by the algorithm that `nllc` has. Status: 0
-//! answered, 1 `check` found faults, 2 words, file or text refused, 3 output failed.
+//! `nllc` prints; with `--runs` before the command, by the algorithm that `nllc` has. `baseline owners
+//! COUNT FILE` solves by so many owners and prints what that took. Status: 0 answered, 1 `check` found
+//! faults or owners other values, 2 words, file or text refused, 3 output failed.
 
 mod body;
 mod facts;
+mod ground;
+mod link;
 mod mir;
+mod owner;
+mod owners;
 mod problem;
 mod report;
 mod rules;
@@ -29,7 +35,10 @@ use std::io::{self, Read, Write};
 use std::process::exit;
 use text::Fault;
 
-const USAGE: &str = "usage: baseline [--runs] read|bases|problem|values|check FILE";
+const USAGE: &str = "usage: baseline [--runs] read|bases|problem|values|check|owners COUNT FILE";
+
+/// The commands that a file alone follows.
+const COMMANDS: [&str; 5] = ["read", "bases", "problem", "values", "check"];
 
 /// The greatest length of a text in bytes.
 const TEXT_LIMIT: u64 = 67_108_864;
@@ -82,9 +91,10 @@ fn report<V: report::Value>(
 }
 
 /// Writes the answer of a command and gives the status.
-fn answer(command: &str, by_runs: bool, problem: &Problem) -> io::Result<i32> {
+fn answer(command: &str, by_runs: bool, owners: u16, problem: &Problem) -> io::Result<i32> {
     let mut out = io::stdout().lock();
     match command {
+        "owners" => owners::report(problem, owners, &mut out),
         "read" | "bases" | "problem" => report::counts(problem, &mut out).map(|()| 0),
         _ if by_runs => report(command, problem, &runs::solve(problem), &mut out),
         _ => report(command, problem, &solve::solve(problem), &mut out),
@@ -104,16 +114,23 @@ fn cannot_write() -> i32 {
     3
 }
 
+/// The command, how many owners there are (where it asks for some), and the file.
+fn asked(words: &[String]) -> Option<(&str, u16, &str)> {
+    match words {
+        [command, path] if COMMANDS.contains(&command.as_str()) => Some((command, 0, path)),
+        [command, count, path] if command == "owners" => {
+            let count = count.parse().ok().filter(|count| (1..=64).contains(count))?;
+            Some((command, count, path))
+        }
+        _ => None,
+    }
+}
+
 fn main() {
     let mut words: Vec<String> = std::env::args().skip(1).collect();
     let by_runs = words.first().is_some_and(|word| word == "--runs");
     words.drain(..by_runs as usize);
-    let [command, path] = words.as_slice() else {
-        refuse(USAGE);
-    };
-    if !["read", "bases", "problem", "values", "check"].contains(&command.as_str()) {
-        refuse(USAGE);
-    }
+    let (command, owners, path) = asked(&words).unwrap_or_else(|| refuse(USAGE));
     let Ok(mut text) = bytes_of(path) else {
         refuse(&format!("nllc: cannot read {path}"));
     };
@@ -125,7 +142,7 @@ fn main() {
     }
     let status = match problem(command, &text) {
         Err(fault) => refuse(&format!("nllc: line {}: {}", fault.line, fault.kind)),
-        Ok(problem) => answer(command, by_runs, &problem).unwrap_or_else(|_| cannot_write()),
+        Ok(problem) => answer(command, by_runs, owners, &problem).unwrap_or_else(|_| cannot_write()),
     };
     exit(status)
 }

@@ -6,20 +6,20 @@ use crate::problem::{Constraint, Problem};
 use crate::solve::order_of;
 
 /// The elements from the first to the last.
-#[derive(Clone, Copy)]
+#[derive(Clone, Copy, PartialEq)]
 pub struct Run {
     pub first: u32,
     pub last: u32,
 }
 
 /// A set of elements as ascending runs, no two of which touch.
-#[derive(Clone, Default)]
+#[derive(Clone, Default, PartialEq)]
 pub struct Runs(pub Vec<Run>);
 
 impl Runs {
     /// The place of the first run that ends at `least` or later.
     #[inline]
-    fn ends_from(&self, least: u32) -> usize {
+    pub fn ends_from(&self, least: u32) -> usize {
         let runs = &self.0;
         let len = runs.len();
         if len == 0 || runs[len - 1].last < least {
@@ -31,8 +31,9 @@ impl Runs {
         runs.partition_point(|run| run.last < least)
     }
 
+    /// The first run that ends at `e` or later.
     #[inline]
-    fn run_from(&self, e: u32) -> Option<Run> {
+    pub fn run_from(&self, e: u32) -> Option<Run> {
         self.0.get(self.ends_from(e)).copied()
     }
 
@@ -65,9 +66,30 @@ impl Runs {
         self.0.iter().flat_map(|run| run.first..=run.last)
     }
 
+    /// Puts a run in, and the runs of its elements that are new at the end of a list.
+    pub fn insert_new(&mut self, run: Run, new: &mut Vec<Run>) {
+        let known = new.len();
+        let mut next = run.first;
+        for other in &self.0[self.ends_from(run.first)..] {
+            if other.first > run.last {
+                break;
+            }
+            if other.first > next {
+                new.push(Run { first: next, last: other.first - 1 });
+            }
+            next = other.last + 1;
+        }
+        if next <= run.last {
+            new.push(Run { first: next, last: run.last });
+        }
+        if new.len() > known {
+            self.insert(run);
+        }
+    }
+
     /// Puts a run in; true where an element of it is new.
     #[inline]
-    fn insert(&mut self, run: Run) -> bool {
+    pub fn insert(&mut self, run: Run) -> bool {
         let from = self.ends_from(run.first.saturating_sub(1));
         let runs = &mut self.0;
         if from < runs.len() && runs[from].first <= run.first && run.last <= runs[from].last {
@@ -95,14 +117,14 @@ impl Runs {
 
 /// For each point the last point of its line, and where its other steps lead; the number of points
 /// stands for the ends.
-struct Lines {
-    ends: Vec<u32>,
+pub struct Lines {
+    pub ends: Vec<u32>,
     starts: Vec<u32>,
     jumps: Vec<u32>,
 }
 
 impl Lines {
-    fn of(problem: &Problem) -> Lines {
+    pub fn of(problem: &Problem) -> Lines {
         let points = problem.points;
         let mut ends: Vec<u32> = (0..points).collect();
         let mut starts = Vec::with_capacity(points as usize + 1);
@@ -130,7 +152,7 @@ impl Lines {
     }
 
     #[inline]
-    fn jumps(&self, run: Run) -> &[u32] {
+    pub fn jumps(&self, run: Run) -> &[u32] {
         &self.jumps[self.starts[run.first as usize] as usize..self.starts[run.last as usize + 1] as usize]
     }
 }
@@ -142,19 +164,25 @@ struct Walk {
     todo: Vec<Run>,
 }
 
+/// Enters the stretch from a point of a run on, where it is new: into what is reached, and at the end
+/// of a list.
+#[inline]
+pub fn enter(lines: &Lines, inside: Run, point: u32, reached: &mut Runs, list: &mut Vec<Run>) {
+    let most = lines.ends[point as usize].min(inside.last);
+    let last = match reached.run_from(point) {
+        Some(next) if next.first <= point => return,
+        Some(next) => most.min(next.first - 1),
+        None => most,
+    };
+    let run = Run { first: point, last };
+    reached.insert(run);
+    list.push(run);
+}
+
 impl Walk {
-    /// Enters the stretch from a point of a run on, where it is new.
     #[inline]
     fn enter(&mut self, lines: &Lines, inside: Run, point: u32) {
-        let most = lines.ends[point as usize].min(inside.last);
-        let last = match self.reached.run_from(point) {
-            Some(next) if next.first <= point => return,
-            Some(next) => most.min(next.first - 1),
-            None => most,
-        };
-        let run = Run { first: point, last };
-        self.reached.insert(run);
-        self.todo.push(run);
+        enter(lines, inside, point, &mut self.reached, &mut self.todo);
     }
 
     /// Reaches what walks inside a set reach from the points of constraints, which ascend.
@@ -202,7 +230,7 @@ impl Walk {
 
 /// The constraints by sub-region, then by super-region, then by point, and where those of each
 /// sub-region begin.
-fn index_of(problem: &Problem) -> (Vec<Constraint>, Vec<u32>) {
+pub fn index_of(problem: &Problem) -> (Vec<Constraint>, Vec<u32>) {
     let mut constraints = problem.constraints.clone();
     let key = |c: &Constraint| (c.sub, c.sup, c.at);
     if !constraints.is_sorted_by_key(key) {
