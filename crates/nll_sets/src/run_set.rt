@@ -208,6 +208,9 @@ impl RunSet {
         ensures some { IfSome result (IsGapFrom self.now from last) }
         ensures none { IfNone result ((x : ℕ) → from ≤ x → x ≤ last → flag self.now x ≡ true) }
     {
+        if from > last {
+            return None;
+        }
         // `free_from` asks for a length of 32 bits.
         prove!(self.len <= u32::MAX);
         let first = self.free_from(from);
