@@ -13,7 +13,8 @@ use Rattle.nll_cut.specs.Partition.{Cut, owner_of, reads}
 use Rattle.nll_mail.specs.declared.growth.Growth.{Growth}
 use Rattle.nll_owner.specs.Owner.{Owner, Passes, part_for, given_to}
 use Rattle.nll_owner.proofs.LogLemmas.{contains_head, contains_tail, contains_cases, filter_from}
-use Rattle.nll_driver.specs.Network.{Channel, Network, GivesAll, IsPair, AreInStep, AreGiven, AreLoaded, ends_of, logs_of, loads_left, growths_left, left_to_do}
+use Rattle.nll_driver.specs.Network.{Channel, Network, GivesAll, AreInStep, AreGiven, AreLoaded, ends_of, logs_of, loads_left, growths_left, left_to_do}
+use Rattle.nll_owner.specs.Delivery.{IsPair}
 use Rattle.nll_driver.specs.Turns.{Moves}
 use Rattle.nll_driver.proofs.NetworkLemmas.{contains_map}
 

@@ -4,7 +4,8 @@ use Rattle.std.proofs.lemmas.Bool.{cases_eq}
 use Rattle.std.proofs.lemmas.List.{get_or_default, map-append}
 use Rattle.std.proofs.lemmas.List.Elements.{Contains-append_left, Contains-push, Contains-push_cases}
 use Rattle.std.proofs.lemmas.List.Quantifiers.{all_pairs_push}
-use Rattle.nll_driver.specs.Network.{IsPair, IsBefore, AreAllBefore, AreAllPairs}
+use Rattle.nll_driver.specs.Network.{IsBefore, AreAllBefore, AreAllPairs}
+use Rattle.nll_owner.specs.Delivery.{IsPair}
 
 pub pair_is : (x y : ℕ × ℕ) → x.0 ≡ y.0 → x.1 ≡ y.1 → x ≡ y
 pair_is x y first last = ap (λ n. (n, x.1)) first ∙ ap (λ n. (y.0, n)) last

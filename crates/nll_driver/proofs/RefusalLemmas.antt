@@ -5,7 +5,8 @@ use Rattle.std.proofs.lemmas.Result.{IfErr-at_err}
 use Rattle.nll_problem.specs.Problem.{Problem}
 use Rattle.nll_cut.specs.Partition.{Cut}
 use Rattle.nll_mail.specs.declared.growth.Growth.{Growth}
-use Rattle.nll_driver.specs.Network.{Network, IsPair, IsInStep, HasSaidAll}
+use Rattle.nll_driver.specs.Network.{Network, IsInStep, HasSaidAll}
+use Rattle.nll_owner.specs.Delivery.{IsPair}
 use Rattle.nll_driver.specs.Turns.{IsTurnOf, Refuses, Unsettled, Unfinished, AreTurnsOf, Undriven}
 use Rattle.nll_driver.specs.declared.turn.Turn.{Turn}
 use Rattle.nll_driver.specs.declared.turn.Turn.TheVariants.{Load, Post, Take}

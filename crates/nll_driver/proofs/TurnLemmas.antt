@@ -9,7 +9,8 @@ use Rattle.nll_problem.specs.Problem.{Problem}
 use Rattle.nll_cut.specs.Partition.{Cut}
 use Rattle.nll_mail.specs.declared.growth.Growth.{Growth}
 use Rattle.nll_owner.specs.Owner.{Owner, part_for, received_from}
-use Rattle.nll_driver.specs.Network.{Channel, Network, IsPair, IsCarried, AreAllPairs, AreGiven, AreLoaded, AreInStep, GivesAll, Hears, ends_of}
+use Rattle.nll_driver.specs.Network.{Channel, Network, IsCarried, AreAllPairs, AreGiven, AreLoaded, AreInStep, GivesAll, Hears, ends_of}
+use Rattle.nll_owner.specs.Delivery.{IsPair}
 use Rattle.nll_driver.specs.Turns.{Moves, Loads, Posts, Takes}
 use Rattle.nll_driver.proofs.NetworkLemmas.{contains_map, differ_at, set_there}
 use Rattle.nll_driver.proofs.PostingLemmas.{posted_few, posting_none}

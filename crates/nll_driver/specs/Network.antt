@@ -14,30 +14,13 @@ use Rattle.nll_mail.specs.declared.growth.Growth.{Growth}
 use Rattle.nll_owner.specs.Logs.{IsCutOf, IsKnown, IsPrefix, log_of, part}
 use Rattle.nll_owner.specs.Owner.{Owner, IsDone, IsSound, given_to, part_for, received_from}
 use Rattle.nll_owner.specs.Owner.{first_owner}
+use Rattle.nll_owner.specs.Delivery.{IsPair}
 
 -- ---- what is said in the end
-
--- the pair is of two different owners
-abbrev pub IsPair : ℕ → ℕ × ℕ → Type 0
-IsPair count pair = (pair.0 < count) × (pair.1 < count) × (pair.0 ≢ pair.1)
 
 -- the logs of owners, in the owners' order
 abbrev pub logs_of : List Owner → List (List Growth)
 logs_of owners = map (λ (o : Owner). o.log) owners
-
--- There is a settled mailbox for each ordered pair of owners, and no other; what was sent through
--- it is the part of the sender's log that the receiver reads; and all of it was received.
-pub record AreDelivered {P : Type 0} (ends : P → ℕ × ℕ) (sent received : P → List Growth)
-    (q : Problem) (c : Cut) (logs : List (List Growth)) (posts : List P) : Type 0 where
-  pub pairs : (pair : ℕ × ℕ) → Contains (map ends posts) pair ↔ IsPair c.owners pair
-  pub whole_part :
-      (p : P) → Contains posts p → sent p ≡ part q c (ends p).1 (log_of logs (ends p).0)
-  pub all_of_it : (p : P) → Contains posts p → received p ≡ sent p
-
--- the log of each region's owner says just what the region has in the least solution
-abbrev pub SayLeast : Problem → Cut → List (List Growth) → Type 0
-SayLeast q c logs =
-    (r e : ℕ) → IsKnown (log_of logs (owner_of c r)) r e ↔ Least q r e
 
 -- ---- a network between two turns
 

@@ -8,7 +8,8 @@ use Rattle.nll_mail.specs.Channel.{refusal}
 use Rattle.nll_mail.specs.declared.growth.Growth.{Growth}
 use Rattle.nll_owner.specs.Owner.{Owner, part_for, received_from}
 use Rattle.nll_owner.specs.declared.error.OwnerError.TheVariants.{Broken}
-use Rattle.nll_driver.specs.Network.{Channel, Network, IsPair, HasSaidAll, IsInStep, ends_of}
+use Rattle.nll_driver.specs.Network.{Channel, Network, HasSaidAll, IsInStep, ends_of}
+use Rattle.nll_owner.specs.Delivery.{IsPair}
 use Rattle.nll_driver.specs.Network.{left_to_do, logs_of}
 use Rattle.nll_driver.specs.declared.turn.Turn.{Turn}
 use Rattle.nll_driver.specs.declared.turn.Turn.TheVariants.{Load, Post, Take}

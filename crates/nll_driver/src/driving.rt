@@ -1,7 +1,8 @@
 //! One thread that takes turns in a row, and settles the network then.
 
 ghost use Rattle.std.specs.Prelude.{◌≡◌, false, length, IfOk, IfErr, OnOk};
-ghost use Rattle.nll_driver.specs.Network.{AreDelivered, SayLeast, logs_of};
+ghost use Rattle.nll_driver.specs.Network.{logs_of};
+ghost use Rattle.nll_owner.specs.Delivery.{AreDelivered, SayLeast};
 ghost use Rattle.nll_driver.specs.Turns.{AreTurnsOf, Undriven};
 
 use crate::network::{Network, Settled};

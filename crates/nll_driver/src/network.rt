@@ -2,8 +2,10 @@
 
 ghost use Rattle.std.specs.Prelude.{◌≡◌, ◌↔◌, ◌<◌, true, false, length, Some, Err};
 ghost use Rattle.std.specs.Prelude.{slice_get, IfOk, IfErr, OnOk, IfSome, IfNone};
-ghost use Rattle.nll_driver.specs.Network.{HasSaidAll, IsNew, AreDelivered, SayLeast};
-ghost use Rattle.nll_driver.specs.Network.{AreGiven, AreLoaded, IsPair, ends_of, logs_of};
+ghost use Rattle.nll_driver.specs.Network.{HasSaidAll, IsNew};
+ghost use Rattle.nll_owner.specs.Delivery.{AreDelivered, SayLeast};
+ghost use Rattle.nll_driver.specs.Network.{AreGiven, AreLoaded, ends_of, logs_of};
+ghost use Rattle.nll_owner.specs.Delivery.{IsPair};
 ghost use Rattle.nll_driver.specs.Turns.{Does, IsTurnOf, Loads, Moves, Posts, Refuses, Takes};
 ghost use Rattle.nll_driver.specs.Turns.{Unsettled};
 ghost use Rattle.nll_driver.specs.declared.stop.Stop.TheVariants.{Wrong};

@@ -2,7 +2,8 @@ use Rattle.std.proofs.Common.{◌≡◌, ⊎_elim, rules, slice_get, Some, sym, 
 use Rattle.std.proofs.lemmas.Bool.{cases_eq}
 use Rattle.std.proofs.lemmas.Option.{slice_get_read}
 use Rattle.nll_owner.proofs.OwnerLemmas.{get_at}
-use Rattle.nll_driver.specs.Network.{AreInStep, IsPair, ends_of}
+use Rattle.nll_driver.specs.Network.{AreInStep, ends_of}
+use Rattle.nll_owner.specs.Delivery.{IsPair}
 use Rattle.nll_driver.proofs.NetworkLemmas.{contains_mapped}
 use Rattle.nll_driver.proofs.TurnLemmas.{some_same, pair_found}
 use Rattle.nll_driver.proofs.network.Network.place_of.Goals as goal

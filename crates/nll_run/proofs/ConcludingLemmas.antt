@@ -1,0 +1,281 @@
+-- What the settled mailboxes, the gathered ledger and the logs say together.
+use Rattle.std.proofs.Common.{append-nil, length-append, ◌≡◌, ◌≢◌, ◌↔◌, ◌+◌, ◌<◌, ◌≤◌, ℕ, zero, suc, Bool, true, false, List, [], ◌∷◌, ◌++◌, length, map, drop, slice_index_or, slice_get, Some, Contains, AllPairs, refl, ap, sym, ◌∙◌, subst, inl, inr, ◌⊎◌, ⊎_elim, arith}
+use Rattle.std.specs.List.{sum_by}
+use Rattle.std.proofs.lemmas.Bool.{cases_lt, cases_eq}
+use Rattle.std.proofs.lemmas.List.{get_or_past}
+use Rattle.std.proofs.lemmas.List.Sums.{sum_by-cons}
+use Rattle.nll_problem.specs.Graph.{element_count}
+use Rattle.nll_problem.specs.Problem.{Problem, IsSound as IsSoundProblem}
+use Rattle.nll_problem.specs.Solution.{Least}
+use Rattle.nll_core.specs.Values.{IsHeld, IsShaped}
+use Rattle.nll_cut.specs.Partition.{Cut, owner_of}
+use Rattle.nll_mail.specs.declared.growth.Growth.{Growth}
+use Rattle.nll_owner.specs.Logs.{IsPrefix, IsKnown, IsCutOf, IsWellFormed, log_of, part, AreSound}
+use Rattle.nll_owner.specs.Owner.{Owner, first_owner}
+use Rattle.nll_worker.specs.Sums.{sum_to}
+use Rattle.nll_worker.specs.Finishing.{Finishes}
+use Rattle.nll_mail.specs.declared.mail.Mail as Mail
+use Rattle.nll_ledger.specs.declared.ledger.Ledger as Ledger
+use Rattle.nll_owner.specs.Delivery.{IsPair, IsPairBefore}
+use Rattle.nll_run.specs.Outcome.{IsOutcome}
+use Rattle.nll_worker.specs.Finishing.{Leaves, WasMade, FinishedAs, IsError}
+use Rattle.nll_worker.specs.declared.ending.Ending.{Ending}
+use Rattle.nll_worker.specs.declared.ending.Ending.TheVariants.{Quiet, Stopped, Stray}
+use Rattle.nll_worker.specs.declared.ending.Ending.TheVariants as endings
+use Rattle.nll_worker.proofs.RunLemmas.{concludes, not_stray}
+use Rattle.nll_worker.proofs.SumLemmas.{sum_same}
+use Rattle.nll_run.specs.Table.{list_at}
+use Rattle.nll_run.specs.Settling.{IsPostOf, ArePostsOf, InRows, sent_by, got_by, IsCalm}
+use Rattle.nll_run.proofs.PlaceLemmas.{place, within, same_place, read_place, map_place, map_from, map_size, mapped, contains_place, contained}
+
+-- the rest of a list behind one that begins it
+prefix_rest : {X : Type 0} (front whole : List X) → IsPrefix front whole → whole ≡ front ++ drop (length front) whole
+prefix_rest [] whole p = sym (drop_none whole)
+  where
+    drop_none : {X : Type 0} (xs : List X) → drop 0 xs ≡ xs
+    drop_none [] = refl
+    drop_none (x ∷ xs) = refl
+prefix_rest (x ∷ xs) [] p = absurd (cc p.1)
+prefix_rest (x ∷ xs) (y ∷ ys) p =
+    let parts : (y ≡ x) × (ys ≡ xs ++ p.0) = (cc p.1, cc p.1) in
+    let r = prefix_rest xs ys (p.0, parts.1) in
+    (λ i. parts.0 i ∷ r i)
+
+-- nothing is left behind a whole
+no_rest : {X : Type 0} (whole front rest : List X) → whole ≡ front ++ rest → front ≡ whole → rest ≡ []
+no_rest whole front [] e same = refl
+no_rest whole front (x ∷ xs) e same = absurd (let m = ap length e in let n = ap length same in omega (arith, length-append front (x ∷ xs), m, n))
+
+sum_places : {X : Type 0} (f : X → ℕ) (xs : List X) → sum_by f xs ≡ sum_to (length xs) (λ k. slice_index_or (map f xs) k 0)
+sum_places f xs = from_front f xs ∙ same (length xs) f xs
+  where
+    total : (ℕ → ℕ) → ℕ → ℕ
+    total g zero = 0
+    total g (suc n) = g 0 + total (λ k. g (suc k)) n
+
+    total_last : (g : ℕ → ℕ) (n : ℕ) → total g (suc n) ≡ total g n + g n
+    total_last g zero = omega arith
+    total_last g (suc n) = let r = total_last (λ k. g (suc k)) n in omega (arith, r)
+
+    total_sum : (g : ℕ → ℕ) (n : ℕ) → total g n ≡ sum_to n g
+    total_sum g zero = refl
+    total_sum g (suc n) = let r = total_sum g n in let l = total_last g n in omega (arith, r, l)
+
+    from_front : {X : Type 0} (f : X → ℕ) (xs : List X) → sum_by f xs ≡ total (λ k. slice_index_or (map f xs) k 0) (length xs)
+    from_front f [] = refl
+    from_front f (x ∷ xs) = sum_by-cons f x xs ∙ ap (λ n. f x + n) (from_front f xs)
+
+    same : {X : Type 0} (n : ℕ) (f : X → ℕ) (xs : List X) → total (λ k. slice_index_or (map f xs) k 0) n ≡ sum_to n (λ k. slice_index_or (map f xs) k 0)
+    same n f xs = total_sum (λ k. slice_index_or (map f xs) k 0) n
+
+no_error_cases : (w : Ending) → IsCalm w → (w ≡ Quiet) ⊎ ((w ≡ Stopped) ⊎ (w ≡ Stray))
+no_error_cases endings.Quiet t = inl refl
+no_error_cases endings.Stopped t = inr (inl refl)
+no_error_cases endings.Stray t = inr (inr refl)
+no_error_cases endings.Memory t = absurd t
+no_error_cases endings.RankFull t = absurd t
+no_error_cases endings.Unstarted t = absurd t
+no_error_cases endings.NoOwner t = absurd t
+
+made : (w : Ending) → IsCalm w → WasMade w
+made endings.Quiet t = tt
+made endings.Stopped t = tt
+made endings.Stray t = tt
+made endings.Memory t = absurd t
+made endings.RankFull t = absurd t
+made endings.Unstarted t = absurd t
+made endings.NoOwner t = absurd t
+
+-- no error that is an error is a growth that can't be its sender's
+error_bad : (w : Ending) → IsCalm w → IsError w → w ≡ Stray
+error_bad endings.Quiet t e = absurd e
+error_bad endings.Stopped t e = absurd e
+error_bad endings.Stray t e = refl
+error_bad endings.Memory t e = absurd t
+error_bad endings.RankFull t e = absurd t
+error_bad endings.Unstarted t e = absurd t
+error_bad endings.NoOwner t e = absurd t
+
+module _ {D M S R C P L B H E : Type 0} (m : Mail.Ghosts M S R C P) (b : Ledger.Ghosts L B H E) (book : B)
+    (log : D → List Growth) (left : D → E) (closed : D → List C) (kept : D → List R) (why_of : D → Ending) (q : Problem) (c : Cut) (cut : IsCutOf q c) (ds : List D) (count : length ds ≡ c.owners)
+    (leaves : (k : ℕ) (d : D) → slice_get ds k ≡ Some d → Leaves b book k (left d) (why_of d))
+    (finishes : (k : ℕ) (d : D) → slice_get ds k ≡ Some d → WasMade (why_of d) → FinishedAs q c k (log_of (map m.all_sent (closed d))) (log_of (map m.received (kept d))) (b.left_owed (left d)) (b.left_cleared (left d)) (why_of d) (log d))
+    (calm : (k : ℕ) (d : D) → slice_get ds k ≡ Some d → IsCalm (why_of d)) where
+  abbrev sent : ℕ → ℕ → List Growth
+  sent i j = sent_by m.all_sent (map closed ds) i j
+
+  abbrev got : ℕ → ℕ → List Growth
+  got i j = got_by m.received (map kept ds) i j
+
+  abbrev logs : List (List Growth)
+  logs = map log ds
+
+  abbrev owed : ℕ → ℕ
+  owed i = slice_index_or (map (λ d. b.left_owed (left d)) ds) i 0
+
+  abbrev cleared : ℕ → ℕ
+  cleared i = slice_index_or (map (λ d. b.left_cleared (left d)) ds) i 0
+
+  abbrev ending : ℕ → Ending
+  ending i = slice_index_or (map why_of ds) i Quiet
+
+  done : (i : ℕ) → i < c.owners → (d : D) × (slice_get ds i ≡ Some d)
+  done i l = place ds i (omega (arith, l, count))
+
+  abbrev Ends : ℕ → Owner → Type 0
+  Ends i o = (o.log ≡ log_of logs i) × Finishes q c i o (sent i) (λ j. got j i) (owed i) (cleared i) (ending i)
+
+  ends_at : (i : ℕ) → i < c.owners → (o : Owner) × Ends i o
+  ends_at i l =
+      let d = done i l in
+      let f = finishes i d.0 d.1 (made (why_of d.0) (calm i d.0 d.1)) in
+      (f.0, (f.1 ∙ sym (mapped log ds i d.0 [] d.1),
+        subst (λ (x : List C). Finishes q c i f.0 (λ j. log_of (map m.all_sent x) j) (λ j. got j i) (owed i) (cleared i) (ending i)) (sym (mapped closed ds i d.0 [] d.1))
+        (subst (λ (x : List R). Finishes q c i f.0 (log_of (map m.all_sent (closed d.0))) (λ j. log_of (map m.received x) j) (owed i) (cleared i) (ending i)) (sym (mapped kept ds i d.0 [] d.1))
+        (subst (λ (x : ℕ). Finishes q c i f.0 (log_of (map m.all_sent (closed d.0))) (log_of (map m.received (kept d.0))) x (cleared i) (ending i)) (sym (mapped (λ (y : D). b.left_owed (left y)) ds i d.0 0 d.1))
+        (subst (λ (x : ℕ). Finishes q c i f.0 (log_of (map m.all_sent (closed d.0))) (log_of (map m.received (kept d.0))) (b.left_owed (left d.0)) x (ending i)) (sym (mapped (λ (y : D). b.left_cleared (left y)) ds i d.0 0 d.1))
+        (subst (λ (x : Ending). Finishes q c i f.0 (log_of (map m.all_sent (closed d.0))) (log_of (map m.received (kept d.0))) (b.left_owed (left d.0)) (b.left_cleared (left d.0)) x) (sym (mapped why_of ds i d.0 Quiet d.1)) f.2))))))
+
+  chosen : (i : ℕ) → (i < c.owners) ⊎ (c.owners ≤ i) → (o : Owner) × (i < c.owners → Ends i o)
+  chosen i (inl l) = ((ends_at i l).0, λ _. (ends_at i l).1)
+  chosen i (inr l) = (first_owner q c i, λ m. absurd (omega (arith, l, m)))
+
+  abbrev owner : ℕ → Owner
+  owner i = (chosen i (cases_lt i c.owners)).0
+
+  ends : (i : ℕ) → i < c.owners → Finishes q c i (owner i) (sent i) (λ j. got j i) (owed i) (cleared i) (ending i)
+  ends i l = ((chosen i (cases_lt i c.owners)).1 l).1
+
+  log_is : (i : ℕ) → i < c.owners → log_of logs i ≡ (owner i).log
+  log_is i l = sym ((chosen i (cases_lt i c.owners)).1 l).0
+
+  log_count : length logs ≡ c.owners
+  log_count = map_size log ds ∙ count
+
+  well_formed : (i : ℕ) → i < c.owners → IsWellFormed c i (log_of logs i)
+  well_formed i l = subst (IsWellFormed c i) (sym (log_is i l)) (subst (λ x. IsWellFormed x i (owner i).log) (ends i l).cut (subst (λ x. IsWellFormed (owner i).cut x (owner i).log) (ends i l).me (ends i l).sound.well_formed))
+
+  region_in : (i : ℕ) (g : Growth) → i < c.owners → owner_of c g.region ≡ i → g.region < q.regions
+  region_in i g l own = ⊎_elim
+      (λ (h : g.region < length c.list). subst (λ n. g.region < n) cut.regions h)
+      (λ (h : length c.list ≤ g.region). absurd (let past = get_or_past c.list g.region c.owners h in omega (arith, past, own, l)))
+      (cases_lt g.region (length c.list))
+
+  -- each growth of a log is of the problem's numbers
+  pub in_range : (log : List Growth) (g : Growth) → Contains logs log → Contains log g → (g.region < q.regions) × (g.element < element_count q.graph)
+  in_range log g h at =
+      let k = contains_place logs log h in
+      let l : k.0 < c.owners = (let w = within logs k.0 log k.1 in omega (arith, w, log_count)) in
+      let here : log_of logs k.0 ≡ log = read_place logs k.0 log [] k.1 in
+      let at' : Contains (log_of logs k.0) g = subst (λ xs. Contains xs g) (sym here) at in
+      (region_in k.0 g l ((well_formed k.0 l).own g at'),
+        subst (λ (p : Problem). g.element < element_count p.graph) (ends k.0 l).problem ((ends k.0 l).sound.elements g (subst (λ xs. Contains xs g) (log_is k.0 l) at')))
+
+  module _ (posts : List P)
+      (settled : ArePostsOf m (sent_by m.all_sent (map closed ds)) (got_by m.received (map kept ds)) (InRows c.owners c.owners) posts) where
+    abbrev rest : ℕ → ℕ → List Growth
+    rest i j = drop (length (got i j)) (sent i j)
+
+    tied : (i j : ℕ) → i < c.owners → j < c.owners → sent i j ≡ got i j ++ rest i j
+    tied i j li lj = prefix_rest (got i j) (sent i j) (settled.prefix i j (li, lj))
+
+    never_stray : (i : ℕ) → i < c.owners → ending i ≢ Stray
+    never_stray = not_stray q c owner sent got rest owed cleared ending ends tied
+
+    module _ (total_owed total_cleared : ℕ) (owed_is : total_owed ≡ sum_by b.left_owed (map left ds)) (cleared_is : total_cleared ≡ sum_by b.left_cleared (map left ds))
+        (quiets : ((k : ℕ) (l : E) → slice_get (map left ds) k ≡ Some l → b.left_quiet l ≡ true) → total_owed ≡ total_cleared)
+        (stopped : (k : ℕ) (l : E) → slice_get (map left ds) k ≡ Some l → b.left_quiet l ≡ false → (j : ℕ) × (x : E) × (slice_get (map left ds) j ≡ Some x) × (b.left_called x ≡ true)) where
+      why_at : (i : ℕ) (d : D) → slice_get ds i ≡ Some d → ending i ≡ why_of d
+      why_at i d e = mapped why_of ds i d Quiet e
+
+      not_bad_at : (i : ℕ) (d : D) → slice_get ds i ≡ Some d → why_of d ≢ Stray
+      not_bad_at i d e is = never_stray i (let w = within ds i d e in omega (arith, w, count)) (why_at i d e ∙ is)
+
+      quiet_at : (i : ℕ) (d : D) → slice_get ds i ≡ Some d → why_of d ≡ Quiet
+      quiet_at i d e = ⊎_elim
+          (λ (h : why_of d ≡ Quiet). h)
+          (λ (t : (why_of d ≡ Stopped) ⊎ (why_of d ≡ Stray)). ⊎_elim
+            (λ (h : why_of d ≡ Stopped).
+              let off : b.left_quiet (left d) ≡ false = (leaves i d e).not_quiet (λ x. stopped_is_not_quiet (sym h ∙ x)) in
+              let s = stopped i (left d) (map_place left ds i d e) off in
+              let w = map_from left ds s.0 s.1 s.2 in
+              let call = subst (λ (x : E). b.left_called x ≡ true) (sym w.2) s.3 in
+              absurd (not_bad_at s.0 w.0 w.1 (error_bad (why_of w.0) (calm s.0 w.0 w.1) ((leaves s.0 w.0 w.1).called_is call))))
+            (λ (h : why_of d ≡ Stray). absurd (not_bad_at i d e h)) t)
+          (no_error_cases (why_of d) (calm i d e))
+        where
+          stopped_is_not_quiet : Stopped ≡ Quiet → ⊥
+          stopped_is_not_quiet x = cc
+
+      quiet : (i : ℕ) → i < c.owners → ending i ≡ Quiet
+      quiet i l = let d = done i l in why_at i d.0 d.1 ∙ quiet_at i d.0 d.1
+
+      all_quiet_left : (k : ℕ) (l : E) → slice_get (map left ds) k ≡ Some l → b.left_quiet l ≡ true
+      all_quiet_left k l e = let w = map_from left ds k l e in subst (λ (x : E). b.left_quiet x ≡ true) w.2 ((leaves k w.0 w.1).quiet_is (quiet_at k w.0 w.1))
+
+      sum_of : (f : E → ℕ) → sum_by f (map left ds) ≡ sum_to c.owners (λ i. slice_index_or (map (λ d. f (left d)) ds) i 0)
+      sum_of f = sum_map f ds ∙ (sum_places (λ d. f (left d)) ds ∙ ap (λ n. sum_to n (λ i. slice_index_or (map (λ d. f (left d)) ds) i 0)) count)
+        where
+          sum_map : (f : E → ℕ) (xs : List D) → sum_by f (map left xs) ≡ sum_by (λ d. f (left d)) xs
+          sum_map f [] = refl
+          sum_map f (x ∷ xs) = sum_by-cons f (left x) (map left xs) ∙ (ap (λ n. f (left x) + n) (sum_map f xs) ∙ sym (sum_by-cons (λ d. f (left d)) x xs))
+
+      sums : sum_to c.owners owed ≡ sum_to c.owners cleared
+      sums = sym (sum_of b.left_owed) ∙ (sym owed_is ∙ (quiets all_quiet_left ∙ (cleared_is ∙ sum_of b.left_cleared)))
+
+      module _ (problem : IsSoundProblem q) (values : List (List Bool)) (shaped : IsShaped q values)
+          (held : (r e : ℕ) → IsHeld values r e ↔ ((l : List Growth) × Contains logs l × IsKnown l r e)) where
+        law : ((i j : ℕ) → i < c.owners → j < c.owners → i ≢ j → (sent i j ≡ part q c j (log_of logs i)) × (got i j ≡ sent i j) × (rest i j ≡ []))
+            × AreSound q c logs (λ i j. part q c i (log_of logs j)) × ((r e : ℕ) → IsKnown (log_of logs (owner_of c r)) r e ↔ Least q r e)
+        law = concludes q c owner sent got rest owed cleared ending ends tied logs problem cut log_count log_is quiet sums
+
+        logged : (r e : ℕ) → IsHeld values r e ↔ IsKnown (log_of logs (owner_of c r)) r e
+        logged r e = (
+            (λ h.
+              let x = (held r e).0 h in
+              let k = contains_place logs x.0 x.1 in
+              let l : k.0 < c.owners = (let w = within logs k.0 x.0 k.1 in omega (arith, w, log_count)) in
+              let here : log_of logs k.0 ≡ x.0 = read_place logs k.0 x.0 [] k.1 in
+              let g = x.2 in
+              let own : owner_of c r ≡ k.0 = ap (owner_of c) (sym g.2) ∙ (well_formed k.0 l).own g.0 (subst (λ xs. Contains xs g.0) (sym here) g.1) in
+              subst (λ xs. IsKnown xs r e) (sym (ap (log_of logs) own ∙ here)) x.2),
+            (λ h. ⊎_elim
+              (λ (low : owner_of c r < length logs).
+                let p = place logs (owner_of c r) low in
+                (held r e).1 (p.0, contained logs (owner_of c r) p.0 p.1, subst (λ xs. IsKnown xs r e) (read_place logs (owner_of c r) p.0 [] p.1) h))
+              (λ (past : length logs ≤ owner_of c r).
+                absurd (let none = get_or_past logs (owner_of c r) [] past in let l = (subst (λ xs. IsKnown xs r e) none h).1.1 in omega (arith, l)))
+              (cases_lt (owner_of c r) (length logs))))
+
+        -- what is said of one post
+        said : (p : P) → Contains posts p → (m.post_sent p ≡ part q c (m.post_ends p).1 (log_of logs (m.post_ends p).0)) × (m.post_received p ≡ m.post_sent p) × (m.post_rest p ≡ [])
+        said p h =
+            let x = settled.only p h in
+            let i = x.0 in let j = x.1 in let s = x.3 in
+            let l = law.0 i j x.2.0 x.2.1 s.apart in
+            let received_all : m.post_received p ≡ m.post_sent p = s.received_is ∙ (l.1 ∙ sym s.sent_is) in
+            (s.sent_is ∙ (l.0 ∙ ap (λ (e : ℕ × ℕ). part q c e.1 (log_of logs e.0)) (sym s.ends_are)), received_all, no_rest (m.post_sent p) (m.post_received p) (m.post_rest p) s.whole received_all)
+
+        pub says_least : AllPairs IsPairBefore (map m.post_ends posts) → IsOutcome m q c values logs posts
+        says_least in_order = record {
+          delivered = record {
+            pairs = λ x. (
+              (λ h.
+                let k = contains_place (map m.post_ends posts) x h in
+                let w = map_from m.post_ends posts k.0 x k.1 in
+                let y = settled.only w.0 (contained posts k.0 w.0 w.1) in
+                subst (λ (z : ℕ × ℕ). IsPair c.owners z) (sym y.3.ends_are ∙ w.2) (y.2.0, y.2.1, y.3.apart)),
+              (λ h.
+                let y = settled.each x.0 x.1 (h.0, h.1) h.2 in
+                let k = contains_place posts y.0 y.1 in
+                subst (λ (z : ℕ × ℕ). Contains (map m.post_ends posts) z) y.2 (contained (map m.post_ends posts) k.0 (m.post_ends y.0) (map_place m.post_ends posts k.0 y.0 k.1))));
+            whole_part = λ p h. (said p h).0;
+            all_of_it = λ p h. (said p h).1;
+          };
+          in_order = in_order;
+          none_left = λ p h. (said p h).2;
+          sound = law.1;
+          shaped = shaped;
+          least = λ r e. ((λ h. (law.2 r e).0 ((logged r e).0 h)), λ h. (logged r e).1 ((law.2 r e).1 h));
+          logged = λ r e. law.2 r e;
+        }

@@ -1,0 +1,6 @@
+pub mod PlaceLemmas
+pub mod TableLemmas
+pub mod SettlingLemmas
+pub mod FillingLemmas
+pub mod EndingLemmas
+pub mod ConcludingLemmas

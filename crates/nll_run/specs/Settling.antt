@@ -1,0 +1,77 @@
+-- What settled mailboxes say, while they are settled one by one. Private contracts alone cite this
+-- file.
+-- Source: project's choice.
+use Rattle.std.specs.Prelude.{◌≡◌, ◌≢◌, ℕ, ◌<◌, List, [], ◌∷◌, ◌++◌, length, map, drop, slice_get}
+use Rattle.std.specs.Prelude.{Some, Contains, AllPairs}
+use Rattle.nll_mail.specs.declared.growth.Growth.{Growth}
+use Rattle.nll_mail.specs.declared.mail.Mail as Mail
+use Rattle.nll_owner.specs.Logs.{IsPrefix, log_of}
+use Rattle.nll_owner.specs.Delivery.{IsPairBefore}
+use Rattle.nll_worker.specs.declared.ending.Ending.{Ending}
+use Rattle.nll_worker.specs.declared.ending.Ending.TheVariants.{Quiet, Stopped, Stray}
+use Rattle.nll_run.specs.Table.{list_at}
+
+module _ {M S R C P : Type 0} (mail : Mail.Ghosts M S R C P) (out into : ℕ → ℕ → List Growth)
+    where
+  -- The settled mailbox from owner i to owner j says what its two ends said.
+  pub record IsPostOf (i j : ℕ) (p : P) : Type 0 where
+    pub apart : i ≢ j
+    pub ends_are : mail.post_ends p ≡ (i, j)
+    pub sent_is : mail.post_sent p ≡ out i j
+    pub received_is : mail.post_received p ≡ into i j
+    pub whole : mail.post_sent p ≡ mail.post_received p ++ mail.post_rest p
+
+  -- Of the pairs that are done, what was received begins what was sent; each that is of two
+  -- different owners has its settled mailbox, and there is no other.
+  pub record ArePostsOf (done : ℕ → ℕ → Type 0) (posts : List P) : Type 0 where
+    pub prefix : (i j : ℕ) → done i j → IsPrefix (into i j) (out i j)
+    pub each :
+        (i j : ℕ) → done i j → i ≢ j
+        → (p : P) × Contains posts p × (mail.post_ends p ≡ (i, j))
+    pub only : (p : P) → Contains posts p → (i : ℕ) × (j : ℕ) × done i j × IsPostOf i j p
+
+  -- those of the pairs that are done were put behind what was there
+  abbrev pub AddsPosts : (ℕ → ℕ → Type 0) → List P → List P → Type 0
+  AddsPosts done old new = (more : List P) × (new ≡ old ++ more) × ArePostsOf done more
+
+-- Settled mailboxes come by sender, then by receiver, and all of them before this pair.
+pub record ComeBefore {P : Type 0} (ends : P → ℕ × ℕ) (posts : List P) (pair : ℕ × ℕ)
+    : Type 0 where
+  pub in_order : AllPairs IsPairBefore (map ends posts)
+  pub before : (p : P) → Contains posts p → IsPairBefore (ends p) pair
+
+-- what the row has for j and the first of a column are the ends of the mailbox from i to j
+abbrev pub AreNextEnds : {C R : Type 0} → (C → R → Type 0) → (R → ℕ × ℕ) → ℕ → ℕ
+    → List C → List R → Type 0
+AreNextEnds {C} {R} closes ends i j row column =
+    (z : C) × (r : R) × (rest : List R) × (slice_get row j ≡ Some z) × (column ≡ r ∷ rest)
+    × closes z r × (ends r ≡ (i, j))
+
+-- each of so many columns lost its first
+abbrev pub LosesFirsts : {R : Type 0} → ℕ → List (List R) → List (List R) → Type 0
+LosesFirsts owners old new =
+    (length new ≡ length old) × ((j : ℕ) → j < owners → list_at new j ≡ drop 1 (list_at old j))
+
+-- the pairs of a row, up to a place
+abbrev pub InRow : ℕ → ℕ → ℕ → ℕ → Type 0
+InRow from made i j = (i ≡ from) × (j < made)
+
+-- the pairs of all rows below
+abbrev pub InRows : ℕ → ℕ → ℕ → ℕ → Type 0
+InRows made owners i j = (i < made) × (j < owners)
+
+-- what the closed sender at each place has sent
+abbrev pub sent_by : {C : Type 0} → (C → List Growth) → List (List C) → ℕ → ℕ → List Growth
+sent_by all_sent rows i j = log_of (map all_sent (list_at rows i)) j
+
+-- what the receiver at each place has received
+abbrev pub got_by : {R : Type 0} → (R → List Growth) → List (List R) → ℕ → ℕ → List Growth
+got_by received columns i j = log_of (map received (list_at columns j)) i
+
+-- the worker found all quiet, was stopped by another, or took what can't be its sender's: none of
+-- these is an error of a run by itself
+abbrev pub IsCalm : Ending → Type 0
+IsCalm Quiet = Unit {0}
+IsCalm Stopped = Unit {0}
+IsCalm Stray = Unit {0}
+IsCalm _ = ⊥

@@ -1,0 +1,40 @@
+-- The mailboxes between all owners, by sender and by receiver. Private contracts alone cite this
+-- file.
+-- Source: project's choice.
+use Rattle.std.specs.Prelude.{◌≡◌, ℕ, ◌+◌, ◌<◌, ◌≤◌, List, [], ◌∷◌, ◌++◌, length, slice_get}
+use Rattle.std.specs.Prelude.{slice_index_or, Some}
+use Rattle.nll_mail.specs.declared.mail.Mail as Mail
+
+-- the list at a place
+abbrev pub list_at : {X : Type 0} → List (List X) → ℕ → List X
+list_at lists k = slice_index_or lists k []
+
+-- the two ends of a mailbox through which nothing went
+abbrev pub AreNewEnds : {M S R C P : Type 0} → Mail.Ghosts M S R C P → S → R → Type 0
+AreNewEnds mail s r = mail.pairs s r × (mail.sent s ≡ []) × (mail.received r ≡ [])
+
+module _ {S R : Type 0} (tied : S → R → Type 0) (ends : R → ℕ × ℕ) where
+  -- what the row of i has for j and the column of j from i are the ends of the mailbox from i to j
+  abbrev pub IsCell : ℕ → ℕ → List S → List R → Type 0
+  IsCell i j row column =
+      (s : S) × (r : R) × (slice_get row j ≡ Some s) × (slice_get column i ≡ Some r)
+      × tied s r × (ends r ≡ (i, j))
+
+  -- The first so many rows, and what all columns have from them.
+  pub record IsTable (done owners : ℕ) (rows : List (List S)) (columns : List (List R))
+      : Type 0 where
+    pub row_count : length rows ≡ done
+    pub column_count : length columns ≡ owners
+    pub width : (i : ℕ) → i < done → length (list_at rows i) ≡ owners
+    pub height : (j : ℕ) → j < owners → length (list_at columns j) ≡ done
+    pub cell :
+        (i j : ℕ) → i < done → j < owners → IsCell i j (list_at rows i) (list_at columns j)
+
+  -- A row that is made up to a place: each column so far got one more from it.
+  pub record IsPartRow (made from : ℕ) (row : List S) (old new : List (List R)) : Type 0 where
+    pub size : length row ≡ made
+    pub column_count : length new ≡ length old
+    pub each :
+        (j : ℕ) → j < made → (s : S) × (r : R) × (slice_get row j ≡ Some s)
+        × (list_at new j ≡ list_at old j ++ r ∷ []) × tied s r × (ends r ≡ (from, j))
+    pub others : (j : ℕ) → made ≤ j → list_at new j ≡ list_at old j

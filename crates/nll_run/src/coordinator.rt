@@ -1,0 +1,184 @@
+//! One run, from the problem to its outcome.
+
+ghost use Rattle.std.specs.Prelude.{◌≡◌, ◌<◌, ◌≤◌, ℕ, [], length, map, slice_get, Some, Err};
+ghost use Rattle.std.specs.Prelude.{IfOk, vec_len, vec_capacity};
+ghost use Rattle.std.specs.VecDeque.{deque_len};
+ghost use Rattle.nll_problem.specs.Limits.{most_owners};
+ghost use Rattle.nll_problem.specs.Problem.{IsSound};
+ghost use Rattle.nll_owner.specs.Logs.{IsCutOf, log_of};
+ghost use Rattle.nll_owner.specs.Tables.{AreTables};
+ghost use Rattle.nll_worker.specs.Finishing.{IsFresh, Leaves, WasMade, FinishedAs};
+ghost use Rattle.nll_run.specs.Outcome.{IsOutcome, HasFullClock};
+ghost use Rattle.nll_run.specs.Table.{AreNewEnds, IsTable};
+ghost use Rattle.nll_run.specs.declared.error.RunError.TheVariants.{RankFull};
+
+use crate::error::RunError;
+use crate::filling::values_of;
+use crate::mailboxes::{make_columns, make_rows, make_workers};
+use crate::outcome::Outcome;
+use crate::parts::{Parts, first_error, take_apart};
+use crate::settling::settle_all;
+use crate::starting::start_all;
+use nll_cut::Cut;
+use nll_ledger::Ledger;
+use nll_mail::Mail;
+use nll_owner::Tables;
+use nll_problem::Problem;
+use nll_sets::Memory;
+use nll_worker::{Finished, Gate, Given, Worker};
+use std::alloc::{AllocError, Global};
+use std::collections::VecDeque;
+use std::sync::Wait;
+use std::thread::{PromisedHandle, Threads};
+
+/// Runs the owners of a cut, each in a thread of its own, until nothing is left to do anywhere.
+///
+/// Each owner receives from each other just the growths of the regions that it reads, once each and
+/// in the order in which they grew, and none is left behind; the values are the least.
+///
+/// # Errors
+/// All threads are joined and all senders closed, and what was lent is as it was.
+/// - `Thread`: a thread couldn't be started.
+/// - `Memory`.
+/// - `RankFull`: the clock of an owner is at its end.
+///
+/// # Cost
+/// The work of the owners, and for each growth that is received some two holds of the ledger, a post
+/// and a take (not proved). The owners of a cut have a mailbox for each ordered pair of them.
+pub fn run<M: Mail, L: Ledger, G: Gate, R: Threads + Wait + Sync>(
+    rt: &R,
+    alloc: Global,
+    problem: &Problem,
+    cut: &Cut,
+    mail: &M,
+    ledger: &L,
+    gate: &G,
+) -> Result<Outcome<M::Post>, RunError>
+    requires { length cut.now.list ≡ problem.now.regions }
+    ensures ok { IfOk result (λ o. IsOutcome M.Mail problem.now cut.now o.values
+        (map (λ list. list.items) o.grown.items) o.posts.items) }
+    ensures full { result ≡ Err RankFull → HasFullClock problem.now cut.now }
+{
+    let tables = Tables::of(alloc, problem, cut)?;
+    let outcome = run_on::<M, L, G, R>(rt, alloc, problem, cut, &tables, mail, ledger, gate);
+    drop(tables);
+    outcome
+}
+
+// The same on tables that are lent to all workers.
+fn run_on<M: Mail, L: Ledger, G: Gate, R: Threads + Wait + Sync>(
+    rt: &R,
+    alloc: Global,
+    problem: &Problem,
+    cut: &Cut,
+    tables: &Tables,
+    mail: &M,
+    ledger: &L,
+    gate: &G,
+) -> Result<Outcome<M::Post>, RunError>
+    requires cut { length cut.now.list ≡ problem.now.regions }
+    requires tables { AreTables problem.now cut.now tables.now }
+    ensures ok { IfOk result (λ o. IsOutcome M.Mail problem.now cut.now o.values
+        (map (λ list. list.items) o.grown.items) o.posts.items) }
+    ensures full { result ≡ Err RankFull → HasFullClock problem.now cut.now }
+{
+    // No effect at run time. The proof reads from this call that the problem is sound.
+    let _regions = problem.regions();
+    let owners = cut.owners();
+    let (book, workers) = prepare::<M, L>(alloc, mail, ledger, owners)?;
+    let handles = room_for::<M, L>(alloc, owners)?;
+    let (book, finished) = start_all::<M, L, G, R>(
+        rt, alloc, problem, cut, tables, gate, book, workers, handles,
+    );
+    match finished {
+        Ok(finished) => conclude::<M, L>(alloc, problem, cut, book, finished),
+        Err(error) => Err(error),
+    }
+}
+
+// The book and the workers, each with a fresh share and the ends of its mailboxes.
+fn prepare<M: Mail, L: Ledger>(
+    alloc: Global,
+    mail: &M,
+    ledger: &L,
+    owners: u16,
+) -> Result<(L::Book, VecDeque<Worker<M, L>>), Memory>
+    requires owners { (0 < owners) × (owners ≤ most_owners) }
+    ensures book { IfOk result (λ p. L.owner_count p.0 ≡ owners) }
+    ensures count { IfOk result (λ p. deque_len p.1 ≡ owners) }
+    ensures table { IfOk result (λ p. IsTable (AreNewEnds M.Mail) M.ends owners owners
+        (map (λ w. w.outbox.senders.items) p.1.items)
+        (map (λ w. w.receivers.items) p.1.items)) }
+    ensures each { IfOk result (λ p. (k : ℕ) (w : _) → slice_get p.1.items k ≡ Some w
+        → (w.me ≡ k) × (w.room.items ≡ []) × (owners ≤ vec_capacity w.room)) }
+    ensures shares { IfOk result (λ p. (k : ℕ) (w : _) → slice_get p.1.items k ≡ Some w
+        → IsFresh L.Ledger p.0 k w.share) }
+{
+    let mut columns = make_columns::<M>(alloc, owners)?;
+    let rows = make_rows::<M>(alloc, mail, owners, &mut columns)?;
+    let (book, shares) = ledger.open(alloc, owners)?;
+    let workers = make_workers::<M, L>(
+        alloc,
+        owners,
+        VecDeque::from(rows),
+        VecDeque::from(columns),
+        VecDeque::from(shares),
+    )?;
+    Ok((book, VecDeque::from(workers)))
+}
+
+// Room for a handle of each worker.
+fn room_for<M: Mail, L: Ledger>(
+    alloc: Global,
+    owners: u16,
+) -> Result<Vec<PromisedHandle<Finished<M, L>, Given<M, L>>>, AllocError>
+    ensures { IfOk result (λ v. (v.items ≡ []) × (vec_capacity v ≡ owners)) }
+{
+    Vec::with_capacity(alloc, owners as usize)
+}
+
+// Settles the mailboxes, gathers the ledger and fills the values.
+fn conclude<M: Mail, L: Ledger>(
+    alloc: Global,
+    problem: &Problem,
+    cut: &Cut,
+    book: L::Book,
+    finished: Vec<Finished<M, L>>,
+) -> Result<Outcome<M::Post>, RunError>
+    requires problem { IsSound problem.now }
+    requires cut { IsCutOf problem.now cut.now }
+    requires book { L.owner_count book ≡ cut.now.owners }
+    requires count { vec_len finished ≡ cut.now.owners }
+    requires table { IsTable M.closes M.ends cut.now.owners cut.now.owners
+        (map (λ d. d.closed.items) finished.items) (map (λ d. d.receivers.items) finished.items) }
+    requires leaves { (k : ℕ) (d : _) → slice_get finished.items k ≡ Some d
+        → Leaves L.Ledger book k d.left d.ending }
+    requires finishes { (k : ℕ) (d : _) → slice_get finished.items k ≡ Some d → WasMade d.ending
+        → FinishedAs problem.now cut.now k (log_of (map M.all_sent d.closed.items))
+        (log_of (map M.received d.receivers.items)) (L.left_owed d.left) (L.left_cleared d.left)
+        d.ending d.log.items }
+    ensures ok { IfOk result (λ o. IsOutcome M.Mail problem.now cut.now o.values
+        (map (λ list. list.items) o.grown.items) o.posts.items) }
+    ensures full { result ≡ Err RankFull → HasFullClock problem.now cut.now }
+{
+    if let Some(error) = first_error::<M, L>(&finished) {
+        return Err(error);
+    }
+    let owners = cut.owners();
+    let Parts {
+        lefts,
+        grown,
+        rows,
+        columns,
+    } = take_apart::<M, L>(alloc, VecDeque::from(finished))?;
+    let _ = L::gather(book, lefts);
+    let mut columns = columns;
+    let mut posts = Vec::new(alloc);
+    settle_all::<M>(VecDeque::from(rows), &mut columns, owners, &mut posts)?;
+    let values = values_of(alloc, problem, &grown)?;
+    Ok(Outcome {
+        values,
+        grown,
+        posts,
+    })
+}

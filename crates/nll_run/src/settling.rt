@@ -1,0 +1,79 @@
+//! The mailboxes of a run are settled.
+
+ghost use Rattle.std.specs.Prelude.{◌≡◌, ◌+◌, ◌<◌, ℕ, [], map, vec_len, OnOk, AllPairs};
+ghost use Rattle.std.specs.VecDeque.{deque_len};
+ghost use Rattle.nll_owner.specs.Logs.{log_of};
+ghost use Rattle.nll_owner.specs.Delivery.{IsPairBefore};
+ghost use Rattle.nll_run.specs.Table.{IsTable, list_at};
+ghost use Rattle.nll_run.specs.Settling.{ArePostsOf, AddsPosts, ComeBefore, InRows, InRow};
+ghost use Rattle.nll_run.specs.Settling.{AreNextEnds, LosesFirsts, sent_by, got_by};
+
+use nll_mail::Mail;
+use nll_sets::Memory;
+use std::collections::VecDeque;
+
+/// Settles all mailboxes, by sender and then by receiver. Those from an owner to itself, through
+/// which nothing went, are let go.
+///
+/// # Errors
+/// - `Memory`.
+pub fn settle_all<M: Mail>(
+    rows: VecDeque<VecDeque<M::Closed>>,
+    columns: &mut Vec<VecDeque<M::R>>,
+    owners: u16,
+    posts: &mut Vec<M::Post>,
+) -> Result<(), Memory>
+    requires table { IsTable M.closes M.ends owners owners (map (λ c. c.items) rows.items)
+        (map (λ c. c.items) columns.old.items) }
+    requires none { posts.old.items ≡ [] }
+    ensures posts { OnOk result (ArePostsOf M.Mail
+        (sent_by M.all_sent (map (λ c. c.items) rows.items))
+        (got_by M.received (map (λ c. c.items) columns.old.items))
+        (InRows owners owners) posts.new.items) }
+    ensures order { OnOk result (AllPairs IsPairBefore (map M.post_ends posts.new.items)) }
+{
+    let mut rows = rows;
+    for from in 0..owners {
+        let Some(row) = rows.pop_front() else {
+            unreachable!()
+        };
+        settle_row::<M>(row, columns, from, owners, posts)?;
+    }
+    Ok(())
+}
+
+// Settles the mailboxes of one sender with the first ends of the columns.
+fn settle_row<M: Mail>(
+    row: VecDeque<M::Closed>,
+    columns: &mut Vec<VecDeque<M::R>>,
+    from: u16,
+    owners: u16,
+    posts: &mut Vec<M::Post>,
+) -> Result<(), Memory>
+    requires row { deque_len row ≡ owners }
+    requires columns { vec_len columns.old ≡ owners }
+    requires heads { (j : ℕ) → j < owners → AreNextEnds M.closes M.ends from j row.items
+        (list_at (map (λ c. c.items) columns.old.items) j) }
+    requires order { ComeBefore M.post_ends posts.old.items (from, 0) }
+    ensures columns { OnOk result (LosesFirsts owners (map (λ c. c.items) columns.old.items)
+        (map (λ c. c.items) columns.new.items)) }
+    ensures posts { OnOk result (AddsPosts M.Mail (λ _ j. log_of (map M.all_sent row.items) j)
+        (λ _ j. log_of (map M.received (list_at (map (λ c. c.items) columns.old.items) j)) 0)
+        (InRow from owners) posts.old.items posts.new.items) }
+    ensures order { OnOk result (ComeBefore M.post_ends posts.new.items (from + 1, 0)) }
+{
+    let mut row = row;
+    for to in 0..owners {
+        let Some(closed) = row.pop_front() else {
+            unreachable!()
+        };
+        let Some(receiver) = columns[to as usize].pop_front() else {
+            unreachable!()
+        };
+        let post = M::settle(closed, receiver);
+        if from != to {
+            posts.push(post)?;
+        }
+    }
+    Ok(())
+}

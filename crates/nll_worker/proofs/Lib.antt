@@ -1,0 +1,8 @@
+pub mod SumLemmas
+pub mod RunLemmas
+pub mod PostingLemmas
+pub mod ListLemmas
+pub mod BatchLemmas
+pub mod TurnLemmas
+pub mod FinishLemmas
+pub mod JoiningLemmas

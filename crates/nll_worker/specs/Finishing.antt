@@ -1,0 +1,108 @@
+-- What a worker is given, and what it gives back.
+-- Source: project's choice.
+use Rattle.std.specs.Prelude.{◌≡◌, ◌≢◌, ◌^◌, ℕ, ◌+◌, ◌<◌, ◌≤◌, true, false, List, [], length, map, Contains}
+use Rattle.nll_problem.specs.Limits.{most_owners}
+use Rattle.nll_problem.specs.Problem.{Problem}
+use Rattle.nll_cut.specs.Partition.{Cut}
+use Rattle.nll_mail.specs.declared.growth.Growth.{Growth}
+use Rattle.nll_mail.specs.declared.mail.Mail as Mail
+use Rattle.nll_ledger.specs.declared.ledger.Ledger as Ledger
+use Rattle.nll_owner.specs.Logs.{IsPrefix, log_of}
+use Rattle.nll_owner.specs.Owner.{Owner, IsSound, IsDone, Passes, received_from, part_for}
+use Rattle.nll_worker.specs.Mailboxes.{Alike, AreAllEmpty, Keeps}
+use Rattle.nll_worker.specs.Sums.{sum_to}
+use Rattle.nll_worker.specs.declared.ending.Ending.{Ending}
+use Rattle.nll_worker.specs.declared.ending.Ending.TheVariants.{Quiet, Stopped, Unstarted, NoOwner}
+use Rattle.nll_worker.specs.declared.ending.Ending.TheVariants.{RankFull, Stray}
+
+-- The owner is of this problem, cut and number.
+pub record IsOwnerOf (q : Problem) (c : Cut) (i : ℕ) (o : Owner) : Type 0 where
+  pub problem : o.problem ≡ q
+  pub cut : o.cut ≡ c
+  pub me : o.me ≡ i
+
+-- a growth was taken that its sender can't have posted to owner i
+abbrev pub HasStray : Problem → Cut → ℕ → (ℕ → List Growth) → Type 0
+HasStray q c i got =
+    (j : ℕ) × (g : Growth) × (j < c.owners) × Contains (got j) g × (Passes q c i j g → ⊥)
+
+-- What the worker of owner i comes to: its owner, what it posted to each other owner and took from
+-- each, what it owed and cleared, and how it ended.
+pub record Finishes (q : Problem) (c : Cut) (i : ℕ) (o : Owner) (sent got : ℕ → List Growth)
+    (owed cleared : ℕ) (ending : Ending) : Type 0 where
+  pub problem : o.problem ≡ q
+  pub cut : o.cut ≡ c
+  pub me : o.me ≡ i
+  pub sound : IsSound o
+  -- it posted each part in order, from the front
+  pub front : (j : ℕ) → j < c.owners → IsPrefix (sent j) (part_for o j)
+  pub stray : ending ≡ Stray → HasStray q c i got
+  pub full : ending ≡ RankFull → 2 ^ 62 ≤ o.clock
+  -- where all was quiet, its owner received what it took and has nothing left to do; it has posted
+  -- all, owed for the load and for all that it posted, and cleared the load and all that it took
+  pub heard : ending ≡ Quiet → (j : ℕ) → j < c.owners → got j ≡ received_from o j
+  pub done : ending ≡ Quiet → IsDone o
+  pub whole : ending ≡ Quiet → (j : ℕ) → j < c.owners → sent j ≡ part_for o j
+  pub owes : ending ≡ Quiet → owed ≡ 1 + sum_to c.owners (λ j. length (sent j))
+  pub clears : ending ≡ Quiet → cleared ≡ 1 + sum_to c.owners (λ j. length (got j))
+
+-- the worker could make its owner
+abbrev pub WasMade : Ending → Type 0
+WasMade Unstarted = ⊥
+WasMade NoOwner = ⊥
+WasMade _ = Unit {0}
+
+-- it finished with an owner of this log
+abbrev pub FinishedAs : Problem → Cut → ℕ → (ℕ → List Growth) → (ℕ → List Growth)
+    → ℕ → ℕ → Ending → List Growth → Type 0
+FinishedAs q c i sent got owed cleared ending log =
+    (o : Owner) × (o.log ≡ log) × Finishes q c i o sent got owed cleared ending
+
+-- the worker neither found all quiet nor was stopped by another
+abbrev pub IsError : Ending → Type 0
+IsError Quiet = ⊥
+IsError Stopped = ⊥
+IsError _ = Unit {0}
+
+module _ {L B H E : Type 0} (ledger : Ledger.Ghosts L B H E) where
+  -- What is left of the share of owner i whose worker ended so.
+  pub record Leaves (book : B) (i : ℕ) (left : E) (ending : Ending) : Type 0 where
+    pub of_book : ledger.left_belongs book left
+    pub number_is : ledger.left_number left ≡ i
+    pub quiet_is : ending ≡ Quiet → ledger.left_quiet left ≡ true
+    pub not_quiet : ending ≢ Quiet → ledger.left_quiet left ≡ false
+    pub called_is : ledger.left_called left ≡ true → IsError ending
+
+  -- A share of the book in which nothing happened yet, for owner i.
+  pub record IsFresh (book : B) (i : ℕ) (share : H) : Type 0 where
+    pub of_book : ledger.belongs book share
+    pub number_is : ledger.number share ≡ i
+    pub owed_is : ledger.owed share ≡ 1
+    pub cleared_is : ledger.cleared share ≡ 0
+    pub called_is : ledger.called share ≡ false
+
+  module _ {M S R C P : Type 0} (mail : Mail.Ghosts M S R C P) where
+    -- The worker of owner i is given a fresh share, mailboxes through which nothing went, and an
+    -- empty list with room for its senders once they are closed.
+    pub record IsGiven (c : Cut) (book : B) (i : ℕ) (share : H) (senders : List S)
+        (receivers : List R) (kept : List C) (room : ℕ) : Type 0 where
+      pub me_in : i < c.owners
+      pub few : c.owners ≤ most_owners
+      pub fresh : IsFresh book i share
+      pub posts : AreAllEmpty c.owners (map mail.sent senders)
+      pub taken : AreAllEmpty c.owners (map mail.received receivers)
+      pub none_kept : kept ≡ []
+      pub space : length senders ≤ room
+
+    -- The worker of owner i gives back the log of its owner, what is left of its share, and the ends
+    -- of its mailboxes: each sender closed, each receiver the end that it was.
+    pub record IsEnded (q : Problem) (c : Cut) (book : B) (i : ℕ) (senders : List S)
+        (receivers : List R) (log : List Growth) (left : E) (closed : List C) (ended : List R)
+        (ending : Ending) : Type 0 where
+      pub shuts : Alike (λ s z. (r : R) → mail.pairs s r → mail.closes z r) senders closed
+      pub keeps : Alike (Keeps mail) receivers ended
+      pub leaves : Leaves book i left ending
+      pub finishes :
+          WasMade ending
+          → FinishedAs q c i (log_of (map mail.all_sent closed)) (log_of (map mail.received ended))
+            (ledger.left_owed left) (ledger.left_cleared left) ending log

@@ -1,0 +1,6 @@
+pub mod Sums
+pub mod Mailboxes
+pub mod Hearing
+pub mod Turning
+pub mod Finishing
+pub mod Starting

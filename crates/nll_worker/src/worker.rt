@@ -1,0 +1,114 @@
+//! What a worker owns, and what it gives back.
+
+ghost use Rattle.std.specs.Prelude.{◌≡◌, length, vec_capacity};
+ghost use Rattle.nll_owner.specs.Tables.{AreTables};
+ghost use Rattle.nll_worker.specs.Finishing.{IsGiven, IsEnded};
+
+use crate::ending::Ending;
+use crate::gate::Gate;
+use crate::outbox::Outbox;
+use crate::working::begin;
+use nll_cut::Cut;
+use nll_ledger::Ledger;
+use nll_mail::{Growth, Mail};
+use nll_owner::Tables;
+use nll_problem::Problem;
+use std::alloc::Global;
+use std::snapshot::Snapshot;
+use std::sync::Wait;
+use std::sync::atomic::AtomicBool;
+use std::thread::Promise;
+
+/// What a worker owns: its number, its share of the ledger's book, the ends of its mailboxes, and
+/// room for its senders once they are closed.
+#[derive(Drop)]
+pub struct Worker<M: Mail, L: Ledger> {
+    pub me: u16,
+    pub share: L::Share,
+    pub outbox: Outbox<M>,
+    pub receivers: Vec<M::R>,
+    pub room: Vec<M::Closed>,
+}
+
+/// What a worker gives back: the log of its owner, what is left of its share, the ends of its
+/// mailboxes, and how it ended.
+#[derive(Drop)]
+pub struct Finished<M: Mail, L: Ledger> {
+    pub log: Vec<Growth>,
+    pub left: L::Left,
+    pub closed: Vec<M::Closed>,
+    pub receivers: Vec<M::R>,
+    pub ending: Ending,
+}
+
+/// What a worker was given when its thread was started. It costs nothing at run time.
+#[derive(Drop)]
+pub struct Given<M: Mail, L: Ledger> {
+    pub worker: Snapshot<Worker<M, L>>,
+    pub book: Snapshot<L::Book>,
+    pub problem: Snapshot<Problem>,
+    pub cut: Snapshot<Cut>,
+}
+
+impl<M: Mail, L: Ledger> Promise<Finished<M, L>> for Given<M, L> {
+    ghost use Rattle.nll_worker.specs.Finishing.{IsEnded};
+
+    ghost kept_by = { λ given back. IsEnded L.Ledger M.Mail given.problem.value given.cut.value
+        given.book.value given.worker.value.me given.worker.value.outbox.senders.items
+        given.worker.value.receivers.items back.log.items back.left back.closed.items
+        back.receivers.items back.ending };
+}
+
+/// Runs one worker from its start to its end.
+pub fn work<M: Mail, L: Ledger, G: Gate, R: Wait>(
+    rt: &R,
+    alloc: Global,
+    problem: &Problem,
+    cut: &Cut,
+    tables: &Tables,
+    gate: &G,
+    book: &L::Book,
+    refused: &AtomicBool,
+    worker: Worker<M, L>,
+) -> Finished<M, L>
+    requires given { IsGiven L.Ledger M.Mail cut.now book.now worker.me worker.share
+        worker.outbox.senders.items worker.receivers.items worker.room.items
+        (vec_capacity worker.room) }
+    requires cut { length cut.now.list ≡ problem.now.regions }
+    requires tables { AreTables problem.now cut.now tables.now }
+    ensures { IsEnded L.Ledger M.Mail problem.now cut.now book.now worker.me
+        worker.outbox.senders.items worker.receivers.items result.log.items result.left
+        result.closed.items result.receivers.items result.ending }
+{
+    let Worker {
+        me,
+        share,
+        outbox,
+        receivers,
+        room,
+    } = worker;
+    let mut outbox = outbox;
+    let mut receivers = receivers;
+    let (left, ending, log) = begin::<M, L, G, R>(
+        rt,
+        alloc,
+        problem,
+        cut,
+        tables,
+        gate,
+        book,
+        refused,
+        share,
+        &mut outbox.senders,
+        &mut receivers,
+        me,
+    );
+    let closed = outbox.close_all(room);
+    Finished {
+        log,
+        left,
+        closed,
+        receivers,
+        ending,
+    }
+}

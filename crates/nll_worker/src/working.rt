@@ -1,0 +1,163 @@
+//! One worker, from its start until its share has left.
+
+ghost use Rattle.std.specs.Prelude.{◌≡◌, ◌<◌, ◌≤◌, length, map, false};
+ghost use Rattle.nll_problem.specs.Limits.{most_owners};
+ghost use Rattle.nll_owner.specs.Logs.{log_of};
+ghost use Rattle.nll_owner.specs.Owner.{first_owner};
+ghost use Rattle.nll_owner.specs.Tables.{AreTables};
+ghost use Rattle.nll_worker.specs.Mailboxes.{Alike, AreAllEmpty, Stays, Keeps};
+ghost use Rattle.nll_worker.specs.Finishing.{Finishes, Leaves, WasMade, FinishedAs, IsFresh};
+
+use crate::ending::Ending;
+use crate::exchange::Heard;
+use crate::gate::Gate;
+use crate::turn::{first_turn, round};
+use crossbeam_utils::Backoff;
+use nll_cut::Cut;
+use nll_ledger::{Leave, Ledger};
+use nll_mail::{Growth, Mail};
+use nll_owner::{Owner, Tables};
+use nll_problem::Problem;
+use std::alloc::Global;
+use std::sync::Wait;
+use std::sync::atomic::{AtomicBool, Ordering};
+
+// Sets the stop flag, and leaves.
+fn halt<L: Ledger>(book: &L::Book, share: L::Share) -> L::Left
+    requires { L.belongs book.now share }
+    ensures left { L.left_belongs book.now result × (L.left_number result ≡ L.number share) }
+    ensures stopped { L.left_quiet result ≡ false }
+{
+    let mut share = share;
+    L::stop(book, &mut share);
+    match L::leave(book, share) {
+        Leave::Stopped(left) => left,
+        Leave::Quiet(_) => unreachable!(),
+        Leave::Open(_) => unreachable!(),
+    }
+}
+
+// Loads the owner and works until the share has left: what is left of it, and how this ended.
+fn work_on<M: Mail, L: Ledger, G: Gate, R: Wait>(
+    rt: &R,
+    problem: &Problem,
+    cut: &Cut,
+    gate: &G,
+    book: &L::Book,
+    share: L::Share,
+    owner: &mut Owner<'_>,
+    senders: &mut Vec<M::S>,
+    receivers: &mut Vec<M::R>,
+    me: u16,
+) -> (L::Left, Ending)
+    requires first { owner.old ≡ first_owner problem.now cut.now me }
+    requires few { cut.now.owners ≤ most_owners }
+    requires fresh { IsFresh L.Ledger book.now me share }
+    requires posts { AreAllEmpty cut.now.owners (map M.sent senders.old.items) }
+    requires taken { AreAllEmpty cut.now.owners (map M.received receivers.old.items) }
+    ensures leaves { Leaves L.Ledger book.now me result.0 result.1 }
+    ensures finishes { Finishes problem.now cut.now me owner.new
+        (log_of (map M.sent senders.new.items)) (log_of (map M.received receivers.new.items))
+        (L.left_owed result.0) (L.left_cleared result.0) result.1 }
+    ensures pairs { Alike (Stays M.Mail) senders.old.items senders.new.items }
+    ensures keeps { Alike (Keeps M.Mail) receivers.old.items receivers.new.items }
+{
+    let mut share = share;
+    let mut turns = 0;
+    let backoff = Backoff::new();
+    let mut heard = first_turn::<M, L, G>(
+        problem, cut, gate, book, &mut share, &mut turns, owner, senders, me,
+    );
+    for _ in rt.forever() {
+        match heard {
+            Heard::Stray => return (halt::<L>(book, share), Ending::Stray),
+            Heard::Memory => return (halt::<L>(book, share), Ending::Memory),
+            Heard::RankFull => return (halt::<L>(book, share), Ending::RankFull),
+            Heard::One => backoff.reset(),
+            Heard::Nothing => match L::leave(book, share) {
+                Leave::Quiet(left) => return (left, Ending::Quiet),
+                Leave::Stopped(left) => return (left, Ending::Stopped),
+                Leave::Open(back) => {
+                    share = back;
+                    backoff.snooze();
+                }
+            },
+        }
+        heard = round::<M, L, G>(
+            problem, cut, gate, book, &mut share, &mut turns, owner, senders, receivers, me,
+        );
+    }
+    unreachable!()
+}
+
+/// Makes the owner and works, where every worker so far was started; else stops at once.
+pub fn begin<M: Mail, L: Ledger, G: Gate, R: Wait>(
+    rt: &R,
+    alloc: Global,
+    problem: &Problem,
+    cut: &Cut,
+    tables: &Tables,
+    gate: &G,
+    book: &L::Book,
+    refused: &AtomicBool,
+    share: L::Share,
+    senders: &mut Vec<M::S>,
+    receivers: &mut Vec<M::R>,
+    me: u16,
+) -> (L::Left, Ending, Vec<Growth>)
+    requires cut { length cut.now.list ≡ problem.now.regions }
+    requires tables { AreTables problem.now cut.now tables.now }
+    requires me { me < cut.now.owners }
+    requires few { cut.now.owners ≤ most_owners }
+    requires fresh { IsFresh L.Ledger book.now me share }
+    requires posts { AreAllEmpty cut.now.owners (map M.sent senders.old.items) }
+    requires taken { AreAllEmpty cut.now.owners (map M.received receivers.old.items) }
+    ensures leaves { Leaves L.Ledger book.now me result.0 result.1 }
+    ensures finishes { WasMade result.1 → FinishedAs problem.now cut.now me
+        (log_of (map M.sent senders.new.items)) (log_of (map M.received receivers.new.items))
+        (L.left_owed result.0) (L.left_cleared result.0) result.1 result.2.items }
+    ensures pairs { Alike (Stays M.Mail) senders.old.items senders.new.items }
+    ensures keeps { Alike (Keeps M.Mail) receivers.old.items receivers.new.items }
+{
+    if refused.load(Ordering::SeqCst) {
+        return (halt::<L>(book, share), Ending::Unstarted, Vec::new(alloc));
+    }
+    match Owner::on(alloc, problem, cut, tables, me) {
+        Ok(owner) => with_owner::<M, L, G, R>(
+            rt, problem, cut, gate, book, share, owner, senders, receivers, me,
+        ),
+        Err(_) => (halt::<L>(book, share), Ending::NoOwner, Vec::new(alloc)),
+    }
+}
+
+// Works, and hands out the log.
+fn with_owner<M: Mail, L: Ledger, G: Gate, R: Wait>(
+    rt: &R,
+    problem: &Problem,
+    cut: &Cut,
+    gate: &G,
+    book: &L::Book,
+    share: L::Share,
+    owner: Owner<'_>,
+    senders: &mut Vec<M::S>,
+    receivers: &mut Vec<M::R>,
+    me: u16,
+) -> (L::Left, Ending, Vec<Growth>)
+    requires first { owner ≡ first_owner problem.now cut.now me }
+    requires few { cut.now.owners ≤ most_owners }
+    requires fresh { IsFresh L.Ledger book.now me share }
+    requires posts { AreAllEmpty cut.now.owners (map M.sent senders.old.items) }
+    requires taken { AreAllEmpty cut.now.owners (map M.received receivers.old.items) }
+    ensures leaves { Leaves L.Ledger book.now me result.0 result.1 }
+    ensures finishes { WasMade result.1 → FinishedAs problem.now cut.now me
+        (log_of (map M.sent senders.new.items)) (log_of (map M.received receivers.new.items))
+        (L.left_owed result.0) (L.left_cleared result.0) result.1 result.2.items }
+    ensures pairs { Alike (Stays M.Mail) senders.old.items senders.new.items }
+    ensures keeps { Alike (Keeps M.Mail) receivers.old.items receivers.new.items }
+{
+    let mut owner = owner;
+    let (left, ending) = work_on::<M, L, G, R>(
+        rt, problem, cut, gate, book, share, &mut owner, senders, receivers, me,
+    );
+    (left, ending, owner.into_log())
+}
