@@ -1,5 +1,5 @@
 -- Each hold of the lock keeps its rule.
-use Rattle.std.proofs.Common.{◌≡◌, ◌≢◌, ℕ, zero, suc, ◌+◌, ◌-◌, ◌*◌, ◌^◌, ◌<◌, ◌≤◌, ◌⊎◌, ⊎_elim, inl, inr, Bool, true, false, List, [], ◌∷◌, ◌++◌, length, map, slice_set, refl, sym, ap, ◌∙◌, subst, arith}
+use Rattle.std.proofs.Common.{◌≡◌, ℕ, zero, suc, ◌+◌, ◌-◌, ◌^◌, ◌<◌, ◌≤◌, ⊎_elim, inl, inr, Bool, true, false, List, [], ◌∷◌, ◌++◌, map, slice_set, refl, sym, ap, ◌∙◌, subst, arith}
 use mathlib.Core.Option.{some, some-injective, some-ne-none}
 use lib.ListN.{get_elem?}
 use Rattle.crossbeam_queue.specs.Fifo.{Pushes, Pops, Forks, Merges, Learns}
@@ -7,7 +7,7 @@ use Rattle.nll_ledger.specs.declared.figures.Figures.{Figures}
 use Rattle.nll_ledger.specs.declared.lock_rule.State.{State}
 use Rattle.nll_ledger.specs.declared.lock_rule.Known.{Known}
 use Rattle.nll_ledger.specs.Amounts.{total_bound}
-use Rattle.nll_ledger.specs.Figures.{figures, owing, clearing, quieting, setting, finding, fewer, fresh, none, together, total, bit, AreBalanced}
+use Rattle.nll_ledger.specs.Figures.{owing, clearing, quieting, setting, finding, fewer, fresh, none, together, bit, AreBalanced}
 use Rattle.nll_ledger.specs.Lock.{first, new_state, spent, known, holding, released, holders, HoldIt, IsHeldByOne}
 use Rattle.nll_ledger.proofs.FigureLemmas.{bounds, figures_owe, figures_clear, figures_quiet, figures_stop, figures_find, figures_kept, figures_fork, figures_merge, settled, called}
 
@@ -101,14 +101,14 @@ pub gives_raised : (n port k : ℕ) (v : Known) (x : State) → v.holds ≡ true
 gives_raised n port k v x holds b f part live few =
     let kk : k ≡ x.balance - v.held.balance = omega arith in
     gives n port v x (owing v.figures (x.balance - v.held.balance)) holds (λ es g at.
-      subst (λ (y : ℕ × (Bool × ℕ)). AreBalanced y.0 y.1.0 (slice_set es port (owing v.figures y.1.1))) (λ i. (sym b i, (sym f i, kk i))) (figures_owe v.held.balance v.held.flag port v.figures es g at k part live few).1)
+    subst (λ (y : ℕ × (Bool × ℕ)). AreBalanced y.0 y.1.0 (slice_set es port (owing v.figures y.1.1))) (λ i. (sym b i, (sym f i, kk i))) (figures_owe v.held.balance v.held.flag port v.figures es g at k part live few).1)
 
 pub gives_lowered : (n port k : ℕ) (v : Known) (x : State) → v.holds ≡ true → x.balance ≡ v.held.balance - k → k ≤ v.held.balance → x.flag ≡ v.held.flag → 0 < v.figures.parts → v.figures.quiets ≡ 0 → v.figures.cleared + k ≤ total_bound
     → Pushes IsHeldByOne n port v x (λ w. w ≡ released v (clearing v.figures (v.held.balance - x.balance)))
 gives_lowered n port k v x holds b le f part live few =
     let kk : k ≡ v.held.balance - x.balance = omega arith in
     gives n port v x (clearing v.figures (v.held.balance - x.balance)) holds (λ es g at.
-      subst (λ (y : ℕ × (Bool × ℕ)). AreBalanced y.0 y.1.0 (slice_set es port (clearing v.figures y.1.1))) (λ i. (sym b i, (sym f i, kk i))) (figures_clear v.held.balance v.held.flag port v.figures es g at k part live few).1)
+    subst (λ (y : ℕ × (Bool × ℕ)). AreBalanced y.0 y.1.0 (slice_set es port (clearing v.figures y.1.1))) (λ i. (sym b i, (sym f i, kk i))) (figures_clear v.held.balance v.held.flag port v.figures es g at k part live few).1)
 
 pub gives_set : (n port : ℕ) (v : Known) (x : State) → v.holds ≡ true → x.balance ≡ v.held.balance → x.flag ≡ true → 0 < v.figures.parts → Pushes IsHeldByOne n port v x (λ w. w ≡ released v (setting v.figures))
 gives_set n port v x holds b set part = gives n port v x (setting v.figures) holds (λ es g at.

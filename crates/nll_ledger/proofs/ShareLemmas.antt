@@ -1,19 +1,16 @@
 -- Shares of a book under a lock, and what is left of them.
-use Rattle.std.proofs.Common.{◌≡◌, ℕ, zero, suc, ◌+◌, ◌-◌, ◌*◌, ◌^◌, ◌<◌, ◌≤◌, ◌==◌, Bool, true, false, not, cond, List, [], ◌∷◌, ◌++◌, length, slice_get, Some, Option, refl, sym, ap, ◌∙◌, subst, ◌⊎◌, inl, inr, ⊎_elim, arith, length-append, append_assoc}
+use Rattle.std.proofs.Common.{◌≡◌, ℕ, zero, suc, ◌+◌, ◌-◌, ◌*◌, ◌^◌, ◌<◌, ◌≤◌, ◌==◌, Bool, true, false, not, cond, List, [], ◌∷◌, ◌++◌, length, slice_get, Some, refl, sym, ap, ◌∙◌, subst, ◌⊎◌, inl, inr, ⊎_elim, arith, length-append, append_assoc}
 use Rattle.std.specs.List.{sum_by}
 use Rattle.std.proofs.lemmas.Bool.{eqb-true, eq-eqb}
 use Rattle.std.proofs.lemmas.List.Sums.{sum_by-cons}
 use Rattle.std.proofs.lemmas.Option.{slice_get_within}
 use Rattle.crossbeam_queue.specs.Passes.{view, IsPassOf}
-use Rattle.crossbeam_queue.specs.declared.array_queue.Doing.{Doing}
-use Rattle.crossbeam_queue.specs.declared.array_queue.Slotted.{Slotted}
 use Rattle.nll_ledger.specs.Amounts.{total_bound}
-use Rattle.nll_ledger.specs.Figures.{bit, figures, together}
-use Rattle.nll_ledger.specs.Shares.{parts_of, IsLeftOf, Adding}
+use Rattle.nll_ledger.specs.Figures.{bit, together}
+use Rattle.nll_ledger.specs.Shares.{parts_of, owed_by, cleared_by, has_called, is_quiet, number_of, IsLeftOf, Adding}
 use Rattle.nll_ledger.specs.declared.figures.Figures.{Figures}
+use Rattle.nll_ledger.specs.declared.lock_book.LockBook.{LockBook}
 use Rattle.nll_ledger.specs.declared.lock_book.LockLeft.{LockLeft}
-use Rattle.nll_ledger.specs.declared.lock_rule.Known.{Known}
-use Rattle.nll_ledger.specs.declared.lock_rule.State.{State}
 use Rattle.nll_problem.specs.Limits.{most_owners}
 
 -- ---- lists
@@ -61,22 +58,22 @@ parts_last owners number last = ap (λ t. cond t (most_owners + 1 - owners) 1) (
 
 -- ---- a share that stands between others in a list of all that have left
 
-module _ {Q A : Type 0} (lock : Slotted (Option State) (Doing State Known) Q A) (owners : ℕ) (all rest more : List LockLeft) (l : LockLeft) (split : rest ++ l ∷ more ≡ all)
-    (each : (k : ℕ) (x : LockLeft) → slice_get all k ≡ Some x → IsLeftOf lock owners x × (x.account.number ≡ k)) where
-  left_at : IsLeftOf lock owners l × (l.account.number ≡ length rest)
+module _ {R : Type 0} (book : LockBook R) (all rest more : List LockLeft) (l : LockLeft) (split : rest ++ l ∷ more ≡ all)
+    (each : (k : ℕ) (x : LockLeft) → slice_get all k ≡ Some x → IsLeftOf book x × (number_of x ≡ k)) where
+  left_at : IsLeftOf book l × (number_of l ≡ length rest)
   left_at = each (length rest) l (subst (λ xs. slice_get xs (length rest) ≡ Some l) split (at_split rest more l))
 
-  pub left_pass : IsPassOf lock l.pass
+  pub left_pass : IsPassOf book.lock l.pass
   left_pass = left_at.0.0
 
-  parts_are : (view l.pass).figures.parts ≡ parts_of owners (length rest)
-  parts_are = left_at.0.1 ∙ ap (parts_of owners) left_at.1
+  parts_are : (view l.pass).figures.parts ≡ parts_of book.owners (length rest)
+  parts_are = left_at.0.1 ∙ ap (parts_of book.owners) left_at.1
 
-  pub next_part : length rest + 1 < owners → (view l.pass).figures.parts ≡ 1
-  next_part less = parts_are ∙ parts_one owners (length rest) less
+  pub next_part : length rest + 1 < book.owners → (view l.pass).figures.parts ≡ 1
+  next_part less = parts_are ∙ parts_one book.owners (length rest) less
 
-  pub last_parts : length rest + 1 ≡ owners → owners ≤ most_owners → (view l.pass).figures.parts + length rest ≡ most_owners
-  last_parts last few = let p = parts_are ∙ parts_last owners (length rest) last in omega (arith, p, last, few)
+  pub last_parts : length rest + 1 ≡ book.owners → (view l.pass).figures.parts + length rest ≡ most_owners
+  last_parts last = let p = parts_are ∙ parts_last book.owners (length rest) last in omega (arith, p, last, book.few.1)
 
 -- ---- shares that have left are added up
 
@@ -84,42 +81,42 @@ module _ (last : LockLeft) (rest lefts : List LockLeft) (all : lefts ≡ rest ++
   pub adding_first : (view last.pass).figures.parts + length rest ≡ most_owners → Adding (view last.pass).figures rest lefts
   adding_first parts = record {
     parts = parts;
-    owed = (let v = ap (λ (y : Figures). y.owed) last.knows in let a = ap (sum_by (λ (l : LockLeft). l.account.owed)) all in omega (arith, v, a, sum_push (λ (l : LockLeft). l.account.owed) rest last));
-    cleared = (let v = ap (λ (y : Figures). y.cleared) last.knows in let a = ap (sum_by (λ (l : LockLeft). l.account.cleared)) all in omega (arith, v, a, sum_push (λ (l : LockLeft). l.account.cleared) rest last));
+    owed = (let v = ap (λ (y : Figures). y.owed) last.knows in let a = ap (sum_by owed_by) all in omega (arith, v, a, sum_push owed_by rest last));
+    cleared = (let v = ap (λ (y : Figures). y.cleared) last.knows in let a = ap (sum_by cleared_by) all in omega (arith, v, a, sum_push cleared_by rest last));
     quiets = λ quiet.
         let is = quiet (length rest) last (subst (λ xs. slice_get xs (length rest) ≡ Some last) (sym all) (at_split rest [] last)) in
         ap (λ (y : Figures). y.quiets) last.knows ∙ ap (λ t. cond t (view last.pass).figures.parts 0) is;
-    calls = (let v = ap (λ (y : Figures). y.calls) last.knows in let a = ap (sum_by (λ (l : LockLeft). bit l.account.called)) all in omega (arith, v, a, sum_push (λ (l : LockLeft). bit l.account.called) rest last));
-    finds = (let v = ap (λ (y : Figures). y.finds) last.knows in let a = ap (sum_by (λ (l : LockLeft). bit (not l.quiet))) all in omega (arith, v, a, sum_push (λ (l : LockLeft). bit (not l.quiet)) rest last));
+    calls = (let v = ap (λ (y : Figures). y.calls) last.knows in let a = ap (sum_by (λ left. bit (has_called left))) all in omega (arith, v, a, sum_push (λ left. bit (has_called left)) rest last));
+    finds = (let v = ap (λ (y : Figures). y.finds) last.knows in let a = ap (sum_by (λ left. bit (not (is_quiet left)))) all in omega (arith, v, a, sum_push (λ left. bit (not (is_quiet left))) rest last));
   }
 
 pub adding_more : (so_far : Figures) (l : LockLeft) (coming more lefts : List LockLeft) → coming ++ l ∷ more ≡ lefts → (view l.pass).figures.parts ≡ 1 → Adding so_far (coming ++ l ∷ []) lefts → Adding (together so_far (view l.pass).figures) coming lefts
 adding_more so_far l coming more lefts split one h = record {
   parts = omega (arith, h.parts, one, length-append coming (l ∷ []));
-  owed = (let v = ap (λ (y : Figures). y.owed) l.knows in omega (arith, v, h.owed, sum_push (λ (l : LockLeft). l.account.owed) coming l));
-  cleared = (let v = ap (λ (y : Figures). y.cleared) l.knows in omega (arith, v, h.cleared, sum_push (λ (l : LockLeft). l.account.cleared) coming l));
+  owed = (let v = ap (λ (y : Figures). y.owed) l.knows in omega (arith, v, h.owed, sum_push owed_by coming l));
+  cleared = (let v = ap (λ (y : Figures). y.cleared) l.knows in omega (arith, v, h.cleared, sum_push cleared_by coming l));
   quiets = λ quiet.
       let is = quiet (length coming) l (subst (λ xs. slice_get xs (length coming) ≡ Some l) split (at_split coming more l)) in
       let v = ap (λ (y : Figures). y.quiets) l.knows ∙ ap (λ t. cond t (view l.pass).figures.parts 0) is in
       omega (arith, v, h.quiets quiet);
-  calls = (let v = ap (λ (y : Figures). y.calls) l.knows in omega (arith, v, h.calls, sum_push (λ (l : LockLeft). bit l.account.called) coming l));
-  finds = (let v = ap (λ (y : Figures). y.finds) l.knows in omega (arith, v, h.finds, sum_push (λ (l : LockLeft). bit (not l.quiet)) coming l));
+  calls = (let v = ap (λ (y : Figures). y.calls) l.knows in omega (arith, v, h.calls, sum_push (λ left. bit (has_called left)) coming l));
+  finds = (let v = ap (λ (y : Figures). y.finds) l.knows in omega (arith, v, h.finds, sum_push (λ left. bit (not (is_quiet left))) coming l));
 }
 
 -- the totals fit
-pub owed_small : (xs : List LockLeft) → sum_by (λ (l : LockLeft). l.account.owed) xs ≤ length xs * total_bound
+pub owed_small : (xs : List LockLeft) → sum_by owed_by xs ≤ length xs * total_bound
 owed_small [] = omega arith
-owed_small (x ∷ xs) = (let a = owed_small xs in let b = x.few.0 in omega (arith, a, b, sum_by-cons (λ (l : LockLeft). l.account.owed) x xs))
+owed_small (x ∷ xs) = (let a = owed_small xs in let b = x.few.0 in omega (arith, a, b, sum_by-cons owed_by x xs))
 
-pub cleared_small : (xs : List LockLeft) → sum_by (λ (l : LockLeft). l.account.cleared) xs ≤ length xs * total_bound
+pub cleared_small : (xs : List LockLeft) → sum_by cleared_by xs ≤ length xs * total_bound
 cleared_small [] = omega arith
-cleared_small (x ∷ xs) = (let a = cleared_small xs in let b = x.few.1 in omega (arith, a, b, sum_by-cons (λ (l : LockLeft). l.account.cleared) x xs))
+cleared_small (x ∷ xs) = (let a = cleared_small xs in let b = x.few.1 in omega (arith, a, b, sum_by-cons cleared_by x xs))
 
 pub adding_fits : (so_far : Figures) (l : LockLeft) (coming lefts : List LockLeft) → Adding so_far (coming ++ l ∷ []) lefts → length lefts ≤ most_owners
     → (so_far.owed + l.account.owed < 2 ^ 64) × (so_far.cleared + l.account.cleared < 2 ^ 64)
 adding_fits so_far l coming lefts h few = (
-  omega (arith, h.owed, sum_push (λ (l : LockLeft). l.account.owed) coming l, owed_small lefts, few),
-  omega (arith, h.cleared, sum_push (λ (l : LockLeft). l.account.cleared) coming l, cleared_small lefts, few),
+  omega (arith, h.owed, sum_push owed_by coming l, owed_small lefts, few),
+  omega (arith, h.cleared, sum_push cleared_by coming l, cleared_small lefts, few),
 )
 
 -- what one adds, all together have
@@ -140,10 +137,10 @@ bit_at_place {X} f (x ∷ xs) h = go (f x) refl (λ more. bit_at_place f xs more
         (suc r.0, r.1, r.2, r.3)
 
 -- where one didn't leave on quiet, one knows that the flag is set
-pub some_found : (xs : List LockLeft) (k : ℕ) (l : LockLeft) → slice_get xs k ≡ Some l → l.quiet ≡ false → 0 < sum_by (λ (l : LockLeft). bit (not l.quiet)) xs
+pub some_found : (xs : List LockLeft) (k : ℕ) (l : LockLeft) → slice_get xs k ≡ Some l → is_quiet l ≡ false → 0 < sum_by (λ left. bit (not (is_quiet left))) xs
 some_found xs k l at h =
-    let a = sum_at (λ (l : LockLeft). bit (not l.quiet)) xs k l at in let b = ap (λ t. bit (not t)) h in omega (arith, a, b)
+    let a = sum_at (λ left. bit (not (is_quiet left))) xs k l at in let b = ap (λ t. bit (not t)) h in omega (arith, a, b)
 
 -- where some called, one is found that did
-pub some_called : (xs : List LockLeft) → 0 < sum_by (λ (l : LockLeft). bit l.account.called) xs → (k : ℕ) × (l : LockLeft) × (slice_get xs k ≡ Some l) × (l.account.called ≡ true)
-some_called xs h = bit_at_place (λ (l : LockLeft). l.account.called) xs h
+pub some_called : (xs : List LockLeft) → 0 < sum_by (λ left. bit (has_called left)) xs → (k : ℕ) × (l : LockLeft) × (slice_get xs k ≡ Some l) × (has_called l ≡ true)
+some_called xs h = bit_at_place has_called xs h

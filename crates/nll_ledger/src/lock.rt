@@ -7,8 +7,9 @@ ghost use Rattle.nll_ledger.specs.Amounts.{total_bound};
 ghost use Rattle.nll_ledger.specs.Figures.{clearing, figures, finding, owing, setting};
 ghost use Rattle.nll_ledger.specs.Lock.{IsHeldByOne, IsSeen, first, holding};
 
-use crate::lock_rule::{Finds, Grabs, Lowers, Quiets, Raises, Returns, Sets};
-use crate::lock_rule::{Known, Lock, LockPass, NOTHING_OWED, State};
+use crate::lock_rule::{
+    Finds, Grabs, Known, Lock, LockPass, Lowers, NOTHING_OWED, Quiets, Raises, Returns, Sets, State,
+};
 use crossbeam_queue::protocol::{Lesson, Outcome};
 use std::sync::Wait;
 
@@ -47,7 +48,7 @@ fn give<M: Outcome<State, Known> + Lesson<State, Known>, R: Wait>(
 )
     requires pass { IsPassOf lock.now pass.old }
     requires rule { Pushes IsHeldByOne (ruled_capacity lock.now) pass.old.id (view pass.old) state
-            (M.then (view pass.old) state)
+        (M.then (view pass.old) state)
         × Learns IsHeldByOne pass.old.id (view pass.old) (M.fact (view pass.old)) }
     ensures pass { IsPassOf lock.now pass.new }
     ensures then { M.then (view pass.old) state (view pass.new) }

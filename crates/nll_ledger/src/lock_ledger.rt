@@ -9,7 +9,8 @@ ghost use Rattle.std.specs.Prelude.{Some, length, slice_get, vec_capacity, vec_l
 ghost use Rattle.std.specs.List.{sum_by};
 ghost use Rattle.crossbeam_queue.specs.Passes.{IsPassOf, view};
 ghost use Rattle.nll_ledger.specs.Figures.{figures};
-ghost use Rattle.nll_ledger.specs.Shares.{IsLeftOf, IsNew};
+ghost use Rattle.nll_ledger.specs.Shares.{IsLeftOf, IsNew, cleared_by, has_called, is_quiet};
+ghost use Rattle.nll_ledger.specs.Shares.{number_of, owed_by};
 ghost use Rattle.nll_ledger.specs.declared.lock_book.LockLeft.{LockLeft};
 ghost use Rattle.nll_ledger.specs.declared.lock_book.LockShare.{LockShare};
 ghost use Rattle.nll_problem.specs.Limits.{most_owners};
@@ -63,78 +64,81 @@ fn share_of(number: u16, pass: LockPass) -> LockShare
 }
 
 // Cuts off the share of this number, which isn't the last one.
-fn cut(lock: &Lock, pass: &mut LockPass, owners: u16, number: u16) -> LockShare
-    requires pass { IsPassOf lock.now pass.old }
-    requires number { (number + 1 < owners) × (owners ≤ most_owners) }
+fn cut<R>(book: &LockBook<R>, pass: &mut LockPass, number: u16) -> LockShare
+    requires pass { IsPassOf book.now.lock pass.old }
+    requires number { number + 1 < book.now.owners }
     requires free { (view pass.old).holds ≡ false }
-    requires rest { (view pass.old).figures ≡ figures (64 - number) (owners - number) 0 0 0 0 }
-    ensures pass { IsPassOf lock.now pass.new }
+    requires rest { (view pass.old).figures
+        ≡ figures (64 - number) (book.now.owners - number) 0 0 0 0 }
+    ensures pass { IsPassOf book.now.lock pass.new }
     ensures free { (view pass.new).holds ≡ false }
     ensures rest { (view pass.new).figures
-        ≡ figures (64 - (number + 1)) (owners - (number + 1)) 0 0 0 0 }
-    ensures share { IsNew lock.now owners number result }
+        ≡ figures (64 - (number + 1)) (book.now.owners - (number + 1)) 0 0 0 0 }
+    ensures share { IsNew book.now number result }
 {
-    let other = lock.another::<Parts>(pass);
+    let other = book.lock.another::<Parts>(pass);
     share_of(number, other)
 }
 
 // Deals a share to each owner. The last one keeps the first pass.
-fn deal(lock: &Lock, pass: LockPass, owners: u16, shares: &mut Vec<LockShare>)
-    requires pass { IsPassOf lock.now pass }
-    requires owners { (0 < owners) × (owners ≤ most_owners) }
+fn deal<R>(book: &LockBook<R>, pass: LockPass, shares: &mut Vec<LockShare>)
+    requires pass { IsPassOf book.now.lock pass }
     requires free { (view pass).holds ≡ false }
-    requires rest { (view pass).figures ≡ figures 64 owners 0 0 0 0 }
-    requires room { (shares.old.items ≡ []) × (owners ≤ vec_capacity shares.old) }
-    ensures count { vec_len shares.new ≡ owners }
+    requires rest { (view pass).figures ≡ figures 64 book.now.owners 0 0 0 0 }
+    requires room { (shares.old.items ≡ []) × (book.now.owners ≤ vec_capacity shares.old) }
+    ensures count { vec_len shares.new ≡ book.now.owners }
     ensures shares { (place : ℕ) (share : LockShare)
-        → slice_get shares.new.items place ≡ Some share → IsNew lock.now owners place share }
+        → slice_get shares.new.items place ≡ Some share → IsNew book.now place share }
 {
     let mut pass = pass;
-    for number in 0..owners - 1 {
-        let share = cut(lock, &mut pass, owners, number);
+    let last = book.owners - 1;
+    for number in 0..last {
+        let share = cut(book, &mut pass, number);
         shares.push_reserved(share);
     }
-    shares.push_reserved(share_of(owners - 1, pass));
+    shares.push_reserved(share_of(last, pass));
 }
 
 // Puts all passes together, and adds up what was owed and cleared.
-fn add_up(lock: &Lock, lefts: Vec<LockLeft>) -> Totals
-    requires few { (0 < vec_len lefts) × (vec_len lefts ≤ most_owners) }
+fn add_up<R>(book: &LockBook<R>, lefts: Vec<LockLeft>) -> Totals
+    requires count { vec_len lefts ≡ book.now.owners }
     requires each { (place : ℕ) (left : LockLeft) → slice_get lefts.items place ≡ Some left
-        → IsLeftOf lock.now (vec_len lefts) left × (left.account.number ≡ place) }
-    ensures owed { result.owed ≡ sum_by (λ (left : LockLeft). left.account.owed) lefts.items }
-    ensures cleared { result.cleared
-        ≡ sum_by (λ (left : LockLeft). left.account.cleared) lefts.items }
+        → IsLeftOf book.now left × (number_of left ≡ place) }
+    ensures owed { result.owed ≡ sum_by owed_by lefts.items }
+    ensures cleared { result.cleared ≡ sum_by cleared_by lefts.items }
     ensures quiet { ((place : ℕ) (left : LockLeft)
-        → slice_get lefts.items place ≡ Some left → left.quiet ≡ true)
+        → slice_get lefts.items place ≡ Some left → is_quiet left ≡ true)
         → result.owed ≡ result.cleared }
     ensures stopped { (place : ℕ) (left : LockLeft)
-        → slice_get lefts.items place ≡ Some left → left.quiet ≡ false
+        → slice_get lefts.items place ≡ Some left → is_quiet left ≡ false
         → (other : ℕ) × (caller : LockLeft)
-        × (slice_get lefts.items other ≡ Some caller) × (caller.account.called ≡ true) }
+        × (slice_get lefts.items other ≡ Some caller) × (has_called caller ≡ true) }
 {
     let mut lefts = lefts;
     let Some(last) = lefts.pop() else {
         unreachable!()
     };
     let LockLeft {
-        account, mut pass, ..
+        account,
+        mut pass,
+        ..
     } = last;
     let mut owed = account.owed;
     let mut cleared = account.cleared;
     while let Some(left) = lefts.pop() {
         owed += left.account.owed;
         cleared += left.account.cleared;
-        lock.absorb::<Parts>(&mut pass, left.pass);
+        book.lock.absorb::<Parts>(&mut pass, left.pass);
     }
-    lock.learn_as::<Whole>(&mut pass);
+    book.lock.learn_as::<Whole>(&mut pass);
     Totals { owed, cleared }
 }
 
 impl<R: Wait + Copy + Send + Sync> Ledger for LockLedger<R> {
     ghost use Rattle.std.specs.Prelude.{◌≡◌, ℕ, Some, false, slice_get, true, vec_len};
     ghost use Rattle.std.specs.List.{sum_by};
-    ghost use Rattle.nll_ledger.specs.Shares.{IsLeftOf, IsOf};
+    ghost use Rattle.nll_ledger.specs.Shares.{IsLeftOf, IsOf, cleared_by, has_called, is_quiet};
+    ghost use Rattle.nll_ledger.specs.Shares.{number_of, owed_by, owners_of};
     ghost use Rattle.nll_ledger.specs.declared.lock_book.LockLeft.{LockLeft};
 
     type Book = LockBook<R>;
@@ -143,9 +147,9 @@ impl<R: Wait + Copy + Send + Sync> Ledger for LockLedger<R> {
 
     type Left = LockLeft;
 
-    ghost owner_count = { λ book. book.owners };
+    ghost owner_count = { owners_of };
 
-    ghost belongs = { λ book share. IsOf book.lock book.owners share };
+    ghost belongs = { IsOf };
 
     ghost number = { λ share. share.account.number };
 
@@ -157,28 +161,28 @@ impl<R: Wait + Copy + Send + Sync> Ledger for LockLedger<R> {
 
     ghost marked = { λ share. share.marked };
 
-    ghost left_belongs = { λ book left. IsLeftOf book.lock book.owners left };
+    ghost left_belongs = { IsLeftOf };
 
-    ghost left_number = { λ left. left.account.number };
+    ghost left_number = { number_of };
 
-    ghost left_owed = { λ left. left.account.owed };
+    ghost left_owed = { owed_by };
 
-    ghost left_cleared = { λ left. left.account.cleared };
+    ghost left_cleared = { cleared_by };
 
-    ghost left_called = { λ left. left.account.called };
+    ghost left_called = { has_called };
 
-    ghost left_quiet = { λ left. left.quiet };
+    ghost left_quiet = { is_quiet };
 
     fn open(&self, alloc: Global, owners: u16) -> Result<(LockBook<R>, Vec<LockShare>), Memory> {
         let mut shares = Vec::with_capacity(alloc, owners as usize)?;
         let (lock, mut pass) = Lock::ruled(alloc, 1)?;
         begin(&self.rt, &lock, &mut pass, owners);
-        deal(&lock, pass, owners, &mut shares);
         let book = LockBook {
             rt: self.rt,
             lock,
             owners,
         };
+        deal(&book, pass, &mut shares);
         Ok((book, shares))
     }
 
@@ -238,20 +242,19 @@ impl<R: Wait + Copy + Send + Sync> Ledger for LockLedger<R> {
     }
 
     fn gather(book: LockBook<R>, lefts: Vec<LockLeft>) -> Totals
-        requires count { vec_len lefts ≡ book.owners }
+        requires count { vec_len lefts ≡ owners_of book }
         requires each { (place : ℕ) (left : LockLeft) → slice_get lefts.items place ≡ Some left
-            → IsLeftOf book.lock book.owners left × (left.account.number ≡ place) }
-        ensures owed { result.owed ≡ sum_by (λ (left : LockLeft). left.account.owed) lefts.items }
-        ensures cleared { result.cleared
-            ≡ sum_by (λ (left : LockLeft). left.account.cleared) lefts.items }
+            → IsLeftOf book left × (number_of left ≡ place) }
+        ensures owed { result.owed ≡ sum_by owed_by lefts.items }
+        ensures cleared { result.cleared ≡ sum_by cleared_by lefts.items }
         ensures quiet { ((place : ℕ) (left : LockLeft)
-            → slice_get lefts.items place ≡ Some left → left.quiet ≡ true)
+            → slice_get lefts.items place ≡ Some left → is_quiet left ≡ true)
             → result.owed ≡ result.cleared }
         ensures stopped { (place : ℕ) (left : LockLeft)
-            → slice_get lefts.items place ≡ Some left → left.quiet ≡ false
+            → slice_get lefts.items place ≡ Some left → is_quiet left ≡ false
             → (other : ℕ) × (caller : LockLeft)
-            × (slice_get lefts.items other ≡ Some caller) × (caller.account.called ≡ true) }
+            × (slice_get lefts.items other ≡ Some caller) × (has_called caller ≡ true) }
     {
-        add_up(&book.lock, lefts)
+        add_up(&book, lefts)
     }
 }

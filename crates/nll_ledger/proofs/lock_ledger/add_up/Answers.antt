@@ -1,5 +1,4 @@
-use Rattle.std.proofs.Common.{◌≡◌, ℕ, ◌+◌, ◌<◌, ◌≤◌, ◌++◌, ◌∷◌, [], List, length, slice_get, Some, vec_len, refl, sym, ap, ◌∙◌, subst, arith, rules}
-use Rattle.std.specs.List.{sum_by}
+use Rattle.std.proofs.Common.{◌≡◌, ◌+◌, ◌∷◌, [], List, length, vec_len, sym, ap, ◌∙◌, subst, arith, rules}
 use Rattle.crossbeam_queue.specs.Passes.{view}
 use Rattle.nll_ledger.specs.Shares.{Adding}
 use Rattle.nll_ledger.specs.declared.figures.Figures.{Figures}
@@ -10,47 +9,47 @@ use Rattle.nll_ledger.proofs.ShareLemmas.{split_more, split_size, left_pass, nex
 use Rattle.nll_ledger.proofs.lock_ledger.add_up.Goals as goal
 
 pub loop-left-init : goal.loop-left-init
-loop-left-init c =
+loop-left-init g c =
     let all = c.args.lefts.items in let rest = c.pop.new.self.items in let last = c.in-Some.last in let popped = c.in-Some.ensures.items in
     let size : length rest + 1 ≡ vec_len c.args.lefts = (let p = ap length popped in let q = split_size rest [] last in omega (arith, p, q)) in
     record {
-      pass = left_pass c.args.lock.now (vec_len c.args.lefts) all rest [] last (sym popped) c.requires.each;
+      pass = left_pass c.args.book.now all rest [] last (sym popped) c.requires.each;
       free = last.free;
       split = (last ∷ [], sym popped);
       some = omega (arith, size);
-      adding = adding_first last rest all popped (last_parts c.args.lock.now (vec_len c.args.lefts) all rest [] last (sym popped) c.requires.each size c.requires.few.1);
+      adding = adding_first last rest all popped (last_parts c.args.book.now all rest [] last (sym popped) c.requires.each (size ∙ c.requires.count));
       owed = sym (ap (λ (y : Figures). y.owed) last.knows);
       cleared = sym (ap (λ (y : Figures). y.cleared) last.knows);
     }
 
 pub overflow_add-owed : goal.overflow_add-owed
-overflow_add-owed c =
+overflow_add-owed g c =
     let inv = c.loop-left.invariant in let rest = c.pop-in-loop-left.new.self.items in let left = c.in-Some-pop.left in
     let adding = subst (λ (xs : List LockLeft). Adding (view c.loop-left.pass).figures xs c.args.lefts.items) c.in-Some-pop.ensures.items inv.adding in
-    omega (arith, inv.owed, (adding_fits (view c.loop-left.pass).figures left rest c.args.lefts.items adding (omega (arith, c.requires.few.1))).0)
+    omega (arith, inv.owed, (adding_fits (view c.loop-left.pass).figures left rest c.args.lefts.items adding (omega (arith, c.requires.count, c.args.book.now.few.1))).0)
 
 pub overflow_add-cleared : goal.overflow_add-cleared
-overflow_add-cleared c =
+overflow_add-cleared g c =
     let inv = c.loop-left.invariant in let rest = c.pop-in-loop-left.new.self.items in let left = c.in-Some-pop.left in
     let adding = subst (λ (xs : List LockLeft). Adding (view c.loop-left.pass).figures xs c.args.lefts.items) c.in-Some-pop.ensures.items inv.adding in
-    omega (arith, inv.cleared, (adding_fits (view c.loop-left.pass).figures left rest c.args.lefts.items adding (omega (arith, c.requires.few.1))).1)
+    omega (arith, inv.cleared, (adding_fits (view c.loop-left.pass).figures left rest c.args.lefts.items adding (omega (arith, c.requires.count, c.args.book.now.few.1))).1)
 
 pub absorb-requires-clause-queue : goal.absorb-requires-clause-queue
-absorb-requires-clause-queue c =
+absorb-requires-clause-queue g c =
     let inv = c.loop-left.invariant in let all = c.args.lefts.items in let rest = c.pop-in-loop-left.new.self.items in let left = c.in-Some-pop.left in
     let split = split_more rest inv.split.0 all c.loop-left.lefts.items left c.in-Some-pop.ensures.items inv.split.1 in
-    (inv.pass, left_pass c.args.lock.now (vec_len c.args.lefts) all rest inv.split.0 left split c.requires.each)
+    (inv.pass, left_pass c.args.book.now all rest inv.split.0 left split c.requires.each)
 
 pub absorb-requires-clause-rule : goal.absorb-requires-clause-rule
-absorb-requires-clause-rule c =
+absorb-requires-clause-rule g c =
     joins c.loop-left.pass.id (view c.loop-left.pass) c.in-Some-pop.left.pass.id (view c.in-Some-pop.left.pass) c.loop-left.invariant.free c.in-Some-pop.left.free
 
 pub loop-left-preserved : goal.loop-left-preserved
-loop-left-preserved c =
+loop-left-preserved g c =
     let inv = c.loop-left.invariant in let all = c.args.lefts.items in let rest = c.pop-in-loop-left.new.self.items in let left = c.in-Some-pop.left in let popped = c.in-Some-pop.ensures.items in
     let split = split_more rest inv.split.0 all c.loop-left.lefts.items left popped inv.split.1 in
     let size : vec_len c.loop-left.lefts ≡ length rest + 1 = (let p = ap length popped in let q = split_size rest [] left in omega (arith, p, q)) in
-    let part = next_part c.args.lock.now (vec_len c.args.lefts) all rest inv.split.0 left split c.requires.each (omega (arith, size, inv.some)) in
+    let part = next_part c.args.book.now all rest inv.split.0 left split c.requires.each (omega (arith, size, inv.some, c.requires.count)) in
     let adding = subst (λ (xs : List LockLeft). Adding (view c.loop-left.pass).figures xs all) popped inv.adding in
     let queue = c.absorb.ensures.queue in let now = ap (λ (y : Known). y.figures) c.absorb.ensures.rule in record {
       pass = (queue.0 ∙ inv.pass.0, queue.2 ∙ inv.pass.1);
@@ -63,12 +62,12 @@ loop-left-preserved c =
     }
 
 pub learn_as-requires-clause-rule : goal.learn_as-requires-clause-rule
-learn_as-requires-clause-rule c =
+learn_as-requires-clause-rule g c =
     let none : length c.loop-left.lefts.items ≡ 0 = search rules in
     concludes c.loop-left.pass.id (view c.loop-left.pass) (omega (arith, c.loop-left.invariant.adding.parts, none))
 
 pub returns-clause-stopped : goal.returns-clause-stopped
-returns-clause-stopped c = λ place left at stopped.
+returns-clause-stopped g c = λ place left at stopped.
     let all = c.args.lefts.items in
     let none : c.loop-left.lefts.items ≡ [] = search rules in
     let adding = subst (λ (xs : List LockLeft). Adding (view c.loop-left.pass).figures xs all) none c.loop-left.invariant.adding in

@@ -5,8 +5,8 @@ use Rattle.nll_ledger.specs.declared.lock_book.LockLeft.{LockLeft}
 use Rattle.nll_ledger.proofs.lock_ledger.add_up.Given as goal
 
 abbrev pub invariant-loop-left : goal.invariant-loop-left
-invariant-loop-left l = record {
-  pass : IsPassOf l.lock l.pass;
+invariant-loop-left g l = record {
+  pass : IsPassOf l.book.lock l.pass;
   free : (view l.pass).holds ≡ false;
   split : (more : List LockLeft) × (l.lefts.items ++ more ≡ l.fn.lefts.items);
   some : vec_len l.lefts < vec_len l.fn.lefts;
@@ -16,4 +16,4 @@ invariant-loop-left l = record {
 }
 
 abbrev pub decreases-loop-left : goal.decreases-loop-left
-decreases-loop-left l = vec_len l.lefts
+decreases-loop-left g l = vec_len l.lefts

@@ -6,11 +6,11 @@ use Rattle.nll_ledger.specs.declared.lock_book.LockShare.{LockShare}
 use Rattle.nll_ledger.proofs.lock_ledger.deal.Given as goal
 
 abbrev pub invariant-loop-number : goal.invariant-loop-number
-invariant-loop-number l = record {
-  pass : IsPassOf l.lock l.pass;
+invariant-loop-number g l = record {
+  pass : IsPassOf l.book.lock l.pass;
   free : (view l.pass).holds ≡ false;
-  rest : (view l.pass).figures ≡ figures (64 - l.number) (l.owners - l.number) 0 0 0 0;
+  rest : (view l.pass).figures ≡ figures (64 - l.number) (l.book.owners - l.number) 0 0 0 0;
   count : length l.shares.items ≡ l.number;
-  room : l.owners ≤ vec_capacity l.shares;
-  each : (place : ℕ) (share : LockShare) → slice_get l.shares.items place ≡ Some share → IsNew l.lock l.owners place share;
+  room : l.book.owners ≤ vec_capacity l.shares;
+  each : (place : ℕ) (share : LockShare) → slice_get l.shares.items place ≡ Some share → IsNew l.book place share;
 }
