@@ -1,2 +1,5 @@
 pub mod Amounts
+pub mod Figures
 pub mod Leaving
+pub mod Lock
+pub mod Shares

@@ -147,8 +147,8 @@ pub trait Ledger: Sync {
         requires each { (place : ℕ) (left : Self.Left)
             → slice_get lefts.items place ≡ Some left
             → left_belongs book left × (left_number left ≡ place) }
-        ensures owed { result.owed ≡ sum_by (λ left. left_owed left) lefts.items }
-        ensures cleared { result.cleared ≡ sum_by (λ left. left_cleared left) lefts.items }
+        ensures owed { result.owed ≡ sum_by left_owed lefts.items }
+        ensures cleared { result.cleared ≡ sum_by left_cleared lefts.items }
         ensures quiet { ((place : ℕ) (left : Self.Left)
             → slice_get lefts.items place ≡ Some left → left_quiet left ≡ true)
             → result.owed ≡ result.cleared }
