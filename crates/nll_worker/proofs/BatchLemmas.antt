@@ -11,7 +11,7 @@ use Rattle.nll_owner.proofs.OwnerLemmas.{pair_small, filter_le}
 use Rattle.nll_cut.specs.Partition.{reads}
 use Rattle.nll_mail.specs.declared.growth.Growth.{Growth}
 use Rattle.nll_worker.specs.Sums.{sum_to}
-use Rattle.nll_worker.proofs.SumLemmas.{sum_same}
+use Rattle.nll_worker.proofs.SumLemmas.{sum_same, sum_exact}
 use Rattle.nll_worker.proofs.PostingLemmas.{take_length, take_all}
 
 -- a part has fewer than 2 ^ 37 growths
@@ -117,3 +117,23 @@ module _ (o : Owner) (posts : List (List Growth)) (owed k : ℕ) (p : HasPosted 
 
 pub fronts_kept : (o next : Owner) (posts : List (List Growth)) → next ≡ record o { given = next.given } → HasPostedFronts o posts → HasPostedFronts next posts
 fronts_kept o next posts others f = subst (λ (x : Owner). HasPostedFronts x posts) (sym others) f
+
+-- what was posted are the fronts of the parts
+pub fronts_posted : (o : Owner) (posts : List (List Growth)) (owed : ℕ) → HasPosted o posts owed → HasPostedFronts o posts
+fronts_posted o posts owed p j l = subst (λ xs. IsPrefix xs (part_for o j)) (sym (p.front j l)) (begins_take (given_to o j) (part_for o j))
+
+-- where nothing is left to give out, all was posted
+pub nothing_unsent : (o : Owner) (posts : List (List Growth)) (owed owners count : ℕ) → HasPosted o posts owed → owners ≡ o.cut.owners → count ≡ 0
+    → sum_to owners (λ j. given_to o j) + count ≡ sum_to owners (λ j. length (part_for o j)) → HasPostedAll o o posts posts owners
+nothing_unsent o posts owed owners count p is none sums =
+    let all : (j : ℕ) → j < owners → given_to o j ≡ length (part_for o j)
+        = sum_exact owners (λ j. given_to o j) (λ j. length (part_for o j)) (λ j l. p.sound.given j) (omega (arith, none, sums)) in
+    record {
+      sound = p.sound;
+      others = refl;
+      count = refl;
+      given = all;
+      posted = λ j l. p.front j (omega (arith, l, is)) ∙ (ap (λ n. take n (part_for o j)) (all j l) ∙ take_all (part_for o j));
+      other_given = λ j l. refl;
+      other_posts = λ j l. refl;
+    }
