@@ -5,7 +5,7 @@
 //! passes are put together, the account of all is what the rule knows of the whole.
 
 ghost use Rattle.std.specs.Prelude.{◌≡◌, ◌+◌, ◌-◌, ◌<◌, ◌≤◌, ℕ, [], false, true};
-ghost use Rattle.std.specs.Prelude.{Some, length, slice_get, vec_capacity, vec_len};
+ghost use Rattle.std.specs.Prelude.{Some, slice_get, vec_capacity, vec_len};
 ghost use Rattle.std.specs.List.{sum_by};
 ghost use Rattle.crossbeam_queue.specs.Passes.{IsPassOf, view};
 ghost use Rattle.nll_ledger.specs.Figures.{figures};
@@ -13,7 +13,6 @@ ghost use Rattle.nll_ledger.specs.Shares.{IsLeftOf, IsNew, cleared_by, has_calle
 ghost use Rattle.nll_ledger.specs.Shares.{number_of, owed_by};
 ghost use Rattle.nll_ledger.specs.declared.lock_book.LockLeft.{LockLeft};
 ghost use Rattle.nll_ledger.specs.declared.lock_book.LockShare.{LockShare};
-ghost use Rattle.nll_problem.specs.Limits.{most_owners};
 
 use crate::figures::Account;
 use crate::ledger::{Leave, Ledger, Totals};
