@@ -119,12 +119,12 @@ pub fn owe_in_two_threads<L: Ledger, R: Threads + Wait + Sync>(
         rt,
         move || -> (Way, Option<L::Left>)
             requires { L.belongs shared.now first × (L.owed first ≡ 1) × (L.cleared first ≡ 0) }
-            ensures { IfSome result.1 (λ left. L.left_belongs shared.now left
+            ensures { IfSome result.1 (λ left. L.left_belongs shared.entry.now left
                 × (L.left_number left ≡ L.number first)) }
         { owe_often::<L, R>(rt, shared, first, times) },
         move || -> (Way, Option<L::Left>)
             requires { L.belongs shared.now second × (L.owed second ≡ 1) × (L.cleared second ≡ 0) }
-            ensures { IfSome result.1 (λ left. L.left_belongs shared.now left
+            ensures { IfSome result.1 (λ left. L.left_belongs shared.entry.now left
                 × (L.left_number left ≡ L.number second)) }
         { owe_often::<L, R>(rt, shared, second, times) },
     );
@@ -144,12 +144,12 @@ pub fn stop_in_two_threads<L: Ledger, R: Threads + Wait + Sync>(
         rt,
         move || -> (Way, Option<L::Left>)
             requires { L.belongs shared.now first }
-            ensures { IfSome result.1 (λ left. L.left_belongs shared.now left
+            ensures { IfSome result.1 (λ left. L.left_belongs shared.entry.now left
                 × (L.left_number left ≡ L.number first)) }
         { stop_all::<L, R>(rt, shared, first) },
         move || -> (Way, Option<L::Left>)
             requires { L.belongs shared.now second }
-            ensures { IfSome result.1 (λ left. L.left_belongs shared.now left
+            ensures { IfSome result.1 (λ left. L.left_belongs shared.entry.now left
                 × (L.left_number left ≡ L.number second)) }
         { wait_for_stop::<L, R>(rt, shared, second) },
     );
