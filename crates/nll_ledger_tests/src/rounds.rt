@@ -15,7 +15,11 @@ fn a_hundred_rounds_of_two_owners(rt: HostRuntime) -> Result<(), Fail> {
     };
     for round in 0..100 {
         let told = owe_in_two_threads(&rt, rt.alloc(), &LockLedger::new(rt), 1000)?;
-        assert_eq!(rt; told, (Way::Quiet, Way::Quiet, Some(totals)), "in round {round}");
+        assert_eq!(rt;
+            told,
+            (Way::Quiet, Way::Quiet, Some(totals)),
+            "in round {round}"
+        );
     }
     Ok(())
 }
@@ -29,7 +33,11 @@ fn a_hundred_stops(rt: HostRuntime) -> Result<(), Fail> {
     };
     for round in 0..100 {
         let told = stop_in_two_threads(&rt, rt.alloc(), &LockLedger::new(rt))?;
-        assert_eq!(rt; told, (Way::Stopped, Way::Stopped, Some(totals)), "in round {round}");
+        assert_eq!(rt;
+            told,
+            (Way::Stopped, Way::Stopped, Some(totals)),
+            "in round {round}"
+        );
     }
     Ok(())
 }

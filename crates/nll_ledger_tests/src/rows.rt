@@ -34,7 +34,10 @@ fn both_leave_on_quiet(rt: HostRuntime) -> Result<(), Fail> {
         owed: 5,
         cleared: 5,
     };
-    assert_eq!(rt; told, (Way::Open, Some((Way::Quiet, Way::Quiet, Some(totals)))));
+    assert_eq!(rt;
+        told,
+        (Way::Open, Some((Way::Quiet, Way::Quiet, Some(totals))))
+    );
     Ok(())
 }
 
@@ -58,7 +61,10 @@ fn told_on_stop<L: Ledger>(
 #[test]
 fn all_stop(rt: HostRuntime) -> Result<(), Fail> {
     let told = told_on_stop(rt.alloc(), &LockLedger::new(rt))?;
-    assert_eq!(rt; told, (Way::Open, Some((false, true, Way::Stopped, Way::Stopped))));
+    assert_eq!(rt;
+        told,
+        (Way::Open, Some((false, true, Way::Stopped, Way::Stopped)))
+    );
     Ok(())
 }
 

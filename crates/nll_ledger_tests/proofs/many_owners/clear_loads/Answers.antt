@@ -1,4 +1,4 @@
-use Rattle.std.proofs.Common.{◌≡◌, ◌+◌, ◌<◌, ◌≤◌, ℕ, length, slice_get, Some, vec_len, sym, ap, ◌∙◌, arith, rules}
+use Rattle.std.proofs.Common.{◌≡◌, ◌+◌, ◌<◌, ◌≤◌, length, ◌∙◌, arith, rules}
 use Rattle.nll_ledger_tests.proofs.ListLemmas.{stands_at, each_set}
 use Rattle.nll_ledger_tests.proofs.many_owners.clear_loads.Goals as goal
 
@@ -28,8 +28,8 @@ loop-place-preserved g c =
     let is = c.loop-place.invariant.each place share (stands_at xs place share within c.index_mut.ensures.value) in record {
       count = c.loop-place.invariant.count;
       each = each_set (λ k s. g.L.Ledger.belongs c.args.book.now s × (g.L.Ledger.number s ≡ k) × (g.L.Ledger.cleared s ≤ place + 1)) xs place c.clear.new.share
-        (c.clear.ensures.book.0, c.clear.ensures.book.1 ∙ is.1, omega (arith, c.clear.ensures.cleared, is.2))
-        (λ k s at. let other = c.loop-place.invariant.each k s at in (other.0, other.1, omega (arith, other.2)));
+          (c.clear.ensures.book.0, c.clear.ensures.book.1 ∙ is.1, omega (arith, c.clear.ensures.cleared, is.2))
+          (λ k s at. let other = c.loop-place.invariant.each k s at in (other.0, other.1, omega (arith, other.2)));
     }
 
 pub returns-clause-shares : goal.returns-clause-shares

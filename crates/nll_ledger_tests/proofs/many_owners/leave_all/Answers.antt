@@ -1,5 +1,4 @@
-use Rattle.std.proofs.Common.{◌≡◌, ◌+◌, ℕ, suc, ◌∷◌, [], List, IfSome, length, slice_get, Some, vec_len, sym, ap, ◌∙◌, subst, arith, rules}
-use Rattle.std.specs.VecDeque.{deque_len}
+use Rattle.std.proofs.Common.{◌≡◌, ◌+◌, suc, List, IfSome, slice_get, Some, vec_len, ap, ◌∙◌, subst, arith, rules}
 use Rattle.nll_ledger.proofs.ShareLemmas.{each_pushed}
 use Rattle.nll_ledger_tests.proofs.many_owners.leave_all.Goals as goal
 

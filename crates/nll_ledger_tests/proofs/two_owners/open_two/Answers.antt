@@ -1,4 +1,4 @@
-use Rattle.std.proofs.Common.{◌≡◌, ◌++◌, ◌∷◌, [], List, length, slice_get, Some, vec_len, sym, subst, arith}
+use Rattle.std.proofs.Common.{◌≡◌, ◌∷◌, [], List, length, slice_get, Some, sym, subst, arith}
 use Rattle.nll_ledger_tests.proofs.ListLemmas.{last_at, get_front}
 use Rattle.nll_ledger_tests.proofs.two_owners.open_two.Goals as goal
 

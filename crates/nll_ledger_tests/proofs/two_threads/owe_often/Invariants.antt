@@ -1,4 +1,4 @@
-use Rattle.std.proofs.Common.{◌≡◌, ◌≤◌, ◌+◌}
+use Rattle.std.proofs.Common.{◌≡◌, ◌+◌}
 use Rattle.nll_ledger_tests.proofs.two_threads.owe_often.Given as goal
 
 abbrev pub invariant-loop : goal.invariant-loop
