@@ -23,7 +23,15 @@ use nll_sets::Memory;
 use std::alloc::Global;
 use std::sync::Wait;
 
-/// Ledgers under a lock. Their shares wait for it.
+/// Ledgers under a lock.
+///
+/// # Threads
+/// Each call of a share is a hold of the lock, and waits while another thread holds it. That a
+/// share gets the lock, or gets it in its turn, is not promised.
+///
+/// # Cost
+/// A call of a share takes as long as its hold; `open` and `gather` take a step for each owner
+/// (neither is proved).
 #[derive(Clone, Copy)]
 pub struct LockLedger<R> {
     /// By which the shares wait.
