@@ -1,12 +1,11 @@
 -- What a worker's steps add up to.
-use Rattle.std.proofs.Common.{◌≡◌, ◌≢◌, ℕ, zero, suc, ◌+◌, ◌*◌, ◌-◌, ◌^◌, ◌<◌, ◌≤◌, Bool, true, false, List, [], ◌∷◌, ◌++◌, length, take, drop, map, slice_set, slice_index_or, slice_get, Some, Contains, refl, sym, ap, ◌∙◌, subst, inl, inr, ◌⊎◌, ⊎_elim, arith}
+use Rattle.std.proofs.Common.{◌≡◌, ◌≢◌, ℕ, zero, suc, ◌+◌, ◌*◌, ◌^◌, ◌<◌, ◌≤◌, List, [], length, take, drop, slice_set, slice_index_or, refl, sym, ap, ◌∙◌, subst, ◌⊎◌, ⊎_elim, arith}
 use Rattle.std.proofs.Common.{append-nil}
-use Rattle.std.proofs.lemmas.List.{get_or-set_same, get_or-set_other, take-append-drop}
+use Rattle.std.proofs.lemmas.List.{get_or-set_other, take-append-drop}
 use Rattle.nll_owner.specs.Logs.{IsPrefix, log_of}
-use Rattle.nll_worker.specs.Turning.{HasPosted, HasPostedAll, HasGivenAll, HasTaken, IsAtRest, HasPostedFronts}
-use Rattle.nll_worker.specs.Finishing.{IsOwnerOf}
+use Rattle.nll_worker.specs.Turning.{HasPosted, HasPostedAll, HasGivenAll, HasPostedFronts}
 use Rattle.nll_worker.proofs.ListLemmas.{set_length}
-use Rattle.nll_owner.specs.Owner.{Owner, IsSound, IsDone, part_for, given_to, pair_count}
+use Rattle.nll_owner.specs.Owner.{Owner, IsSound, part_for, given_to}
 use Rattle.nll_owner.proofs.OwnerLemmas.{pair_small, filter_le}
 use Rattle.nll_cut.specs.Partition.{reads}
 use Rattle.nll_mail.specs.declared.growth.Growth.{Growth}
@@ -76,8 +75,8 @@ module _ (first now next : Owner) (before mid after : List (List Growth)) (n : �
   posts_fronts owed was front j l = ⊎_elim
       (λ (h : j < n). subst (λ xs. IsPrefix xs (part_for first j)) (sym (stays j (λ e. absurd (omega (arith, h, e))) ∙ p.posted j h)) (begins_all (part_for first j)))
       (λ (t : (j ≡ n) ⊎ (n < j)). ⊎_elim
-        (λ (e : j ≡ n). subst (λ k. IsPrefix (log_of after k) (part_for first k)) (sym e) (subst (λ xs. IsPrefix (log_of after n) xs) (part_was n) front))
-        (λ (h : n < j). subst (λ xs. IsPrefix xs (part_for first j)) (sym (stays j (λ e. absurd (omega (arith, h, e))) ∙ (p.other_posts j (omega (arith, h)) ∙ was.front j l))) (begins_take (given_to first j) (part_for first j))) t)
+      (λ (e : j ≡ n). subst (λ k. IsPrefix (log_of after k) (part_for first k)) (sym e) (subst (λ xs. IsPrefix (log_of after n) xs) (part_was n) front))
+      (λ (h : n < j). subst (λ xs. IsPrefix xs (part_for first j)) (sym (stays j (λ e. absurd (omega (arith, h, e))) ∙ (p.other_posts j (omega (arith, h)) ∙ was.front j l))) (begins_take (given_to first j) (part_for first j))) t)
       (cases_three j n)
 
 -- ---- what is owed
@@ -127,7 +126,7 @@ pub nothing_unsent : (o : Owner) (posts : List (List Growth)) (owed owners count
     → sum_to owners (λ j. given_to o j) + count ≡ sum_to owners (λ j. length (part_for o j)) → HasPostedAll o o posts posts owners
 nothing_unsent o posts owed owners count p is none sums =
     let all : (j : ℕ) → j < owners → given_to o j ≡ length (part_for o j)
-        = sum_exact owners (λ j. given_to o j) (λ j. length (part_for o j)) (λ j l. p.sound.given j) (omega (arith, none, sums)) in
+    = sum_exact owners (λ j. given_to o j) (λ j. length (part_for o j)) (λ j l. p.sound.given j) (omega (arith, none, sums)) in
     record {
       sound = p.sound;
       others = refl;

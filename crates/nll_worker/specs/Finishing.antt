@@ -105,4 +105,4 @@ module _ {L B H E : Type 0} (ledger : Ledger.Ghosts L B H E) where
       pub finishes :
           WasMade ending
           → FinishedAs q c i (log_of (map mail.all_sent closed)) (log_of (map mail.received ended))
-            (ledger.left_owed left) (ledger.left_cleared left) ending log
+          (ledger.left_owed left) (ledger.left_cleared left) ending log

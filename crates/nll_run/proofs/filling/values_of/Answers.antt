@@ -1,10 +1,10 @@
-use Rattle.std.proofs.Common.{◌≡◌, ℕ, ◌<◌, List, Contains, length, map, sym, subst, ap, ◌∙◌, arith, rules}
+use Rattle.std.proofs.Common.{◌≡◌, ℕ, ◌<◌, List, Contains, map, sym, subst, arith, rules}
 use Rattle.nll_problem.specs.Graph.{element_count}
 use Rattle.nll_core.specs.Growing.{Gains}
 use Rattle.nll_core.specs.Values.{IsHeld}
 use Rattle.nll_mail.specs.declared.growth.Growth.{Growth}
 use Rattle.nll_owner.specs.Logs.{IsKnown}
-use Rattle.nll_run.proofs.FillingLemmas.{map_at, map_contains, shaped_gains, InSome, logs_entered, all_logs, says_logs, map_size}
+use Rattle.nll_run.proofs.FillingLemmas.{map_at, map_contains, shaped_gains, logs_entered, all_logs, says_logs, map_size}
 use Rattle.nll_run.proofs.filling.values_of.Goals as goal
 
 pub enter_log-requires : goal.enter_log-requires
@@ -34,4 +34,4 @@ loop-log-preserved c =
 pub returns-clause-held : goal.returns-clause-held
 returns-clause-held c =
     says_logs (map (λ list. list.items) c.args.grown.now) c.args.problem.now.regions (element_count c.args.problem.now.graph) c.loop-log.values c.loop-log.invariant.gains
-      (λ j l lt at. c.loop-log.invariant.all j l (omega (arith, lt, c.loop-log-test.false, map_size (λ list. list.items) c.args.grown.now)) at)
+    (λ j l lt at. c.loop-log.invariant.all j l (omega (arith, lt, c.loop-log-test.false, map_size (λ list. list.items) c.args.grown.now)) at)

@@ -1,4 +1,4 @@
-use Rattle.std.proofs.Common.{◌≡◌, ◌+◌, length, map, rules, subst, sym, arith}
+use Rattle.std.proofs.Common.{rules}
 use Rattle.nll_worker.specs.Mailboxes.{Stays}
 use Rattle.nll_worker.proofs.ListLemmas.{alike_refl}
 use Rattle.nll_worker.proofs.BatchLemmas.{fronts_posted, nothing_unsent}
