@@ -11,7 +11,7 @@ use Rattle.nll_cut.specs.Partition.{reads}
 use Rattle.nll_mail.specs.declared.growth.Growth.{Growth}
 use Rattle.nll_worker.specs.Sums.{sum_to}
 use Rattle.nll_worker.proofs.SumLemmas.{sum_same, sum_exact}
-use Rattle.nll_worker.proofs.PostingLemmas.{take_length, take_all}
+use Rattle.nll_owner.proofs.PostingLemmas.{take_length, take_all}
 
 -- a part has fewer than 2 ^ 37 growths
 pub part_few : (o : Owner) (j : ℕ) → IsSound o → length (part_for o j) < 2 ^ 37

@@ -13,7 +13,7 @@ use Rattle.nll_worker.specs.Turning.{HasPosted, HasTaken, IsAtRest, HasPostedFro
 use Rattle.nll_worker.specs.Finishing.{IsOwnerOf}
 use Rattle.nll_worker.specs.Mailboxes.{AreAllEmpty}
 use Rattle.nll_worker.proofs.SumLemmas.{sum_same, sum_zero}
-use Rattle.nll_worker.proofs.PostingLemmas.{take_all}
+use Rattle.nll_owner.proofs.PostingLemmas.{take_all}
 use Rattle.nll_worker.proofs.ListLemmas.{set_length, set_log, set_own}
 use Rattle.nll_worker.proofs.BatchLemmas.{other_read, cases_three, cases_last, begins_all, sum_bound}
 
