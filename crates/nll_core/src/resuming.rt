@@ -194,6 +194,7 @@ fn enter_landings(
     found: &mut Vec<Run>,
 ) -> Result<(), Memory>
     requires landings { landings.now ≡ lines.now }
+    requires proper { part.first ≤ part.last }
     requires points { part.last < lines.now.points }
     requires width { lines.now.points ≤ length reached.old }
     requires part { AreIn seen.now part }
