@@ -10,7 +10,7 @@ use Rattle.nll_problem.specs.Solution.{Least}
 use Rattle.nll_core.specs.Values.{IsHeld, IsShaped}
 use Rattle.nll_cut.specs.Partition.{Cut, owner_of}
 use Rattle.nll_mail.specs.declared.growth.Growth.{Growth}
-use Rattle.nll_owner.specs.Logs.{IsPrefix, IsKnown, IsCutOf, IsWellFormed, log_of, part, AreSound}
+use Rattle.nll_owner.specs.Logs.{IsPrefix, IsTold, IsCutOf, IsWellFormed, log_of, part, AreSound}
 use Rattle.nll_owner.specs.Owner.{Owner, first_owner}
 use Rattle.nll_worker.specs.Sums.{sum_to}
 use Rattle.nll_worker.specs.Finishing.{Finishes}
@@ -245,12 +245,12 @@ module _ {D M S R C P L B H E : Type 0} (m : Mail.Ghosts M S R C P) (b : Ledger.
       sums = sym (sum_of b.left_owed) ∙ (sym owed_is ∙ (quiets all_quiet_left ∙ (cleared_is ∙ sum_of b.left_cleared)))
 
       module _ (problem : IsSoundProblem q) (values : List (List Bool)) (shaped : IsShaped q values)
-          (held : (r e : ℕ) → IsHeld values r e ↔ ((l : List Growth) × Contains logs l × IsKnown l r e)) where
+          (held : (r e : ℕ) → IsHeld values r e ↔ ((l : List Growth) × Contains logs l × IsTold l r e)) where
         law : ((i j : ℕ) → i < c.owners → j < c.owners → i ≢ j → (sent i j ≡ part q c j (log_of logs i)) × (got i j ≡ sent i j) × (rest i j ≡ []))
-            × AreSound q c logs (λ i j. part q c i (log_of logs j)) × ((r e : ℕ) → IsKnown (log_of logs (owner_of c r)) r e ↔ Least q r e)
+            × AreSound q c logs (λ i j. part q c i (log_of logs j)) × ((r e : ℕ) → IsTold (log_of logs (owner_of c r)) r e ↔ Least q r e)
         law = concludes q c owner sent got rest owed cleared ending ends tied logs problem cut log_count log_is quiet sums
 
-        logged : (r e : ℕ) → IsHeld values r e ↔ IsKnown (log_of logs (owner_of c r)) r e
+        logged : (r e : ℕ) → IsHeld values r e ↔ IsTold (log_of logs (owner_of c r)) r e
         logged r e = (
           (λ h.
               let x = (held r e).0 h in
@@ -259,13 +259,13 @@ module _ {D M S R C P L B H E : Type 0} (m : Mail.Ghosts M S R C P) (b : Ledger.
               let here : log_of logs k.0 ≡ x.0 = read_place logs k.0 x.0 [] k.1 in
               let g = x.2 in
               let own : owner_of c r ≡ k.0 = ap (owner_of c) (sym g.2) ∙ (well_formed k.0 l).own g.0 (subst (λ xs. Contains xs g.0) (sym here) g.1) in
-              subst (λ xs. IsKnown xs r e) (sym (ap (log_of logs) own ∙ here)) x.2),
+              subst (λ xs. IsTold xs r e) (sym (ap (log_of logs) own ∙ here)) x.2),
           (λ h. ⊎_elim
               (λ (low : owner_of c r < length logs).
               let p = place logs (owner_of c r) low in
-              (held r e).1 (p.0, contained logs (owner_of c r) p.0 p.1, subst (λ xs. IsKnown xs r e) (read_place logs (owner_of c r) p.0 [] p.1) h))
+              (held r e).1 (p.0, contained logs (owner_of c r) p.0 p.1, subst (λ xs. IsTold xs r e) (read_place logs (owner_of c r) p.0 [] p.1) h))
               (λ (past : length logs ≤ owner_of c r).
-              absurd (let none = get_or_past logs (owner_of c r) [] past in let l = (subst (λ xs. IsKnown xs r e) none h).1.1 in omega (arith, l)))
+              absurd (let none = get_or_past logs (owner_of c r) [] past in let l = (subst (λ xs. IsTold xs r e) none h).1.1 in omega (arith, l)))
               (cases_lt (owner_of c r) (length logs))),
         )
 

@@ -5,7 +5,7 @@ ghost use Rattle.nll_problem.specs.Problem.{Problem, IsSound};
 ghost use Rattle.nll_problem.specs.Solution.{Least};
 ghost use Rattle.nll_cut.specs.Partition.{Cut, owner_of};
 ghost use Rattle.nll_mail.specs.declared.growth.Growth.{Growth};
-ghost use Rattle.nll_owner.specs.Logs.{IsCutOf, IsKnown, part, log_of, AreSound};
+ghost use Rattle.nll_owner.specs.Logs.{IsCutOf, IsTold, part, log_of, AreSound};
 ghost use Rattle.nll_owner.specs.Owner.{Owner};
 ghost use Rattle.nll_worker.specs.Sums.{sum_to};
 ghost use Rattle.nll_worker.specs.Finishing.{Finishes};
@@ -38,5 +38,5 @@ pub fn all_quiet()
         → ((i j : ℕ) → i < c.owners → j < c.owners → i ≢ j
         → (sent i j ≡ part q c j (log_of logs i)) × (got i j ≡ sent i j) × (rest i j ≡ []))
         × AreSound q c logs (λ i j. part q c i (log_of logs j))
-        × ((r e : ℕ) → IsKnown (log_of logs (owner_of c r)) r e ↔ Least q r e) }
+        × ((r e : ℕ) → IsTold (log_of logs (owner_of c r)) r e ↔ Least q r e) }
 {}

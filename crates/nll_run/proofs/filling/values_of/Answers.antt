@@ -3,7 +3,7 @@ use Rattle.nll_problem.specs.Graph.{element_count}
 use Rattle.nll_core.specs.Growing.{Gains}
 use Rattle.nll_core.specs.Values.{IsHeld}
 use Rattle.nll_mail.specs.declared.growth.Growth.{Growth}
-use Rattle.nll_owner.specs.Logs.{IsKnown}
+use Rattle.nll_owner.specs.Logs.{IsTold}
 use Rattle.nll_run.proofs.FillingLemmas.{map_at, map_contains, shaped_gains, logs_entered, all_logs, says_logs, map_size}
 use Rattle.nll_run.proofs.filling.values_of.Goals as goal
 
@@ -24,8 +24,8 @@ loop-log-preserved c =
     let log = c.log-item.result.items in
     let there = map_contains (λ list. list.items) c.args.grown.now c.loop-log.log-index c.log-item.result c.loop-log-test.true (sym c.log-item.is) in
     let at = map_at (λ list. list.items) c.args.grown.now c.loop-log.log-index c.log-item.result c.loop-log-test.true (sym c.log-item.is) in
-    let one = subst (λ xs. Gains (IsKnown xs) c.loop-log.values c.enter_log.new.values) same c.in_ok-enter_log.ensures.gains in
-    let held = subst (λ (xs : List Growth). (r e : ℕ) → IsKnown xs r e → IsHeld c.enter_log.new.values r e) same c.in_ok-enter_log.ensures.all in
+    let one = subst (λ xs. Gains (IsTold xs) c.loop-log.values c.enter_log.new.values) same c.in_ok-enter_log.ensures.gains in
+    let held = subst (λ (xs : List Growth). (r e : ℕ) → IsTold xs r e → IsHeld c.enter_log.new.values r e) same c.in_ok-enter_log.ensures.all in
     record {
       gains = logs_entered logs c.args.problem.now.regions (element_count c.args.problem.now.graph) c.loop-log.values c.enter_log.new.values c.loop-log.log-index log there at c.loop-log.invariant.gains one held;
       all = all_logs logs c.args.problem.now.regions (element_count c.args.problem.now.graph) c.loop-log.values c.enter_log.new.values c.loop-log.log-index log there at c.loop-log.invariant.gains one held c.loop-log.invariant.all;
