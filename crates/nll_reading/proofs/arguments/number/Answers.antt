@@ -1,5 +1,5 @@
-use Rattle.nll_facts.proofs.FormLemmas.{no_number_first, spells_more, spells_rest}
-use Rattle.nll_facts.proofs.arguments.number.Goals as goal
+use Rattle.nll_reading.proofs.PartLemmas.{no_number_first, spells_more, spells_rest}
+use Rattle.nll_reading.proofs.arguments.number.Goals as goal
 
 pub returns-in_err-point : goal.returns-in_err-point
 returns-in_err-point c = rw c.from_residual.ensures (λ n h. no_number_first _ n _ c.in_err-point.ensures h)

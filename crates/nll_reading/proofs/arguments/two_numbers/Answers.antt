@@ -1,5 +1,5 @@
-use Rattle.nll_facts.proofs.FormLemmas.{no_number_first, spells_more, spells_rest}
-use Rattle.nll_facts.proofs.arguments.two_numbers.Goals as goal
+use Rattle.nll_reading.proofs.PartLemmas.{no_number_first, spells_more, spells_rest}
+use Rattle.nll_reading.proofs.arguments.two_numbers.Goals as goal
 
 pub returns-in_err-first : goal.returns-in_err-first
 returns-in_err-first c = rw c.from_residual.ensures (λ n h. no_number_first _ n.0 _ c.in_err-first.ensures h)

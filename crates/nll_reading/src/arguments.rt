@@ -1,7 +1,7 @@
 //! What follows the first word of a line: regions, and then numbers.
 
-ghost use Rattle.nll_facts.specs.FactsLines as shapes;
-ghost use Rattle.nll_facts.specs.FactsLines.{Reads};
+ghost use Rattle.nll_reading.specs.Parts as shapes;
+ghost use Rattle.nll_reading.specs.Parts.{Reads};
 
 use nll_text::{first_number, first_region, is_gap};
 
