@@ -1,12 +1,12 @@
 -- A cut file has one meaning or one fault.
-use Rattle.std.proofs.Common.{◌≡◌, ◌≢◌, ◌⊎◌, inl, ℕ, ◌<◌, Bool, List, ◌∷◌, map, Option, Some, None, if◌then◌else◌, true, false, ap, arith}
+use Rattle.std.proofs.Common.{◌≡◌, ◌≢◌, ◌⊎◌, inl, ℕ, ◌<◌, Bool, List, ◌∷◌, map, Some, None, if◌then◌else◌, true, false, ap, arith}
 use Rattle.std.specs.Prelude.{nat_lt}
 use Rattle.std.specs.List.{AllByRecursion}
 use Rattle.std.specs.Str.Parse.{digits_value}
-use Rattle.std.proofs.lemmas.Bool.{ltb-true, ltb-false}
+use Rattle.std.proofs.lemmas.Bool.{lt-ltb, le-ltb}
 use Rattle.nll_text.specs.Tokens.{Token, word}
 use Rattle.nll_reading.specs.Parts.{IsSmall, Spells, one_number, token_of}
-use Rattle.nll_reading.specs.Text.{IsText, IsFault}
+use Rattle.nll_reading.specs.Text.{IsFault}
 use Rattle.nll_reading.specs.declared.error.TextKind.{TextKind}
 use Rattle.nll_reading.specs.declared.error.TextKind.TheVariants.{Range, End}
 use Rattle.nll_reading.proofs.ListingLemmas as listing
@@ -17,10 +17,10 @@ use Rattle.nll_cut_text.specs.CutText.{cut, owners, owner_fault, Means}
 
 -- a number above 65,535 has a fault, the others have none
 pub above : (n : ℕ) → 65535 < n → owner_fault n ≡ Some Range
-above n h = ap (λ (b : Bool). if b then Some Range else None) (ltb-true 65535 n h)
+above n h = ap (λ (b : Bool). if b then Some Range else None) (lt-ltb 65535 n h)
 
 pub within : (n : ℕ) → n < 65536 → owner_fault n ≡ None
-within n h = ap (λ (b : Bool). if b then Some Range else None) (ltb-false 65535 n (omega (arith, h)))
+within n h = ap (λ (b : Bool). if b then Some Range else None) (le-ltb 65535 n (omega (arith, h)))
 
 -- the number that tokens spell
 unspelled : List Token → ℕ

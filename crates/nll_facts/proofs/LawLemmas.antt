@@ -1,15 +1,12 @@
 -- A facts text has one meaning or one fault.
-use Rattle.std.proofs.Common.{map, ◌⊎◌, inl, inr, ⊎_elim, ◌≡◌, ℕ, ◌<◌, ◌≤◌, length, ◌^◌, cond, List, [], ◌∷◌, Contains, refl, sym, ap, ◌∙◌, subst, arith}
+use Rattle.std.proofs.Common.{map, ◌⊎◌, inl, inr, ⊎_elim, ◌≡◌, ℕ, ◌≤◌, length, cond, List, [], ◌∷◌, Contains, refl, sym, ap, ◌∙◌, subst, arith}
 use Rattle.std.specs.Prelude.{codes}
 use Rattle.std.specs.List.{AllByRecursion}
 use Rattle.std.specs.Str.{bytes_eq}
 use Rattle.std.specs.Str.Parse.{digits_value}
 use Rattle.std.specs.Fmt.{decimal}
-use Rattle.std.proofs.lemmas.Bool.{cases_eq, cases_lt}
-use Rattle.std.proofs.lemmas.Fmt.{decimal_is_IsNumeral}
-use Rattle.nll_text.specs.Tokens.{Token, word, region, IsMadeOf}
-use Rattle.nll_text.proofs.DecisionLemmas.{tokens_or_not}
-use Rattle.nll_text.proofs.TokenLemmas.{one_token_list_lem, made_or_not}
+use Rattle.std.proofs.lemmas.Bool.{cases_eq}
+use Rattle.nll_text.specs.Tokens.{Token, word, region}
 use Rattle.nll_problem.specs.Problem.{Problem, SameProblem}
 use Rattle.nll_problem.proofs.SameLemmas.{same_problem, same_problem_back, same_problem_chain}
 use Rattle.nll_reading.specs.Labels.{Labels, numbers}

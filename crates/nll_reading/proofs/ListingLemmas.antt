@@ -2,7 +2,7 @@
 use Rattle.std.proofs.Common.{◌≡◌, ⊎_elim, ℕ, ◌+◌, ◌-◌, ◌≤◌, List, [], ◌∷◌, ◌++◌, None, Some, length, refl, sym, ap, ◌∙◌, subst}
 use Rattle.nll_reading.specs.Parts.{Part, Spells}
 use Rattle.nll_reading.specs.Text.{Format, Fits, skipped, of_form, IsFaulty, not_utf8, no_form, at_form, Says, HasFault, IsPassedOver, IsFormless, IsFault, too_long, header_not_utf8, no_header, at_line, no_end}
-use Rattle.nll_reading.specs.Reading.{ReadsLine, skips, reads}
+use Rattle.nll_reading.specs.Reading.{ReadsLine, reads}
 use Rattle.nll_reading.specs.Listing.{Listing, format_of, AddsEntry}
 use Rattle.nll_reading.specs.declared.error.TextKind.{TextKind}
 use Rattle.nll_reading.specs.declared.error.TextKind.TheVariants.{End}

@@ -6,7 +6,7 @@ use Rattle.nll_cut_text.specs.CutText.{cut, owners}
 use Rattle.nll_cut_text.proofs.cut.read_lines.Goals as goal
 
 pub loop-rest-init : goal.loop-rest-init
-loop-rest-init c = record { read = ([], rw c.new-list.ensures (read_none owners _)) }
+loop-rest-init c = record { read = ([], rw c.new-list.ensures.items (read_none owners _)) }
 
 pub overflow_add-number : goal.overflow_add-number
 overflow_add-number c = omega (arith, read_bound owners _ _ _ _ _ c.loop-rest.invariant.read.1, c.requires.long)
