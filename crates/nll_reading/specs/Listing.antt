@@ -31,5 +31,6 @@ format_of listing = record {
 }
 
 -- one more entry is in the list
-abbrev pub AddsEntry : (listing : Listing) → List listing.Entry → listing.Entry → List listing.Entry → Type 0
+abbrev pub AddsEntry : (listing : Listing) → List listing.Entry → listing.Entry
+    → List listing.Entry → Type 0
 AddsEntry listing entries entry more = more ≡ entries ++ entry ∷ []
