@@ -17,7 +17,7 @@ use Rattle.nll_worker.specs.Finishing.{Finishes}
 use Rattle.nll_mail.specs.declared.mail.Mail as Mail
 use Rattle.nll_ledger.specs.declared.ledger.Ledger as Ledger
 use Rattle.nll_owner.specs.Delivery.{IsPair, IsPairBefore}
-use Rattle.nll_run.specs.Outcome.{IsOutcome}
+use Rattle.nll_run.specs.Outcome.{IsOutcome, HasFullClock}
 use Rattle.nll_worker.specs.Finishing.{Leaves, WasMade, FinishedAs, IsError}
 use Rattle.nll_worker.specs.declared.ending.Ending.{Ending}
 use Rattle.nll_worker.specs.declared.ending.Ending.TheVariants.{Quiet, Stopped, Stray}
@@ -25,7 +25,8 @@ use Rattle.nll_worker.specs.declared.ending.Ending.TheVariants as endings
 use Rattle.nll_worker.proofs.RunLemmas.{concludes, not_stray}
 use Rattle.nll_worker.proofs.SumLemmas.{sum_same}
 use Rattle.nll_run.specs.Table.{list_at}
-use Rattle.nll_run.specs.Settling.{IsPostOf, ArePostsOf, InRows, sent_by, got_by, IsCalm}
+use Rattle.nll_run.specs.Settling.{IsPostOf, ArePostsOf, InRows, sent_by, got_by, IsCalm, error_of}
+use Rattle.nll_run.specs.declared.error.RunError.TheVariants as errors
 use Rattle.nll_run.proofs.PlaceLemmas.{place, within, same_place, read_place, map_place, map_from, map_size, mapped, contains_place, contained}
 
 -- the rest of a list behind one that begins it
@@ -95,6 +96,23 @@ error_bad endings.Memory t e = absurd t
 error_bad endings.RankFull t e = absurd t
 error_bad endings.Unstarted t e = absurd t
 error_bad endings.NoOwner t e = absurd t
+
+-- the error on ranks is of no other ending
+pub full_ending : (w : Ending) → error_of w ≡ Some errors.RankFull → w ≡ endings.RankFull
+full_ending endings.RankFull e = refl
+full_ending endings.Memory e = absurd (cc e)
+full_ending endings.NoOwner e = absurd (cc e)
+full_ending endings.Unstarted e = absurd (cc e)
+full_ending endings.Quiet e = absurd (cc e)
+full_ending endings.Stopped e = absurd (cc e)
+full_ending endings.Stray e = absurd (cc e)
+
+-- a worker that ended since its clock was at its end had an owner with such a clock
+pub full_clock : (q : Problem) (c : Cut) (k : ℕ) (sent got : ℕ → List Growth) (owed cleared : ℕ) (ending : Ending) (log : List Growth)
+    → k < c.owners → ending ≡ endings.RankFull → (WasMade ending → FinishedAs q c k sent got owed cleared ending log) → HasFullClock q c
+full_clock q c k sent got owed cleared ending log l is f =
+    let x = f (subst WasMade (sym is) tt) in
+    (k, x.0, l, record { problem = x.2.problem; cut = x.2.cut; me = x.2.me }, x.2.sound, x.2.full is)
 
 module _ {D M S R C P L B H E : Type 0} (m : Mail.Ghosts M S R C P) (b : Ledger.Ghosts L B H E) (book : B)
     (log : D → List Growth) (left : D → E) (closed : D → List C) (kept : D → List R) (why_of : D → Ending) (q : Problem) (c : Cut) (cut : IsCutOf q c) (ds : List D) (count : length ds ≡ c.owners)

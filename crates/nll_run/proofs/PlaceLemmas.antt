@@ -159,6 +159,12 @@ item_last P xs n x is before here k y l e = ⊎_elim
     cases_last : (k n : ℕ) → k < n + 1 → (k < n) ⊎ (k ≡ n)
     cases_last k n l = grind arith
 
+-- what is read at a place below the length stands there
+pub item_at : {X : Type 0} (xs : List X) (n : ℕ) (x : X) → n < length xs → x ≡ slice_index_or xs n x → slice_get xs n ≡ Some x
+item_at [] n x l is = absurd (omega (arith, l))
+item_at (y ∷ ys) zero x l is = ap Some (sym is)
+item_at (y ∷ ys) (suc n) x l is = item_at ys n x (omega (arith, l)) is
+
 -- the front of one list moves behind another
 pub front_moved : {W X Y : Type 0} (f : W → Y) (h : X → Y) (ws ws' : List W) (w : W) (xs rest : List X) (x : X) (all : List Y) → ws' ≡ ws ++ w ∷ [] → xs ≡ x ∷ rest → f w ≡ h x → map f ws ++ map h xs ≡ all → map f ws' ++ map h rest ≡ all
 front_moved f h ws ws' w xs rest x all pushed popped same before =

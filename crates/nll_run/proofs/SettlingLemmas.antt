@@ -137,7 +137,7 @@ module _ {M S R C P : Type 0} (m : Mail.Ghosts M S R C P) (from to : ℕ) (row :
   out_is = sent_is ∙ sym (mapped m.all_sent row to z [] place_z)
 
   into_is : m.post_received p ≡ log_of (map m.received (list_at columns to)) 0
-  into_is = received_is ∙ sym (ap (λ l. log_of (map received l) 0) column_is)
+  into_is = received_is ∙ sym (ap (λ l. log_of (map m.received l) 0) column_is)
 
   prefix_is : IsPrefix (log_of (map m.received (list_at columns to)) 0) (log_of (map m.all_sent row) to)
   prefix_is = (m.post_rest p, sym out_is ∙ (whole ∙ ap (λ l. l ++ m.post_rest p) into_is))

@@ -1,9 +1,7 @@
 //! What the workers gave back, taken apart.
 
-ghost use Rattle.std.specs.Prelude.{◌≡◌, ◌≤◌, ◌^◌, ℕ, map, slice_get, Some, IfOk, IfNone};
-ghost use Rattle.nll_worker.specs.declared.ending.Ending.TheVariants as endings;
-ghost use Rattle.nll_run.specs.Settling.{IsCalm};
-ghost use Rattle.nll_run.specs.declared.error.RunError.TheVariants.{RankFull};
+ghost use Rattle.std.specs.Prelude.{◌≡◌, ◌<◌, ℕ, map, slice_get, Some, IfOk, IfNone, IfSome};
+ghost use Rattle.nll_run.specs.Settling.{IsCalm, error_of};
 
 use crate::error::RunError;
 use nll_ledger::Ledger;
@@ -26,8 +24,9 @@ pub struct Parts<M: Mail, L: Ledger> {
 pub fn first_error<M: Mail, L: Ledger>(finished: &[Finished<M, L>]) -> Option<RunError>
     ensures none { IfNone result ((k : ℕ) (d : _) → slice_get finished.now k ≡ Some d
         → IsCalm d.ending) }
-    ensures full { result ≡ Some RankFull → (k : ℕ) × (d : _)
-        × (slice_get finished.now k ≡ Some d) × (d.ending ≡ endings.RankFull) }
+    ensures first { IfSome result (λ error. (k : ℕ) × (d : _)
+        × (slice_get finished.now k ≡ Some d) × (error_of d.ending ≡ Some error)
+        × ((j : ℕ) (b : _) → j < k → slice_get finished.now j ≡ Some b → IsCalm b.ending)) }
 {
     for done in finished {
         match done.ending {

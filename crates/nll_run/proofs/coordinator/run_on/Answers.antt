@@ -6,7 +6,7 @@ use Rattle.nll_worker.specs.Finishing.{IsGiven, IsFresh, Leaves, FinishedAs}
 use Rattle.nll_run.specs.Table.{IsTable}
 use Rattle.nll_run.proofs.PlaceLemmas.{place, within, mapped, map_size, all_of}
 use Rattle.nll_run.proofs.EndingLemmas.{table_then, empty_row, empty_column, if_ok_is}
-use Rattle.nll_run.proofs.coordinator.run.Goals as goal
+use Rattle.nll_run.proofs.coordinator.run_on.Goals as goal
 
 pub start_all-book-requires-clause-given : goal.start_all-book-requires-clause-given
 start_all-book-requires-clause-given g c κs within' =
