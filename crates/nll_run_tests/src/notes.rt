@@ -11,10 +11,11 @@ struct Page {
     owed: AtomicU64,
     posts: AtomicU64,
     cleared: AtomicU64,
-    // Whether it owed in the turn that it's in.
+    // Whether it owed, and whether it posted or cleared, in the turn that it's in.
     has_owed: AtomicBool,
-    // How often it posted or cleared in a turn before it owed.
-    early: AtomicU64,
+    has_acted: AtomicBool,
+    // How often it posted in a turn in which it hadn't owed, or owed where it had posted or cleared.
+    late: AtomicU64,
 }
 
 impl Page {
@@ -26,7 +27,8 @@ impl Page {
             posts: AtomicU64::new(0),
             cleared: AtomicU64::new(0),
             has_owed: AtomicBool::new(false),
-            early: AtomicU64::new(0),
+            has_acted: AtomicBool::new(false),
+            late: AtomicU64::new(0),
         }
     }
 
@@ -34,24 +36,32 @@ impl Page {
     fn begin(&self) {
         self.turns.fetch_add(1, Ordering::SeqCst);
         self.has_owed.store(false, Ordering::SeqCst);
+        self.has_acted.store(false, Ordering::SeqCst);
     }
 
-    // Notes a post or a clear.
-    fn note(&self, count: &AtomicU64, amount: u64) {
-        count.fetch_add(amount, Ordering::SeqCst);
-        if !self.has_owed.load(Ordering::SeqCst) {
-            self.early.fetch_add(1, Ordering::SeqCst);
+    // Notes a step that came too late, where it did.
+    fn judge(&self, is_late: bool) {
+        if is_late {
+            self.late.fetch_add(1, Ordering::SeqCst);
         }
     }
 
     // Notes a step.
     fn step(&self, step: Step) {
         match step {
-            Step::Post => self.note(&self.posts, 1),
-            Step::Clear(amount) => self.note(&self.cleared, amount),
             Step::Owe(amount) => {
                 self.owed.fetch_add(amount, Ordering::SeqCst);
                 self.has_owed.store(true, Ordering::SeqCst);
+                self.judge(self.has_acted.load(Ordering::SeqCst));
+            }
+            Step::Post => {
+                self.posts.fetch_add(1, Ordering::SeqCst);
+                self.has_acted.store(true, Ordering::SeqCst);
+                self.judge(!self.has_owed.load(Ordering::SeqCst));
+            }
+            Step::Clear(amount) => {
+                self.cleared.fetch_add(amount, Ordering::SeqCst);
+                self.has_acted.store(true, Ordering::SeqCst);
             }
         }
     }
@@ -62,8 +72,8 @@ impl Page {
         let owed = self.owed.load(Ordering::SeqCst);
         let posts = self.posts.load(Ordering::SeqCst);
         let cleared = self.cleared.load(Ordering::SeqCst);
-        let early = self.early.load(Ordering::SeqCst);
-        write!(out, "{turns} {owed} {posts} {cleared} {early}|")
+        let late = self.late.load(Ordering::SeqCst);
+        write!(out, "{turns} {owed} {posts} {cleared} {late}|")
     }
 }
 
@@ -84,7 +94,7 @@ impl Notes {
     }
 
     /// For each of the two: its turns, what it owed beside its load, its posts, what it cleared, and
-    /// how often it posted or cleared in a turn before it owed.
+    /// how often it owed too late: where it had posted or cleared in that turn.
     pub fn written(&self, alloc: Global) -> Result<String, AllocError> {
         let mut out = String::new(alloc);
         let first = self.first.write(&mut out);

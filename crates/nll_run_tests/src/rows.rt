@@ -1,6 +1,6 @@
 //! Runs of worked problems come to values and counts that were found by hand.
 use super::problems::{BY_TURNS, Deal, FILLED_HOLE, ONE_POINT, REACHED, Written};
-use super::telling::told;
+use super::telling::{compare, told};
 use nll_ledger::LockLedger;
 use nll_mail::QueueMail;
 use nll_worker::NoGate;
@@ -112,9 +112,6 @@ fn runs_come_to_the_least_values(rt: HostRuntime) {
             &LockLedger::new(rt),
             &NoGate,
         );
-        match told {
-            Ok(text) => assert!(rt; text.as_str() == *want, "{text} for {want}"),
-            Err(failure) => assert!(rt; false, "{failure:?} for {want}"),
-        }
+        compare(&rt, told, want);
     }
 }

@@ -11,6 +11,7 @@ use nll_mail::{Growth, Mail};
 use nll_run::{Outcome, run};
 use nll_worker::Gate;
 use std::alloc::{AllocError, Global};
+use std::process::Abort;
 use std::sync::Wait;
 use std::thread::Threads;
 
@@ -133,4 +134,12 @@ pub fn told<M: Mail, L: Ledger, G: Gate, R: Threads + Wait + Sync>(
     let told = told_of::<M, L, G, R>(rt, alloc, &problem, deal, mail, ledger, gate);
     drop(problem);
     told
+}
+
+/// Compares what was told.
+pub fn compare(rt: &impl Abort, told: Result<String, Failure>, want: &str) {
+    match told {
+        Ok(text) => assert!(rt; text.as_str() == want, "{text} for {want}"),
+        Err(failure) => assert!(rt; false, "{failure:?} for {want}"),
+    }
 }
