@@ -141,6 +141,9 @@ fn numbered<L: Ledger>(
 }
 
 impl<'x, L: Ledger, W: Watch> Ledger for Watched<'x, L, W> {
+    ghost use Rattle.std.specs.Prelude.{◌≡◌, ℕ, Some, false, slice_get, true, vec_len};
+    ghost use Rattle.std.specs.List.{sum_by};
+
     type Book = WatchedBook<'x, L, W>;
 
     type Share = WatchedShare<L>;
@@ -217,7 +220,20 @@ impl<'x, L: Ledger, W: Watch> Ledger for Watched<'x, L, W> {
         }
     }
 
-    fn gather(book: WatchedBook<'x, L, W>, lefts: Vec<L::Left>) -> Totals {
+    fn gather(book: WatchedBook<'x, L, W>, lefts: Vec<L::Left>) -> Totals
+        requires count { vec_len lefts ≡ L.owner_count book.inner }
+        requires each { (place : ℕ) (left : L.Left) → slice_get lefts.items place ≡ Some left
+            → L.left_belongs book.inner left × (L.left_number left ≡ place) }
+        ensures owed { result.owed ≡ sum_by L.left_owed lefts.items }
+        ensures cleared { result.cleared ≡ sum_by L.left_cleared lefts.items }
+        ensures quiet { ((place : ℕ) (left : L.Left)
+            → slice_get lefts.items place ≡ Some left → L.left_quiet left ≡ true)
+            → result.owed ≡ result.cleared }
+        ensures stopped { (place : ℕ) (left : L.Left)
+            → slice_get lefts.items place ≡ Some left → L.left_quiet left ≡ false
+            → (other : ℕ) × (caller : L.Left)
+            × (slice_get lefts.items other ≡ Some caller) × (L.left_called caller ≡ true) }
+    {
         let WatchedBook { inner, watch: _ } = book;
         L::gather(inner, lefts)
     }
