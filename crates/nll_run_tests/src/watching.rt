@@ -118,16 +118,13 @@ pub struct WatchedBook<'x, L: Ledger, W> {
 
 /// A share of it.
 #[derive(Drop)]
-pub struct WatchedShare<L: Ledger> {
-    inner: L::Share,
+pub struct WatchedShare<S> {
+    inner: S,
     owner: u16,
 }
 
 // The shares, each with the number of its owner.
-fn numbered<L: Ledger>(
-    alloc: Global,
-    shares: Vec<L::Share>,
-) -> Result<Vec<WatchedShare<L>>, AllocError>
+fn numbered<S: Drop>(alloc: Global, shares: Vec<S>) -> Result<Vec<WatchedShare<S>>, AllocError>
     ensures { IfOk result (λ numbered. map (λ s. s.inner) numbered.items ≡ shares.items) }
 {
     let mut shares = VecDeque::from(shares);
@@ -146,7 +143,7 @@ impl<'x, L: Ledger, W: Watch> Ledger for Watched<'x, L, W> {
 
     type Book = WatchedBook<'x, L, W>;
 
-    type Share = WatchedShare<L>;
+    type Share = WatchedShare<L::Share>;
 
     type Left = L::Left;
 
@@ -180,9 +177,9 @@ impl<'x, L: Ledger, W: Watch> Ledger for Watched<'x, L, W> {
         &self,
         alloc: Global,
         owners: u16,
-    ) -> Result<(WatchedBook<'x, L, W>, Vec<WatchedShare<L>>), Memory> {
+    ) -> Result<(WatchedBook<'x, L, W>, Vec<WatchedShare<L::Share>>), Memory> {
         let (inner, shares) = self.inner.open(alloc, owners)?;
-        let shares = numbered::<L>(alloc, shares)?;
+        let shares = numbered(alloc, shares)?;
         let book = WatchedBook {
             inner,
             watch: self.watch,
@@ -190,28 +187,28 @@ impl<'x, L: Ledger, W: Watch> Ledger for Watched<'x, L, W> {
         Ok((book, shares))
     }
 
-    fn owe(book: &WatchedBook<'x, L, W>, share: &mut WatchedShare<L>, amount: u64) {
+    fn owe(book: &WatchedBook<'x, L, W>, share: &mut WatchedShare<L::Share>, amount: u64) {
         book.watch.before(share.owner, Step::Owe(amount));
         L::owe(&book.inner, &mut share.inner, amount);
     }
 
-    fn clear(book: &WatchedBook<'x, L, W>, share: &mut WatchedShare<L>, amount: u64) {
+    fn clear(book: &WatchedBook<'x, L, W>, share: &mut WatchedShare<L::Share>, amount: u64) {
         book.watch.before(share.owner, Step::Clear(amount));
         L::clear(&book.inner, &mut share.inner, amount);
     }
 
-    fn stop(book: &WatchedBook<'x, L, W>, share: &mut WatchedShare<L>) {
+    fn stop(book: &WatchedBook<'x, L, W>, share: &mut WatchedShare<L::Share>) {
         L::stop(&book.inner, &mut share.inner);
     }
 
-    fn stopped(book: &WatchedBook<'x, L, W>, share: &mut WatchedShare<L>) -> bool {
+    fn stopped(book: &WatchedBook<'x, L, W>, share: &mut WatchedShare<L::Share>) -> bool {
         L::stopped(&book.inner, &mut share.inner)
     }
 
     fn leave(
         book: &WatchedBook<'x, L, W>,
-        share: WatchedShare<L>,
-    ) -> Leave<L::Left, WatchedShare<L>> {
+        share: WatchedShare<L::Share>,
+    ) -> Leave<L::Left, WatchedShare<L::Share>> {
         let WatchedShare { inner, owner } = share;
         match L::leave(&book.inner, inner) {
             Leave::Quiet(left) => Leave::Quiet(left),
