@@ -43,7 +43,8 @@ def shares(ready, running, number, ahead):
     longest = max([ahead[crate] for crate in [*ready, *running]], default=0)
     for at, crate in enumerate(ready):
         if free > 0:
-            wanted = number // 2 if ahead[crate] == longest else 1
-            begun[crate] = min(free, number, max(wanted, free // (len(ready) - at), 1))
+            half = max(1, number // 2)
+            least, most = (half, number) if ahead[crate] == longest else (1, half)
+            begun[crate] = min(free, most, max(least, free // (len(ready) - at)))
             free -= begun[crate]
     return begun
