@@ -38,7 +38,7 @@ def move(folder, to):
     if os.path.isdir(folder):
         shutil.rmtree(to, ignore_errors=True)
         os.makedirs(os.path.dirname(to), exist_ok=True)
-        os.rename(folder, to)
+        shutil.move(folder, to)
 
 
 def folder_of(root, crate):
