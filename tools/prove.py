@@ -47,15 +47,16 @@ class Check:
 
     def __init__(self, root, crate, libraries, jobs):
         self.root, self.crate, self.jobs = root, crate, jobs
-        self.room, self.ends = Room(root, crate, libraries), contextlib.ExitStack()
+        self.room = Room(root, crate, libraries)
 
     def __enter__(self):
-        self.ends.callback(self.room.remove)
-        self.room.open()
-        self.printed = self.ends.enter_context(
-            tempfile.TemporaryFile("w+", encoding="utf-8", errors="replace"))
         words = ["rt", "lib", "--jobs", str(self.jobs)]
-        self.running = self.ends.enter_context(started(words, self.room.folder, self.printed))
+        with contextlib.ExitStack() as ends:
+            ends.callback(self.room.remove)
+            self.room.open()
+            self.printed = ends.enter_context(tempfile.TemporaryFile("w+", encoding="utf-8", errors="replace"))
+            self.running = ends.enter_context(started(words, self.room.folder, self.printed))
+            self.ends = ends.pop_all()
         return self
 
     def __exit__(self, *_):
