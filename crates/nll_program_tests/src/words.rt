@@ -7,6 +7,8 @@ use clap::{Arg, ArgAction, Command};
 use nll_report::{Line, LineError, line};
 use std::alloc::Global;
 use std::process::Abort;
+use std::sync::Wait;
+use std::thread::Threads;
 
 // Writes a task and its file.
 fn write_line(out: &mut String, line: &Line) {
@@ -156,7 +158,7 @@ check|-h
 ";
 
 // Ends the test unless that is told of each of the words.
-fn compare_words<R: Abort + AllocGlobal>(rt: &R, same: &str, rows: &str) {
+fn compare_words<R: Abort + AllocGlobal + Threads + Wait + Sync>(rt: &R, same: &str, rows: &str) {
     compare_same(rt, Asked::Line, ALONE, same, rows);
 }
 

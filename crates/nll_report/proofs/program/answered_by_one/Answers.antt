@@ -1,7 +1,7 @@
 use Rattle.std.proofs.Common.{refl}
 use Rattle.std.proofs.lemmas.Result.{err_from_is_err_and}
 use Rattle.nll_report.proofs.RunLemmas.{answer_told}
-use Rattle.nll_report.proofs.program.answered.Goals as goal
+use Rattle.nll_report.proofs.program.answered_by_one.Goals as goal
 
 pub returns-in_err-answer_text-in-Ok-clause-err : goal.returns-in_err-answer_text-in-Ok-clause-err
 returns-in_err-answer_text-in-Ok-clause-err g c =
