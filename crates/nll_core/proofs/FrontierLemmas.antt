@@ -1,5 +1,5 @@
 -- A frontier goes on from a run, and is again what walks reach.
-use Rattle.std.proofs.Common.{◌≡◌, ◌⊎◌, ◌↔◌, ℕ, ◌+◌, ◌<◌, ◌≤◌, Bool, false, List, [], Contains, length, get_or, replicate, refl, sym, ap, ◌∙◌, subst, inl, inr, ⊎_elim, arith}
+use Rattle.std.proofs.Common.{◌≡◌, ◌⊎◌, ◌↔◌, ℕ, ◌+◌, ◌-◌, ◌<◌, ◌≤◌, Bool, false, List, [], Contains, length, get_or, replicate, refl, sym, ap, ◌∙◌, subst, inl, inr, ⊎_elim, arith}
 use Rattle.std.proofs.lemmas.Bool.{cases_eq, cases_lt, false≢true}
 use Rattle.std.proofs.lemmas.List.{get_or_default}
 use Rattle.nll_sets.specs.ElementSet.{flag}
@@ -10,11 +10,11 @@ use Rattle.nll_problem.specs.Walks.{Reaches}
 use Rattle.nll_problem.proofs.WalkLemmas.{reaches_first, reaches_starts, reaches_inside, reaches_more, reaches_carries, reaches_weaker}
 use Rattle.nll_core.specs.Search.{IsIn}
 use Rattle.nll_core.specs.Lines.{IsJump}
-use Rattle.nll_core.specs.Walking.{Grows, IsLedTo, IsSpread, IsLineClosed, IsFollowed, AreFollowedBut, AreOfPoints, FillsFrom}
-use Rattle.nll_core.specs.Frontiers.{Frontier, ReachesFrom, IsReachedFrom, IsFrontierIn, IsBeside, ResumesPoints, ListsNew}
+use Rattle.nll_core.specs.Walking.{Grows, IsLedTo, IsSpread, AreOfPoints, FillsFrom}
+use Rattle.nll_core.specs.Frontiers.{Frontier, ReachesFrom, IsReachedFrom, IsFrontierIn, IsBeside, GoesOn, ResumesPoints, ListsNew}
 use Rattle.nll_core.specs.declared.landing.Landing.{Landing}
 use Rattle.nll_core.proofs.SearchLemmas.{none_in_empty, flag_within}
-use Rattle.nll_core.proofs.WalkingLemmas.{grows_none, grows_append, grows_weaker, line_closed, reaches_append}
+use Rattle.nll_core.proofs.WalkingLemmas.{grows_none, grows_append, grows_weaker, reaches_append}
 use Rattle.nll_core.proofs.ListingLemmas.{lists_grown, lists_append}
 
 -- ---- runs and jumps
@@ -25,6 +25,10 @@ within_or run x = ⊎_elim
     (λ low. inr (inl low))
     (λ from. ⊎_elim (λ high. inr (inr high)) (λ to. inl (omega (arith, from), omega (arith, to))) (cases_lt run.last x))
     (cases_lt x run.first)
+
+outside : (run : Run) (x : ℕ) → (x < run.first) ⊎ (run.last < x) → IsWithin run x → ⊥
+outside run x (inl low) w = omega (arith, low, w.0)
+outside run x (inr high) w = omega (arith, high, w.1)
 
 -- a jump to a point is a step to it
 jump_next : (g : Graph) (x t : ℕ) → IsJump g x t → t < g.points → IsNext g x t
@@ -50,52 +54,52 @@ module _ (g : Graph) (set : List Bool) (starts : List ℕ) where
   pub from_inside : (x : ℕ) → ReachesFrom g (IsIn set) starts x → IsIn set x
   from_inside x w = reaches_inside g (IsIn set) w.0 x w.2
 
-  -- ---- a run has come into the set
+  -- ---- a frontier that lacked what a run has
 
   module _ (run : Run) (old : List Bool) (before : IsReachedFrom g (IsBeside set run) starts old) where
-    pub old_sound : (x : ℕ) → IsIn old x → ReachesFrom g (IsIn set) starts x
-    old_sound x h = let w = (before x).0 h in (w.0, w.1, reaches_weaker g (IsBeside set run) w.0 (IsIn set) (λ y t. t.0) x w.2)
-
-    pub old_inside : (x : ℕ) → IsIn old x → IsIn set x
-    old_inside x h = from_inside x (old_sound x h)
-
-    old_beside : (x : ℕ) → IsIn old x → IsWithin run x → ⊥
-    old_beside x h = let w = (before x).0 h in (reaches_inside g (IsBeside set run) w.0 x w.2).1
+    pub beside_sound : (x : ℕ) → IsIn old x → ReachesFrom g (IsIn set) starts x
+    beside_sound x h = let w = (before x).0 h in (w.0, w.1, reaches_weaker g (IsBeside set run) w.0 (IsIn set) (λ y t. t.0) x w.2)
 
     -- a step inside the set from what is reached leads to what is reached, or into the run
     old_closed : (x y : ℕ) → IsIn old x → IsStep g x y → IsIn set y → IsIn old y ⊎ IsWithin run y
     old_closed x y h step inside =
         let w = (before x).0 h in
-        let more : (IsWithin run y → ⊥) → IsIn old y = λ out. (before y).1 (w.0, w.1, reaches_more g (IsBeside set run) w.0 x y w.2 step (inside, out)) in
-        ⊎_elim inr (λ out. inl (more (outside out))) (within_or run y)
-      where
-        outside : (y < run.first) ⊎ (run.last < y) → IsWithin run y → ⊥
-        outside (inl low) w = omega (arith, low, w.0)
-        outside (inr high) w = omega (arith, high, w.1)
+        ⊎_elim inr (λ out. inl ((before y).1 (w.0, w.1, reaches_more g (IsBeside set run) w.0 x y w.2 step (inside, outside run y out)))) (within_or run y)
 
     old_begun : (p : ℕ) → Contains starts p → IsIn set p → IsIn old p ⊎ IsWithin run p
-    old_begun p at inside =
-        let more : (IsWithin run p → ⊥) → IsIn old p = λ out. (before p).1 (p, at, reaches_first g (IsBeside set run) p (inside, out)) in
-        ⊎_elim inr (λ out. inl (more (outside out))) (within_or run p)
+    old_begun p at inside = ⊎_elim inr (λ out. inl ((before p).1 (p, at, reaches_first g (IsBeside set run) p (inside, outside run p out)))) (within_or run p)
+
+    -- once walks went on from the run, it is what they reach
+    pub goes_on_whole : (new : List Bool) → GoesOn g set run starts old new → IsReachedFrom g (IsIn set) starts new
+    goes_on_whole new w x = (
+      w.sound x,
+      λ (way : ReachesFrom g (IsIn set) starts x). reaches_carries g (IsIn set) way.0 (IsIn new) go_on x
+          (⊎_elim (w.kept way.0) (w.begun way.0 way.1) (old_begun way.0 way.1 (reaches_starts g (IsIn set) way.0 x way.2))) way.2,
+    )
       where
-        outside : (p < run.first) ⊎ (run.last < p) → IsWithin run p → ⊥
-        outside (inl low) w = omega (arith, low, w.0)
-        outside (inr high) w = omega (arith, high, w.1)
+        go_on : (y z : ℕ) → IsIn new y → IsStep g y z → IsIn set z → IsIn new z
+        go_on y z h step inside = ⊎_elim (λ i. i) (λ o. ⊎_elim (w.kept z) (λ own. absurd (o.1 own)) (old_closed y z o.0 step inside)) (w.closed y z h step inside)
+
+  -- ---- walks go on from a run
+
+  module _ (run : Run) (old : List Bool) (old_sound : (x : ℕ) → IsIn old x → ReachesFrom g (IsIn set) starts x) where
+    pub old_inside : (x : ℕ) → IsIn old x → IsIn set x
+    old_inside x h = from_inside x (old_sound x h)
 
     module _ (sound : IsSound g) (points : (p : ℕ) → Contains starts p → p < g.points) where
       -- where the run has no point, no point is newly reached
-      pub resumes_none : (runs : List Run) → g.points ≤ run.first → ResumesPoints g set starts old old runs runs false
+      pub resumes_none : (runs : List Run) → g.points ≤ run.first → ResumesPoints g set run starts old old runs runs false
       resumes_none runs past = record {
         grows = grows_none g set (ReachesFrom g (IsIn set) starts) old runs;
-        begun = λ p at inside. ⊎_elim (λ o. o) (λ w. absurd (omega (arith, w.0, past, points p at))) (old_begun p at inside);
-        closed = λ x y h next inside. ⊎_elim (λ o. o) (λ w. absurd (omega (arith, w.0, past, (sound.edges_in_range x y next).1))) (old_closed x y h (inl next) inside);
+        begun = λ p at w. absurd (omega (arith, w.0, past, points p at));
+        closed = λ x y h next inside. inr (h, λ w. absurd (omega (arith, w.0, past, (sound.edges_in_range x y next).1)));
         ends_from = λ e. absurd (false≢true e);
         ends = λ x h back. inr h;
       }
 
       -- else its points are entered from which walks go on
       module _ (part : Run) (first : part.first ≡ run.first) (last : (x : ℕ) → x ≤ run.last → x < g.points → x ≤ part.last) (es : List Run) (none : es ≡ [])
-          (one two : List Bool) (fs gs : List Run) (a : Grows g set (IsLedTo g set old) old one es fs) (near : (x : ℕ) → x + 1 ≡ part.first → IsIn old x → IsNext g x part.first → IsIn one part.first)
+          (one two : List Bool) (fs gs : List Run) (a : Grows g set (IsLedTo g set old) old one es fs) (near : (x : ℕ) → IsIn old x → IsNext g x (x + 1) → IsWithin part (x + 1) → IsIn one (x + 1))
           (b : Grows g set (ReachesFrom g (IsIn set) starts) one two fs gs) where
         one_sound : (x : ℕ) → IsIn one x → ReachesFrom g (IsIn set) starts x
         one_sound x h = ⊎_elim (old_sound x) (led_from old old_sound x) (a.cause x h)
@@ -105,6 +109,10 @@ module _ (g : Graph) (set : List Bool) (starts : List ℕ) where
 
         pub two_inside : (x : ℕ) → IsIn two x → IsIn set x
         two_inside x h = from_inside x (two_sound x h)
+
+        -- a point of the run is one of its part
+        in_part : (x : ℕ) → IsWithin run x → x < g.points → IsWithin part x
+        in_part x w point = (omega (arith, w.0, first), last x w.1 point)
 
         module _ (begin : (p : ℕ) → Contains starts p → IsWithin part p → IsIn two p) (three : List Bool) (hs : List Run)
             (c : Grows g set (IsLedTo g set two) two three gs hs) (land : (x t : ℕ) → IsIn two x → IsJump g x t → IsWithin part t → IsIn three t) where
@@ -119,85 +127,140 @@ module _ (g : Graph) (set : List Bool) (starts : List ℕ) where
           pub three_inside : (x : ℕ) → IsIn three x → IsIn set x
           three_inside x h = from_inside x (three_sound x h)
 
-          pub three_closed : IsLineClosed g set three
-          three_closed x h next inside = ⊎_elim (λ i. i) (λ o. ⊎_elim (entered.kept (x + 1)) (λ w. from_run o w) (old_closed x (x + 1) o (inl next) inside)) (entered.closed x h next inside)
-            where
-              -- the line leads into the run at its first point alone
-              from_run : IsIn old x → IsWithin run (x + 1) → IsIn three (x + 1)
-              from_run o w =
-                  let here : x + 1 ≡ part.first = ⊎_elim (λ lt. absurd (old_beside x o (omega (arith, lt), omega (arith, w.1)))) (λ ge. omega (arith, ge, w.0, first)) (cases_lt run.first (x + 1)) in
-                  subst (IsIn three) (sym here) (c.kept _ (b.kept _ (near x here o (subst (IsNext g x) here next))))
-
           pub three_listed : (x : ℕ) → IsInRuns hs x → IsIn three x
           three_listed x (k, l, low, high) = (entered.listed x (k, omega (arith, ap length none), l, low, high)).0
 
           pub three_fit : AreOfPoints g hs
           three_fit = entered.fit (λ k h. absurd (omega (arith, ap length none, h)))
 
-          followed : AreFollowedBut g set old three hs
-          followed x h = ⊎_elim (λ o. inr (jumps o, o)) (λ (k, from, l, low, high). inl (k, l, low, high)) (entered.pending x h)
-            where
-              jumps : IsIn old x → IsFollowed g set three x
-              jumps o t jump point inside = ⊎_elim
-                  (entered.kept t)
-                  (λ w. land x t (b.kept x (a.kept x o)) jump (omega (arith, w.0, first), last t w.1 point))
-                  (old_closed x t o (inl (jump_next g x t jump point)) inside)
-
           -- and the walks go on
-          pub resumes_points : (four : List Bool) (ks : List Run) (ended : Bool) → IsSpread g set three four hs ks ended → ResumesPoints g set starts old four es ks ended
-          resumes_points four ks ended s = record {
-            grows = grows_append g set (ReachesFrom g (IsIn set) starts) _ _ _ _ _ _ entered (grows_weaker g set (IsLedTo g set three) (ReachesFrom g (IsIn set) starts) (led_from three three_sound) _ _ _ _ s.grows);
-            begun = λ p at inside. s.grows.kept p (⊎_elim (entered.kept p) (λ w. c.kept p (begin p at (omega (arith, w.0, first), last p w.1 (points p at)))) (old_begun p at inside));
-            closed = λ x y h next inside. ⊎_elim
-                (λ same. subst (IsIn four) (sym same) (line_closed g set (IsLedTo g set three) _ _ _ _ s.grows three_closed x h (subst (IsNext g x) same next) (subst (IsIn set) same inside)))
-                (λ other. (s.followed old followed x h).0 y (inl (next, other)) (sound.edges_in_range x y next).1 inside)
-                (cases_eq y (x + 1));
-            ends_from = λ e. let w = s.ends_from e in (w.0, w.1, jump_return g sound w.0 w.2);
-            ends = λ x h back. (s.followed old followed x h).1 (inr (back, refl));
-          }
+          module _ (four : List Bool) (ks : List Run) (ended : Bool) (s : IsSpread g set three four hs ks ended) where
+            whole : Grows g set (ReachesFrom g (IsIn set) starts) old four es ks
+            whole = grows_append g set (ReachesFrom g (IsIn set) starts) _ _ _ _ _ _ entered (grows_weaker g set (IsLedTo g set three) (ReachesFrom g (IsIn set) starts) (led_from three three_sound) _ _ _ _ s.grows)
+
+            -- what is reached was followed now, or was there before
+            listed_or : (x : ℕ) → IsIn four x → IsInRuns ks x ⊎ IsIn old x
+            listed_or x h = ⊎_elim (λ o. inr o) (λ (k, from, l, low, high). inl (k, l, low, high)) (whole.pending x h)
+
+            along_line : (x : ℕ) → IsIn four x → IsNext g x (x + 1) → IsIn set (x + 1) → IsIn four (x + 1) ⊎ (IsIn old x × (IsWithin run (x + 1) → ⊥))
+            along_line x h next inside = ⊎_elim
+                inl
+                (λ o. ⊎_elim
+                (λ w. inl (s.grows.kept _ (c.kept _ (b.kept _ (near x o next (in_part (x + 1) w (sound.edges_in_range x (x + 1) next).1))))))
+                (λ out. inr (o, outside run (x + 1) out))
+                (within_or run (x + 1)))
+                (whole.closed x h next inside)
+
+            by_jump : (x y : ℕ) → IsIn four x → IsJump g x y → y < g.points → IsIn set y → IsIn four y ⊎ (IsIn old x × (IsWithin run y → ⊥))
+            by_jump x y h jump point inside = ⊎_elim
+                (λ i. inl ((s.followed x i).0 y jump point inside))
+                (λ o. ⊎_elim
+                (λ w. inl (s.grows.kept y (land x y (b.kept x (a.kept x o)) jump (in_part y w point))))
+                (λ out. inr (o, outside run y out))
+                (within_or run y))
+                (listed_or x h)
+
+            pub resumes_points : ResumesPoints g set run starts old four es ks ended
+            resumes_points = record {
+              grows = whole;
+              begun = λ p at w. s.grows.kept p (c.kept p (begin p at (in_part p w (points p at))));
+              closed = λ x y h next inside. ⊎_elim
+                  (λ same. subst (λ z. IsIn four z ⊎ (IsIn old x × (IsWithin run z → ⊥))) (sym same) (along_line x h (subst (IsNext g x) same next) (subst (IsIn set) same inside)))
+                  (λ other. by_jump x y h (inl (next, other)) (sound.edges_in_range x y next).1 inside)
+                  (cases_eq y (x + 1));
+              ends_from = λ e. let w = s.ends_from e in (w.0, w.1, jump_return g sound w.0 w.2);
+              ends = λ x h back. ⊎_elim (λ i. inl ((s.followed x i).1 (inr (back, refl)))) inr (listed_or x h);
+            }
 
       -- ---- the whole
 
-      module _ (points_reached : List Bool) (es list : List Run) (ended : Bool) (p : ResumesPoints g set starts old points_reached es list ended) where
+      module _ (points_reached : List Bool) (es list : List Run) (ended : Bool) (p : ResumesPoints g set run starts old points_reached es list ended) where
         reached_sound : (x : ℕ) → IsIn points_reached x → ReachesFrom g (IsIn set) starts x
         reached_sound = sound_more old points_reached es list old_sound p.grows
 
         -- where no end can be newly reached, that is all
-        pub resumed : ended ≡ false → ((x : ℕ) → IsIn points_reached x → IsReturn g x → run.last < g.points) → IsReachedFrom g (IsIn set) starts points_reached
-        resumed none never x = (
-          reached_sound x,
-          λ (w : ReachesFrom g (IsIn set) starts x). reaches_carries g (IsIn set) w.0 (IsIn points_reached) go_on x (p.begun w.0 w.1 (reaches_starts g (IsIn set) w.0 x w.2)) w.2,
-        )
+        pub resumed : ended ≡ false → ((x : ℕ) → IsIn points_reached x → IsReturn g x → run.last < g.points) → GoesOn g set run starts old points_reached
+        resumed none never = record { kept = p.grows.kept; sound = reached_sound; begun = p.begun; closed = go_on }
           where
-            go_on : (y z : ℕ) → IsIn points_reached y → IsStep g y z → IsIn set z → IsIn points_reached z
+            go_on : (y z : ℕ) → IsIn points_reached y → IsStep g y z → IsIn set z → IsIn points_reached z ⊎ (IsIn old y × (IsWithin run z → ⊥))
             go_on y z h (inl next) inside = p.closed y z h next inside
             go_on y z h (inr back) inside = ⊎_elim
                 (λ e. absurd (false≢true (sym none ∙ e)))
-                (λ o. ⊎_elim (p.grows.kept z) (λ w. absurd (let low = never y h back.0 in omega (arith, low, w.1, back.1.0))) (old_closed y z o (inr back) inside))
+                (λ o. inr (o, λ w. absurd (let low = never y h back.0 in omega (arith, low, w.1, back.1.0))))
                 (p.ends y h back.0)
 
         -- else all ends in the set come to it
-        pub resumed_ends : (all : List Bool) (n : ℕ) → n ≡ g.points → length set ≡ element_count g → (x : ℕ) × IsIn points_reached x × IsReturn g x → FillsFrom n set points_reached all → IsReachedFrom g (IsIn set) starts all
-        resumed_ends all n n_is wide some f x = (
-          λ h. ⊎_elim
+        pub resumed_ends : (all : List Bool) (n : ℕ) → n ≡ g.points → length set ≡ element_count g → (x : ℕ) × IsIn points_reached x × IsReturn g x → FillsFrom n set points_reached all → GoesOn g set run starts old all
+        resumed_ends all n n_is wide some f = record {
+          kept = λ x h. f.kept x (p.grows.kept x h);
+          sound = λ x h. ⊎_elim
               (reached_sound x)
               (λ own. let w = reached_sound some.0 some.1 in (w.0, w.1, reaches_more g (IsIn set) w.0 some.0 x w.2 (inr (some.2, (omega (arith, own.0, n_is), omega (arith, flag_within set x own.1, wide)))) own.1))
-              (f.cause x h),
-          λ (w : ReachesFrom g (IsIn set) starts x). reaches_carries g (IsIn set) w.0 (IsIn all) go_on x (f.kept w.0 (p.begun w.0 w.1 (reaches_starts g (IsIn set) w.0 x w.2))) w.2,
-        )
+              (f.cause x h);
+          begun = λ x at w. f.kept x (p.begun x at w);
+          closed = go_on;
+        }
           where
-            go_on : (y z : ℕ) → IsIn all y → IsStep g y z → IsIn set z → IsIn all z
+            go_on : (y z : ℕ) → IsIn all y → IsStep g y z → IsIn set z → IsIn all z ⊎ (IsIn old y × (IsWithin run z → ⊥))
             go_on y z h (inl next) inside = ⊎_elim
-                (λ i. f.kept z (p.closed y z i next inside))
+                (λ i. ⊎_elim (λ r. inl (f.kept z r)) inr (p.closed y z i next inside))
                 (λ own. absurd (omega (arith, own.0, n_is, (sound.edges_in_range y z next).0)))
                 (f.cause y h)
-            go_on y z h (inr back) inside = f.filled z (let low = back.1.0 in omega (arith, low, n_is)) inside
+            go_on y z h (inr back) inside = inl (f.filled z (let low = back.1.0 in omega (arith, low, n_is)) inside)
 
         pub lists_resumed : es ≡ [] → ListsNew old points_reached [] list
         lists_resumed none = lists_grown g set (ReachesFrom g (IsIn set) starts) old points_reached list (subst (λ xs. Grows g set (ReachesFrom g (IsIn set) starts) old points_reached xs list) none p.grows)
 
         pub lists_resumed_ends : es ≡ [] → (all : List Bool) (n : ℕ) (whole : List Run) → FillsFrom n set points_reached all → ListsNew points_reached all list whole → ListsNew old all [] whole
         lists_resumed_ends none all n whole f l = lists_append old points_reached all [] list whole p.grows.kept f.kept (lists_resumed none) l
+
+-- ---- the ends of reached runs
+
+-- The steps along lines that lead into the run from what was reached, at numbers below `from`, were
+-- followed.
+pub record NextOn (g : Graph) (set : List Bool) (part : Run) (old now : List Bool) (before after : List Run) (from : ℕ) : Type 0 where
+  pub grows : Grows g set (IsLedTo g set old) old now before after
+  pub low : part.first ≤ from + 1
+  pub covers : (x : ℕ) → IsIn old x → IsNext g x (x + 1) → IsWithin part (x + 1) → x < from → IsIn now (x + 1)
+
+module _ (g : Graph) (set : List Bool) (part : Run) (old : List Bool) (before : List Run) where
+  pub next_first : (from : ℕ) → from ≡ part.first - 1 → NextOn g set part old old before before from
+  next_first from is = record {
+    grows = grows_none g set (IsLedTo g set old) old before;
+    low = omega (arith, is);
+    covers = λ x h next w l. absurd (omega (arith, is, w.0, l));
+  }
+
+  -- what is led to from what is reached now was led to from what was reached at first
+  led_on : (now : List Bool) (after : List Run) → ((x : ℕ) → IsIn old x → IsIn set x) → Grows g set (IsLedTo g set old) old now before after → (x : ℕ) → IsLedTo g set now x → IsLedTo g set old x
+  led_on now after inside p x w =
+      let source : IsLedTo g set old w.0 = ⊎_elim (λ o. (w.0, o, reaches_first g (IsIn set) w.0 (inside w.0 o))) (λ led. led) (p.cause w.0 w.1) in
+      (source.0, source.1, reaches_append g set source.0 w.0 x source.2 w.2)
+
+  -- what is reached is inside
+  pub next_inside : (now : List Bool) (after : List Run) (from : ℕ) → ((x : ℕ) → IsIn old x → IsIn set x) → NextOn g set part old now before after from → (x : ℕ) → IsIn now x → IsIn set x
+  next_inside now after from inside s x h = ⊎_elim (inside x) (λ w. reaches_inside g (IsIn set) w.0 x w.2) (s.grows.cause x h)
+
+  pub next_more : (now new : List Bool) (then after : List Run) (from last : ℕ) → ((x : ℕ) → IsIn old x → IsIn set x) → from ≤ last → ((x : ℕ) → from ≤ x → x < last → IsIn now x → IsIn now (x + 1))
+      → NextOn g set part old now before then from → Grows g set (IsLedTo g set now) now new then after → (IsNext g last (last + 1) → IsIn new (last + 1)) → NextOn g set part old new before after (last + 1)
+  next_more now new then after from last inside past on s p here = record {
+    grows = grows_append g set (IsLedTo g set old) _ _ _ _ _ _ s.grows (grows_weaker g set (IsLedTo g set now) (IsLedTo g set old) (led_on now then inside s.grows) _ _ _ _ p);
+    low = omega (arith, s.low, past);
+    covers = λ x h next w l. ⊎_elim
+        (λ early. p.kept (x + 1) (s.covers x h next w early))
+        (λ late. ⊎_elim
+        (λ same. subst (λ y. IsIn new (y + 1)) (sym same) (here (subst (λ y. IsNext g y (y + 1)) same next)))
+        (λ other. p.kept (x + 1) (on x late (omega (arith, l, other)) (s.grows.kept x h)))
+        (cases_eq x last))
+        (cases_lt x from);
+  }
+
+  pub next_end : (now : List Bool) (after : List Run) (from : ℕ) → ((x : ℕ) → from ≤ x → x < part.last → IsIn now x → IsIn now (x + 1)) → NextOn g set part old now before after from
+      → (x : ℕ) → IsIn old x → IsNext g x (x + 1) → IsWithin part (x + 1) → IsIn now (x + 1)
+  next_end now after from on s x h next w = ⊎_elim
+      (s.covers x h next w)
+      (λ late. on x late (omega (arith, w.1)) (s.grows.kept x h))
+      (cases_lt x from)
 
 -- ---- the points from which walks begin
 
@@ -280,9 +343,14 @@ module _ (g : Graph) (set : List Bool) (list : List Landing) (old : List Bool) (
 
 -- ---- more room
 
--- a frontier with more room is of the same walks
-pub frontier_widened : (g : Graph) (inside : ℕ → Type 0) (starts : List ℕ) (old wide : List Bool) → ((x : ℕ) → flag wide x ≡ flag old x) → IsReachedFrom g inside starts old → IsReachedFrom g inside starts wide
-frontier_widened g inside starts old wide same h x = (λ k. (h x).0 (sym (same x) ∙ k), λ k. same x ∙ (h x).1 k)
+-- with more room walks go on as without
+pub goes_on_widened : (g : Graph) (set : List Bool) (run : Run) (starts : List ℕ) (old wide new : List Bool) → ((x : ℕ) → flag wide x ≡ flag old x) → GoesOn g set run starts wide new → GoesOn g set run starts old new
+goes_on_widened g set run starts old wide new same w = record {
+  kept = λ x h. w.kept x (same x ∙ h);
+  sound = w.sound;
+  begun = w.begun;
+  closed = λ x y h step inside. ⊎_elim inl (λ o. inr (sym (same x) ∙ o.0, o.1)) (w.closed x y h step inside);
+}
 
 -- ---- other words for the same set
 

@@ -1,10 +1,11 @@
 -- The jumps of a graph, gathered point by point.
-use Rattle.std.proofs.Common.{◌≡◌, ◌⊎◌, ◌↔◌, ℕ, ◌+◌, ◌<◌, ◌≤◌, List, [], ◌∷◌, ◌++◌, Contains, length, get_or, sym, ap, ◌∙◌, subst, inl, inr, ⊎_elim, arith, zero, suc}
-use Rattle.std.proofs.lemmas.Bool.{cases_eq}
+use Rattle.std.proofs.Common.{◌≡◌, ◌⊎◌, ◌↔◌, ℕ, ◌+◌, ◌<◌, ◌≤◌, ◌-◌, List, [], ◌∷◌, ◌++◌, AllPairs, Contains, length, length-take, length-drop, get_or, get_or-take, get_or-drop, drop, slice_range, sym, ap, ◌∙◌, subst, inl, inr, ⊎_elim, arith, zero, suc}
+use Rattle.std.proofs.lemmas.Bool.{cases_eq, cases_lt}
 use Rattle.std.proofs.lemmas.List.{get_or_default}
 use Rattle.std.proofs.lemmas.List.Elements.{Contains-append_left, Contains-append_right, Contains-append_cases}
 use Rattle.nll_problem.specs.Graph.{Graph, IsSound}
-use Rattle.nll_core.specs.Lines.{IsJump, StandsIn}
+use Rattle.nll_problem.proofs.IndexLemmas.{keys_rise}
+use Rattle.nll_core.specs.Lines.{IsJump, IsLandingStart, StandsIn}
 use Rattle.nll_core.specs.declared.landing.Landing.{Landing}
 
 -- of a list of one element that element is all
@@ -82,3 +83,51 @@ landings_all g sound count list is all l = (λ h. ((all l).0 h).0, λ jump. (all
     jumps_within : (x t : ℕ) → IsJump g x t → x < g.points
     jumps_within x t (inl next) = (sound.edges_in_range x t next.0).0
     jumps_within x t (inr back) = sound.returns_in_range x back.0
+
+-- ---- those between two numbers
+
+module _ (list : List Landing) (a b from to : ℕ) (proper : a ≤ b) (start : IsLandingStart list a from) (end : IsLandingStart list (b + 1) to) where
+  pub part_rises : from ≤ to
+  part_rises = ⊎_elim
+      (λ turned. let none : Landing = record { to = 0; from = 0 } in absurd (omega (arith, proper, start.bound, turned, start.below to none turned, end.others to none (omega arith) (omega (arith, turned, start.bound)))))
+      (λ rise. rise)
+      (cases_lt to from)
+
+  length_part : length (slice_range list from to) ≡ to - from
+  length_part = let n = length-take (to - from) (drop from list) in let m = length-drop from list in omega (arith, end.bound)
+
+  at_part : (k : ℕ) (d : Landing) → k < to - from → get_or (slice_range list from to) k d ≡ get_or list (from + k) d
+  at_part k d lt = get_or-take (to - from) (drop from list) k d lt ∙ get_or-drop from list k d
+
+  between : (k : ℕ) (d : Landing) → from ≤ k → k < to → (a ≤ (get_or list k d).to) × ((get_or list k d).to ≤ b)
+  between k d low high = (start.others k d low (omega (arith, high, end.bound)), (let below = end.below k d high in omega (arith, below)))
+
+  pub part_has : (l : Landing) → Contains (slice_range list from to) l ↔ (Contains list l × (a ≤ l.to) × (l.to ≤ b))
+  part_has l = (
+    λ h.
+        let lt : h.0 < to - from = omega (arith, h.1, length_part) in
+        let is = sym (at_part h.0 l lt) ∙ h.2 in
+        let own = between (from + h.0) l (omega arith) (omega (arith, lt)) in
+        let read = ap (λ (m : Landing). m.to) is in
+        ((from + h.0, omega (arith, lt, end.bound), is), omega (arith, own.0, read), omega (arith, own.1, read)),
+    λ h. there h.0.0 h.0.1 h.0.2 h.1 h.2,
+  )
+    where
+      there : (k : ℕ) → k < length list → get_or list k l ≡ l → a ≤ l.to → l.to ≤ b → Contains (slice_range list from to) l
+      there k within is low high =
+          let at = ap (λ (m : Landing). m.to) is in
+          let past : from ≤ k = ⊎_elim (λ lt. absurd (omega (arith, start.below k l lt, at, low))) (λ le. le) (cases_lt k from) in
+          let before : k < to = ⊎_elim (λ lt. lt) (λ le. absurd (omega (arith, end.others k l le within, at, high))) (cases_lt k to) in
+          let moved : from + (k - from) ≡ k = omega (arith, past) in
+          (k - from, omega (arith, past, before, length_part), at_part (k - from) l (omega (arith, past, before)) ∙ (ap (λ n. get_or list n l) moved ∙ is))
+
+-- ---- where those at a number start
+
+-- where the landing at a place doesn't lead below a number, none behind it does
+pub start_here : (list : List Landing) (number place : ℕ) (e : Landing) → AllPairs (λ (l m : Landing). l.to ≤ m.to) list → ((k : ℕ) (d : Landing) → k < place → (get_or list k d).to < number)
+    → place < length list → number ≤ (get_or list place e).to → IsLandingStart list number place
+start_here list number place e up below within high = record {
+  bound = omega (arith, within);
+  below = below;
+  others = λ k d low inside. omega (arith, high, ap (λ (l : Landing). l.to) (get_or_default list place d e within), keys_rise (λ (l : Landing). l.to) (λ (l m : Landing). l.to ≤ m.to) (λ x y h. h) list up place k d low inside);
+}

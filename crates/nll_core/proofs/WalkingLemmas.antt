@@ -10,7 +10,7 @@ use Rattle.nll_core.specs.Search.{missing, IsIn}
 use Rattle.nll_sets.specs.Runs.{first_of, last_of, IsInRuns, IsInRunsFrom, IsWithin, IsRunFrom, Fills}
 use Rattle.nll_sets.proofs.GapLemmas.{front_of, last_there}
 use Rattle.nll_core.specs.Lines.{IsJump, IsLineEnd}
-use Rattle.nll_core.specs.Walking.{IsLineClosed, IsStretch, IsFreeTo, Grows, IsJumpedTo, IsFollowed, AreFollowedBut, IsLedTo, IsSpread, FillsFrom, constraint_at, no_constraint, PointsAscend, IsLedFrom, AreLedFrom, NoneInside}
+use Rattle.nll_core.specs.Walking.{IsLineClosed, IsStretch, IsFreeTo, Grows, IsJumpedTo, IsFollowed, IsLedTo, IsSpread, FillsFrom, constraint_at, no_constraint, PointsAscend, IsLedFrom, AreLedFrom, NoneInside}
 use Rattle.nll_sets.specs.declared.run.Run.{Run}
 use Rattle.nll_problem.specs.declared.constraint.Constraint.{Constraint}
 use Rattle.nll_problem.proofs.WalkLemmas.{reaches_first, reaches_more, reaches_starts, reaches_carries, reaches_inside}
@@ -295,7 +295,7 @@ module _ (g : Graph) (sub : List Bool) where
   pub record Spreading (start now : List Bool) (listed todo : List Run) (place : ℕ) (ends : Bool) : Type 0 where
     pub grows : Grows g sub (IsLedTo g sub start) start now listed todo
     pub ends_from : ends ≡ true → (x : ℕ) × IsIn now x × IsJump g x g.points
-    pub pending : (before : List Bool) → AreFollowedBut g sub before start listed → (x : ℕ) → IsIn now x → IsInRunsFrom place todo x ⊎ (IsFollowed g sub now x × (IsJump g x g.points → (ends ≡ true) ⊎ IsIn before x))
+    pub pending : (x : ℕ) → IsInRuns todo x → IsInRunsFrom place todo x ⊎ (IsFollowed g sub now x × (IsJump g x g.points → ends ≡ true))
     pub within : place ≤ length todo
 
   -- each number of the list is reached
@@ -309,7 +309,7 @@ module _ (g : Graph) (sub : List Bool) where
   spreading_first start listed = record {
     grows = grows_none (IsLedTo g sub start) start listed;
     ends_from = λ h. absurd (false≢true h);
-    pending = λ before all x h. ⊎_elim (λ (k, l, a, b). inl (k, omega arith, l, a, b)) (λ (f, d). inr (f, λ jump. inr d)) (all x h);
+    pending = λ x (k, l, a, b). inl (k, omega arith, l, a, b);
     within = omega arith;
   }
 
@@ -336,18 +336,18 @@ module _ (g : Graph) (sub : List Bool) where
       record {
         grows = grows_append (IsLedTo g sub start) _ _ _ _ _ _ s.grows (grows_weaker (IsJumpedTo g sub run) (IsLedTo g sub start) (λ x (y, t, w, jump, point, way). led x y t (sound y (of_run y w)) jump point way) _ _ _ _ p);
         within = omega (arith, within, p.longer);
-        pending = λ before told x h. ⊎_elim
-            (λ o. ⊎_elim
+        pending = λ x (n, m, u, v). ⊎_elim
+            (λ (early : n < length todo). ⊎_elim
             (λ (k, from, l, a, b). ⊎_elim
             (λ here.
             let w : IsWithin run x = (omega (arith, a, first, ap (first_of todo) here), omega (arith, b, last, ap (last_of todo) here)) in
-            inr (covers x w, λ jump. inl (or_right ends found (tells.1 (x, w, jump)))))
+            inr (covers x w, λ jump. or_right ends found (tells.1 (x, w, jump))))
             (λ other. let at = p.front k l in inl (k, omega (arith, from, other), omega (arith, l, p.longer), omega (arith, a, at.0), omega (arith, b, at.1)))
             (cases_eq k place))
-            (λ d. inr (λ t jump point in_sub. p.kept t (d.0 t jump point in_sub), λ jump. ⊎_elim (λ e. inl (or_left ends found e)) inr (d.1 jump)))
-            (s.pending before told x o))
-            (λ (k, from, l, a, b). inl (k, omega (arith, from, within), l, a, b))
-            (p.pending x h);
+            (λ d. inr (λ t jump point in_sub. p.kept t (d.0 t jump point in_sub), λ jump. or_left ends found (d.1 jump)))
+            (let at = p.front n early in s.pending x (n, early, omega (arith, u, at.0), omega (arith, v, at.1))))
+            (λ late. inl (n, omega (arith, late, within), m, u, v))
+            (cases_lt n (length todo));
         ends_from = λ h. ⊎_elim (λ e. let w = s.ends_from e in (w.0, p.kept w.0 w.1, w.2)) (λ e. let w = tells.0 e in (w.0, p.kept w.0 (of_run w.0 w.1), w.2)) (either ends found h);
       }
     where
@@ -359,7 +359,7 @@ module _ (g : Graph) (sub : List Bool) where
   spread_end start now listed todo place ends past s = record {
     grows = s.grows;
     ends_from = s.ends_from;
-    followed = λ before all x h. ⊎_elim (λ (k, from, l, a, b). absurd (omega (arith, from, l, past))) (λ d. d) (s.pending before all x h);
+    followed = λ x h. ⊎_elim (λ (k, from, l, a, b). absurd (omega (arith, from, l, past))) (λ d. d) (s.pending x h);
   }
 
   -- along a line inside `sub` all from a reached point on is reached
@@ -425,8 +425,14 @@ module _ (g : Graph) (sub : List Bool) where
         (λ w. let from = entered w.0 w.1 in (from.0, from.1, reaches_append from.0.at w.0 x from.2 w.2))
         (s.grows.cause x h)
 
-    all_listed : AreFollowedBut g sub [] middle list
-    all_listed x h = ⊎_elim (λ o. absurd (false≢true (sym (nothing x) ∙ o))) (λ (k, from, l, a, b). inl (k, l, a, b)) (p.pending x h)
+    all_listed : (x : ℕ) → IsIn new x → IsInRuns all_runs x
+    all_listed x h = ⊎_elim
+        (λ early. ⊎_elim
+        (λ o. absurd (false≢true (sym (nothing x) ∙ o)))
+        (λ (k, from, l, a, b). let at = s.grows.front k l in (k, omega (arith, l, s.grows.longer), omega (arith, a, at.0), omega (arith, b, at.1)))
+        (p.pending x early))
+        (λ (k, from, l, a, b). (k, l, a, b))
+        (s.grows.pending x h)
 
     closed : IsLineClosed g sub new
     closed = line_closed (IsLedTo g sub middle) _ _ _ _ s.grows (line_closed (IsLedFrom g sub pair) _ _ _ _ p (λ x h. absurd (false≢true (sym (nothing x) ∙ h))))
@@ -438,12 +444,12 @@ module _ (g : Graph) (sub : List Bool) where
     along_edge : (y z : ℕ) → IsIn new y → IsNext g y z → IsIn sub z → IsIn new z
     along_edge y z h next in_sub = ⊎_elim
         (λ same. subst (IsIn new) (sym same) (closed y h (subst (IsNext g y) same next) (subst (IsIn sub) same in_sub)))
-        (λ other. (s.followed [] all_listed y h).0 z (inl (next, other)) (sound.edges_in_range y z next).1 in_sub)
+        (λ other. (s.followed y (all_listed y h)).0 z (inl (next, other)) (sound.edges_in_range y z next).1 in_sub)
         (cases_eq z (y + 1))
 
     go_on : (y z : ℕ) → IsIn new y ⊎ (IsEnd g y × (ends ≡ true)) → IsStep g y z → IsIn sub z → IsIn new z ⊎ (IsEnd g z × (ends ≡ true))
     go_on y z (inl h) (inl next) in_sub = inl (along_edge y z h next in_sub)
-    go_on y z (inl h) (inr back) in_sub = inr (back.1, ⊎_elim (λ e. e) (λ none. absurd (false≢true none)) ((s.followed [] all_listed y h).1 (inr (back.0, refl))))
+    go_on y z (inl h) (inr back) in_sub = inr (back.1, (s.followed y (all_listed y h)).1 (inr (back.0, refl)))
     go_on y z (inr h) (inl next) in_sub = absurd (omega (arith, h.0.0, (sound.edges_in_range y z next).0))
     go_on y z (inr h) (inr back) in_sub = absurd (omega (arith, h.0.0, sound.returns_in_range y back.0))
 

@@ -8,7 +8,7 @@ use Rattle.std.specs.Prelude.{Contains, AllPairs}
 use Rattle.nll_sets.specs.ElementSet.{flag}
 use Rattle.nll_sets.specs.Runs.{first_of, last_of, IsInRunsFrom, AreApartFrom, IsWithin}
 use Rattle.nll_sets.specs.declared.run.Run.{Run}
-use Rattle.nll_problem.specs.Graph.{Graph, IsNext, IsReturn}
+use Rattle.nll_problem.specs.Graph.{Graph, IsNext, IsReturn, IsStep}
 use Rattle.nll_problem.specs.Walks.{Reaches}
 use Rattle.nll_core.specs.Search.{IsIn}
 use Rattle.nll_core.specs.Walking.{Grows}
@@ -47,19 +47,30 @@ pub record ListsNew (old new : List Bool) (before after : List Run) : Type 0 whe
       ↔ (IsIn new x × (flag old x ≡ false))
   pub apart : AreApartFrom (length before) after
 
+-- Walks inside a set went on from a run of its elements. What is newly reached is followed to its
+-- end; of what was reached before, the steps into the run.
+pub record GoesOn (g : Graph) (set : List Bool) (run : Run) (starts : List ℕ) (old new : List Bool)
+    : Type 0 where
+  pub kept : (x : ℕ) → IsIn old x → IsIn new x
+  pub sound : (x : ℕ) → IsIn new x → ReachesFrom g (IsIn set) starts x
+  pub begun : (p : ℕ) → Contains starts p → IsWithin run p → IsIn new p
+  pub closed : (x y : ℕ) → IsIn new x → IsStep g x y → IsIn set y
+      → IsIn new y ⊎ (IsIn old x × (IsWithin run y → ⊥))
+
 -- ---- how a frontier goes on: private contracts alone cite what follows
 
 -- the numbers of the list rise
 abbrev pub IsAscending : List ℕ → Type 0
 IsAscending xs = AllPairs (λ x y. x < y) xs
 
--- Walks inside a set went on to points alone, and the list got what was newly reached. `ended` says
--- whether they came to a return point now.
-pub record ResumesPoints (g : Graph) (set : List Bool) (starts : List ℕ) (old new : List Bool)
-    (before after : List Run) (ended : Bool) : Type 0 where
+-- Walks inside a set went on from a run to points alone, and the list got what was newly reached.
+-- `ended` says whether they came to a return point now.
+pub record ResumesPoints (g : Graph) (set : List Bool) (run : Run) (starts : List ℕ)
+    (old new : List Bool) (before after : List Run) (ended : Bool) : Type 0 where
   pub grows : Grows g set (ReachesFrom g (IsIn set) starts) old new before after
-  pub begun : (p : ℕ) → Contains starts p → IsIn set p → IsIn new p
-  pub closed : (x y : ℕ) → IsIn new x → IsNext g x y → IsIn set y → IsIn new y
+  pub begun : (p : ℕ) → Contains starts p → IsWithin run p → IsIn new p
+  pub closed : (x y : ℕ) → IsIn new x → IsNext g x y → IsIn set y
+      → IsIn new y ⊎ (IsIn old x × (IsWithin run y → ⊥))
   pub ends_from : ended ≡ true → (x : ℕ) × IsIn new x × IsReturn g x
   pub ends : (x : ℕ) → IsIn new x → IsReturn g x → (ended ≡ true) ⊎ IsIn old x
 

@@ -1,7 +1,7 @@
 -- The lines of a graph: the points that follow each other by number, and the steps that leave them.
 -- Source: project's choice. Private contracts alone cite this file.
 use Rattle.std.specs.Prelude.{◌≡◌, ◌≢◌, ◌⊎◌, ◌↔◌, ℕ, ◌+◌, ◌≤◌, ◌<◌, List, length}
-use Rattle.std.specs.Prelude.{slice_index, Contains, AllPairs}
+use Rattle.std.specs.Prelude.{slice_index, slice_index_or, Contains}
 use Rattle.nll_problem.specs.Graph.{Graph, IsNext, IsReturn, IsSound}
 use Rattle.nll_core.specs.declared.landing.Landing.{Landing}
 
@@ -48,10 +48,19 @@ pub record Pushes (kind : ℕ → Type 0) (old new : List ℕ) : Type 0 where
   pub front : (k : ℕ) → k < length old → slice_index new k ≡ slice_index old k
   pub each : (t : ℕ) → kind t ↔ StandsIn new (length old) (length new) t
 
--- The list has just the jumps of the graph, by where they land, ascending.
-pub record AreLandings (g : Graph) (list : List Landing) : Type 0 where
+-- The landings before the place lead below the number, and those from it on don't.
+pub record IsLandingStart (list : List Landing) (number place : ℕ) : Type 0 where
+  pub bound : place ≤ length list
+  pub below : (k : ℕ) (d : Landing) → k < place → (slice_index_or list k d).to < number
+  pub others : (k : ℕ) (d : Landing) → place ≤ k → k < length list
+      → number ≤ (slice_index_or list k d).to
+
+-- The list has just the jumps of the graph, by where they land, ascending; and the numbers are where
+-- those of each target start, up to one behind the number of points.
+pub record AreLandings (g : Graph) (list : List Landing) (starts : List ℕ) : Type 0 where
   pub each : (l : Landing) → Contains list l ↔ IsJump g l.from l.to
-  pub ascending : AllPairs (λ (l m : Landing). l.to ≤ m.to) list
+  pub sized : length starts ≡ g.points + 2
+  pub start : (t : ℕ) → t < g.points + 2 → IsLandingStart list t (slice_index starts t)
 
 -- These are the points, the ends of lines and the jumps of the graph.
 pub record AreLinesOf (g : Graph) (points universals : ℕ) (ends starts targets : List ℕ)

@@ -83,21 +83,15 @@ IsFollowed g sub reached x = (t : ℕ) → IsJump g x t → t < g.points → IsI
 abbrev pub IsLedTo : Graph → List Bool → List Bool → ℕ → Type 0
 IsLedTo g sub start x = (y : ℕ) × IsIn start y × Reaches g (IsIn sub) y x
 
--- what is reached and doesn't stand in the list was followed before
-abbrev pub AreFollowedBut : Graph → List Bool → List Bool → List Bool → List Run → Type 0
-AreFollowedBut g sub before reached list =
-    (x : ℕ) → IsIn reached x → IsInRuns list x ⊎ (IsFollowed g sub reached x × IsIn before x)
-
--- The set got what walks inside `sub` reach from it, points alone, and the list their runs; `ends`
--- says whether a return point is among what was followed now.
+-- The set got what walks inside `sub` reach from it, points alone, and the list their runs. Each point
+-- of the list was followed; `ends` says whether a return point is among them.
 pub record IsSpread (g : Graph) (sub start new : List Bool) (listed all : List Run) (ends : Bool)
     : Type 0 where
   pub grows : Grows g sub (IsLedTo g sub start) start new listed all
   pub ends_from : ends ≡ true → (x : ℕ) × IsIn new x × IsJump g x g.points
   pub followed :
-      (before : List Bool) → AreFollowedBut g sub before start listed
-      → (x : ℕ) → IsIn new x
-      → IsFollowed g sub new x × (IsJump g x g.points → (ends ≡ true) ⊎ IsIn before x)
+      (x : ℕ) → IsInRuns all x
+      → IsFollowed g sub new x × (IsJump g x g.points → ends ≡ true)
 
 -- the set got the elements of `sub` from a number on
 pub record FillsFrom (from : ℕ) (sub old new : List Bool) : Type 0 where

@@ -5,7 +5,8 @@ ghost use Rattle.std.specs.Prelude.{length, OnOk, OnErr};
 ghost use Rattle.nll_problem.specs.Graph.{element_count};
 ghost use Rattle.nll_core.specs.Search.{IsIn};
 ghost use Rattle.nll_core.specs.Walking.{AreIn};
-ghost use Rattle.nll_core.specs.Frontiers.{IsFrontierIn, IsBeside, ListsNew, first_frontier};
+ghost use Rattle.nll_core.specs.Frontiers.{IsFrontierIn, IsBeside, GoesOn, ReachesFrom, ListsNew};
+ghost use Rattle.nll_core.specs.Frontiers.{first_frontier};
 
 use crate::resuming::resume;
 use crate::starts::Starts;
@@ -18,7 +19,7 @@ use std::marker::Model;
 /// set. (It isn't the worklist of a breadth-first search, which has that name too.)
 ///
 /// # Cost
-/// A call of `grow` looks at the jumps that land in the new run, and goes on through what it newly
+/// A call looks at the jumps that land in the run, and goes on through what it newly
 /// reaches alone, by stretches of lines (not proved).
 #[derive(Drop)]
 pub struct Frontier {
@@ -95,6 +96,41 @@ impl Frontier {
         ensures ok { OnOk result ((self.old.refused ≡ false) × (self.new.refused ≡ false)) }
         ensures err { OnErr result (self.new.refused ≡ true) }
     {
+        self.go_on(steps, seen, run, found)
+    }
+
+    /// Goes on from a run of elements of the set in which walks may go, which may have grown by other
+    /// elements too: through those at which a walk begins, or to which a step leads from what is
+    /// reached, and from there through the whole set. Clears a list, and puts the runs of what is
+    /// newly reached into it, each element once. The points from which walks go are points of the
+    /// graph.
+    ///
+    /// # Errors
+    /// - `Memory`: the list is of no use; each later call answers `Memory` too.
+    pub fn go_on(
+        &mut self,
+        steps: &Steps,
+        inside: &RunSet,
+        run: Run,
+        found: &mut Vec<Run>,
+    ) -> Result<(), Memory>
+        requires width { length inside.now ≡ element_count steps.now }
+        requires fits { let old = self.old in
+            old.refused ≡ false → length old.reached ≤ element_count steps.now }
+        requires starts { (p : ℕ) → Contains self.old.starts p → p < steps.now.points }
+        requires proper { run.first ≤ run.last }
+        requires run { AreIn inside.now run }
+        requires sound { self.old.refused ≡ false → (x : ℕ) → IsIn self.old.reached x
+            → ReachesFrom steps.now (IsIn inside.now) self.old.starts x }
+        ensures starts { self.new.starts ≡ self.old.starts }
+        ensures fits { OnOk result (length self.new.reached ≤ element_count steps.now) }
+        ensures reached { OnOk result (GoesOn steps.now inside.now run self.old.starts
+            self.old.reached self.new.reached) }
+        ensures found { OnOk result
+            (ListsNew self.old.reached self.new.reached [] found.new.items) }
+        ensures ok { OnOk result ((self.old.refused ≡ false) × (self.new.refused ≡ false)) }
+        ensures err { OnErr result (self.new.refused ≡ true) }
+    {
         found.clear();
         if let Some(refusal) = self.refusal {
             return Err(refusal);
@@ -103,7 +139,7 @@ impl Frontier {
         let told = resume(
             &steps.lines,
             &steps.landings,
-            seen,
+            inside,
             &self.starts,
             run,
             &mut self.reached,

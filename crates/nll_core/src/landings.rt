@@ -1,8 +1,9 @@
 //! The jumps of a graph by where they land.
 
 ghost use Rattle.std.specs.Prelude.{◌≡◌, ◌↔◌, ◌≤◌, ◌<◌, ℕ, Contains, AllPairs, length, OnOk, IfOk};
-ghost use Rattle.std.specs.Prelude.{◌⊎◌};
-ghost use Rattle.nll_core.specs.Lines.{IsJump};
+ghost use Rattle.std.specs.Prelude.{◌⊎◌, ◌+◌, ◌^◌, nat_lt, slice_index, slice_index_or};
+ghost use Rattle.std.specs.Prelude.{slice_range};
+ghost use Rattle.nll_core.specs.Lines.{IsJump, IsLandingStart};
 ghost use Rattle.nll_core.specs.declared.landing.Landing.{Landing};
 
 use crate::landing::Landing;
@@ -16,12 +17,14 @@ use std::snapshot::Snapshot;
 /// The jumps of a graph by where they land, made once and lent. Contracts see it as the graph.
 ///
 /// # Cost
-/// Eight bytes a jump (not proved).
+/// Eight bytes a jump, and eight a point (not proved).
 #[derive(Drop)]
 pub struct Landings {
     // For contracts alone.
     graph: Snapshot<Graph>,
     list: Vec<Landing>,
+    // Where those that land at each number start, and where all end.
+    starts: Vec<usize>,
 }
 
 impl Model for Landings {
@@ -32,7 +35,8 @@ impl Model for Landings {
 
     ghost view = { λ landings. landings.graph.value };
 
-    ghost invariant = { λ landings. AreLandings landings.graph.value landings.list.items };
+    ghost invariant = { λ landings. AreLandings landings.graph.value
+        landings.list.items landings.starts.items };
 }
 
 impl Landings {
@@ -45,31 +49,72 @@ impl Landings {
         ensures { IfOk result (λ landings. landings ≡ graph.now) }
     {
         let list = sorted_landings(alloc, lines)?;
+        let starts = starts_of(alloc, list.as_slice(), lines.points())?;
         Ok(Landings {
             graph: Snapshot::of(graph),
             list,
+            starts,
         })
     }
 
     /// The jumps that land at a number of a run.
     pub fn landing_in(&self, run: Run) -> &[Landing]
+        requires proper { run.first ≤ run.last }
+        requires within { run.last ≤ self.now.points }
         ensures { (l : Landing) → Contains result.now l
             ↔ (IsJump self.now l.from l.to × (run.first ≤ l.to) × (l.to ≤ run.last)) }
     {
-        part(self.list.as_slice(), run.first, run.last)
+        let from = self.starts[run.first as usize];
+        let to = self.starts[run.last as usize + 1];
+        part(self.list.as_slice(), from, to)
     }
 }
 
-// Of landings that ascend those from one number to another.
-fn part(list: &[Landing], first: u32, last: u32) -> &[Landing]
-    requires { AllPairs (λ (l m : Landing). l.to ≤ m.to) list.now }
-    ensures { (l : Landing) → Contains result.now l
-        ↔ (Contains list.now l × (first ≤ l.to) × (l.to ≤ last)) }
+// The landings from one place to another.
+fn part(list: &[Landing], from: usize, to: usize) -> &[Landing]
+    requires order { from ≤ to }
+    requires within { to ≤ length list.now }
+    ensures { result.now ≡ slice_range list.now from to }
 {
-    let from = list.partition_point(|landing| landing.to < first);
-    let rest = &list[from..];
-    let count = rest.partition_point(|landing| landing.to <= last);
-    &rest[..count]
+    &list[from..to]
+}
+
+// Where the landings at each number start, up to one behind a number of points.
+fn starts_of(alloc: Global, list: &[Landing], points: u32) -> Result<Vec<usize>, Memory>
+    requires ascending { AllPairs (λ (l m : Landing). l.to ≤ m.to) list.now }
+    requires points { points + 2 < 2 ^ 32 }
+    ensures sized { IfOk result (λ starts. length starts.items ≡ points + 2) }
+    ensures each { IfOk result (λ starts. (t : ℕ)
+        → t < points + 2 → IsLandingStart list.now t (slice_index starts.items t)) }
+{
+    let mut starts = Vec::with_capacity(alloc, points as usize + 2)?;
+    let mut place = 0;
+    for number in 0..points + 2 {
+        place = start_from(list, place, number);
+        starts.push(place)?;
+    }
+    Ok(starts)
+}
+
+// Where the landings at a number start, from a place on before which all lead below it.
+fn start_from(list: &[Landing], from: usize, number: u32) -> usize
+    requires ascending { AllPairs (λ (l m : Landing). l.to ≤ m.to) list.now }
+    requires from { from ≤ length list.now }
+    requires below { (k : ℕ) (d : Landing) → k < from → (slice_index_or list.now k d).to < number }
+    ensures { IsLandingStart list.now number result }
+{
+    let mut place = from;
+    while place < list.len() && leads_below(&list[place], number) {
+        place += 1;
+    }
+    place
+}
+
+// Whether a landing leads below a number.
+fn leads_below(landing: &Landing, number: u32) -> bool
+    ensures { result ≡ nat_lt landing.now.to number }
+{
+    landing.to < number
 }
 
 // The jumps, ascending by where they land.

@@ -1,15 +1,14 @@
 //! How the walks of a frontier go on once a run is in the set in which they may go.
 
 ghost use Rattle.std.specs.Prelude.{◌≡◌, ◌↔◌, ℕ, ◌+◌, ◌≤◌, ◌<◌, true, false, [], Contains, length};
-ghost use Rattle.std.specs.Prelude.{OnOk, IfOk};
+ghost use Rattle.std.specs.Prelude.{OnOk, IfOk, IfSome, IfNone};
 ghost use Rattle.nll_problem.specs.Graph.{element_count, IsNext, IsReturn};
 ghost use Rattle.nll_problem.specs.Walks.{Reaches};
 ghost use Rattle.nll_sets.specs.Runs.{IsWithin};
 ghost use Rattle.nll_core.specs.Lines.{IsJump};
 ghost use Rattle.nll_core.specs.Search.{IsIn};
-ghost use Rattle.nll_core.specs.Walking.{AreIn, Grows, IsLedTo, IsLineClosed};
-ghost use Rattle.nll_core.specs.Frontiers.{IsBeside, IsReachedFrom, ReachesFrom, ListsNew};
-ghost use Rattle.nll_core.specs.Frontiers.{ResumesPoints};
+ghost use Rattle.nll_core.specs.Walking.{AreIn, Grows, IsLedTo};
+ghost use Rattle.nll_core.specs.Frontiers.{GoesOn, ReachesFrom, ListsNew, ResumesPoints};
 
 use crate::filling::fill_from;
 use crate::landings::Landings;
@@ -18,8 +17,8 @@ use crate::starts::Starts;
 use crate::stretches::{enter, spread};
 use nll_sets::{Element, ElementSet, Memory, Run, RunSet};
 
-/// Reaches what walks from some points reach inside a set that has got a run, and puts the runs of
-/// what is new into an empty list.
+/// Goes on with walks from some points from a run of the set in which they go, and puts the runs of
+/// what is newly reached into an empty list.
 pub fn resume(
     lines: &Lines,
     landings: &Landings,
@@ -35,11 +34,12 @@ pub fn resume(
     requires starts { (p : ℕ) → Contains starts.now p → p < lines.now.points }
     requires run { AreIn seen.now run }
     requires proper { run.first ≤ run.last }
-    requires before { IsReachedFrom lines.now (IsBeside seen.now run) starts.now reached.old }
+    requires before { (x : ℕ) → IsIn reached.old x
+        → ReachesFrom lines.now (IsIn seen.now) starts.now x }
     requires none { found.old.items ≡ [] }
     ensures width { OnOk result (length reached.new ≡ length reached.old) }
     ensures after { OnOk result
-        (IsReachedFrom lines.now (IsIn seen.now) starts.now reached.new) }
+        (GoesOn lines.now seen.now run starts.now reached.old reached.new) }
     ensures found { OnOk result (ListsNew reached.old reached.new [] found.new.items) }
 {
     let points = lines.points();
@@ -66,9 +66,10 @@ fn resume_points(
     requires starts { (p : ℕ) → Contains starts.now p → p < lines.now.points }
     requires run { AreIn seen.now run }
     requires proper { run.first ≤ run.last }
-    requires before { IsReachedFrom lines.now (IsBeside seen.now run) starts.now reached.old }
+    requires before { (x : ℕ) → IsIn reached.old x
+        → ReachesFrom lines.now (IsIn seen.now) starts.now x }
     requires none { found.old.items ≡ [] }
-    ensures { IfOk result (ResumesPoints lines.now seen.now starts.now
+    ensures { IfOk result (ResumesPoints lines.now seen.now run starts.now
         reached.old reached.new found.old.items found.new.items) }
 {
     let points = lines.points();
@@ -79,50 +80,81 @@ fn resume_points(
         first: run.first,
         last: run.last.min(points - 1),
     };
-    enter_next(lines, seen, reached, found, part.first)?;
+    enter_next(lines, seen, part, reached, found)?;
     enter_starts(lines, seen, starts, part, reached, found)?;
     enter_landings(lines, landings, seen, part, reached, found)?;
     spread(lines, seen, reached, found)
 }
 
-// Enters a point to which the line leads from one that is reached.
+// Enters the points of a run to which their line leads from the point before, which is reached.
 fn enter_next(
+    lines: &Lines,
+    seen: &RunSet,
+    part: Run,
+    reached: &mut RunSet,
+    found: &mut Vec<Run>,
+) -> Result<(), Memory>
+    requires points { part.last < lines.now.points }
+    requires width { lines.now.points ≤ length reached.old }
+    requires part { AreIn seen.now part }
+    requires inside { (x : ℕ) → IsIn reached.old x → IsIn seen.now x }
+    ensures grows { OnOk result (Grows lines.now seen.now
+        (IsLedTo lines.now seen.now reached.old)
+        reached.old reached.new found.old.items found.new.items) }
+    ensures covers { OnOk result ((x : ℕ) → IsIn reached.old x → IsNext lines.now x (x + 1)
+        → IsWithin part (x + 1) → IsIn reached.new (x + 1)) }
+{
+    let _points = lines.points();
+    let mut from = part.first.saturating_sub(1);
+    while let Some(last) = next_end(reached, from, part.last) {
+        enter_behind(lines, seen, reached, found, last)?;
+        from = last + 1;
+    }
+    Ok(())
+}
+
+// The last number of a reached run, of the first one that ends at a number or later, where it ends
+// before another one.
+fn next_end(reached: &RunSet, from: u32, limit: u32) -> Option<u32>
+    ensures bounds { IfSome result (λ last. (from ≤ last) × (last < limit)) }
+    ensures reached { IfSome result (IsIn reached.now) }
+    ensures before { IfSome result (λ last. (x : ℕ) → from ≤ x → x < last
+        → IsIn reached.now x → IsIn reached.now (x + 1)) }
+    ensures none { IfNone result ((x : ℕ) → from ≤ x → x < limit
+        → IsIn reached.now x → IsIn reached.now (x + 1)) }
+{
+    if from >= limit {
+        return None;
+    }
+    match reached.run_from(from) {
+        Some(run) if run.last < limit => Some(run.last),
+        _ => None,
+    }
+}
+
+// Enters the point behind one that is reached, where its line leads there.
+fn enter_behind(
     lines: &Lines,
     seen: &RunSet,
     reached: &mut RunSet,
     found: &mut Vec<Run>,
     point: u32,
 ) -> Result<(), Memory>
-    requires point { point < lines.now.points }
+    requires point { point + 1 < lines.now.points }
     requires width { lines.now.points ≤ length reached.old }
-    requires seen { IsIn seen.now point }
-    requires inside { (x : ℕ) → IsIn reached.old x → IsIn seen.now x }
+    requires reached { IsIn reached.old point }
+    requires here { IsIn seen.now point }
+    requires seen { IsIn seen.now (point + 1) }
     ensures grows { OnOk result (Grows lines.now seen.now
         (IsLedTo lines.now seen.now reached.old)
         reached.old reached.new found.old.items found.new.items) }
-    ensures covers { OnOk result ((x : ℕ) → x + 1 ≡ point
-        → IsIn reached.old x → IsNext lines.now x point → IsIn reached.new point) }
+    ensures covers { OnOk result
+        (IsNext lines.now point (point + 1) → IsIn reached.new (point + 1)) }
 {
-    if is_next(lines, reached, point) {
-        enter_point(lines, seen, reached, found, point)?;
+    if lines.line_end(point) > point {
+        enter_point(lines, seen, reached, found, point + 1)?;
     }
     Ok(())
-}
-
-// Whether the line leads to a point from one that is reached.
-fn is_next(lines: &Lines, reached: &RunSet, point: u32) -> bool
-    requires point { point < lines.now.points }
-    requires width { lines.now.points ≤ length reached.now }
-    ensures { (result ≡ true) ↔ ((x : ℕ) × (x + 1 ≡ point) × IsIn reached.now x
-        × IsNext lines.now x point) }
-{
-    if point == 0 {
-        return false;
-    }
-    if !reached.has(Element(point - 1)) {
-        return false;
-    }
-    lines.line_end(point - 1) >= point
 }
 
 // Enters the points of a run from which walks go.
@@ -162,6 +194,7 @@ fn enter_landings(
     found: &mut Vec<Run>,
 ) -> Result<(), Memory>
     requires landings { landings.now ≡ lines.now }
+    requires proper { part.first ≤ part.last }
     requires points { part.last < lines.now.points }
     requires width { lines.now.points ≤ length reached.old }
     requires part { AreIn seen.now part }

@@ -183,7 +183,6 @@ pub fn spread(
 ) -> Result<bool, Memory>
     requires widths { lines.now.points ≤ length reached.old }
     requires fit { AreOfPoints lines.now list.old.items }
-    requires closed { IsLineClosed lines.now sub.now reached.old }
     requires listed { (x : ℕ) → IsInRuns list.old.items x → IsIn reached.old x }
     requires inside { (x : ℕ) → IsIn reached.old x → IsIn sub.now x }
     ensures { IfOk result (IsSpread lines.now sub.now reached.old reached.new

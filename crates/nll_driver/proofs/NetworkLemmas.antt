@@ -16,7 +16,7 @@ use Rattle.nll_owner.proofs.LogLemmas.{contains_head, contains_tail, contains_ca
 use Rattle.nll_owner.proofs.LawLemmas.{least_exact}
 use Rattle.nll_owner.proofs.OwnerLemmas.{get_at, first_sound}
 use Rattle.nll_driver.proofs.PairLemmas.{pair_is}
-use Rattle.nll_driver.proofs.PostingLemmas.{take_all}
+use Rattle.nll_owner.proofs.PostingLemmas.{take_all}
 use Rattle.nll_driver.specs.Network.{Channel, GivesAll, Hears, IsOwner, AreOwners, AreAllPairs, IsCarried, AreInStep, AreGiven, AreLoaded, SaysOf, SayOfAll, ends_of, logs_of}
 use Rattle.nll_owner.specs.Delivery.{IsPair, AreDelivered, SayLeast}
 

@@ -13,7 +13,7 @@ use Rattle.nll_driver.specs.Network.{Channel, Network, IsCarried, AreAllPairs, A
 use Rattle.nll_owner.specs.Delivery.{IsPair}
 use Rattle.nll_driver.specs.Turns.{Moves, Loads, Posts, Takes}
 use Rattle.nll_driver.proofs.NetworkLemmas.{contains_map, differ_at, set_there}
-use Rattle.nll_driver.proofs.PostingLemmas.{posted_few, posting_none}
+use Rattle.nll_owner.proofs.PostingLemmas.{posted_few, posting_none}
 use Rattle.nll_driver.proofs.MovingLemmas.{get_other, channel_other, logs_same, loads_same, loads_less, growths_sent, growths_received, found_in, given_next, loaded_next}
 
 -- the network of these parts

@@ -11,7 +11,7 @@ use Rattle.nll_problem.specs.Problem.{Problem, IsSound as IsSoundProblem}
 use Rattle.nll_problem.specs.Solution.{Least}
 use Rattle.nll_cut.specs.Partition.{Cut, owner_of}
 use Rattle.nll_mail.specs.declared.growth.Growth.{Growth}
-use Rattle.nll_owner.specs.Logs.{IsCutOf, IsKnown, IsPrefix, log_of, part}
+use Rattle.nll_owner.specs.Logs.{IsCutOf, IsTold, IsPrefix, log_of, part}
 use Rattle.nll_owner.specs.Owner.{Owner, IsDone, IsSound, given_to, part_for, received_from}
 use Rattle.nll_owner.specs.Owner.{first_owner}
 use Rattle.nll_owner.specs.Delivery.{IsPair}

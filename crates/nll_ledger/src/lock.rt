@@ -138,6 +138,7 @@ pub fn find<R: Wait>(rt: &R, lock: &Lock, pass: &mut LockPass) -> bool
     requires live { 0 < (view pass.old).figures.parts }
     ensures pass { IsPassOf lock.now pass.new }
     ensures free { (view pass.new).holds ≡ false }
+    ensures found { result ≡ (view pass.new).held.flag }
     ensures then { (view pass.new).figures
         ≡ cond result (finding (view pass.old).figures) (view pass.old).figures }
 {
@@ -158,7 +159,8 @@ pub fn inspect<R: Wait>(rt: &R, lock: &Lock, pass: &mut LockPass) -> Look
     requires live { 0 < (view pass.old).figures.parts }
     ensures pass { IsPassOf lock.now pass.new }
     ensures free { (view pass.new).holds ≡ false }
-    ensures then { IsSeen (view pass.old).figures (view pass.new).figures result }
+    ensures then { IsSeen (view pass.new).held (view pass.old).figures (view pass.new).figures
+        result }
 {
     let state = grab(rt, lock, pass);
     if state.flag {

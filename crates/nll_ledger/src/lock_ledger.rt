@@ -5,7 +5,7 @@
 //! passes are put together, the account of all is what the rule knows of the whole.
 
 ghost use Rattle.std.specs.Prelude.{◌≡◌, ◌+◌, ◌-◌, ◌<◌, ◌≤◌, ℕ, [], false, true};
-ghost use Rattle.std.specs.Prelude.{Some, length, slice_get, vec_capacity, vec_len};
+ghost use Rattle.std.specs.Prelude.{Some, slice_get, vec_capacity, vec_len};
 ghost use Rattle.std.specs.List.{sum_by};
 ghost use Rattle.crossbeam_queue.specs.Passes.{IsPassOf, view};
 ghost use Rattle.nll_ledger.specs.Figures.{figures};
@@ -13,7 +13,6 @@ ghost use Rattle.nll_ledger.specs.Shares.{IsLeftOf, IsNew, cleared_by, has_calle
 ghost use Rattle.nll_ledger.specs.Shares.{number_of, owed_by};
 ghost use Rattle.nll_ledger.specs.declared.lock_book.LockLeft.{LockLeft};
 ghost use Rattle.nll_ledger.specs.declared.lock_book.LockShare.{LockShare};
-ghost use Rattle.nll_problem.specs.Limits.{most_owners};
 
 use crate::figures::Account;
 use crate::ledger::{Leave, Ledger, Totals};
@@ -24,7 +23,15 @@ use nll_sets::Memory;
 use std::alloc::Global;
 use std::sync::Wait;
 
-/// Ledgers under a lock. Their shares wait for it.
+/// Ledgers under a lock.
+///
+/// # Threads
+/// Each call of a share is a hold of the lock, and waits while another thread holds it. That a
+/// share gets the lock, or gets it in its turn, is not promised.
+///
+/// # Cost
+/// A call of a share takes as long as its hold; `open` and `gather` take a step for each owner
+/// (neither is proved).
 #[derive(Clone, Copy)]
 pub struct LockLedger<R> {
     /// By which the shares wait.

@@ -1,17 +1,15 @@
 -- The slots of the regions that an owner holds.
-use Rattle.std.proofs.Common.{◌≡◌, ℕ, zero, suc, ◌+◌, ◌<◌, ◌≤◌, Bool, true, false, cond, ◌||◌, List, [], ◌∷◌, ◌++◌, length, get_or, AllPairs, Contains, ltb, refl, sym, ap, ◌∙◌, subst, ⊎_elim, arith}
+use Rattle.std.proofs.Common.{◌≡◌, ℕ, zero, suc, ◌+◌, ◌<◌, ◌≤◌, Bool, true, false, cond, ◌||◌, List, [], ◌∷◌, ◌++◌, length, get_or, set, slice_index, AllPairs, Contains, refl, sym, ap, ◌∙◌, subst, ⊎_elim, arith}
 use Rattle.std.specs.Prelude.{Option, Some, None, IfNone, IsSome}
 use Rattle.std.specs.List.{filter, range_with_len}
-use Rattle.std.proofs.lemmas.Bool.{cases_eq, cases_lt, eq-eqb, ltb-true, ltb-false}
-use Rattle.std.specs.List.Sorted.{IsNonDecreasingBy, IsPartitionPoint}
-use Rattle.nll_problem.proofs.IndexLemmas.{keys_rise}
-use Rattle.std.proofs.lemmas.List.{get_or_default}
+use Rattle.std.proofs.lemmas.Bool.{cases_eq, cases_lt, eq-eqb}
+use Rattle.std.proofs.lemmas.List.{get_or_default, get_or-set_other, get_or-set_same}
 use Rattle.std.proofs.lemmas.List.Elements.{filter-append}
 use Rattle.std.proofs.lemmas.List.FromFn.{length-range_with_len, get_or-range_with_len}
 use Rattle.nll_core.specs.Growing.{Gains}
 use Rattle.nll_cut.specs.Partition.{Cut, owner_of, reads}
 use Rattle.nll_owner.specs.Owner.{Owner, Has, IsSound, received_from}
-use Rattle.nll_owner.specs.Keeping.{holds_region, held_below, held_regions, IsSlot, AreSlotted}
+use Rattle.nll_owner.specs.Keeping.{holds_region, held_below, held_regions, IsSlot, IsSlotIn, AreSlotted}
 use Rattle.nll_owner.proofs.LogLemmas.{filter_from, filter_to, list_other}
 
 -- ---- numbers that follow each other
@@ -71,6 +69,9 @@ filter_short p (x ∷ xs) = go (p x) (filter_short p xs)
 pub held_short : (n : ℕ) (c : Cut) (i : ℕ) (reading : ℕ → Bool) → length (held_below n c i reading) ≤ n
 held_short n c i reading = omega (arith, filter_short (holds_region c i reading) (range_with_len 0 n), length-range_with_len 0 n)
 
+pub held_within : (n : ℕ) (c : Cut) (i : ℕ) (reading : ℕ → Bool) (s r : ℕ) → IsSlotIn (held_below n c i reading) s r → r < n
+held_within n c i reading s r at = let w = (range_within 0 n r (filter_from (holds_region c i reading) (range_with_len 0 n) r (s, at.0, at.1)).0).1 in omega (arith, w)
+
 -- ---- slots
 
 -- a slot is of one region
@@ -128,23 +129,20 @@ has_held o sound r e h = ⊎_elim
 pub slotted_gains : (o : Owner) (kind : ℕ → ℕ → Type 0) (old new : List (List Bool)) → AreSlotted o old → Gains kind old new → AreSlotted o new
 slotted_gains o kind old new w g = record { slots = g.width ∙ w.slots; elements = λ s low. g.widths s ∙ w.elements s low }
 
--- ---- a search
+-- ---- a table of slots
 
-module _ (xs : List ℕ) (r at : ℕ) (up : AllPairs {X = ℕ} (λ r s. r < s) xs) (parted : IsPartitionPoint (λ x. ltb x r ≡ true) (λ x. ltb x r ≡ false) xs at) where
-  -- where a list has the region, it stands at the place that the search tells
-  pub found_at : Contains xs r → (at < length xs) × (get_or xs at r ≡ r)
-  found_at h =
-      let from : at ≤ h.0 = ⊎_elim (λ early. absurd (let l = ltb-true _ r (parted.0 h.0 r (omega arith) early) in omega (arith, l, h.2))) (λ le. le) (cases_lt h.0 at) in
-      let within : at < length xs = (let l = h.1 in omega (arith, l, from)) in (
-        within,
-        ⊎_elim
-            (λ (same : at ≡ h.0). ap (λ i. get_or xs i r) same ∙ h.2)
-            (λ other. absurd (
-            let less = up at h.0 r (omega (arith, from, other)) h.1 in
-            let high = ltb-false _ r (parted.1 at r (omega arith) within) in
-            omega (arith, less, high, h.2)))
-            (cases_eq at h.0),
-      )
+-- the slots of the regions at the places before `count` are told
+abbrev pub TellsTo : List ℕ → List ℕ → ℕ → Type 0
+TellsTo regions table count = (s r : ℕ) → IsSlotIn regions s r → s < count → slice_index table r ≡ s
 
-pub numbers_rise : (xs : List ℕ) → AllPairs {X = ℕ} (λ r s. r < s) xs → IsNonDecreasingBy (λ (x : ℕ). x) xs
-numbers_rise xs up = keys_rise (λ (x : ℕ). x) (λ x y. x < y) (λ x y h. omega (arith, h)) xs up
+pub tells_more : (regions table : List ℕ) (count r : ℕ) → AllPairs {X = ℕ} (λ r s. r < s) regions → IsSlotIn regions count r → r < length table → TellsTo regions table count → TellsTo regions (set table r count) (count + 1)
+tells_more regions table count r up at within tells s q here low = ⊎_elim
+    (λ (is : s ≡ count).
+    let same : q ≡ r = sym here.1 ∙ (ap (λ i. get_or regions i q) is ∙ (get_or_default regions count q r at.0 ∙ at.1)) in
+    ap (λ x. get_or (set table r count) x 0) same ∙ (get_or-set_same table r count 0 within ∙ sym is))
+    (λ other.
+    let early : s < count = omega (arith, low, other) in
+    let less = up s count q early at.0 in
+    let apart : q ≡ r → ⊥ = λ same. omega (arith, less, here.1, get_or_default regions count q r at.0, at.1, same) in
+    get_or-set_other table r q count 0 apart ∙ tells s q here early)
+    (cases_eq s count)

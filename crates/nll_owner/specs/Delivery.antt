@@ -6,7 +6,7 @@ use Rattle.nll_problem.specs.Problem.{Problem}
 use Rattle.nll_problem.specs.Solution.{Least}
 use Rattle.nll_cut.specs.Partition.{Cut, owner_of}
 use Rattle.nll_mail.specs.declared.growth.Growth.{Growth}
-use Rattle.nll_owner.specs.Logs.{IsKnown, log_of, part}
+use Rattle.nll_owner.specs.Logs.{IsTold, log_of, part}
 
 -- the pair is of two different owners
 abbrev pub IsPair : ℕ → ℕ × ℕ → Type 0
@@ -28,4 +28,4 @@ pub record AreDelivered {P : Type 0} (ends : P → ℕ × ℕ) (sent received : 
 -- the log of each region's owner says just what the region has in the least solution
 abbrev pub SayLeast : Problem → Cut → List (List Growth) → Type 0
 SayLeast q c logs =
-    (r e : ℕ) → IsKnown (log_of logs (owner_of c r)) r e ↔ Least q r e
+    (r e : ℕ) → IsTold (log_of logs (owner_of c r)) r e ↔ Least q r e

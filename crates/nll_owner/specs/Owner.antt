@@ -7,7 +7,7 @@ use Rattle.nll_problem.specs.Graph.{element_count}
 use Rattle.nll_problem.specs.Problem.{Problem, IsBase, IsSound as IsSoundProblem}
 use Rattle.nll_cut.specs.Partition.{Cut, owner_of, reads}
 use Rattle.nll_mail.specs.declared.growth.Growth.{Growth}
-use Rattle.nll_owner.specs.Logs.{IsWellFormed, IsWellSupported, IsSaturated, IsCutOf, IsKnown}
+use Rattle.nll_owner.specs.Logs.{IsWellFormed, IsWellSupported, IsSaturated, IsCutOf, IsTold}
 use Rattle.nll_owner.specs.Logs.{IsCalledFor, list_of, part}
 
 -- The owner `me` of a cut of the problem: its log; what it received from each owner; to each owner,
@@ -34,7 +34,7 @@ list_in o r = list_of o.cut o.me o.log (received_from o) r
 
 -- its value, or its copy, of the region r has e
 abbrev pub Has : Owner → ℕ → ℕ → Type 0
-Has o r e = IsKnown (list_in o r) r e
+Has o r e = IsTold (list_in o r) r e
 
 -- e is called for in the region r by what the owner has
 abbrev pub IsCalled : Owner → ℕ → ℕ → Type 0

@@ -8,6 +8,7 @@ ghost use Rattle.std.specs.Prelude.{min, ◌-◌, ◌++◌, vec_len, vec_capacit
 ghost use Rattle.std.specs.List.{sum, sum_by};
 ghost use Rattle.nll_sets.specs.Runs.{IsInRuns, IsWithin};
 ghost use Rattle.nll_problem.specs.Graph.{element_count};
+ghost use Rattle.nll_core.specs.Search.{IsIn};
 ghost use Rattle.nll_cut.specs.Partition.{owner_of, reads};
 ghost use Rattle.nll_mail.specs.declared.growth.Growth.{Growth};
 ghost use Rattle.nll_owner.specs.Logs.{part};
@@ -26,7 +27,7 @@ use nll_core::Values;
 use nll_cut::{Cut, Readers};
 use nll_mail::Growth;
 use nll_problem::{Problem, RegionId};
-use nll_sets::{Element, Memory, Run};
+use nll_sets::{Element, Memory, Run, RunSet};
 use std::alloc::Global;
 use std::marker::Model;
 
@@ -259,6 +260,16 @@ impl<'q> Knowledge<'q> {
             Some(slot) => self.values.has(slot, element),
             None => false,
         }
+    }
+
+    /// The set of what the owner has in the region of a slot.
+    pub fn set(&self, slot: Slot) -> &RunSet
+        requires { slot < length (held_regions self.now) }
+        ensures width { length result.now ≡ element_count self.now.problem.graph }
+        ensures has { (r : ℕ) → IsSlot self.now slot r
+            → (x : ℕ) → IsIn result.now x ↔ Has self.now r x }
+    {
+        self.values.set(slot)
     }
 
     /// The slot of a region that the owner holds.

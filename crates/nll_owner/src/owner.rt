@@ -44,8 +44,7 @@ pub struct Counts {
 /// the regions that this one reads.
 ///
 /// # Cost
-/// Besides lent tables: what the regions that it owns or reads hold, in runs and twice, some 90 bytes
-/// for each of these regions, 16 bytes for each growth of its log and of what it received, and a link
+/// Besides lent tables: what the regions that it owns or reads hold, in runs, some 60 bytes for each of these regions, 16 bytes for each growth of its log and of what it received, and a link
 /// for each pair of an own region and another one that it reads (not proved).
 ///
 /// # Source

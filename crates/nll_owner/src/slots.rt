@@ -1,9 +1,9 @@
 //! The regions that an owner holds.
 
-ghost use Rattle.std.specs.Prelude.{◌≡◌, ◌<◌, ◌≤◌, ℕ, Bool, Contains, length, IfOk, IfSome, IfNone};
+ghost use Rattle.std.specs.Prelude.{◌≡◌, ◌<◌, ◌≤◌, ℕ, Contains, AllPairs, length, IfOk, IfSome, IfNone};
 ghost use Rattle.nll_problem.specs.Limits.{most_regions};
 ghost use Rattle.nll_cut.specs.Readers.{is_read};
-ghost use Rattle.nll_owner.specs.Keeping.{held_below, holds_region, IsSlotIn};
+ghost use Rattle.nll_owner.specs.Keeping.{held_below, holds_region, IsSlotIn, TellsSlots};
 
 use nll_cut::{Cut, Readers};
 use nll_problem::RegionId;
@@ -18,6 +18,8 @@ pub type Slot = RegionId;
 #[derive(Drop)]
 pub struct Slots {
     regions: Vec<u32>,
+    // By region the slot, and any number where it has none.
+    table: Vec<u32>,
 }
 
 impl Model for Slots {
@@ -28,8 +30,11 @@ impl Model for Slots {
 
     ghost view = { λ slots. slots.regions.items };
 
+    ghost use Rattle.nll_owner.specs.Keeping.{TellsSlots};
+
     ghost invariant = { λ slots. AllPairs {X = ℕ} (λ r s. r < s) slots.regions.items
-        × (length slots.regions.items ≤ most_regions) };
+        × (length slots.regions.items ≤ most_regions)
+        × TellsSlots slots.regions.items slots.table.items };
 }
 
 impl Slots {
@@ -49,13 +54,12 @@ impl Slots {
         ensures { IfOk result (λ slots.
             slots ≡ held_below regions cut.now me (λ r. is_read readers.now me r)) }
     {
-        let mut held = Vec::new(alloc);
-        for number in 0..regions {
-            if holds(cut, readers, me, RegionId(number)) {
-                held.push(number)?;
-            }
-        }
-        Ok(Slots { regions: held })
+        let held = held_of(alloc, cut, readers, me, regions)?;
+        let table = table_of(alloc, held.as_slice(), regions)?;
+        Ok(Slots {
+            regions: held,
+            table,
+        })
     }
 
     /// How many there are.
@@ -76,17 +80,56 @@ impl Slots {
     /// The slot of a region, if it has one.
     ///
     /// # Cost
-    /// Logarithmic in the number of regions that are held (not proved).
+    /// Constant (not proved).
     pub fn find(&self, region: RegionId) -> Option<Slot>
         ensures some { IfSome result (λ slot. IsSlotIn self.now slot region) }
         ensures none { IfNone result (Contains self.now region → ⊥) }
     {
-        let at = self.regions.partition_point(|held| *held < region.0);
+        let number = region.0 as usize;
+        if number >= self.table.len() {
+            return None;
+        }
+        let at = self.table[number] as usize;
         if at < self.regions.len() && self.regions[at] == region.0 {
             return Some(RegionId(at as u32));
         }
         None
     }
+}
+
+// The regions that an owner holds, of so many, ascending.
+fn held_of(
+    alloc: Global,
+    cut: &Cut,
+    readers: &Readers,
+    me: u16,
+    regions: u32,
+) -> Result<Vec<u32>, Memory>
+    requires { length cut.now.list ≡ regions }
+    ensures { IfOk result (λ held.
+        held.items ≡ held_below regions cut.now me (λ r. is_read readers.now me r)) }
+{
+    let mut held = Vec::new(alloc);
+    for number in 0..regions {
+        if holds(cut, readers, me, RegionId(number)) {
+            held.push(number)?;
+        }
+    }
+    Ok(held)
+}
+
+// The places of regions in a list, by region.
+fn table_of(alloc: Global, held: &[u32], regions: u32) -> Result<Vec<u32>, Memory>
+    requires ascending { AllPairs {X = ℕ} (λ r s. r < s) held.now }
+    requires within { (s r : ℕ) → IsSlotIn held.now s r → r < regions }
+    requires few { length held.now ≤ most_regions }
+    ensures { IfOk result (λ table. TellsSlots held.now table.items) }
+{
+    let mut table = vec![in alloc; 0u32; regions as usize]?;
+    for slot in 0..held.len() {
+        table[held[slot] as usize] = slot as u32;
+    }
+    Ok(table)
 }
 
 // Whether an owner holds a region.

@@ -1,7 +1,7 @@
 -- What the settled mailboxes, the gathered ledger and the logs say together.
-use Rattle.std.proofs.Common.{append-nil, length-append, ◌≡◌, ◌≢◌, ◌↔◌, ◌+◌, ◌<◌, ◌≤◌, ℕ, zero, suc, Bool, true, false, List, [], ◌∷◌, ◌++◌, length, map, drop, slice_index_or, slice_get, Some, Contains, AllPairs, refl, ap, sym, ◌∙◌, subst, inl, inr, ◌⊎◌, ⊎_elim, arith}
+use Rattle.std.proofs.Common.{length-append, ◌≡◌, ◌≢◌, ◌↔◌, ◌+◌, ◌<◌, ◌≤◌, ℕ, zero, suc, Bool, true, false, List, [], ◌∷◌, ◌++◌, length, map, drop, slice_index_or, slice_get, Some, Contains, AllPairs, refl, ap, sym, ◌∙◌, subst, inl, inr, ◌⊎◌, ⊎_elim, arith}
 use Rattle.std.specs.List.{sum_by}
-use Rattle.std.proofs.lemmas.Bool.{cases_lt, cases_eq}
+use Rattle.std.proofs.lemmas.Bool.{cases_lt}
 use Rattle.std.proofs.lemmas.List.{get_or_past}
 use Rattle.std.proofs.lemmas.List.Sums.{sum_by-cons}
 use Rattle.nll_problem.specs.Graph.{element_count}
@@ -10,7 +10,7 @@ use Rattle.nll_problem.specs.Solution.{Least}
 use Rattle.nll_core.specs.Values.{IsHeld, IsShaped}
 use Rattle.nll_cut.specs.Partition.{Cut, owner_of}
 use Rattle.nll_mail.specs.declared.growth.Growth.{Growth}
-use Rattle.nll_owner.specs.Logs.{IsPrefix, IsKnown, IsCutOf, IsWellFormed, log_of, part, AreSound}
+use Rattle.nll_owner.specs.Logs.{IsPrefix, IsTold, IsCutOf, IsWellFormed, log_of, part, AreSound}
 use Rattle.nll_owner.specs.Owner.{Owner, first_owner}
 use Rattle.nll_worker.specs.Sums.{sum_to}
 use Rattle.nll_worker.specs.Finishing.{Finishes}
@@ -23,11 +23,9 @@ use Rattle.nll_worker.specs.declared.ending.Ending.{Ending}
 use Rattle.nll_worker.specs.declared.ending.Ending.TheVariants.{Quiet, Stopped, Stray}
 use Rattle.nll_worker.specs.declared.ending.Ending.TheVariants as endings
 use Rattle.nll_worker.proofs.RunLemmas.{concludes, not_stray}
-use Rattle.nll_worker.proofs.SumLemmas.{sum_same}
-use Rattle.nll_run.specs.Table.{list_at}
-use Rattle.nll_run.specs.Settling.{IsPostOf, ArePostsOf, InRows, sent_by, got_by, IsCalm, error_of}
+use Rattle.nll_run.specs.Settling.{ArePostsOf, InRows, sent_by, got_by, IsCalm, error_of}
 use Rattle.nll_run.specs.declared.error.RunError.TheVariants as errors
-use Rattle.nll_run.proofs.PlaceLemmas.{place, within, same_place, read_place, map_place, map_from, map_size, mapped, contains_place, contained}
+use Rattle.nll_run.proofs.PlaceLemmas.{place, within, read_place, map_place, map_from, map_size, mapped, contains_place, contained}
 
 -- the rest of a list behind one that begins it
 prefix_rest : {X : Type 0} (front whole : List X) → IsPrefix front whole → whole ≡ front ++ drop (length front) whole
@@ -146,13 +144,17 @@ module _ {D M S R C P L B H E : Type 0} (m : Mail.Ghosts M S R C P) (b : Ledger.
   ends_at : (i : ℕ) → i < c.owners → (o : Owner) × Ends i o
   ends_at i l =
       let d = done i l in
-      let f = finishes i d.0 d.1 (made (why_of d.0) (calm i d.0 d.1)) in
-      (f.0, (f.1 ∙ sym (mapped log ds i d.0 [] d.1),
-        subst (λ (x : List C). Finishes q c i f.0 (λ j. log_of (map m.all_sent x) j) (λ j. got j i) (owed i) (cleared i) (ending i)) (sym (mapped closed ds i d.0 [] d.1))
-        (subst (λ (x : List R). Finishes q c i f.0 (log_of (map m.all_sent (closed d.0))) (λ j. log_of (map m.received x) j) (owed i) (cleared i) (ending i)) (sym (mapped kept ds i d.0 [] d.1))
-        (subst (λ (x : ℕ). Finishes q c i f.0 (log_of (map m.all_sent (closed d.0))) (log_of (map m.received (kept d.0))) x (cleared i) (ending i)) (sym (mapped (λ (y : D). b.left_owed (left y)) ds i d.0 0 d.1))
-        (subst (λ (x : ℕ). Finishes q c i f.0 (log_of (map m.all_sent (closed d.0))) (log_of (map m.received (kept d.0))) (b.left_owed (left d.0)) x (ending i)) (sym (mapped (λ (y : D). b.left_cleared (left y)) ds i d.0 0 d.1))
-        (subst (λ (x : Ending). Finishes q c i f.0 (log_of (map m.all_sent (closed d.0))) (log_of (map m.received (kept d.0))) (b.left_owed (left d.0)) (b.left_cleared (left d.0)) x) (sym (mapped why_of ds i d.0 Quiet d.1)) f.2))))))
+      let f = finishes i d.0 d.1 (made (why_of d.0) (calm i d.0 d.1)) in (
+        f.0,
+        (
+          f.1 ∙ sym (mapped log ds i d.0 [] d.1),
+          subst (λ (x : List C). Finishes q c i f.0 (λ j. log_of (map m.all_sent x) j) (λ j. got j i) (owed i) (cleared i) (ending i)) (sym (mapped closed ds i d.0 [] d.1))
+              (subst (λ (x : List R). Finishes q c i f.0 (log_of (map m.all_sent (closed d.0))) (λ j. log_of (map m.received x) j) (owed i) (cleared i) (ending i)) (sym (mapped kept ds i d.0 [] d.1))
+              (subst (λ (x : ℕ). Finishes q c i f.0 (log_of (map m.all_sent (closed d.0))) (log_of (map m.received (kept d.0))) x (cleared i) (ending i)) (sym (mapped (λ (y : D). b.left_owed (left y)) ds i d.0 0 d.1))
+              (subst (λ (x : ℕ). Finishes q c i f.0 (log_of (map m.all_sent (closed d.0))) (log_of (map m.received (kept d.0))) (b.left_owed (left d.0)) x (ending i)) (sym (mapped (λ (y : D). b.left_cleared (left y)) ds i d.0 0 d.1))
+              (subst (λ (x : Ending). Finishes q c i f.0 (log_of (map m.all_sent (closed d.0))) (log_of (map m.received (kept d.0))) (b.left_owed (left d.0)) (b.left_cleared (left d.0)) x) (sym (mapped why_of ds i d.0 Quiet d.1)) f.2)))),
+        ),
+      )
 
   chosen : (i : ℕ) → (i < c.owners) ⊎ (c.owners ≤ i) → (o : Owner) × (i < c.owners → Ends i o)
   chosen i (inl l) = ((ends_at i l).0, λ _. (ends_at i l).1)
@@ -185,9 +187,10 @@ module _ {D M S R C P L B H E : Type 0} (m : Mail.Ghosts M S R C P) (b : Ledger.
       let k = contains_place logs log h in
       let l : k.0 < c.owners = (let w = within logs k.0 log k.1 in omega (arith, w, log_count)) in
       let here : log_of logs k.0 ≡ log = read_place logs k.0 log [] k.1 in
-      let at' : Contains (log_of logs k.0) g = subst (λ xs. Contains xs g) (sym here) at in
-      (region_in k.0 g l ((well_formed k.0 l).own g at'),
-        subst (λ (p : Problem). g.element < element_count p.graph) (ends k.0 l).problem ((ends k.0 l).sound.elements g (subst (λ xs. Contains xs g) (log_is k.0 l) at')))
+      let at' : Contains (log_of logs k.0) g = subst (λ xs. Contains xs g) (sym here) at in (
+        region_in k.0 g l ((well_formed k.0 l).own g at'),
+        subst (λ (p : Problem). g.element < element_count p.graph) (ends k.0 l).problem ((ends k.0 l).sound.elements g (subst (λ xs. Contains xs g) (log_is k.0 l) at')),
+      )
 
   module _ (posts : List P)
       (settled : ArePostsOf m (sent_by m.all_sent (map closed ds)) (got_by m.received (map kept ds)) (InRows c.owners c.owners) posts) where
@@ -213,13 +216,13 @@ module _ {D M S R C P L B H E : Type 0} (m : Mail.Ghosts M S R C P) (b : Ledger.
       quiet_at i d e = ⊎_elim
           (λ (h : why_of d ≡ Quiet). h)
           (λ (t : (why_of d ≡ Stopped) ⊎ (why_of d ≡ Stray)). ⊎_elim
-            (λ (h : why_of d ≡ Stopped).
-              let off : b.left_quiet (left d) ≡ false = (leaves i d e).not_quiet (λ x. stopped_is_not_quiet (sym h ∙ x)) in
-              let s = stopped i (left d) (map_place left ds i d e) off in
-              let w = map_from left ds s.0 s.1 s.2 in
-              let call = subst (λ (x : E). b.left_called x ≡ true) (sym w.2) s.3 in
-              absurd (not_bad_at s.0 w.0 w.1 (error_bad (why_of w.0) (calm s.0 w.0 w.1) ((leaves s.0 w.0 w.1).called_is call))))
-            (λ (h : why_of d ≡ Stray). absurd (not_bad_at i d e h)) t)
+          (λ (h : why_of d ≡ Stopped).
+          let off : b.left_quiet (left d) ≡ false = (leaves i d e).not_quiet (λ x. stopped_is_not_quiet (sym h ∙ x)) in
+          let s = stopped i (left d) (map_place left ds i d e) off in
+          let w = map_from left ds s.0 s.1 s.2 in
+          let call = subst (λ (x : E). b.left_called x ≡ true) (sym w.2) s.3 in
+          absurd (not_bad_at s.0 w.0 w.1 (error_bad (why_of w.0) (calm s.0 w.0 w.1) ((leaves s.0 w.0 w.1).called_is call))))
+          (λ (h : why_of d ≡ Stray). absurd (not_bad_at i d e h)) t)
           (no_error_cases (why_of d) (calm i d e))
         where
           stopped_is_not_quiet : Stopped ≡ Quiet → ⊥
@@ -242,28 +245,29 @@ module _ {D M S R C P L B H E : Type 0} (m : Mail.Ghosts M S R C P) (b : Ledger.
       sums = sym (sum_of b.left_owed) ∙ (sym owed_is ∙ (quiets all_quiet_left ∙ (cleared_is ∙ sum_of b.left_cleared)))
 
       module _ (problem : IsSoundProblem q) (values : List (List Bool)) (shaped : IsShaped q values)
-          (held : (r e : ℕ) → IsHeld values r e ↔ ((l : List Growth) × Contains logs l × IsKnown l r e)) where
+          (held : (r e : ℕ) → IsHeld values r e ↔ ((l : List Growth) × Contains logs l × IsTold l r e)) where
         law : ((i j : ℕ) → i < c.owners → j < c.owners → i ≢ j → (sent i j ≡ part q c j (log_of logs i)) × (got i j ≡ sent i j) × (rest i j ≡ []))
-            × AreSound q c logs (λ i j. part q c i (log_of logs j)) × ((r e : ℕ) → IsKnown (log_of logs (owner_of c r)) r e ↔ Least q r e)
+            × AreSound q c logs (λ i j. part q c i (log_of logs j)) × ((r e : ℕ) → IsTold (log_of logs (owner_of c r)) r e ↔ Least q r e)
         law = concludes q c owner sent got rest owed cleared ending ends tied logs problem cut log_count log_is quiet sums
 
-        logged : (r e : ℕ) → IsHeld values r e ↔ IsKnown (log_of logs (owner_of c r)) r e
+        logged : (r e : ℕ) → IsHeld values r e ↔ IsTold (log_of logs (owner_of c r)) r e
         logged r e = (
-            (λ h.
+          (λ h.
               let x = (held r e).0 h in
               let k = contains_place logs x.0 x.1 in
               let l : k.0 < c.owners = (let w = within logs k.0 x.0 k.1 in omega (arith, w, log_count)) in
               let here : log_of logs k.0 ≡ x.0 = read_place logs k.0 x.0 [] k.1 in
               let g = x.2 in
               let own : owner_of c r ≡ k.0 = ap (owner_of c) (sym g.2) ∙ (well_formed k.0 l).own g.0 (subst (λ xs. Contains xs g.0) (sym here) g.1) in
-              subst (λ xs. IsKnown xs r e) (sym (ap (log_of logs) own ∙ here)) x.2),
-            (λ h. ⊎_elim
+              subst (λ xs. IsTold xs r e) (sym (ap (log_of logs) own ∙ here)) x.2),
+          (λ h. ⊎_elim
               (λ (low : owner_of c r < length logs).
-                let p = place logs (owner_of c r) low in
-                (held r e).1 (p.0, contained logs (owner_of c r) p.0 p.1, subst (λ xs. IsKnown xs r e) (read_place logs (owner_of c r) p.0 [] p.1) h))
+              let p = place logs (owner_of c r) low in
+              (held r e).1 (p.0, contained logs (owner_of c r) p.0 p.1, subst (λ xs. IsTold xs r e) (read_place logs (owner_of c r) p.0 [] p.1) h))
               (λ (past : length logs ≤ owner_of c r).
-                absurd (let none = get_or_past logs (owner_of c r) [] past in let l = (subst (λ xs. IsKnown xs r e) none h).1.1 in omega (arith, l)))
-              (cases_lt (owner_of c r) (length logs))))
+              absurd (let none = get_or_past logs (owner_of c r) [] past in let l = (subst (λ xs. IsTold xs r e) none h).1.1 in omega (arith, l)))
+              (cases_lt (owner_of c r) (length logs))),
+        )
 
         -- what is said of one post
         said : (p : P) → Contains posts p → (m.post_sent p ≡ part q c (m.post_ends p).1 (log_of logs (m.post_ends p).0)) × (m.post_received p ≡ m.post_sent p) × (m.post_rest p ≡ [])
@@ -279,14 +283,15 @@ module _ {D M S R C P L B H E : Type 0} (m : Mail.Ghosts M S R C P) (b : Ledger.
           delivered = record {
             pairs = λ x. (
               (λ h.
-                let k = contains_place (map m.post_ends posts) x h in
-                let w = map_from m.post_ends posts k.0 x k.1 in
-                let y = settled.only w.0 (contained posts k.0 w.0 w.1) in
-                subst (λ (z : ℕ × ℕ). IsPair c.owners z) (sym y.3.ends_are ∙ w.2) (y.2.0, y.2.1, y.3.apart)),
+                  let k = contains_place (map m.post_ends posts) x h in
+                  let w = map_from m.post_ends posts k.0 x k.1 in
+                  let y = settled.only w.0 (contained posts k.0 w.0 w.1) in
+                  subst (λ (z : ℕ × ℕ). IsPair c.owners z) (sym y.3.ends_are ∙ w.2) (y.2.0, y.2.1, y.3.apart)),
               (λ h.
-                let y = settled.each x.0 x.1 (h.0, h.1) h.2 in
-                let k = contains_place posts y.0 y.1 in
-                subst (λ (z : ℕ × ℕ). Contains (map m.post_ends posts) z) y.2 (contained (map m.post_ends posts) k.0 (m.post_ends y.0) (map_place m.post_ends posts k.0 y.0 k.1))));
+                  let y = settled.each x.0 x.1 (h.0, h.1) h.2 in
+                  let k = contains_place posts y.0 y.1 in
+                  subst (λ (z : ℕ × ℕ). Contains (map m.post_ends posts) z) y.2 (contained (map m.post_ends posts) k.0 (m.post_ends y.0) (map_place m.post_ends posts k.0 y.0 k.1))),
+            );
             whole_part = λ p h. (said p h).0;
             all_of_it = λ p h. (said p h).1;
           };

@@ -1,11 +1,11 @@
 -- What the workers give back is tied as what they were given was.
-use Rattle.std.proofs.Common.{◌≡◌, ◌≢◌, ◌+◌, ◌<◌, ◌≤◌, ℕ, zero, suc, List, [], ◌∷◌, ◌++◌, length, map, slice_index_or, slice_get, Some, refl, ap, sym, ◌∙◌, subst, ⊎_elim, arith}
+use Rattle.std.proofs.Common.{◌≡◌, ◌<◌, ◌≤◌, ℕ, zero, suc, List, [], ◌∷◌, length, map, slice_index_or, slice_get, Some, refl, ap, sym, ◌∙◌, subst, ⊎_elim, arith}
 use Rattle.nll_mail.specs.declared.mail.Mail as Mail
 use Rattle.nll_run.specs.Table.{list_at, AreNewEnds, IsCell, IsTable}
 use Rattle.std.specs.Prelude.{Result, Ok, IfOk}
 use Rattle.std.proofs.lemmas.Bool.{cases_lt}
 use Rattle.nll_worker.specs.Mailboxes.{Alike, Keeps}
-use Rattle.nll_run.proofs.PlaceLemmas.{place, within, mapped, map_size, alike_place, same_place}
+use Rattle.nll_run.proofs.PlaceLemmas.{place, mapped, map_size, alike_place}
 use Rattle.nll_worker.proofs.ListLemmas.{alike_length}
 
 module _ {W D M S R C P : Type 0} (m : Mail.Ghosts M S R C P)
@@ -35,9 +35,14 @@ module _ {W D M S R C P : Type 0} (m : Mail.Ghosts M S R C P)
       let row = subst (λ l. slice_get l j ≡ Some x.0) (mapped senders ws i w.0 [] w.1) x.2 in
       let column = subst (λ l. slice_get l i ≡ Some x.1) (mapped receivers ws j v.0 [] v.1) x.3 in
       let z = alike_place (λ s z. (r : R) → m.pairs s r → m.closes z r) (senders w.0) (closed d.0) (shuts i w.0 d.0 w.1 d.1) j x.0 row in
-      let y = alike_place (Keeps m) (receivers v.0) (kept e.0) (keeps j v.0 e.0 v.1 e.1) i x.1 column in
-      (z.0, y.0, subst (λ l. slice_get l j ≡ Some z.0) (sym (row_is i d.0 d.1)) z.1, subst (λ l. slice_get l i ≡ Some y.0) (sym (column_is j e.0 e.1)) y.1,
-        y.2.1 z.0 (z.2 x.1 x.4.0), y.2.2 ∙ x.5)
+      let y = alike_place (Keeps m) (receivers v.0) (kept e.0) (keeps j v.0 e.0 v.1 e.1) i x.1 column in (
+        z.0,
+        y.0,
+        subst (λ l. slice_get l j ≡ Some z.0) (sym (row_is i d.0 d.1)) z.1,
+        subst (λ l. slice_get l i ≡ Some y.0) (sym (column_is j e.0 e.1)) y.1,
+        y.2.1 z.0 (z.2 x.1 x.4.0),
+        y.2.2 ∙ x.5,
+      )
 
   pub table_then : IsTable m.closes m.ends owners owners (map closed ds) (map kept ds)
   table_then = record {
@@ -65,19 +70,21 @@ module _ {M S R C P : Type 0} (m : Mail.Ghosts M S R C P) (owners : ℕ) (rows :
     (table : IsTable (AreNewEnds m) m.ends owners owners rows columns) where
   pub empty_row : (i : ℕ) (row : List S) → i < owners → list_at rows i ≡ row → (length (map m.sent row) ≡ owners) × ((j : ℕ) → slice_index_or (map m.sent row) j [] ≡ [])
   empty_row i row l is = (
-      map_size m.sent row ∙ (ap length (sym is) ∙ table.width i l),
-      λ j. ⊎_elim
+    map_size m.sent row ∙ (ap length (sym is) ∙ table.width i l),
+    λ j. ⊎_elim
         (λ (h : j < owners). let x = table.cell i j l h in mapped m.sent row j x.0 [] (subst (λ r. slice_get r j ≡ Some x.0) is x.2) ∙ x.4.1)
         (λ (h : owners ≤ j). past_end m.sent row j (let w = ap length is in let v = table.width i l in omega (arith, h, w, v)))
-        (cases_lt j owners))
+        (cases_lt j owners),
+  )
 
   pub empty_column : (j : ℕ) (column : List R) → j < owners → list_at columns j ≡ column → (length (map m.received column) ≡ owners) × ((i : ℕ) → slice_index_or (map m.received column) i [] ≡ [])
   empty_column j column l is = (
-      map_size m.received column ∙ (ap length (sym is) ∙ table.height j l),
-      λ i. ⊎_elim
+    map_size m.received column ∙ (ap length (sym is) ∙ table.height j l),
+    λ i. ⊎_elim
         (λ (h : i < owners). let x = table.cell i j h l in mapped m.received column i x.1 [] (subst (λ r. slice_get r i ≡ Some x.1) is x.3) ∙ x.4.2)
         (λ (h : owners ≤ i). past_end m.received column i (let w = ap length is in let v = table.height j l in omega (arith, h, w, v)))
-        (cases_lt i owners))
+        (cases_lt i owners),
+  )
 
 pub if_ok_is : {T E : Type 0} (r : Result T E) (v : T) (P : T → Type 0) → r ≡ Ok v → IfOk r P → P v
 if_ok_is {T} {E} r v P is h = let Q : Result T E → Type 0 = λ x. IfOk x P in subst Q is h

@@ -1,5 +1,5 @@
 -- Settled mailboxes, one by one and row by row.
-use Rattle.std.proofs.Common.{◌≡◌, ◌≢◌, ◌+◌, ◌<◌, ◌≤◌, ℕ, zero, suc, List, [], ◌∷◌, ◌++◌, length, map, drop, slice_index_or, slice_set, slice_get, Some, Contains, AllPairs, refl, ap, sym, ◌∙◌, subst, inl, inr, ◌⊎◌, ⊎_elim, append_assoc, arith}
+use Rattle.std.proofs.Common.{◌≡◌, ◌≢◌, ◌+◌, ◌<◌, ℕ, zero, suc, List, [], ◌∷◌, ◌++◌, map, drop, slice_get, Some, Contains, AllPairs, refl, ap, sym, ◌∙◌, subst, inl, inr, ◌⊎◌, ⊎_elim, append_assoc, arith}
 use Rattle.std.proofs.lemmas.List.Elements.{Contains-append_left, Contains-append_right, Contains-append_cases}
 use Rattle.nll_mail.specs.declared.growth.Growth.{Growth}
 use Rattle.nll_mail.specs.declared.mail.Mail as Mail
@@ -82,13 +82,18 @@ pub settled_as : {M S R C P : Type 0} (m : Mail.Ghosts M S R C P) (out into out'
 settled_as m out into out' into' done posts same_out same_into a = record {
   prefix = λ i j d. subst (λ (y : List Growth × List Growth). IsPrefix y.0 y.1) (λ k. (same_into i j d k, same_out i j d k)) (a.prefix i j d);
   each = a.each;
-  only = λ p h. let x = a.only p h in (x.0, x.1, x.2, record {
-    apart = x.3.apart;
-    ends_are = x.3.ends_are;
-    sent_is = x.3.sent_is ∙ same_out x.0 x.1 x.2;
-    received_is = x.3.received_is ∙ same_into x.0 x.1 x.2;
-    whole = x.3.whole;
-  });
+  only = λ p h. let x = a.only p h in (
+    x.0,
+    x.1,
+    x.2,
+    record {
+      apart = x.3.apart;
+      ends_are = x.3.ends_are;
+      sent_is = x.3.sent_is ∙ same_out x.0 x.1 x.2;
+      received_is = x.3.received_is ∙ same_into x.0 x.1 x.2;
+      whole = x.3.whole;
+    },
+  );
 }
 
 pub read_dropped : {R : Type 0} (f : R → List Growth) (xs : List R) (m : ℕ) → log_of (map f (drop m xs)) 0 ≡ log_of (map f xs) m
@@ -144,14 +149,20 @@ module _ {M S R C P : Type 0} (m : Mail.Ghosts M S R C P) (from to : ℕ) (row :
 
   pub settle_post : (old now : List P) → from ≢ to → AddsPosts m (λ _ j. log_of (map m.all_sent row) j) (λ _ j. log_of (map m.received (list_at columns j)) 0) (InRow from to) old now
       → AddsPosts m (λ _ j. log_of (map m.all_sent row) j) (λ _ j. log_of (map m.received (list_at columns j)) 0) (InRow from (to + 1)) old (now ++ p ∷ [])
-  settle_post old now apart a = (a.0 ++ p ∷ [], ap (λ l. l ++ p ∷ []) a.1 ∙ append_assoc old a.0 (p ∷ []),
-      row_post m (λ _ j. log_of (map m.all_sent row) j) (λ _ j. log_of (map m.received (list_at columns j)) 0) from to a.0 p a.2 prefix_is
-        (record { apart = apart; ends_are = ends_are; sent_is = out_is; received_is = into_is; whole = whole }))
+  settle_post old now apart a = (
+    a.0 ++ p ∷ [],
+    ap (λ l. l ++ p ∷ []) a.1 ∙ append_assoc old a.0 (p ∷ []),
+    row_post m (λ _ j. log_of (map m.all_sent row) j) (λ _ j. log_of (map m.received (list_at columns j)) 0) from to a.0 p a.2 prefix_is
+        (record { apart = apart; ends_are = ends_are; sent_is = out_is; received_is = into_is; whole = whole }),
+  )
 
   pub settle_own : (old now : List P) → from ≡ to → AddsPosts m (λ _ j. log_of (map m.all_sent row) j) (λ _ j. log_of (map m.received (list_at columns j)) 0) (InRow from to) old now
       → AddsPosts m (λ _ j. log_of (map m.all_sent row) j) (λ _ j. log_of (map m.received (list_at columns j)) 0) (InRow from (to + 1)) old now
-  settle_own old now same a = (a.0, a.1,
-      row_own m (λ _ j. log_of (map m.all_sent row) j) (λ _ j. log_of (map m.received (list_at columns j)) 0) from to a.0 a.2 prefix_is same)
+  settle_own old now same a = (
+    a.0,
+    a.1,
+    row_own m (λ _ j. log_of (map m.all_sent row) j) (λ _ j. log_of (map m.received (list_at columns j)) 0) from to a.0 a.2 prefix_is same,
+  )
 
 -- ---- the order of the posts
 

@@ -1,7 +1,7 @@
 -- Tables are made row by row.
-use Rattle.std.proofs.Common.{◌≡◌, ◌≢◌, ◌+◌, ◌<◌, ◌≤◌, ℕ, zero, suc, List, [], ◌∷◌, ◌++◌, length, map, replicate, slice_index_or, slice_set, slice_get, Some, refl, ap, sym, ◌∙◌, subst, inl, inr, ◌⊎◌, ⊎_elim, arith}
-use Rattle.nll_run.specs.Table.{list_at, IsCell, IsTable, IsPartRow}
-use Rattle.nll_run.proofs.PlaceLemmas.{place, read_place, push_low, push_last, push_size, list_low, list_last, set_here, set_there, set_size}
+use Rattle.std.proofs.Common.{◌≡◌, ◌+◌, ◌<◌, ℕ, List, [], ◌∷◌, ◌++◌, length, slice_set, slice_get, Some, refl, ap, sym, ◌∙◌, subst, ◌⊎◌, ⊎_elim, arith}
+use Rattle.nll_run.specs.Table.{list_at, IsTable, IsPartRow}
+use Rattle.nll_run.proofs.PlaceLemmas.{push_low, push_last, push_size, list_low, list_last, set_here, set_there, set_size}
 
 cases_last : (k n : ℕ) → k < n + 1 → (k < n) ⊎ (k ≡ n)
 cases_last k n l = grind arith
@@ -17,11 +17,11 @@ module _ {S R : Type 0} (tied : S → R → Type 0) (ends : R → ℕ × ℕ) wh
     column_count = set_size now made (column ++ r ∷ []) ∙ p.column_count;
     each = λ j l. ⊎_elim
         (λ (h : j < made).
-          let x = p.each j h in
-          (x.0, x.1, push_low row s j x.0 x.2, set_there now made j (column ++ r ∷ []) (λ q. absurd (omega (arith, h, q))) ∙ x.3, x.4, x.5))
+        let x = p.each j h in
+        (x.0, x.1, push_low row s j x.0 x.2, set_there now made j (column ++ r ∷ []) (λ q. absurd (omega (arith, h, q))) ∙ x.3, x.4, x.5))
         (λ (h : j ≡ made).
-          subst (λ k. (a : S) × (b : R) × (slice_get (row ++ s ∷ []) k ≡ Some a) × (list_at (slice_set now made (column ++ r ∷ [])) k ≡ list_at old k ++ b ∷ []) × tied a b × (ends b ≡ (from, k))) (sym h)
-            (s, r, push_last row s made p.size, set_here now made (column ++ r ∷ []) inside ∙ ap (λ l. l ++ r ∷ []) (sym column_is ∙ p.others made (omega arith)), t, e))
+        subst (λ k. (a : S) × (b : R) × (slice_get (row ++ s ∷ []) k ≡ Some a) × (list_at (slice_set now made (column ++ r ∷ [])) k ≡ list_at old k ++ b ∷ []) × tied a b × (ends b ≡ (from, k))) (sym h)
+        (s, r, push_last row s made p.size, set_here now made (column ++ r ∷ []) inside ∙ ap (λ l. l ++ r ∷ []) (sym column_is ∙ p.others made (omega arith)), t, e))
         (cases_last j made l);
     others = λ j l. set_there now made j (column ++ r ∷ []) (λ q. absurd (omega (arith, l, q))) ∙ p.others j (omega (arith, l));
   }
@@ -48,11 +48,21 @@ module _ {S R : Type 0} (tied : S → R → Type 0) (ends : R → ℕ × ℕ) wh
         let x = p.each j lj in
         ⊎_elim
         (λ (h : i < done).
-          let y = t.cell i j h lj in
-          (y.0, y.1, subst (λ l. slice_get l j ≡ Some y.0) (sym (list_low rows row i (omega (arith, h, t.row_count)))) y.2,
-            subst (λ l. slice_get l i ≡ Some y.1) (sym x.3) (push_low (list_at old j) x.1 i y.1 y.3), y.4, y.5))
-        (λ (h : i ≡ done).
-          (x.0, x.1, subst (λ l. slice_get l j ≡ Some x.0) (sym (list_last rows row i (t.row_count ∙ sym h))) x.2,
-            subst (λ l. slice_get l i ≡ Some x.1) (sym x.3) (push_last (list_at old j) x.1 i (t.height j lj ∙ sym h)), x.4, x.5 ∙ ap (λ n. (n, j)) (sym h)))
+        let y = t.cell i j h lj in (
+          y.0,
+          y.1,
+          subst (λ l. slice_get l j ≡ Some y.0) (sym (list_low rows row i (omega (arith, h, t.row_count)))) y.2,
+          subst (λ l. slice_get l i ≡ Some y.1) (sym x.3) (push_low (list_at old j) x.1 i y.1 y.3),
+          y.4,
+          y.5,
+        ))
+        (λ (h : i ≡ done). (
+          x.0,
+          x.1,
+          subst (λ l. slice_get l j ≡ Some x.0) (sym (list_last rows row i (t.row_count ∙ sym h))) x.2,
+          subst (λ l. slice_get l i ≡ Some x.1) (sym x.3) (push_last (list_at old j) x.1 i (t.height j lj ∙ sym h)),
+          x.4,
+          x.5 ∙ ap (λ n. (n, j)) (sym h),
+        ))
         (cases_last i done li);
   }

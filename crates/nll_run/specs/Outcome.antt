@@ -16,8 +16,8 @@ use Rattle.nll_worker.specs.Finishing.{IsOwnerOf}
 -- in the order in which they grew, and none was left in a mailbox. The values are the least.
 pub record IsOutcome {M S R C P : Type 0} (mail : Mail.Ghosts M S R C P) (q : Problem) (c : Cut)
     (values : List (List Bool)) (grown : List (List Growth)) (posts : List P) : Type 0 where
-  -- a settled mailbox for each ordered pair of different owners, and no other, by sender and then by
-  -- receiver; the sender's part for the receiver was sent through it, and all of that was received
+  -- a settled mailbox for each ordered pair of different owners, and no other, by sender and then
+  -- by receiver; the sender's part for the receiver was sent through it, and all of it was received
   pub delivered : AreDelivered mail.post_ends mail.post_sent mail.post_received q c grown posts
   pub in_order : AllPairs IsPairBefore (map mail.post_ends posts)
   pub none_left : (p : P) → Contains posts p → mail.post_rest p ≡ []

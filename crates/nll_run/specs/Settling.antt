@@ -1,7 +1,7 @@
 -- What settled mailboxes say, while they are settled one by one. Private contracts alone cite this
 -- file.
 -- Source: project's choice.
-use Rattle.std.specs.Prelude.{◌≡◌, ◌≢◌, ℕ, ◌<◌, List, [], ◌∷◌, ◌++◌, length, map, drop, slice_get}
+use Rattle.std.specs.Prelude.{◌≡◌, ◌≢◌, ℕ, ◌<◌, List, ◌∷◌, ◌++◌, length, map, drop, slice_get}
 use Rattle.std.specs.Prelude.{Option, Some, None, Contains, AllPairs}
 use Rattle.nll_mail.specs.declared.growth.Growth.{Growth}
 use Rattle.nll_mail.specs.declared.mail.Mail as Mail
@@ -15,27 +15,27 @@ use Rattle.nll_run.specs.declared.error.RunError.TheVariants as errors
 use Rattle.nll_run.specs.Table.{list_at}
 
 module _ {M S R C P : Type 0} (mail : Mail.Ghosts M S R C P) (out into : ℕ → ℕ → List Growth)
-    where
-  -- The settled mailbox from owner i to owner j says what its two ends said.
-  pub record IsPostOf (i j : ℕ) (p : P) : Type 0 where
-    pub apart : i ≢ j
-    pub ends_are : mail.post_ends p ≡ (i, j)
-    pub sent_is : mail.post_sent p ≡ out i j
-    pub received_is : mail.post_received p ≡ into i j
-    pub whole : mail.post_sent p ≡ mail.post_received p ++ mail.post_rest p
+  where
+    -- The settled mailbox from owner i to owner j says what its two ends said.
+    pub record IsPostOf (i j : ℕ) (p : P) : Type 0 where
+      pub apart : i ≢ j
+      pub ends_are : mail.post_ends p ≡ (i, j)
+      pub sent_is : mail.post_sent p ≡ out i j
+      pub received_is : mail.post_received p ≡ into i j
+      pub whole : mail.post_sent p ≡ mail.post_received p ++ mail.post_rest p
 
-  -- Of the pairs that are done, what was received begins what was sent; each that is of two
-  -- different owners has its settled mailbox, and there is no other.
-  pub record ArePostsOf (done : ℕ → ℕ → Type 0) (posts : List P) : Type 0 where
-    pub prefix : (i j : ℕ) → done i j → IsPrefix (into i j) (out i j)
-    pub each :
-        (i j : ℕ) → done i j → i ≢ j
-        → (p : P) × Contains posts p × (mail.post_ends p ≡ (i, j))
-    pub only : (p : P) → Contains posts p → (i : ℕ) × (j : ℕ) × done i j × IsPostOf i j p
+    -- Of the pairs that are done, what was received begins what was sent; each that is of two
+    -- different owners has its settled mailbox, and there is no other.
+    pub record ArePostsOf (done : ℕ → ℕ → Type 0) (posts : List P) : Type 0 where
+      pub prefix : (i j : ℕ) → done i j → IsPrefix (into i j) (out i j)
+      pub each :
+          (i j : ℕ) → done i j → i ≢ j
+          → (p : P) × Contains posts p × (mail.post_ends p ≡ (i, j))
+      pub only : (p : P) → Contains posts p → (i : ℕ) × (j : ℕ) × done i j × IsPostOf i j p
 
-  -- those of the pairs that are done were put behind what was there
-  abbrev pub AddsPosts : (ℕ → ℕ → Type 0) → List P → List P → Type 0
-  AddsPosts done old new = (more : List P) × (new ≡ old ++ more) × ArePostsOf done more
+    -- those of the pairs that are done were put behind what was there
+    abbrev pub AddsPosts : (ℕ → ℕ → Type 0) → List P → List P → Type 0
+    AddsPosts done old new = (more : List P) × (new ≡ old ++ more) × ArePostsOf done more
 
 -- Settled mailboxes come by sender, then by receiver, and all of them before this pair.
 pub record ComeBefore {P : Type 0} (ends : P → ℕ × ℕ) (posts : List P) (pair : ℕ × ℕ)

@@ -1,7 +1,7 @@
 -- The mailboxes between all owners, by sender and by receiver. Private contracts alone cite this
 -- file.
 -- Source: project's choice.
-use Rattle.std.specs.Prelude.{◌≡◌, ℕ, ◌+◌, ◌<◌, ◌≤◌, List, [], ◌∷◌, ◌++◌, length, slice_get}
+use Rattle.std.specs.Prelude.{◌≡◌, ℕ, ◌<◌, ◌≤◌, List, [], ◌∷◌, ◌++◌, length, slice_get}
 use Rattle.std.specs.Prelude.{slice_index_or, Some}
 use Rattle.nll_mail.specs.declared.mail.Mail as Mail
 

@@ -43,8 +43,8 @@ use std::thread::{PromisedHandle, Threads};
 /// - `RankFull`: the clock of an owner is at its end.
 ///
 /// # Cost
-/// The work of the owners, and for each growth that is received some two holds of the ledger, a post
-/// and a take (not proved). The owners of a cut have a mailbox for each ordered pair of them.
+/// The work of the owners, and for each growth that is received some two holds of the ledger, a
+/// post and a take (not proved). There is a mailbox for each ordered pair of owners.
 pub fn run<M: Mail, L: Ledger, G: Gate, R: Threads + Wait + Sync>(
     rt: &R,
     alloc: Global,

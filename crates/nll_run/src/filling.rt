@@ -5,7 +5,7 @@ ghost use Rattle.nll_problem.specs.Graph.{element_count};
 ghost use Rattle.nll_core.specs.Growing.{Gains};
 ghost use Rattle.nll_core.specs.Values.{set_of, IsHeld, IsShaped};
 ghost use Rattle.nll_mail.specs.declared.growth.Growth.{Growth};
-ghost use Rattle.nll_owner.specs.Logs.{IsKnown};
+ghost use Rattle.nll_owner.specs.Logs.{IsTold};
 
 use nll_core::Values;
 use nll_mail::Growth;
@@ -24,7 +24,7 @@ pub fn values_of(alloc: Global, problem: &Problem, grown: &[Vec<Growth>]) -> Res
     ensures shaped { IfOk result (λ values. IsShaped problem.now values) }
     ensures held { IfOk result (λ values. (r e : ℕ) → IsHeld values r e
         ↔ ((log : List Growth) × Contains (map (λ list. list.items) grown.now) log
-        × IsKnown log r e)) }
+        × IsTold log r e)) }
 {
     let mut values = Values::empty(alloc, problem)?;
     for log in grown {
@@ -37,8 +37,8 @@ pub fn values_of(alloc: Global, problem: &Problem, grown: &[Vec<Growth>]) -> Res
 fn enter_log(values: &mut Values, log: &[Growth]) -> Result<(), Memory>
     requires range { (g : Growth) → Contains log.now g → (g.region < length values.old)
         × (g.element < length (set_of values.old g.region)) }
-    ensures gains { OnOk result (Gains (IsKnown log.now) values.old values.new) }
-    ensures all { OnOk result ((r e : ℕ) → IsKnown log.now r e → IsHeld values.new r e) }
+    ensures gains { OnOk result (Gains (IsTold log.now) values.old values.new) }
+    ensures all { OnOk result ((r e : ℕ) → IsTold log.now r e → IsHeld values.new r e) }
 {
     for growth in log {
         values.insert(growth.region, growth.element)?;

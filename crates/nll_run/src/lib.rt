@@ -1,7 +1,7 @@
 //! Runs: the owners of a cut, each in a thread of its own, until nothing is left to do anywhere.
 //!
-//! Read `coordinator` first, then `mailboxes`, `starting`, `settling`, `parts` and `filling`. What a worker does is in
-//! `nll_worker`. The definitions are in specs/: `Outcome` has what a run answers.
+//! Read `coordinator` first, then `mailboxes`, `starting`, `settling`, `parts` and `filling`. What a
+//! worker does is in `nll_worker`. The definitions are in specs/: `Outcome` has what a run answers.
 #![tactic(auto)]
 
 mod coordinator;

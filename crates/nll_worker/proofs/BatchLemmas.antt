@@ -1,18 +1,17 @@
 -- What a worker's steps add up to.
-use Rattle.std.proofs.Common.{◌≡◌, ◌≢◌, ℕ, zero, suc, ◌+◌, ◌*◌, ◌-◌, ◌^◌, ◌<◌, ◌≤◌, Bool, true, false, List, [], ◌∷◌, ◌++◌, length, take, drop, map, slice_set, slice_index_or, slice_get, Some, Contains, refl, sym, ap, ◌∙◌, subst, inl, inr, ◌⊎◌, ⊎_elim, arith}
+use Rattle.std.proofs.Common.{◌≡◌, ◌≢◌, ℕ, zero, suc, ◌+◌, ◌*◌, ◌^◌, ◌<◌, ◌≤◌, List, [], length, take, drop, slice_set, slice_index_or, refl, sym, ap, ◌∙◌, subst, ◌⊎◌, ⊎_elim, arith}
 use Rattle.std.proofs.Common.{append-nil}
-use Rattle.std.proofs.lemmas.List.{get_or-set_same, get_or-set_other, take-append-drop}
+use Rattle.std.proofs.lemmas.List.{get_or-set_other, take-append-drop}
 use Rattle.nll_owner.specs.Logs.{IsPrefix, log_of}
-use Rattle.nll_worker.specs.Turning.{HasPosted, HasPostedAll, HasGivenAll, HasTaken, IsAtRest, HasPostedFronts}
-use Rattle.nll_worker.specs.Finishing.{IsOwnerOf}
+use Rattle.nll_worker.specs.Turning.{HasPosted, HasPostedAll, HasGivenAll, HasPostedFronts}
 use Rattle.nll_worker.proofs.ListLemmas.{set_length}
-use Rattle.nll_owner.specs.Owner.{Owner, IsSound, IsDone, part_for, given_to, pair_count}
+use Rattle.nll_owner.specs.Owner.{Owner, IsSound, part_for, given_to}
 use Rattle.nll_owner.proofs.OwnerLemmas.{pair_small, filter_le}
 use Rattle.nll_cut.specs.Partition.{reads}
 use Rattle.nll_mail.specs.declared.growth.Growth.{Growth}
 use Rattle.nll_worker.specs.Sums.{sum_to}
-use Rattle.nll_worker.proofs.SumLemmas.{sum_same}
-use Rattle.nll_worker.proofs.PostingLemmas.{take_length, take_all}
+use Rattle.nll_worker.proofs.SumLemmas.{sum_same, sum_exact}
+use Rattle.nll_owner.proofs.PostingLemmas.{take_length, take_all}
 
 -- a part has fewer than 2 ^ 37 growths
 pub part_few : (o : Owner) (j : ℕ) → IsSound o → length (part_for o j) < 2 ^ 37
@@ -76,8 +75,8 @@ module _ (first now next : Owner) (before mid after : List (List Growth)) (n : �
   posts_fronts owed was front j l = ⊎_elim
       (λ (h : j < n). subst (λ xs. IsPrefix xs (part_for first j)) (sym (stays j (λ e. absurd (omega (arith, h, e))) ∙ p.posted j h)) (begins_all (part_for first j)))
       (λ (t : (j ≡ n) ⊎ (n < j)). ⊎_elim
-        (λ (e : j ≡ n). subst (λ k. IsPrefix (log_of after k) (part_for first k)) (sym e) (subst (λ xs. IsPrefix (log_of after n) xs) (part_was n) front))
-        (λ (h : n < j). subst (λ xs. IsPrefix xs (part_for first j)) (sym (stays j (λ e. absurd (omega (arith, h, e))) ∙ (p.other_posts j (omega (arith, h)) ∙ was.front j l))) (begins_take (given_to first j) (part_for first j))) t)
+      (λ (e : j ≡ n). subst (λ k. IsPrefix (log_of after k) (part_for first k)) (sym e) (subst (λ xs. IsPrefix (log_of after n) xs) (part_was n) front))
+      (λ (h : n < j). subst (λ xs. IsPrefix xs (part_for first j)) (sym (stays j (λ e. absurd (omega (arith, h, e))) ∙ (p.other_posts j (omega (arith, h)) ∙ was.front j l))) (begins_take (given_to first j) (part_for first j))) t)
       (cases_three j n)
 
 -- ---- what is owed
@@ -117,3 +116,23 @@ module _ (o : Owner) (posts : List (List Growth)) (owed k : ℕ) (p : HasPosted 
 
 pub fronts_kept : (o next : Owner) (posts : List (List Growth)) → next ≡ record o { given = next.given } → HasPostedFronts o posts → HasPostedFronts next posts
 fronts_kept o next posts others f = subst (λ (x : Owner). HasPostedFronts x posts) (sym others) f
+
+-- what was posted are the fronts of the parts
+pub fronts_posted : (o : Owner) (posts : List (List Growth)) (owed : ℕ) → HasPosted o posts owed → HasPostedFronts o posts
+fronts_posted o posts owed p j l = subst (λ xs. IsPrefix xs (part_for o j)) (sym (p.front j l)) (begins_take (given_to o j) (part_for o j))
+
+-- where nothing is left to give out, all was posted
+pub nothing_unsent : (o : Owner) (posts : List (List Growth)) (owed owners count : ℕ) → HasPosted o posts owed → owners ≡ o.cut.owners → count ≡ 0
+    → sum_to owners (λ j. given_to o j) + count ≡ sum_to owners (λ j. length (part_for o j)) → HasPostedAll o o posts posts owners
+nothing_unsent o posts owed owners count p is none sums =
+    let all : (j : ℕ) → j < owners → given_to o j ≡ length (part_for o j)
+    = sum_exact owners (λ j. given_to o j) (λ j. length (part_for o j)) (λ j l. p.sound.given j) (omega (arith, none, sums)) in
+    record {
+      sound = p.sound;
+      others = refl;
+      count = refl;
+      given = all;
+      posted = λ j l. p.front j (omega (arith, l, is)) ∙ (ap (λ n. take n (part_for o j)) (all j l) ∙ take_all (part_for o j));
+      other_given = λ j l. refl;
+      other_posts = λ j l. refl;
+    }

@@ -1,7 +1,7 @@
 -- What a worker's end comes to.
-use Rattle.std.proofs.Common.{◌≡◌, ◌≢◌, ℕ, ◌+◌, ◌<◌, ◌≤◌, ◌^◌, List, [], ◌∷◌, length, Contains, refl, sym, ap, ◌∙◌, subst, arith}
-use Rattle.nll_owner.specs.Logs.{IsPrefix, log_of}
-use Rattle.nll_owner.specs.Owner.{Owner, IsSound, Passes, part_for}
+use Rattle.std.proofs.Common.{◌≡◌, ◌≢◌, ℕ, ◌+◌, ◌<◌, ◌≤◌, ◌^◌, List, length, sym, subst, arith}
+use Rattle.nll_owner.specs.Logs.{log_of}
+use Rattle.nll_owner.specs.Owner.{Owner, IsSound}
 use Rattle.nll_cut.specs.Partition.{Cut}
 use Rattle.nll_problem.specs.Problem.{Problem}
 use Rattle.nll_mail.specs.declared.growth.Growth.{Growth}
@@ -51,6 +51,7 @@ module _ (q : Problem) (c : Cut) (i : ℕ) (o : Owner) (posts taken : List (List
     where
       stray_is_not_quiet : Stray ≡ Quiet → ⊥
       stray_is_not_quiet e = cc
+
       stray_is_not_full : Stray ≡ RankFull → ⊥
       stray_is_not_full e = cc
 
@@ -72,6 +73,7 @@ module _ (q : Problem) (c : Cut) (i : ℕ) (o : Owner) (posts taken : List (List
     where
       quiet_is_not_stray : Quiet ≡ Stray → ⊥
       quiet_is_not_stray e = cc
+
       quiet_is_not_full : Quiet ≡ RankFull → ⊥
       quiet_is_not_full e = cc
 

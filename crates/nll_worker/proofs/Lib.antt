@@ -1,6 +1,5 @@
 pub mod SumLemmas
 pub mod RunLemmas
-pub mod PostingLemmas
 pub mod ListLemmas
 pub mod BatchLemmas
 pub mod TurnLemmas

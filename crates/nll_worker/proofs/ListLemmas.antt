@@ -1,6 +1,6 @@
 -- Lists of ends, and what is read off them.
-use Rattle.std.proofs.Common.{append-nil, ◌≡◌, ◌≢◌, ◌+◌, ◌<◌, ◌≤◌, ℕ, zero, suc, List, [], ◌∷◌, ◌++◌, length, map, slice_index_or, slice_set, slice_get, Some, refl, ap, sym, ◌∙◌, subst, arith}
-use Rattle.std.specs.Prelude.{Result, Ok, Err, OnOk, IsTrue, IsFalse, is_ok, is_err, Bool, true, false}
+use Rattle.std.proofs.Common.{append-nil, ◌≡◌, ◌<◌, ℕ, zero, suc, List, [], ◌∷◌, ◌++◌, length, map, slice_index_or, slice_set, refl, ap, sym, ◌∙◌, subst, arith}
+use Rattle.std.specs.Prelude.{Result, Ok, Err, OnOk, IsFalse, is_err, Bool}
 use Rattle.nll_mail.specs.declared.mail.Mail as Mail
 use Rattle.nll_worker.specs.Mailboxes.{Alike, Stays, Keeps, Shuts}
 

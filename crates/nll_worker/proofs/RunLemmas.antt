@@ -1,5 +1,5 @@
 -- What follows from what the workers give back.
-use Rattle.std.proofs.Common.{◌≡◌, ◌≢◌, ◌↔◌, ℕ, ◌+◌, ◌<◌, ◌≤◌, Bool, true, false, List, [], ◌∷◌, ◌++◌, length, Contains, refl, sym, ap, ◌∙◌, subst, inl, inr, ◌⊎◌, ⊎_elim, arith}
+use Rattle.std.proofs.Common.{◌≡◌, ◌≢◌, ◌↔◌, ℕ, ◌<◌, List, [], ◌++◌, length, Contains, refl, sym, ap, ◌∙◌, subst, inl, inr, ⊎_elim}
 use Rattle.std.proofs.lemmas.Bool.{cases_eq}
 use Rattle.std.proofs.lemmas.List.Elements.{Contains-append_left}
 use Rattle.nll_problem.specs.Graph.{element_count}
@@ -8,10 +8,10 @@ use Rattle.nll_problem.specs.Solution.{Least}
 use Rattle.nll_problem.specs.Walks.{Reaches}
 use Rattle.nll_problem.specs.declared.constraint.Constraint.{Constraint}
 use Rattle.nll_problem.proofs.WalkLemmas.{reaches_weaker}
-use Rattle.nll_cut.specs.Partition.{Cut, owner_of, reads}
+use Rattle.nll_cut.specs.Partition.{Cut, owner_of}
 use Rattle.nll_mail.specs.declared.growth.Growth.{Growth}
-use Rattle.nll_owner.specs.Logs.{IsWellFormed, part, IsPrefix, IsKnown, IsKnownBefore, list_of, IsWellSupported, IsSaturated, IsCutOf, log_of, AreSound, AreSettled}
-use Rattle.nll_owner.specs.Owner.{Owner, IsSound, IsDone, Passes, list_in, received_from, part_for}
+use Rattle.nll_owner.specs.Logs.{IsWellFormed, part, IsTold, IsToldBefore, list_of, IsWellSupported, IsSaturated, IsCutOf, log_of, AreSound, AreSettled}
+use Rattle.nll_owner.specs.Owner.{Owner, Passes, list_in, received_from, part_for}
 use Rattle.nll_owner.proofs.LogLemmas.{filter_from, list_own, list_other}
 use Rattle.nll_owner.proofs.LawLemmas.{least_exact}
 use Rattle.nll_worker.specs.Sums.{sum_to}
@@ -62,9 +62,9 @@ module _ (q : Problem) (c : Cut) (owner : ℕ → Owner) (sent got rest : ℕ �
         ap (λ x. list_of x (owner i).me (owner i).log (received_from (owner i)) b) (ends i l).cut
         ∙ (ap (λ x. list_of c x (owner i).log (received_from (owner i)) b) (ends i l).me
         ∙ ⊎_elim
-          (λ same. list_own c i (owner i).log (received_from (owner i)) b same ∙ (sym (log_is i l) ∙ sym (list_own c i (log_of logs i) (told i) b same)))
-          (λ other. list_other c i (owner i).log (received_from (owner i)) b other ∙ (received_is i (owner_of c b) l lb (λ e. other (sym e)) ∙ sym (list_other c i (log_of logs i) (told i) b other)))
-          (cases_eq (owner_of c b) i))
+        (λ same. list_own c i (owner i).log (received_from (owner i)) b same ∙ (sym (log_is i l) ∙ sym (list_own c i (log_of logs i) (told i) b same)))
+        (λ other. list_other c i (owner i).log (received_from (owner i)) b other ∙ (received_is i (owner_of c b) l lb (λ e. other (sym e)) ∙ sym (list_other c i (log_of logs i) (told i) b other)))
+        (cases_eq (owner_of c b) i))
 
     region_owned : (r : ℕ) → r < q.regions → owner_of c r < c.owners
     region_owned r h = cut.cut.owned r (subst (λ n. r < n) (sym cut.regions) h)
@@ -77,9 +77,9 @@ module _ (q : Problem) (c : Cut) (owner : ℕ → Owner) (sent got rest : ℕ �
           let list = list_in (owner i) in
           let old = subst (λ p. IsWellSupported p list (owner i).log) (ends i l).problem (ends i l).sound.supported g (subst (λ xs. Contains xs g) (log_is i l) h) in
           ⊎_elim inl
-            (λ (w : (k : Constraint) × Contains q.constraints k × (k.sup ≡ g.region) × Reaches q.graph (IsKnownBefore g.rank (list_in (owner i) k.sub) k.sub) k.at g.element).
-              inr (w.0, w.1, w.2, reaches_weaker q.graph _ w.0.at _ (λ e t. subst (λ xs. IsKnownBefore g.rank xs w.0.sub e) (list_is i l w.0.sub (region_owned w.0.sub (problem.constraint_regions w.0 w.1).1)) t) g.element w.3))
-            old;
+          (λ (w : (k : Constraint) × Contains q.constraints k × (k.sup ≡ g.region) × Reaches q.graph (IsToldBefore g.rank (list_in (owner i) k.sub) k.sub) k.at g.element).
+          inr (w.0, w.1, w.2, reaches_weaker q.graph _ w.0.at _ (λ e t. subst (λ xs. IsToldBefore g.rank xs w.0.sub e) (list_is i l w.0.sub (region_owned w.0.sub (problem.constraint_regions w.0 w.1).1)) t) g.element w.3))
+          old;
       heard = λ i j li lj differ g h. (filter_from _ (log_of logs j) g h).0;
     }
 
@@ -89,13 +89,13 @@ module _ (q : Problem) (c : Cut) (owner : ℕ → Owner) (sent got rest : ℕ �
           let list = list_in (owner i) in
           let f = subst (λ x. IsSaturated x c i list) (ends i l).problem (subst (λ x. IsSaturated (owner i).problem x i list) (ends i l).cut (subst (λ x. IsSaturated (owner i).problem (owner i).cut x list) (ends i l).me ((ends i l).done (quiet i l)))) in
           record {
-            base = λ r e own b. subst (λ xs. IsKnown xs r e) (list_is i l r (subst (λ n. n < c.owners) (sym own) l)) (f.base r e own b);
-            each = λ k there own e h. subst (λ xs. IsKnown xs k.sup e) (list_is i l k.sup (subst (λ n. n < c.owners) (sym own) l))
-                (f.each k there own e (reaches_weaker q.graph _ k.at _ (λ x t. subst (λ xs. IsKnown xs k.sub x) (sym (list_is i l k.sub (region_owned k.sub (problem.constraint_regions k there).1))) t) e h));
+            base = λ r e own b. subst (λ xs. IsTold xs r e) (list_is i l r (subst (λ n. n < c.owners) (sym own) l)) (f.base r e own b);
+            each = λ k there own e h. subst (λ xs. IsTold xs k.sup e) (list_is i l k.sup (subst (λ n. n < c.owners) (sym own) l))
+                (f.each k there own e (reaches_weaker q.graph _ k.at _ (λ x t. subst (λ xs. IsTold xs k.sub x) (sym (list_is i l k.sub (region_owned k.sub (problem.constraint_regions k there).1))) t) e h));
           };
       told = λ i j li lj differ. refl;
     }
 
     pub concludes : ((i j : ℕ) → i < c.owners → j < c.owners → i ≢ j → (sent i j ≡ part q c j (log_of logs i)) × (got i j ≡ sent i j) × (rest i j ≡ []))
-        × AreSound q c logs (λ i j. part q c i (log_of logs j)) × ((r e : ℕ) → IsKnown (log_of logs (owner_of c r)) r e ↔ Least q r e)
+        × AreSound q c logs (λ i j. part q c i (log_of logs j)) × ((r e : ℕ) → IsTold (log_of logs (owner_of c r)) r e ↔ Least q r e)
     concludes = ((λ i j li lj differ. (sent_whole i j li lj differ, (arrived i j li lj).0, (arrived i j li lj).1)), logs_sound, least_exact q c logs told problem cut logs_sound logs_settled)

@@ -24,7 +24,7 @@ sum_swap zero m f = sym (sum_zero m)
 sum_swap (suc n) m f = let r = sum_swap n m f in let a = sum_add m (λ j. sum_to n (λ i. f i j)) (λ j. f n j) in omega arith
 
 -- numbers that are no greater one by one, and have one sum, are equal one by one
-sum_exact : (n : ℕ) (f g : ℕ → ℕ) → ((k : ℕ) → k < n → f k ≤ g k) → sum_to n g ≤ sum_to n f → (k : ℕ) → k < n → f k ≡ g k
+pub sum_exact : (n : ℕ) (f g : ℕ → ℕ) → ((k : ℕ) → k < n → f k ≤ g k) → sum_to n g ≤ sum_to n f → (k : ℕ) → k < n → f k ≡ g k
 sum_exact zero f g h e k l = absurd (omega arith)
 sum_exact (suc n) f g h e k l =
     let small = sum_le n f g (λ i q. h i (omega arith)) in let last = h n (omega arith) in

@@ -1,26 +1,27 @@
 -- What a turn comes to.
-use Rattle.std.proofs.Common.{◌≡◌, ◌≢◌, ℕ, zero, suc, ◌+◌, ◌*◌, ◌-◌, ◌^◌, ◌<◌, ◌≤◌, Bool, true, false, List, [], ◌∷◌, ◌++◌, length, length-append, take, drop, map, slice_set, slice_index_or, slice_get, Some, replicate, Contains, refl, sym, ap, ◌∙◌, subst, inl, inr, ◌⊎◌, ⊎_elim, arith}
+use Rattle.std.proofs.Common.{◌≡◌, ◌≢◌, ℕ, zero, suc, ◌+◌, ◌*◌, ◌^◌, ◌<◌, ◌≤◌, true, false, List, [], ◌∷◌, ◌++◌, length, length-append, take, slice_set, slice_index_or, replicate, refl, sym, ap, ◌∙◌, subst, ◌⊎◌, ⊎_elim, arith}
 use Rattle.std.proofs.lemmas.List.Elements.{filter-append}
 use Rattle.nll_owner.specs.Logs.{IsPrefix, log_of, part}
 use Rattle.nll_owner.specs.Owner.{Owner, IsSound, IsDone, Passes, part_for, given_to, received_from, with_growth, first_owner}
 use Rattle.nll_cut.specs.Partition.{Cut, reads}
 use Rattle.nll_problem.specs.Problem.{Problem}
 use Rattle.nll_mail.specs.declared.growth.Growth.{Growth}
-use Rattle.nll_worker.specs.declared.exchange.Heard.{Heard}
-use Rattle.nll_worker.specs.declared.exchange.Heard.TheVariants.{Nothing, One, Stray, Memory, RankFull}
+use Rattle.nll_worker.specs.declared.exchange.Heard.TheVariants.{Nothing, One}
 use Rattle.nll_worker.specs.Sums.{sum_to}
 use Rattle.nll_worker.specs.Hearing.{IsGivenUp}
-use Rattle.nll_worker.specs.Turning.{HasPosted, HasGivenAll, HasTaken, IsAtRest, HasPostedFronts}
+use Rattle.nll_worker.specs.Turning.{HasPosted, HasTaken, IsAtRest, HasPostedFronts}
 use Rattle.nll_worker.specs.Finishing.{IsOwnerOf}
 use Rattle.nll_worker.specs.Mailboxes.{AreAllEmpty}
 use Rattle.nll_worker.proofs.SumLemmas.{sum_same, sum_zero}
-use Rattle.nll_worker.proofs.PostingLemmas.{take_all}
+use Rattle.nll_owner.proofs.PostingLemmas.{take_all}
 use Rattle.nll_worker.proofs.ListLemmas.{set_length, set_log, set_own}
 use Rattle.nll_worker.proofs.BatchLemmas.{other_read, cases_three, cases_last, begins_all, sum_bound}
 
 part_longer : (old new : Owner) (j : ℕ) → new.problem ≡ old.problem → new.cut ≡ old.cut → IsPrefix old.log new.log → IsPrefix (part_for old j) (part_for new j)
-part_longer old new j p k b = (part old.problem old.cut j b.0,
-  ap (λ x. part x new.cut j new.log) p ∙ (ap (λ x. part old.problem x j new.log) k ∙ (ap (λ xs. part old.problem old.cut j xs) b.1 ∙ filter-append (λ (g : Growth). reads old.problem old.cut j g.region) old.log b.0)))
+part_longer old new j p k b = (
+  part old.problem old.cut j b.0,
+  ap (λ x. part x new.cut j new.log) p ∙ (ap (λ x. part old.problem x j new.log) k ∙ (ap (λ xs. part old.problem old.cut j xs) b.1 ∙ filter-append (λ (g : Growth). reads old.problem old.cut j g.region) old.log b.0)),
+)
 
 take_front : {X : Type 0} (xs ys : List X) → take (length xs) (xs ++ ys) ≡ xs
 take_front [] ys = take_none ys
@@ -48,7 +49,7 @@ module _ (old : Owner) (posts taken : List (List Growth)) (owed cleared : ℕ) (
   fronts_lost new lost j l =
       let others = lost.2 in
       subst (λ xs. IsPrefix xs (part_for new j)) (sym (posted_all j (subst (λ (o : Owner). j < o.cut.owners) others l)))
-        (part_longer old new j (ap (λ (o : Owner). o.problem) others) (ap (λ (o : Owner). o.cut) others) lost.0)
+      (part_longer old new j (ap (λ (o : Owner). o.problem) others) (ap (λ (o : Owner). o.cut) others) lost.0)
 
   pub rests_same : (new : Owner) (after : List (List Growth)) (from : ℕ) → new ≡ old → log_of after from ≡ log_of taken from → after ≡ slice_set taken from (log_of after from) → IsAtRest new posts after owed cleared
   rests_same new after from same none others =

@@ -94,8 +94,8 @@ module _ {L B H E : Type 0} (ledger : Ledger.Ghosts L B H E) where
       pub none_kept : kept ≡ []
       pub space : length senders ≤ room
 
-    -- The worker of owner i gives back the log of its owner, what is left of its share, and the ends
-    -- of its mailboxes: each sender closed, each receiver the end that it was.
+    -- The worker of owner i gives back the log of its owner, what is left of its share, and the
+    -- ends of its mailboxes: each sender closed, each receiver the end that it was.
     pub record IsEnded (q : Problem) (c : Cut) (book : B) (i : ℕ) (senders : List S)
         (receivers : List R) (log : List Growth) (left : E) (closed : List C) (ended : List R)
         (ending : Ending) : Type 0 where
@@ -105,4 +105,4 @@ module _ {L B H E : Type 0} (ledger : Ledger.Ghosts L B H E) where
       pub finishes :
           WasMade ending
           → FinishedAs q c i (log_of (map mail.all_sent closed)) (log_of (map mail.received ended))
-            (ledger.left_owed left) (ledger.left_cleared left) ending log
+          (ledger.left_owed left) (ledger.left_cleared left) ending log

@@ -31,7 +31,7 @@ HandsIn j old new g Stray = (Passes old.problem old.cut old.me j g → ⊥) × (
 HandsIn j old new g Memory = IsGivenUp old new
 HandsIn j old new g RankFull = IsGivenUp old new × (2 ^ 62 ≤ new.clock)
 
--- what a look into the mailbox from owner j came to: of the owner, and of the list of what was taken
+-- what a look into the mailbox from owner j came to, of the owner and of the list of what was taken
 abbrev pub LooksInto : ℕ → Owner → Owner → List Growth → List Growth → Heard → Type 0
 LooksInto j old new before after Nothing = (new ≡ old) × (after ≡ before)
 LooksInto j old new before after heard =

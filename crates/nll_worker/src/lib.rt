@@ -1,7 +1,8 @@
 //! Workers: each owner of a run at work in a thread of its own.
 //!
-//! Read `gate`, `ending`, `exchange` (what a worker does at its mailboxes), `turn`, `working` (one worker from its start
-//! to its end), `outbox`, `worker` and `threads`; `laws` says what follows of all workers together.
+//! Read `gate`, `ending`, `exchange` (what a worker does at its mailboxes), `turn`, `working` (one
+//! worker from its start to its end), `outbox`, `worker` and `threads`; `laws` says what follows of
+//! all workers together.
 //! The definitions are in specs/: `Finishing` first, which has what a worker promises.
 #![tactic(auto)]
 

@@ -86,6 +86,30 @@ fn post_all<M: Mail>(
     Ok(())
 }
 
+// Posts a batch of so many growths that aren't given out yet.
+fn post_batch<M: Mail>(
+    owner: &mut Owner<'_>,
+    senders: &mut Vec<M::S>,
+    owners: u16,
+    count: u64,
+) -> Result<(), PostError>
+    requires owners { owners ≡ owner.old.cut.owners }
+    requires posts { (owed : ℕ) × HasPosted owner.old (map M.sent senders.old.items) owed }
+    requires count { sum_to owners (λ j. given_to owner.old j) + count
+        ≡ sum_to owners (λ j. length (part_for owner.old j)) }
+    ensures posts { OnOk result (HasPostedAll owner.old owner.new
+        (map M.sent senders.old.items) (map M.sent senders.new.items) owners) }
+    ensures front { HasPostedFronts owner.old (map M.sent senders.new.items) }
+    ensures others { owner.new ≡ record owner.old { given = owner.new.given } }
+    ensures pairs { Alike (Stays M.Mail) senders.old.items senders.new.items }
+    ensures sound { IsSound owner.new }
+{
+    if count == 0 {
+        return Ok(());
+    }
+    post_all::<M>(owner, senders, owners)
+}
+
 // Owes for all that isn't posted yet, posts it, and clears the item of the turn.
 fn share_out<M: Mail, L: Ledger>(
     book: &L::Book,
@@ -112,7 +136,7 @@ fn share_out<M: Mail, L: Ledger>(
 {
     let count = unsent_count(owner, owners);
     L::owe(book, share, count);
-    post_all::<M>(owner, senders, owners)?;
+    post_batch::<M>(owner, senders, owners, count)?;
     L::clear(book, share, 1);
     Ok(())
 }

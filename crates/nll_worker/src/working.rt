@@ -1,7 +1,8 @@
 //! One worker, from its start until its share has left.
 
-ghost use Rattle.std.specs.Prelude.{◌≡◌, ◌<◌, ◌≤◌, length, map, false};
+ghost use Rattle.std.specs.Prelude.{◌≡◌, ◌<◌, ◌≤◌, length, map, true, false};
 ghost use Rattle.nll_problem.specs.Limits.{most_owners};
+ghost use Rattle.nll_ledger.specs.Leaving.{IfLeft, IfOpen, IfQuiet, IfStopped};
 ghost use Rattle.nll_owner.specs.Logs.{log_of};
 ghost use Rattle.nll_owner.specs.Owner.{first_owner};
 ghost use Rattle.nll_owner.specs.Tables.{AreTables};
@@ -34,6 +35,31 @@ fn halt<L: Ledger>(book: &L::Book, share: L::Share) -> L::Left
         Leave::Stopped(left) => left,
         Leave::Quiet(_) => unreachable!(),
         Leave::Open(_) => unreachable!(),
+    }
+}
+
+// Asks to leave, once the worker has waited for a while; else the share comes back.
+fn ask_to_leave<L: Ledger>(
+    book: &L::Book,
+    share: L::Share,
+    backoff: &Backoff,
+) -> Leave<L::Left, L::Share>
+    requires { L.belongs book.now share }
+    ensures left { IfLeft result (λ left. L.left_belongs book.now left
+        × (L.left_number left ≡ L.number share)
+        × (L.left_owed left ≡ L.owed share) × (L.left_cleared left ≡ L.cleared share)
+        × (L.left_called left ≡ L.called share)) }
+    ensures quiet { IfQuiet result (λ left. L.left_quiet left ≡ true) }
+    ensures stopped { IfStopped result (λ left. L.left_quiet left ≡ false) }
+    ensures back { IfOpen result (λ back. L.belongs book.now back
+        × (L.number back ≡ L.number share)
+        × (L.owed back ≡ L.owed share) × (L.cleared back ≡ L.cleared share)
+        × (L.called back ≡ L.called share)) }
+{
+    if backoff.is_completed() {
+        L::leave(book, share)
+    } else {
+        Leave::Open(share)
     }
 }
 
@@ -74,7 +100,7 @@ fn work_on<M: Mail, L: Ledger, G: Gate, R: Wait>(
             Heard::Memory => return (halt::<L>(book, share), Ending::Memory),
             Heard::RankFull => return (halt::<L>(book, share), Ending::RankFull),
             Heard::One => backoff.reset(),
-            Heard::Nothing => match L::leave(book, share) {
+            Heard::Nothing => match ask_to_leave::<L>(book, share, &backoff) {
                 Leave::Quiet(left) => return (left, Ending::Quiet),
                 Leave::Stopped(left) => return (left, Ending::Stopped),
                 Leave::Open(back) => {

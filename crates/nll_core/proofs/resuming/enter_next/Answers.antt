@@ -1,16 +1,12 @@
-use Rattle.std.proofs.Common.{inl}
-use Rattle.nll_problem.specs.Walks.{Reaches}
-use Rattle.nll_problem.proofs.WalkLemmas.{reaches_first, reaches_more}
-use Rattle.nll_core.specs.Search.{IsIn}
-use Rattle.nll_core.specs.Walking.{IsLedTo}
-use Rattle.nll_core.proofs.WalkingLemmas.{grows_weaker, reaches_append}
+use Rattle.nll_core.proofs.FrontierLemmas.{next_inside, next_more, next_end}
 use Rattle.nll_core.proofs.resuming.enter_next.Goals as goal
 
-pub returns-in_ok-enter_point-clause-grows : goal.returns-in_ok-enter_point-clause-grows
-returns-in_ok-enter_point-clause-grows c =
-    let g = c.args.lines.now in
-    let set = c.args.seen.now in
-    let w = c.is_next.ensures.0 c.if-is_next.true in
-    grows_weaker g set (Reaches g (IsIn set) c.args.point) (IsLedTo g set c.args.reached.now)
-    (λ x way. (w.0, w.2, reaches_append g set w.0 c.args.point x (reaches_more g (IsIn set) w.0 w.0 c.args.point (reaches_first g (IsIn set) w.0 (c.requires.inside w.0 w.2)) (inl w.3) c.requires.seen) way))
-    _ _ _ _ c.in_ok-enter_point.ensures.grows
+pub enter_behind-requires-clause-here : goal.enter_behind-requires-clause-here
+enter_behind-requires-clause-here c = next_inside c.args.lines.now c.args.seen.now c.args.part c.args.reached.now c.args.found.now.items c.loop-last.reached c.loop-last.found.items c.loop-last.from c.requires.inside c.loop-last.invariant _ c.in-Some.ensures.reached
+
+pub loop-last-preserved : goal.loop-last-preserved
+loop-last-preserved c = next_more c.args.lines.now c.args.seen.now c.args.part c.args.reached.now c.args.found.now.items c.loop-last.reached c.enter_behind.new.reached c.loop-last.found.items c.enter_behind.new.found.items c.loop-last.from c.in-Some.last
+    c.requires.inside c.in-Some.ensures.bounds.0 c.in-Some.ensures.before c.loop-last.invariant c.in_ok-enter_behind.ensures.grows c.in_ok-enter_behind.ensures.covers
+
+pub returns-clause-covers : goal.returns-clause-covers
+returns-clause-covers c = next_end c.args.lines.now c.args.seen.now c.args.part c.args.reached.now c.args.found.now.items c.loop-last.reached c.loop-last.found.items c.loop-last.from c.in_default.ensures.none c.loop-last.invariant

@@ -1,7 +1,7 @@
 use Rattle.std.proofs.Common.{◌≤◌, ◌<◌, ℕ, refl, arith}
 use Rattle.std.proofs.lemmas.Result.{IfOk-weaker}
 use Rattle.nll_sets.specs.declared.run.Run.{Run}
-use Rattle.nll_core.proofs.FrontierLemmas.{old_inside, resumes_none, two_inside, three_inside, three_closed, three_listed, three_fit, resumes_points}
+use Rattle.nll_core.proofs.FrontierLemmas.{old_inside, resumes_none, two_inside, three_inside, three_listed, three_fit, resumes_points}
 use Rattle.nll_core.proofs.resuming.resume_points.Goals as goal
 use Rattle.nll_core.proofs.resuming.resume_points.Goals.{In_ok-enter_next, In_ok-enter_starts, In_ok-enter_landings}
 
@@ -29,12 +29,6 @@ pub spread-requires-clause-fit : goal.spread-requires-clause-fit
 spread-requires-clause-fit c =
     let d = (goal.at.spread-requires-clause-fit c).In_ok-enter_starts in
     three_fit c.args.lines.now c.args.seen.now c.args.starts.now c.args.run c.args.reached.now c.requires.before c.points-points.ensures.sound c.requires.starts (part_of d) refl (last_point d) c.args.found.now.items c.requires.none
-    _ _ _ _ c.in_ok-enter_next.ensures.grows c.in_ok-enter_next.ensures.covers c.in_ok-enter_starts.ensures.grows c.in_ok-enter_starts.ensures.covers _ _ c.in_ok-enter_landings.ensures.grows c.in_ok-enter_landings.ensures.covers
-
-pub spread-requires-clause-closed : goal.spread-requires-clause-closed
-spread-requires-clause-closed c =
-    let d = (goal.at.spread-requires-clause-closed c).In_ok-enter_starts in
-    three_closed c.args.lines.now c.args.seen.now c.args.starts.now c.args.run c.args.reached.now c.requires.before c.points-points.ensures.sound c.requires.starts (part_of d) refl (last_point d) c.args.found.now.items c.requires.none
     _ _ _ _ c.in_ok-enter_next.ensures.grows c.in_ok-enter_next.ensures.covers c.in_ok-enter_starts.ensures.grows c.in_ok-enter_starts.ensures.covers _ _ c.in_ok-enter_landings.ensures.grows c.in_ok-enter_landings.ensures.covers
 
 pub spread-requires-clause-listed : goal.spread-requires-clause-listed

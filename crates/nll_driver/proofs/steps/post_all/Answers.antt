@@ -1,7 +1,8 @@
 use Rattle.std.proofs.Common.{◌≡◌, ◌<◌, length, refl, sym, ap, ◌∙◌, subst}
 use Rattle.nll_owner.specs.Owner.{Owner, part_for, given_to}
 use Rattle.nll_driver.specs.Network.{Channel}
-use Rattle.nll_driver.proofs.PostingLemmas.{posting_none, posting_more, posted_all, posted_few, gives_all, fewer, sent_more, sent_less}
+use Rattle.nll_driver.proofs.PostingLemmas.{gives_all, sent_more, sent_less}
+use Rattle.nll_owner.proofs.PostingLemmas.{posting_none, posting_more, posted_all, posted_few, fewer}
 use Rattle.nll_driver.proofs.steps.post_all.Goals as goal
 use Rattle.nll_driver.proofs.steps.post_all.Goals.{In_default}
 

@@ -1,7 +1,7 @@
 use Rattle.std.proofs.Common.{◌≡◌, ◌-◌, ◌<◌, length}
 use Rattle.nll_problem.specs.Limits.{most_posts}
 use Rattle.nll_owner.specs.Owner.{part_for, given_to}
-use Rattle.nll_driver.proofs.PostingLemmas.{Posting}
+use Rattle.nll_owner.proofs.PostingLemmas.{Posting}
 use Rattle.nll_driver.proofs.steps.post_all.Given as goal
 
 abbrev pub invariant-loop-growth : goal.invariant-loop-growth

@@ -1,7 +1,7 @@
-use Rattle.std.proofs.Common.{◌≡◌, ◌<◌, ◌++◌, ◌∷◌, [], ℕ, List, length, map, slice_get, Some, Contains, sym, subst, ap, ◌∙◌, arith}
+use Rattle.std.proofs.Common.{◌≡◌, ◌<◌, ℕ, List, length, map, slice_get, Some, Contains, sym, subst, ap, ◌∙◌, arith}
 use Rattle.std.specs.List.{sum_by}
 use Rattle.nll_run.specs.Outcome.{IsOutcome}
-use Rattle.nll_run.specs.Settling.{ArePostsOf, InRows, sent_by, got_by, IsCalm}
+use Rattle.nll_run.specs.Settling.{ArePostsOf, InRows, sent_by, got_by}
 use Rattle.nll_run.proofs.PlaceLemmas.{map_from, within}
 use Rattle.nll_run.specs.declared.error.RunError.TheVariants.{RankFull}
 use Rattle.nll_run.proofs.ConcludingLemmas.{full_clock, full_ending, in_range, says_least}
@@ -19,11 +19,13 @@ values_of-requires g c =
     let m = g.M.Mail in let b = g.L.Ledger in
     let grown = ap (map (λ x. x.items)) c.deref-2.ensures.value ∙ (c.in_ok-lefts.ensures.grown ∙ ap (map (λ d. d.log.items)) c.from.ensures.0) in
     let count : length c.args.finished.items ≡ c.args.cut.now.owners = omega (arith, c.requires.count) in
-    record { range = λ log x h at.
-        in_range m b c.args.book
+    record {
+      range = λ log x h at.
+          in_range m b c.args.book
           (λ d. d.log.items) (λ d. d.left) (λ d. d.closed.items) (λ d. d.receivers.items) (λ d. d.ending) c.args.problem.now c.args.cut.now c.requires.cut c.args.finished.items count c.requires.leaves c.requires.finishes
           (λ k d e. c.in_default.ensures.none k d (subst (λ xs. slice_get xs k ≡ Some d) (sym c.deref.ensures.value) e))
-          log x (subst (λ ls. Contains ls log) grown h) at }
+          log x (subst (λ ls. Contains ls log) grown h) at;
+    }
 
 pub returns-clause-ok : goal.returns-clause-ok
 returns-clause-ok g c =
@@ -36,18 +38,18 @@ returns-clause-ok g c =
     let columns = c.in_ok-lefts.ensures.columns ∙ ap (map (λ d. d.receivers.items)) c.from.ensures.0 in
     let values = ap (map (λ x. x.items)) c.deref-2.ensures.value ∙ grown in
     let settled = subst (λ (y : List (List _) × (List (List _) × ℕ)). ArePostsOf m (sent_by m.all_sent y.0) (got_by m.received y.1.0) (InRows y.1.1 y.1.1) c.settle_all.new.posts.items)
-          (λ i. (rows i, (columns i, c.owners-owners.ensures.value i))) c.in_ok-settle_all.ensures.posts in
+    (λ i. (rows i, (columns i, c.owners-owners.ensures.value i))) c.in_ok-settle_all.ensures.posts in
     subst (λ ls. IsOutcome m c.args.problem.now c.args.cut.now c.in_ok-values.values ls c.settle_all.new.posts.items) (sym grown)
-      (says_least m b c.args.book
-        (λ d. d.log.items) (λ d. d.left) (λ d. d.closed.items) (λ d. d.receivers.items) (λ d. d.ending) c.args.problem.now c.args.cut.now c.requires.cut ds count c.requires.leaves c.requires.finishes
-        (λ k d e. c.in_default.ensures.none k d (subst (λ xs. slice_get xs k ≡ Some d) (sym c.deref.ensures.value) e))
-        c.settle_all.new.posts.items settled
-        c.gather.result.owed c.gather.result.cleared (c.gather.ensures.owed ∙ ap (sum_by b.left_owed) lefts) (c.gather.ensures.cleared ∙ ap (sum_by b.left_cleared) lefts)
-        (λ f. c.gather.ensures.quiet (λ k l e. f k l (subst (λ xs. slice_get xs k ≡ Some l) lefts e)))
-        (λ k l e off. let s = c.gather.ensures.stopped k l (subst (λ xs. slice_get xs k ≡ Some l) (sym lefts) e) off in (s.0, s.1, subst (λ xs. slice_get xs s.0 ≡ Some s.1) lefts s.2, s.3))
-        c.requires.problem c.in_ok-values.values c.in_ok-values.ensures.shaped
-        (λ r e. (λ h. let x = (c.in_ok-values.ensures.held r e).0 h in (x.0, subst (λ ls. Contains ls x.0) values x.1, x.2), λ x. (c.in_ok-values.ensures.held r e).1 (x.0, subst (λ ls. Contains ls x.0) (sym values) x.1, x.2)))
-        c.in_ok-settle_all.ensures.order)
+    (says_least m b c.args.book
+    (λ d. d.log.items) (λ d. d.left) (λ d. d.closed.items) (λ d. d.receivers.items) (λ d. d.ending) c.args.problem.now c.args.cut.now c.requires.cut ds count c.requires.leaves c.requires.finishes
+    (λ k d e. c.in_default.ensures.none k d (subst (λ xs. slice_get xs k ≡ Some d) (sym c.deref.ensures.value) e))
+    c.settle_all.new.posts.items settled
+    c.gather.result.owed c.gather.result.cleared (c.gather.ensures.owed ∙ ap (sum_by b.left_owed) lefts) (c.gather.ensures.cleared ∙ ap (sum_by b.left_cleared) lefts)
+    (λ f. c.gather.ensures.quiet (λ k l e. f k l (subst (λ xs. slice_get xs k ≡ Some l) lefts e)))
+    (λ k l e off. let s = c.gather.ensures.stopped k l (subst (λ xs. slice_get xs k ≡ Some l) (sym lefts) e) off in (s.0, s.1, subst (λ xs. slice_get xs s.0 ≡ Some s.1) lefts s.2, s.3))
+    c.requires.problem c.in_ok-values.values c.in_ok-values.ensures.shaped
+    (λ r e. (λ h. let x = (c.in_ok-values.ensures.held r e).0 h in (x.0, subst (λ ls. Contains ls x.0) values x.1, x.2), λ x. (c.in_ok-values.ensures.held r e).1 (x.0, subst (λ ls. Contains ls x.0) (sym values) x.1, x.2)))
+    c.in_ok-settle_all.ensures.order)
 
 pub returns-in-Some-clause-full : goal.returns-in-Some-clause-full
 returns-in-Some-clause-full g c = λ e.

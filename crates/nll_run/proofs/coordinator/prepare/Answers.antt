@@ -1,4 +1,4 @@
-use Rattle.std.proofs.Common.{◌≡◌, [], List, map, slice_get, Some, sym, subst, ap, ◌∙◌}
+use Rattle.std.proofs.Common.{◌≡◌, List, map, slice_get, Some, sym, subst, ap, ◌∙◌}
 use Rattle.nll_run.specs.Table.{AreNewEnds, IsTable}
 use Rattle.nll_run.proofs.PlaceLemmas.{map_place}
 use Rattle.nll_run.proofs.coordinator.prepare.Goals as goal

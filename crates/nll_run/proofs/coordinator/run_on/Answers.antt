@@ -1,7 +1,5 @@
-use Rattle.std.proofs.Common.{◌≡◌, ◌<◌, ◌≤◌, ◌++◌, ◌∷◌, [], ℕ, List, length, map, slice_get, Some, sym, subst, ap, ◌∙◌, arith, rules, vec_capacity}
-use Rattle.nll_mail.specs.declared.growth.Growth.{Growth}
+use Rattle.std.proofs.Common.{◌<◌, [], map, sym, subst, ◌∙◌, arith, vec_capacity}
 use Rattle.nll_owner.specs.Logs.{log_of}
-use Rattle.nll_worker.specs.Starting.{Each}
 use Rattle.nll_worker.specs.Finishing.{IsGiven, IsFresh, Leaves, FinishedAs}
 use Rattle.nll_run.specs.Table.{IsTable}
 use Rattle.nll_run.proofs.PlaceLemmas.{place, within, mapped, map_size, all_of}
@@ -15,26 +13,26 @@ start_all-book-requires-clause-given g c κs within' =
     let n = c.owners-owners.ensures.value in
     let ws = c.in_ok-book.workers.items in
     all_of (λ w. IsGiven b m c.args.cut.now c.in_ok-book.book w.me w.share w.outbox.senders.items w.receivers.items w.room.items (vec_capacity w.room)) ws (λ k w e.
-      let x = p.each k w e in let s = p.shares k w e in
-      let l : k < c.owners-owners.result = (let h = within ws k w e in let r = p.table.row_count in let z = map_size (λ y. y.outbox.senders.items) ws in omega (arith, h, r, z)) in
-      let row = empty_row m c.owners-owners.result _ _ p.table k w.outbox.senders.items l (mapped (λ y. y.outbox.senders.items) ws k w [] e) in
-      let column = empty_column m c.owners-owners.result _ _ p.table k w.receivers.items l (mapped (λ y. y.receivers.items) ws k w [] e) in
-      record {
-        me_in = omega (arith, l, n, x.0);
-        few = c.owners-owners.ensures.sound.owner_limit;
-        fresh = subst (λ i. IsFresh b c.in_ok-book.book i w.share) (sym x.0) s;
-        posts = (row.0 ∙ n, row.1);
-        taken = (column.0 ∙ n, column.1);
-        none_kept = x.1;
-        space = (let z = map_size m.sent w.outbox.senders.items in let y = row.0 in omega (arith, x.2, z, y));
-      })
+    let x = p.each k w e in let s = p.shares k w e in
+    let l : k < c.owners-owners.result = (let h = within ws k w e in let r = p.table.row_count in let z = map_size (λ y. y.outbox.senders.items) ws in omega (arith, h, r, z)) in
+    let row = empty_row m c.owners-owners.result _ _ p.table k w.outbox.senders.items l (mapped (λ y. y.outbox.senders.items) ws k w [] e) in
+    let column = empty_column m c.owners-owners.result _ _ p.table k w.receivers.items l (mapped (λ y. y.receivers.items) ws k w [] e) in
+    record {
+      me_in = omega (arith, l, n, x.0);
+      few = c.owners-owners.ensures.sound.owner_limit;
+      fresh = subst (λ i. IsFresh b c.in_ok-book.book i w.share) (sym x.0) s;
+      posts = (row.0 ∙ n, row.1);
+      taken = (column.0 ∙ n, column.1);
+      none_kept = x.1;
+      space = (let z = map_size m.sent w.outbox.senders.items in let y = row.0 in omega (arith, x.2, z, y));
+    })
 
 pub conclude-requires-clause-table : goal.conclude-requires-clause-table
 conclude-requires-clause-table g c κs within' =
     let m = g.M.Mail in
     let each = if_ok_is c.start_all-book.result.1 c.in-Ok.finished _ c.in-Ok.is c.start_all-book.ensures.each in
     let table = table_then m (λ w. w.outbox.senders.items) (λ w. w.receivers.items) (λ d. d.closed.items) (λ d. d.receivers.items)
-          c.in_ok-book.workers.items c.in-Ok.finished.items c.owners-owners.result each.len (λ k w d a z. (each.at k w d a z).shuts) (λ k w d a z. (each.at k w d a z).keeps) c.in_ok-book.ensures.table in
+    c.in_ok-book.workers.items c.in-Ok.finished.items c.owners-owners.result each.len (λ k w d a z. (each.at k w d a z).shuts) (λ k w d a z. (each.at k w d a z).keeps) c.in_ok-book.ensures.table in
     subst (λ n. IsTable m.closes m.ends n n (map (λ d. d.closed.items) c.in-Ok.finished.items) (map (λ d. d.receivers.items) c.in-Ok.finished.items)) c.owners-owners.ensures.value table
 
 pub conclude-requires-clause-leaves : goal.conclude-requires-clause-leaves
@@ -43,7 +41,7 @@ conclude-requires-clause-leaves g c κs within' = λ k d e.
     let each = if_ok_is c.start_all-book.result.1 c.in-Ok.finished _ c.in-Ok.is c.start_all-book.ensures.each in
     let w = place c.in_ok-book.workers.items k (let h = within c.in-Ok.finished.items k d e in omega (arith, h, each.len)) in
     subst (λ x. Leaves b x k d.left d.ending) (sym c.start_all-book.ensures.book)
-      (subst (λ i. Leaves b c.in_ok-book.book i d.left d.ending) (c.in_ok-book.ensures.each k w.0 w.1).0 (each.at k w.0 d w.1 e).leaves)
+    (subst (λ i. Leaves b c.in_ok-book.book i d.left d.ending) (c.in_ok-book.ensures.each k w.0 w.1).0 (each.at k w.0 d w.1 e).leaves)
 
 pub conclude-requires-clause-finishes : goal.conclude-requires-clause-finishes
 conclude-requires-clause-finishes g c κs within' = λ k d e made.
@@ -51,4 +49,4 @@ conclude-requires-clause-finishes g c κs within' = λ k d e made.
     let each = if_ok_is c.start_all-book.result.1 c.in-Ok.finished _ c.in-Ok.is c.start_all-book.ensures.each in
     let w = place c.in_ok-book.workers.items k (let h = within c.in-Ok.finished.items k d e in omega (arith, h, each.len)) in
     subst (λ i. FinishedAs c.args.problem.now c.args.cut.now i (log_of (map m.all_sent d.closed.items)) (log_of (map m.received d.receivers.items)) (b.left_owed d.left) (b.left_cleared d.left) d.ending d.log.items)
-      (c.in_ok-book.ensures.each k w.0 w.1).0 ((each.at k w.0 d w.1 e).finishes made)
+    (c.in_ok-book.ensures.each k w.0 w.1).0 ((each.at k w.0 d w.1 e).finishes made)

@@ -1,4 +1,4 @@
-use Rattle.std.proofs.Common.{◌≡◌, ◌<◌, length, sym, subst, arith}
+use Rattle.std.proofs.Common.{◌<◌, length, sym, subst, arith}
 use Rattle.nll_run.proofs.FillingLemmas.{entered, all_entered, stands_held}
 use Rattle.nll_run.proofs.filling.enter_log.Goals as goal
 

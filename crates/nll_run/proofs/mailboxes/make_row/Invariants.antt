@@ -1,4 +1,4 @@
-use Rattle.std.proofs.Common.{◌≡◌, ◌≤◌, [], map, vec_capacity}
+use Rattle.std.proofs.Common.{◌≤◌, map, vec_capacity}
 use Rattle.nll_run.specs.Table.{AreNewEnds, IsPartRow}
 use Rattle.nll_run.proofs.mailboxes.make_row.Given as goal
 

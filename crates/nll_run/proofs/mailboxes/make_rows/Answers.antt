@@ -1,6 +1,6 @@
-use Rattle.std.proofs.Common.{◌≡◌, ◌+◌, ◌<◌, ◌++◌, ◌∷◌, [], List, map, length, sym, subst, ap, ◌∙◌, arith, rules}
+use Rattle.std.proofs.Common.{◌+◌, map, sym, subst, ap, ◌∙◌}
 use Rattle.nll_run.specs.Table.{AreNewEnds, IsTable}
-use Rattle.nll_run.proofs.PlaceLemmas.{map_push, map_size}
+use Rattle.nll_run.proofs.PlaceLemmas.{map_push}
 use Rattle.nll_run.proofs.TableLemmas.{table_more}
 use Rattle.nll_run.proofs.mailboxes.make_rows.Goals as goal
 

@@ -1,4 +1,4 @@
-use Rattle.std.proofs.Common.{◌≡◌, [], map}
+use Rattle.std.proofs.Common.{map}
 use Rattle.nll_run.specs.Table.{AreNewEnds, IsTable}
 use Rattle.nll_run.proofs.mailboxes.make_rows.Given as goal
 

@@ -1,4 +1,4 @@
-use Rattle.std.proofs.Common.{◌≡◌, ◌+◌, ◌<◌, ◌≤◌, ◌++◌, ◌∷◌, [], List, ℕ, map, length, refl, sym, subst, ap, ◌∙◌, arith, rules, slice_get, Some, vec_capacity}
+use Rattle.std.proofs.Common.{◌≡◌, ◌+◌, ◌≤◌, [], length, refl, sym, ap, ◌∙◌, arith, vec_capacity}
 use Rattle.nll_run.proofs.PlaceLemmas.{front_moved, front_moved_as, each_pushed, push_size}
 use Rattle.nll_run.proofs.mailboxes.make_workers.Goals as goal
 

@@ -1,8 +1,8 @@
-use Rattle.std.proofs.Common.{◌≡◌, ◌<◌, ◌+◌, ◌++◌, ◌∷◌, [], List, ℕ, drop, map, length, refl, sym, subst, ap, ◌∙◌, arith, rules}
+use Rattle.std.proofs.Common.{◌≡◌, ◌+◌, [], drop, map, length, sym, subst, ap, ◌∙◌, arith, rules}
 use Rattle.nll_owner.specs.Logs.{log_of}
 use Rattle.nll_run.specs.Table.{list_at}
 use Rattle.nll_run.specs.Settling.{ArePostsOf, InRows, InRow, sent_by, got_by}
-use Rattle.nll_run.proofs.PlaceLemmas.{drop_front, read_place, map_size}
+use Rattle.nll_run.proofs.PlaceLemmas.{drop_front, read_place}
 use Rattle.nll_run.proofs.SettlingLemmas.{settled_as, rows_more, head_of, read_dropped, drop_drop}
 use Rattle.nll_run.proofs.settling.settle_all.Goals as goal
 
@@ -20,7 +20,7 @@ settle_row-requires-clause-heads g c κs within = λ j l.
     let rows = map (λ x. x.items) c.args.rows.items in
     let front = drop_front rows c.loop-from.from c.in-Some.row.items (map (λ x. x.items) c.pop_front.new.self.items) (sym c.loop-from.invariant.rows ∙ ap (map (λ x. x.items)) c.in-Some.ensures.items) in
     head_of m.closes m.ends c.args.owners c.loop-from.from j rows (map (λ x. x.items) c.args.columns.now.items) c.in-Some.row.items (list_at (map (λ x. x.items) c.loop-from.columns.items) j) c.requires.table c.loop-from-test.true l
-      (sym (read_place rows c.loop-from.from c.in-Some.row.items [] front.0)) (c.loop-from.invariant.cut j l)
+    (sym (read_place rows c.loop-from.from c.in-Some.row.items [] front.0)) (c.loop-from.invariant.cut j l)
 
 pub loop-from-preserved : goal.loop-from-preserved
 loop-from-preserved g c =
@@ -37,11 +37,11 @@ loop-from-preserved g c =
       cut = λ j l. cut.1 j l ∙ (ap (drop 1) (inv.cut j l) ∙ drop_drop (list_at columns j) from);
       order = c.in_ok-settle_row.ensures.order;
       posts = subst (λ ps. ArePostsOf m (sent_by m.all_sent rows) (got_by m.received columns) (InRows (from + 1) c.args.owners) ps) (sym added.1)
-        (rows_more m (sent_by m.all_sent rows) (got_by m.received columns) from c.args.owners c.loop-from.posts.items added.0 inv.posts
+          (rows_more m (sent_by m.all_sent rows) (got_by m.received columns) from c.args.owners c.loop-from.posts.items added.0 inv.posts
           (settled_as m _ _ (sent_by m.all_sent rows) (got_by m.received columns) (InRow from c.args.owners) added.0
-            (λ i j d. ap (λ l. log_of (map m.all_sent l) j) (sym row ∙ ap (list_at rows) (sym d.0)))
-            (λ i j d. ap (λ l. log_of (map m.received l) 0) (inv.cut j d.1) ∙ (read_dropped m.received (list_at columns j) from ∙ ap (λ k. log_of (map m.received (list_at columns j)) k) (sym d.0)))
-            added.2));
+          (λ i j d. ap (λ l. log_of (map m.all_sent l) j) (sym row ∙ ap (list_at rows) (sym d.0)))
+          (λ i j d. ap (λ l. log_of (map m.received l) 0) (inv.cut j d.1) ∙ (read_dropped m.received (list_at columns j) from ∙ ap (λ k. log_of (map m.received (list_at columns j)) k) (sym d.0)))
+          added.2));
     }
 
 pub returns-clause-posts : goal.returns-clause-posts

@@ -1,4 +1,4 @@
-use Rattle.std.proofs.Common.{◌≡◌, ◌<◌, ◌≤◌, ℕ, map, drop, length}
+use Rattle.std.proofs.Common.{◌≡◌, ◌<◌, ℕ, map, drop, length}
 use Rattle.nll_run.specs.Table.{list_at}
 use Rattle.nll_run.specs.Settling.{ArePostsOf, ComeBefore, InRows, sent_by, got_by}
 use Rattle.nll_run.proofs.settling.settle_all.Given as goal

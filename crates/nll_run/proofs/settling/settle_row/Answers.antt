@@ -1,4 +1,4 @@
-use Rattle.std.proofs.Common.{◌≡◌, ◌≢◌, ◌<◌, ◌≤◌, ◌+◌, ◌++◌, ◌∷◌, [], List, ℕ, append-nil, drop, map, length, slice_set, refl, sym, subst, ap, ◌∙◌, ⊎_elim, arith, rules}
+use Rattle.std.proofs.Common.{◌≡◌, ◌<◌, ◌+◌, [], append-nil, drop, map, length, slice_set, refl, sym, subst, ap, ◌∙◌, ⊎_elim, arith, rules}
 use Rattle.nll_owner.specs.Logs.{log_of}
 use Rattle.nll_run.specs.Table.{list_at}
 use Rattle.nll_run.specs.Settling.{AddsPosts, InRow, ComeBefore}
@@ -35,7 +35,7 @@ settle-post-requires g c =
     let inside : c.loop-to.to < length c.loop-to.columns.items = omega (arith, c.loop-to-test.true, c.requires.columns, inv.count, map_size (λ x. x.items) c.loop-to.columns.items, map_size (λ x. x.items) c.args.columns.now.items) in
     let column = sym (inv.others c.loop-to.to (omega arith)) ∙ (list_read (λ x. x.items) c.loop-to.columns.items c.loop-to.to c.index_mut.result.now inside c.index_mut.ensures.value ∙ c.in-Some-pop_front.ensures.items) in
     (settle_cell m.closes m.ends c.args.from c.loop-to.to c.args.row.items c.pop_front.new.self.items (list_at (map (λ x. x.items) c.args.columns.now.items) c.loop-to.to) c.pop_front-in-loop-to.new.self.items
-      c.in-Some.closed c.in-Some-pop_front.receiver h (sym inv.row ∙ c.in-Some.ensures.items) column).1
+    c.in-Some.closed c.in-Some-pop_front.receiver h (sym inv.row ∙ c.in-Some.ensures.items) column).1
 
 pub loop-to-preserved : goal.loop-to-preserved
 loop-to-preserved g c =
@@ -47,7 +47,7 @@ loop-to-preserved g c =
     let inside' : to < length lists = omega (arith, inside, map_size (λ x. x.items) now) in
     let column = sym (inv.others to (omega arith)) ∙ (list_read (λ x. x.items) now to c.index_mut.result.now inside c.index_mut.ensures.value ∙ c.in-Some-pop_front.ensures.items) in
     let cell = settle_cell m.closes m.ends c.args.from to c.args.row.items c.pop_front.new.self.items (list_at (map (λ x. x.items) c.args.columns.now.items) to) v.items
-          c.in-Some.closed c.in-Some-pop_front.receiver h (sym inv.row ∙ c.in-Some.ensures.items) column in
+    c.in-Some.closed c.in-Some-pop_front.receiver h (sym inv.row ∙ c.in-Some.ensures.items) column in
     let set = map_set (λ x. x.items) now to v in
     record {
       row = cell.3;
@@ -58,27 +58,27 @@ loop-to-preserved g c =
           (cases_last j to l);
       others = λ j l. ap (λ ls. list_at ls j) set ∙ (set_there lists to j v.items (λ e. absurd (omega (arith, l, e))) ∙ inv.others j (omega (arith, l)));
       order = elim c.if-from-to.branch [
-          then-from-to+in_ok-push w ↦
+        | then-from-to+in_ok-push w ↦
             subst (λ ps. ComeBefore m.post_ends ps (c.args.from, to + 1)) (sym (ap (λ v. v.items) w.posts-is ∙ w.in_ok-push.ensures.items))
-              (come_push m.post_ends c.loop-to.posts.items c.args.from to c.settle-post.result (c.settle-post.ensures.ends ∙ cell.2) inv.order)
+            (come_push m.post_ends c.loop-to.posts.items c.args.from to c.settle-post.result (c.settle-post.ensures.ends ∙ cell.2) inv.order)
         | else-from-to w ↦
             subst (λ ps. ComeBefore m.post_ends ps (c.args.from, to + 1)) (sym (ap (λ v. v.items) w.posts-is))
-              (come_later m.post_ends c.loop-to.posts.items (c.args.from, to) (c.args.from, to + 1) (next_in_row c.args.from to) inv.order)
-        ];
+            (come_later m.post_ends c.loop-to.posts.items (c.args.from, to) (c.args.from, to + 1) (next_in_row c.args.from to) inv.order)
+      ];
       posts = elim c.if-from-to.branch [
-          then-from-to+in_ok-push w ↦
+        | then-from-to+in_ok-push w ↦
             subst (λ ps. AddsPosts m (λ _ j. log_of (map m.all_sent c.args.row.items) j) (λ _ j. log_of (map m.received (list_at (map (λ x. x.items) c.args.columns.now.items) j)) 0) (InRow c.args.from (to + 1)) c.args.posts.now.items ps)
-              (sym (ap (λ v. v.items) w.posts-is ∙ w.in_ok-push.ensures.items))
-              (settle_post m c.args.from to c.args.row.items (map (λ x. x.items) c.args.columns.now.items)
-                c.in-Some.closed c.in-Some-pop_front.receiver v.items c.settle-post.result cell.0 column (c.settle-post.ensures.ends ∙ cell.2) c.settle-post.ensures.sent c.settle-post.ensures.received c.settle-post.ensures.rest
-                c.args.posts.now.items c.loop-to.posts.items (search rules) inv.posts)
+            (sym (ap (λ v. v.items) w.posts-is ∙ w.in_ok-push.ensures.items))
+            (settle_post m c.args.from to c.args.row.items (map (λ x. x.items) c.args.columns.now.items)
+            c.in-Some.closed c.in-Some-pop_front.receiver v.items c.settle-post.result cell.0 column (c.settle-post.ensures.ends ∙ cell.2) c.settle-post.ensures.sent c.settle-post.ensures.received c.settle-post.ensures.rest
+            c.args.posts.now.items c.loop-to.posts.items (search rules) inv.posts)
         | else-from-to w ↦
             subst (λ ps. AddsPosts m (λ _ j. log_of (map m.all_sent c.args.row.items) j) (λ _ j. log_of (map m.received (list_at (map (λ x. x.items) c.args.columns.now.items) j)) 0) (InRow c.args.from (to + 1)) c.args.posts.now.items ps)
-              (sym (ap (λ v. v.items) w.posts-is))
-              (settle_own m c.args.from to c.args.row.items (map (λ x. x.items) c.args.columns.now.items)
-                c.in-Some.closed c.in-Some-pop_front.receiver v.items c.settle-post.result cell.0 column (c.settle-post.ensures.ends ∙ cell.2) c.settle-post.ensures.sent c.settle-post.ensures.received c.settle-post.ensures.rest
-                c.args.posts.now.items c.loop-to.posts.items (search rules) inv.posts)
-        ];
+            (sym (ap (λ v. v.items) w.posts-is))
+            (settle_own m c.args.from to c.args.row.items (map (λ x. x.items) c.args.columns.now.items)
+            c.in-Some.closed c.in-Some-pop_front.receiver v.items c.settle-post.result cell.0 column (c.settle-post.ensures.ends ∙ cell.2) c.settle-post.ensures.sent c.settle-post.ensures.received c.settle-post.ensures.rest
+            c.args.posts.now.items c.loop-to.posts.items (search rules) inv.posts)
+      ];
     }
 
 pub returns-clause-posts : goal.returns-clause-posts

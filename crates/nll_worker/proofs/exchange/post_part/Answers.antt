@@ -1,6 +1,6 @@
-use Rattle.std.proofs.Common.{◌≡◌, ◌<◌, ◌+◌, ◌-◌, ◌++◌, [], ◌∷◌, length, refl, sym, ap, ◌∙◌, subst, arith, length-append}
-use Rattle.nll_owner.specs.Owner.{Owner, part_for, given_to}
-use Rattle.nll_worker.proofs.PostingLemmas.{Posting, posting_none, posting_more, posting_front, posted_all, posted_few, given_one, given_all, fewer}
+use Rattle.std.proofs.Common.{◌≡◌, ◌<◌, sym, ap, ◌∙◌, subst}
+use Rattle.nll_owner.specs.Owner.{Owner, given_to}
+use Rattle.nll_owner.proofs.PostingLemmas.{posting_none, posting_more, posting_front, posted_all, posted_few, given_one, given_all, fewer}
 use Rattle.nll_worker.proofs.exchange.post_part.Goals as goal
 
 pub loop-growth-init : goal.loop-growth-init

@@ -1,7 +1,5 @@
-use Rattle.std.proofs.Common.{◌≡◌, ◌+◌, ◌≤◌, [], length, map, refl, subst, sym, ap, ◌∙◌, arith, rules}
-use Rattle.nll_owner.specs.Owner.{Owner}
+use Rattle.std.proofs.Common.{refl, arith}
 use Rattle.nll_worker.specs.Mailboxes.{Stays}
-use Rattle.nll_worker.specs.Turning.{HasTaken}
 use Rattle.nll_worker.proofs.ListLemmas.{alike_refl, ok_of}
 use Rattle.nll_worker.proofs.TurnLemmas.{fronts_empty, first_is, first_posts, first_takes, takes_cleared}
 use Rattle.nll_worker.proofs.turn.first_turn.Goals as goal
@@ -32,5 +30,5 @@ returns-clause-comes g c =
     let given = ok_of c.share_out.result c.is_err.result _ c.is_err.ensures.value c.if-is_err.false c.share_out.ensures.given in
     let cleared = ok_of c.share_out.result c.is_err.result _ c.is_err.ensures.value c.if-is_err.false c.share_out.ensures.cleared in
     λ taken none.
-      let held = first_takes _ _ _ c.args.owner.now c.load.new.self c.requires.first c.load.ensures.others taken _ none c.requires.fresh.cleared_is in
-      (record { posting = ok; given = given; taking = takes_cleared c.load.new.self c.share_out.new.owner _ _ _ held c.share_out.ensures.others cleared }, omega (arith, c.requires.fresh.cleared_is, cleared))
+    let held = first_takes _ _ _ c.args.owner.now c.load.new.self c.requires.first c.load.ensures.others taken _ none c.requires.fresh.cleared_is in
+    (record { posting = ok; given = given; taking = takes_cleared c.load.new.self c.share_out.new.owner _ _ _ held c.share_out.ensures.others cleared }, omega (arith, c.requires.fresh.cleared_is, cleared))

@@ -1,4 +1,4 @@
-use Rattle.std.proofs.Common.{◌≡◌, ◌<◌, [], length, map, slice_set, subst, refl, sym, ap, ◌∙◌, rules}
+use Rattle.std.proofs.Common.{◌<◌, [], length, map, slice_set, subst, refl, sym, ap, ◌∙◌, rules}
 use Rattle.nll_worker.specs.Hearing.{LooksInto}
 use Rattle.nll_worker.specs.Mailboxes.{Keeps}
 use Rattle.nll_worker.proofs.ListLemmas.{map_set, map_read, read_set, alike_set}
@@ -9,7 +9,7 @@ returns-clause-hears g c =
     let xs = c.args.receivers.now.items in let lt : c.args.from < length xs = search rules in
     let f = g.M.Mail.received in
     subst (λ (y : _ × _). LooksInto c.args.from c.args.owner.now c.hear.new.owner y.0 y.1 c.hear.result)
-      (λ i. (sym (map_read f xs c.args.from c.index_mut.result.now [] lt c.index_mut.ensures.value) i, sym (read_set f xs c.args.from c.hear.new.receiver [] lt) i)) c.hear.ensures.hears
+    (λ i. (sym (map_read f xs c.args.from c.index_mut.result.now [] lt c.index_mut.ensures.value) i, sym (read_set f xs c.args.from c.hear.new.receiver [] lt) i)) c.hear.ensures.hears
 
 pub returns-clause-few : goal.returns-clause-few
 returns-clause-few g c =

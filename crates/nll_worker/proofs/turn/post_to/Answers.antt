@@ -1,4 +1,4 @@
-use Rattle.std.proofs.Common.{◌≡◌, ◌<◌, [], length, map, slice_set, subst, sym, ap, ◌∙◌, rules}
+use Rattle.std.proofs.Common.{◌<◌, [], length, map, slice_set, subst, sym, ap, ◌∙◌, rules}
 use Rattle.nll_owner.specs.Logs.{IsPrefix}
 use Rattle.nll_owner.specs.Owner.{part_for}
 use Rattle.nll_worker.specs.Mailboxes.{Stays}

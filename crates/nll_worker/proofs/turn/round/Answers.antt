@@ -1,4 +1,4 @@
-use Rattle.std.proofs.Common.{◌≡◌, map, refl, ◌∙◌, rules}
+use Rattle.std.proofs.Common.{◌≡◌, map, refl, ◌∙◌}
 use Rattle.nll_worker.specs.Mailboxes.{Stays, Keeps}
 use Rattle.nll_worker.specs.Turning.{IsAtRest}
 use Rattle.nll_worker.proofs.ListLemmas.{alike_refl, stays_on, keeps_on}
@@ -38,9 +38,9 @@ returns-in-RankFull-clause-keeps g c = keeps_on g.M.Mail _ _ _ c.loop-from.invar
 pub loop-from-preserved : goal.loop-from-preserved
 loop-from-preserved g c =
     let rests : IsAtRest c.turn.new.owner (map g.M.Mail.sent c.turn.new.senders.items) (map g.M.Mail.received c.turn.new.receivers.items) (g.L.Ledger.owed c.turn.new.share) (g.L.Ledger.cleared c.turn.new.share) × (c.turn.new.turns ≡ g.L.Ledger.cleared c.turn.new.share) = elim c.match-turn.branch [
-          in-Nothing w ↦ w.in-Nothing.ensures.comes
-        | in-One w ↦ w.in-One.ensures.comes
-        ] in
+      | in-Nothing w ↦ w.in-Nothing.ensures.comes
+      | in-One w ↦ w.in-One.ensures.comes
+    ] in
     record {
       is = c.turn.ensures.is;
       book = c.turn.ensures.book.0;

@@ -1,4 +1,4 @@
-use Rattle.std.proofs.Common.{◌≡◌, ◌+◌, ◌<◌, ◌≤◌, Contains, [], ◌∷◌, ◌++◌, length, length-append, map, subst, sym, ap, ◌∙◌, arith, rules}
+use Rattle.std.proofs.Common.{◌<◌, Contains, map, subst, sym, ap, ◌∙◌, arith}
 use Rattle.std.proofs.lemmas.List.Elements.{Contains-push}
 use Rattle.nll_cut.specs.Partition.{Cut}
 use Rattle.nll_owner.specs.Logs.{log_of}

@@ -1,4 +1,4 @@
-use Rattle.std.proofs.Common.{◌≡◌, ◌+◌, ◌<◌, ℕ, length, arith}
+use Rattle.std.proofs.Common.{◌<◌, length, arith}
 use Rattle.nll_owner.specs.Owner.{part_for, given_to}
 use Rattle.nll_worker.proofs.BatchLemmas.{part_few, sum_next}
 use Rattle.nll_worker.proofs.turn.unsent_count.Goals as goal

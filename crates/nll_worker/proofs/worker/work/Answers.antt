@@ -1,4 +1,4 @@
-use Rattle.std.proofs.Common.{◌≡◌, ◌≤◌, length, map, refl, sym, subst, ap, ◌∙◌, arith, rules}
+use Rattle.std.proofs.Common.{map, sym, subst, arith}
 use Rattle.nll_owner.specs.Logs.{log_of}
 use Rattle.nll_worker.specs.Mailboxes.{Stays}
 use Rattle.nll_worker.specs.Finishing.{FinishedAs}

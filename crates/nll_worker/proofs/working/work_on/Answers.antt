@@ -1,6 +1,6 @@
-use Rattle.std.proofs.Common.{◌≡◌, map, refl, sym, subst, ap, ◌∙◌, rules}
-use Rattle.nll_worker.specs.Mailboxes.{Stays, Keeps}
-use Rattle.nll_worker.specs.Turning.{IsAtRest, ComesTo}
+use Rattle.std.proofs.Common.{◌≡◌, map, refl, subst, ap, ◌∙◌}
+use Rattle.nll_worker.specs.Mailboxes.{Keeps}
+use Rattle.nll_worker.specs.Turning.{ComesTo}
 use Rattle.nll_worker.specs.declared.exchange.Heard.{Heard}
 use Rattle.nll_worker.proofs.ListLemmas.{alike_refl, stays_on, keeps_on}
 use Rattle.nll_worker.proofs.FinishLemmas.{finishes_fail, finishes_stray, finishes_quiet, finishes_left, rests_open}
@@ -41,10 +41,10 @@ round-heard-requires-clause-rests g c κs within =
     let posts = map g.M.Mail.sent c.loop.senders.items in
     let taken = map g.M.Mail.received c.loop.receivers.items in
     let came : (h : Heard) → c.loop.heard ≡ h → ComesTo c.args.problem.now c.args.cut.now c.args.me c.loop.owner posts taken (g.L.Ledger.owed c.loop.share) (g.L.Ledger.cleared c.loop.share) c.loop.turns h
-        = λ h is. subst (λ (h : Heard). ComesTo c.args.problem.now c.args.cut.now c.args.me c.loop.owner posts taken (g.L.Ledger.owed c.loop.share) (g.L.Ledger.cleared c.loop.share) c.loop.turns h) is c.loop.invariant.5 in
+    = λ h is. subst (λ (h : Heard). ComesTo c.args.problem.now c.args.cut.now c.args.me c.loop.owner posts taken (g.L.Ledger.owed c.loop.share) (g.L.Ledger.cleared c.loop.share) c.loop.turns h) is c.loop.invariant.5 in
     elim c.match-heard.branch [
-      in-One w ↦ rests_open c.loop.owner posts taken _ _ _ _ (ap g.L.Ledger.owed w.share-is) (ap g.L.Ledger.cleared w.share-is) (came _ w.in-One.is).0
-    | in-Nothing+in-Open w ↦ rests_open c.loop.owner posts taken _ _ _ _ (ap g.L.Ledger.owed w.share-is ∙ w.in-Open.ensures.back.2) (ap g.L.Ledger.cleared w.share-is ∙ w.in-Open.ensures.back.3) (came _ w.in-Nothing.is).0
+      | in-One w ↦ rests_open c.loop.owner posts taken _ _ _ _ (ap g.L.Ledger.owed w.share-is) (ap g.L.Ledger.cleared w.share-is) (came _ w.in-One.is).0
+      | in-Nothing+in-Open w ↦ rests_open c.loop.owner posts taken _ _ _ _ (ap g.L.Ledger.owed w.share-is ∙ w.in-Open.ensures.back.2) (ap g.L.Ledger.cleared w.share-is ∙ w.in-Open.ensures.back.3) (came _ w.in-Nothing.is).0
     ]
 
 pub loop-preserved : goal.loop-preserved
@@ -52,7 +52,7 @@ loop-preserved g c =
     let l = c.loop.invariant in
     let f = c.round-heard.ensures in
     let same : (g.L.Ledger.number c.match-heard.share ≡ g.L.Ledger.number c.loop.share) × (g.L.Ledger.called c.match-heard.share ≡ g.L.Ledger.called c.loop.share) = elim c.match-heard.branch [
-          in-One w ↦ (ap g.L.Ledger.number w.share-is, ap g.L.Ledger.called w.share-is)
-        | in-Nothing+in-Open w ↦ (ap g.L.Ledger.number w.share-is ∙ w.in-Open.ensures.back.1, ap g.L.Ledger.called w.share-is ∙ w.in-Open.ensures.back.4)
-        ] in
+      | in-One w ↦ (ap g.L.Ledger.number w.share-is, ap g.L.Ledger.called w.share-is)
+      | in-Nothing+in-Open w ↦ (ap g.L.Ledger.number w.share-is ∙ w.in-Open.ensures.back.1, ap g.L.Ledger.called w.share-is ∙ w.in-Open.ensures.back.4)
+    ] in
     (tt, tt, f.is, f.sound, (f.book.0, f.book.1 ∙ (same.0 ∙ l.4.1), f.book.2 ∙ (same.1 ∙ l.4.2)), f.comes, f.front, stays_on g.M.Mail _ _ _ l.7 f.pairs, keeps_on g.M.Mail _ _ _ l.8 f.keeps)

@@ -1,12 +1,16 @@
-use Rattle.std.proofs.Common.{ap}
-use Rattle.std.specs.Prelude.{is_some}
-use Rattle.nll_core.specs.Frontiers.{IsBeside}
-use Rattle.nll_core.proofs.FrontierLemmas.{frontier_widened}
+use Rattle.std.specs.Prelude.{Result, Ok, Err, OnOk}
+use Rattle.nll_core.proofs.FrontierLemmas.{beside_sound, goes_on_whole}
 use Rattle.nll_core.proofs.frontier.Frontier.grow.Goals as goal
 
-pub resume-told-requires-clause-starts : goal.resume-told-requires-clause-starts
-resume-told-requires-clause-starts c = rw (← c.self.view_is, ← c.steps.view_is) at c.requires.starts
+pub go_on-requires-clause-sound : goal.go_on-requires-clause-sound
+go_on-requires-clause-sound c = λ whole. beside_sound c.args.steps.now c.args.seen.now c.args.self.now.starts c.args.run c.args.self.now.reached (c.requires.reached whole)
 
-pub resume-told-requires-clause-before : goal.resume-told-requires-clause-before
-resume-told-requires-clause-before c = frontier_widened c.steps.inside.lines (IsBeside c.args.seen.now c.args.run) c.self.inside.starts c.self.inside.reached c.widen.new.self c.widen.ensures.same
-    ((rw (← c.self.view_is, ← c.steps.view_is) at c.requires.reached) (ap is_some c.in_default.is))
+-- what follows of two facts about an Ok
+both : {T E P Q R : Type 0} (r : Result T E) → (P → Q → R) → OnOk r P → OnOk r Q → OnOk r R
+both (Ok x) f p q = f p q
+both (Err e) f p q = p
+
+pub returns-clause-reached : goal.returns-clause-reached
+returns-clause-reached c = rw c.go_on.ensures.starts (both c.go_on.result
+    (λ ok w. goes_on_whole c.args.steps.now c.args.seen.now c.args.self.now.starts c.args.run c.args.self.now.reached (c.requires.reached ok.0) c.go_on.new.self.reached w)
+    c.go_on.ensures.ok c.go_on.ensures.reached)

@@ -1,31 +1,34 @@
-use Rattle.std.proofs.Common.{◌<◌, ℕ, Bool, cond, [], ◌∷◌, ◌++◌, AllPairs, length, append-nil, sym, ap, ◌∙◌, subst, arith}
+use Rattle.std.proofs.Common.{◌+◌, ◌<◌, ℕ, Bool, AllPairs, length, sym, ap, ◌∙◌, subst, arith}
 use Rattle.nll_cut.specs.Readers.{is_read}
-use Rattle.nll_owner.specs.Keeping.{held_below}
-use Rattle.nll_owner.proofs.SlotLemmas.{held_more, held_ascends, held_short}
+use Rattle.nll_owner.specs.Keeping.{IsSlotIn, TellsSlots}
+use Rattle.nll_owner.proofs.SlotLemmas.{held_ascends, held_short, held_within}
 use Rattle.nll_owner.proofs.slots.Slots.of.Goals as goal
-use Rattle.nll_owner.proofs.slots.Slots.of.Goals.{then-holds+in_ok-push, else-holds}
+use Rattle.nll_owner.proofs.slots.Slots.of.Goals.{In_ok-held}
 
-pub loop-number-preserved : goal.loop-number-preserved
-loop-number-preserved c =
-    let n = c.loop-number.number in
-    let reading : ℕ → Bool = λ r. is_read c.args.readers.now c.args.me r in
-    let before = held_below n c.args.cut.now c.args.me reading in
-    let more = held_more n c.args.cut.now c.args.me reading in
-    elim c.if-holds.branch [
-      | then-holds+in_ok-push w ↦ ap (λ v. v.items) w.held-is
-          ∙ (w.in_ok-push.ensures.items
-          ∙ (ap (λ xs. xs ++ n ∷ []) c.loop-number.invariant
-          ∙ (ap (λ b. before ++ cond b (n ∷ []) []) (sym (sym c.holds.ensures ∙ w.if-holds.true)) ∙ sym more)))
-      | else-holds w ↦ ap (λ v. v.items) w.held-is
-          ∙ (c.loop-number.invariant
-          ∙ (sym (append-nil before)
-          ∙ (ap (λ b. before ++ cond b (n ∷ []) []) (sym (sym c.holds.ensures ∙ w.if-holds.false)) ∙ sym more)))
-    ]
+abbrev reading : (c : In_ok-held) → ℕ → Bool
+reading c r = is_read c.args.readers.now c.args.me r
+
+ascends : (c : In_ok-held) → AllPairs {X = ℕ} (λ r s. r < s) c.in_ok-held.held.items
+ascends c = subst (AllPairs {X = ℕ} (λ r s. r < s)) (sym c.in_ok-held.ensures) (held_ascends c.args.regions c.args.cut.now c.args.me (reading c))
+
+few : (c : In_ok-held) → length c.in_ok-held.held.items < c.args.regions + 1
+few c = omega (arith, ap length c.in_ok-held.ensures, held_short c.args.regions c.args.cut.now c.args.me (reading c))
+
+pub table_of-requires-clause-ascending : goal.table_of-requires-clause-ascending
+table_of-requires-clause-ascending c = subst (AllPairs {X = ℕ} (λ r s. r < s)) (sym c.as_slice.ensures.value) (ascends (goal.at.table_of-requires-clause-ascending c).In_ok-held)
+
+pub table_of-requires-clause-within : goal.table_of-requires-clause-within
+table_of-requires-clause-within c = λ s r at.
+    let d = (goal.at.table_of-requires-clause-within c).In_ok-held in
+    held_within c.args.regions c.args.cut.now c.args.me (reading d) s r (subst (λ xs. IsSlotIn xs s r) (c.as_slice.ensures.value ∙ c.in_ok-held.ensures) at)
+
+pub table_of-requires-clause-few : goal.table_of-requires-clause-few
+table_of-requires-clause-few c = omega (arith, few (goal.at.table_of-requires-clause-few c).In_ok-held, ap length c.as_slice.ensures.value, c.requires.few)
 
 pub invariant_of-result : goal.invariant_of-result
 invariant_of-result c =
-    let n = c.loop-number.number in
-    let reading : ℕ → Bool = λ r. is_read c.args.readers.now c.args.me r in (
-      subst (AllPairs {X = ℕ} (λ r s. r < s)) (sym c.loop-number.invariant) (held_ascends n c.args.cut.now c.args.me reading),
-      omega (arith, ap length c.loop-number.invariant, held_short n c.args.cut.now c.args.me reading, c.requires.few, c.loop-number.auto.number-end),
+    let d = (goal.at.invariant_of-result c).In_ok-held in (
+      ascends d,
+      omega (arith, few d, c.requires.few),
+      subst (λ xs. TellsSlots xs c.in_ok-table.table.items) c.as_slice.ensures.value c.in_ok-table.ensures,
     )
