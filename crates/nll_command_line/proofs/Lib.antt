@@ -3,5 +3,6 @@ pub mod GrammarLemmas
 pub mod HelpLemmas
 pub mod LineErrorLemmas
 pub mod LineLemmas
+pub mod OptionLemmas
 pub mod PlainLineLemmas
 pub mod TaskWordLemmas
