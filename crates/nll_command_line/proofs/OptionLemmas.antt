@@ -5,7 +5,7 @@ use Rattle.std.specs.Option.{option_to_list}
 use Rattle.std.proofs.lemmas.List.{append-nil}
 use Rattle.std.proofs.lemmas.List.Elements.{filter_map-append}
 use Rattle.nll_command_line.specs.CommandLine.{begins_as_option}
-use Rattle.nll_command_line.specs.Options.{Given, owners, deal, cut, mail, EndsOptions, HasOptions, none, ends, other, option, IsLawful, IsWritten, Says, key_of, value_of, word_of, owners_in, deal_in, cut_in, mail_in}
+use Rattle.nll_command_line.specs.Options.{Given, owners, deal, cut, mail, EndsOptions, HasOptions, none, ends, other, option, ArePlaced, no_words as no_words_at_all, unread, behind as among, IsLawful, IsWritten, Says, key_of, value_of, word_of, owners_in, deal_in, cut_in, mail_in}
 use Rattle.nll_command_line.specs.Taking.{AreFree}
 use Rattle.nll_command_line.specs.declared.options.Deal.{Deal}
 use Rattle.nll_command_line.specs.declared.options.MailKind.{MailKind}
@@ -148,3 +148,60 @@ module _ (w : Text) (behind : List Text) (free : AreFree (w ∷ behind)) where
     | inl h ↦ h.joined k value e
     | inr h ↦ true≢false (sym (begins_joined k value) ∙ (ap begins_as_option (sym e) ∙ h.0))
   ]
+
+-- ---- words without options have no other reading
+
+written_first : (g : Given) (front words : List Text) (w : Text) (behind : List Text) → IsWritten g front → front ++ words ≡ w ∷ behind → AreFree (w ∷ behind) → ⊥
+written_first g front words w behind (inl h) e free = free_alone w behind free (key_of g) (head (sym e ∙ ap (λ (xs : List Text). xs ++ words) h.0))
+  where
+    head : {x y : Text} {xs ys : List Text} → x ∷ xs ≡ y ∷ ys → x ≡ y
+    head e = cc
+written_first g front words w behind (inr h) e free = free_joined w behind free (key_of g) (value_of g) (head (sym e ∙ ap (λ (xs : List Text). xs ++ words) h))
+  where
+    head : {x y : Text} {xs ys : List Text} → x ∷ xs ≡ y ∷ ys → x ≡ y
+    head e = cc
+
+written_free : (g : Given) (front words : List Text) → IsWritten g front → AreFree (front ++ words) → ⊥
+written_free g front words written free = go (front ++ words) refl free
+  where
+    go : (ws : List Text) → front ++ words ≡ ws → AreFree ws → ⊥
+    go [] e f = elim written [
+      | inl h ↦ let bad : word_of (key_of g) ∷ value_of g ∷ words ≡ [] = sym (ap (λ (xs : List Text). xs ++ words) h.0) ∙ e in cc
+      | inr h ↦ let bad : (word_of (key_of g) ++ 61 ∷ value_of g) ∷ words ≡ [] = sym (ap (λ (xs : List Text). xs ++ words) h) ∙ e in cc
+    ]
+    go (w ∷ behind) e f = written_first g front words w behind written e f
+
+pub unique : (gs : List Given) (os ws : List Text) → HasOptions gs os ws → AreFree ws → (gs ≡ []) × (os ≡ ws)
+unique _ _ _ none free = (refl, refl)
+unique _ _ _ (ends word rest h) free = (refl, refl)
+unique _ _ _ (other given word others words plain h) free =
+    let r = unique given others words h (free_rest word words free plain) in (r.0, ap (λ (xs : List Text). word ∷ xs) r.1)
+unique _ _ _ (option g given front others words written lawful h) free = absurd (written_free g front words written free)
+
+-- behind a first word that doesn't begin as an option
+pub placed_rest : (gs : List Given) (os ws : List Text) → ArePlaced gs os ws → gs ≡ [] → os ≡ ws → (first : Text) (rest : List Text) → ws ≡ first ∷ rest → begins_as_option first ≡ false → AreFree rest
+placed_rest _ _ _ no_words_at_all e f first rest g plain = cc
+placed_rest _ _ _ (unread word others begins) e f first rest g plain = absurd (true≢false (sym begins ∙ (ap begins_as_option (head g) ∙ plain)))
+  where
+    head : {x y : Text} {xs ys : List Text} → x ∷ xs ≡ y ∷ ys → x ≡ y
+    head e = cc
+placed_rest _ _ _ (among given word others words b h) e f first rest g plain =
+    subst AreFree (tail g) (subst (λ (xs : List Text). HasOptions [] xs words) (tail f) (subst (λ (xs : List Given). HasOptions xs others words) e h))
+  where
+    tail : {x y : Text} {xs ys : List Text} → x ∷ xs ≡ y ∷ ys → xs ≡ ys
+    tail e = cc
+
+pub placed_unique : (gs : List Given) (os ws : List Text) → ArePlaced gs os ws → ArePlaced [] ws ws → (gs ≡ []) × (os ≡ ws)
+placed_unique _ _ _ no_words_at_all free = (refl, refl)
+placed_unique _ _ _ (unread first rest begins) free = (refl, refl)
+placed_unique _ _ _ (among given first others rest plain h) free =
+    let r = unique given others rest h (placed_rest [] (first ∷ rest) (first ∷ rest) free refl refl first rest refl plain) in
+    (r.0, ap (λ (xs : List Text). first ∷ xs) r.1)
+
+-- no option says nothing
+empty_list : {X : Type 0} (o : Option X) → option_to_list o ≡ [] → o ≡ None
+empty_list None e = refl
+empty_list (Some x) e = cc
+
+pub no_deal : (given : List Given) (o : Option ℕ) (d : Option Deal) (c : Option (List ℕ)) (m : Option MailKind) → Says given o d c m → given ≡ [] → d ≡ None
+no_deal given o d c m s e = empty_list d (sym s.deal ∙ ap (filter_map deal_in) e)

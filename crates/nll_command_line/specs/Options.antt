@@ -72,6 +72,16 @@ pub data HasOptions : List Given → List (List ℕ) → List (List ℕ) → Typ
       → IsWritten g front → IsLawful g → HasOptions given others words
       → HasOptions (g ∷ given) others (front ++ words)
 
+-- The words are those others, with the options among those behind the first; where the first begins
+-- as an option there are none.
+pub data ArePlaced : List Given → List (List ℕ) → List (List ℕ) → Type 0 where
+  no_words : ArePlaced [] [] []
+  unread : (first : List ℕ) (rest : List (List ℕ)) → begins_as_option first ≡ true
+      → ArePlaced [] (first ∷ rest) (first ∷ rest)
+  behind : (given : List Given) (first : List ℕ) (others rest : List (List ℕ))
+      → begins_as_option first ≡ false → HasOptions given others rest
+      → ArePlaced given (first ∷ others) (first ∷ rest)
+
 -- ---- what options say
 
 -- what an option of its kind gives, and none of another kind

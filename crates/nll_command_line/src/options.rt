@@ -1,9 +1,9 @@
 //! The options among the words behind a command.
-ghost use Rattle.std.specs.Prelude.{◌≡◌, ◌≢◌, ◌++◌, ◌∷◌, [], ℕ, List, map, string_bytes};
+ghost use Rattle.std.specs.Prelude.{◌≡◌, ◌≢◌, ◌⊎◌, ◌++◌, ◌∷◌, [], ℕ, List, map, string_bytes};
 ghost use Rattle.std.specs.Prelude.{MatchOption, OnOk, IfOk, IfErr, None, false};
 ghost use Rattle.nll_command_line.specs.CommandLine as lines;
 ghost use Rattle.nll_command_line.specs.CommandLine.{begins_as_option};
-ghost use Rattle.nll_command_line.specs.Options.{Given, HasOptions, IsLawful, key_of};
+ghost use Rattle.nll_command_line.specs.Options.{ArePlaced, Given, HasOptions, IsLawful, key_of};
 ghost use Rattle.nll_command_line.specs.Options.{value_of, word_of};
 ghost use Rattle.nll_command_line.specs.Taking.{AreFree, IsKind, SaysBy};
 
@@ -189,9 +189,39 @@ fn kind_of(word: &str) -> Kind<'_>
     }
 }
 
-/// Takes the options out of the words behind a command; the others are put behind those that are
-/// there.
-pub(crate) fn take_options<'a>(
+/// Takes the options out of the words behind the first, unless that begins as an option; the others
+/// are put into an empty list.
+pub(crate) fn part_words<'a>(
+    words: &'a [String],
+    options: &mut Options<'a>,
+    others: &mut Vec<&'a str>,
+) -> Result<(), LineError>
+    requires none { SaysBy [] options.old }
+    requires empty { others.old.items ≡ [] }
+    ensures ok { OnOk result ((given : List Given) × ArePlaced given
+        (map (λ word. word.now) others.new.items) (map string_bytes words.now)
+        × SaysBy given options.new) }
+    ensures dealt { OnOk result ((options.new.deal ≡ None) ⊎ (options.new.cut ≡ None)) }
+    ensures free { ArePlaced [] (map string_bytes words.now) (map string_bytes words.now)
+        → IfErr result (λ e. e ≡ LineError.Memory) }
+{
+    let Some((first, rest)) = words.split_first() else {
+        return Ok(());
+    };
+    if begins_as_option(first.as_str()) {
+        return push_all(words, others);
+    }
+    others.push(first.as_str())?;
+    take_options(rest, options, others)?;
+    if options.deal.is_some() && options.cut.is_some() {
+        return Err(LineError::Usage);
+    }
+    Ok(())
+}
+
+// Takes the options out of the words behind a command; the others are put behind those that are
+// there.
+fn take_options<'a>(
     words: &'a [String],
     options: &mut Options<'a>,
     others: &mut Vec<&'a str>,
