@@ -1,12 +1,12 @@
 -- What is answered to words of which the options are taken out.
-use Rattle.std.proofs.Common.{◌≡◌, ◌⊎◌, ⊎_elim, ◌∙◌, ℕ, List, [], Option, None, Some, Result, Ok, Err, IfErr, IfOk, IsOk, MatchResult, option_map, string_bytes, sym, ap, subst}
+use Rattle.std.proofs.Common.{◌≡◌, ◌⊎◌, ⊎_elim, inl, inr, ◌∙◌, ℕ, List, [], Option, None, Some, Result, Ok, Err, IfErr, IfOk, IsOk, MatchResult, option_map, string_bytes, sym, ap, subst}
 use Rattle.std.proofs.lemmas.Bool.{false≢true}
 use Rattle.nll_command_line.specs.declared.task.Asked.{Asked}
 use Rattle.nll_command_line.specs.declared.task.Line.{Line}
 use Rattle.nll_command_line.specs.declared.task.Task.{Task}
 use Rattle.nll_command_line.specs.declared.options.Options.{Options}
 use Rattle.nll_command_line.specs.declared.error.LineError.{LineError}
-use Rattle.nll_command_line.specs.declared.error.LineError.TheVariants.{Memory}
+use Rattle.nll_command_line.specs.declared.error.LineError.TheVariants.{Usage, Memory}
 use Rattle.nll_command_line.specs.CommandLine.{IsLine}
 use Rattle.nll_command_line.specs.Grammar.{IsHelpFor, IsLineError}
 use Rattle.nll_command_line.specs.Options.{ArePlaced, Given, Says}
@@ -52,4 +52,13 @@ line_err (Ok l) a err words m = tt
 line_err (Err e) a err words m = ⊎_elim
     (λ same. subst (λ (x : Result Asked LineError). IfErr x (IsLineError words)) same m)
     (λ h. subst (IsLineError words) (sym h.1) tt)
+    err
+
+pub line_told : (r : Result Line LineError) (a : Result Asked LineError) → IfErr r (λ e. (a ≡ Err e) ⊎ (IsOk a × (e ≡ Memory)))
+    → (given : List Given) (others words : List Text) → ArePlaced given others words → IfErr a (IsLineError others)
+    → IfErr r (λ e. (e ≡ Usage) ⊎ ((e ≡ Memory) ⊎ ((gs : List Given) × (os : List Text) × ArePlaced gs os words × IsLineError os e)))
+line_told (Ok l) a err given others words placed m = tt
+line_told (Err e) a err given others words placed m = ⊎_elim
+    (λ same. inr (inr (given, others, placed, subst (λ (x : Result Asked LineError). IfErr x (IsLineError others)) same m)))
+    (λ h. inr (inl h.1))
     err

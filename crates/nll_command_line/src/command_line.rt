@@ -42,6 +42,9 @@ pub fn line(alloc: Global, words: &[String]) -> Result<Line, LineError>
         → MatchResult result (λ _. ⊥) (IsHelpFor (map string_bytes words.now)) }
     ensures err { ArePlaced [] (map string_bytes words.now) (map string_bytes words.now)
         → IfErr result (IsLineError (map string_bytes words.now)) }
+    ensures told { IfErr result (λ e. (e ≡ LineError.Usage) ⊎ ((e ≡ LineError.Memory)
+        ⊎ ((given : List Given) × (others : List (List ℕ))
+        × ArePlaced given others (map string_bytes words.now) × IsLineError others e))) }
 {
     let mut options = Options::none();
     let mut others = Vec::new(alloc);

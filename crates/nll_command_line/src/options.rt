@@ -204,6 +204,7 @@ pub(crate) fn part_words<'a>(
     ensures dealt { OnOk result ((options.new.deal ≡ None) ⊎ (options.new.cut ≡ None)) }
     ensures free { ArePlaced [] (map string_bytes words.now) (map string_bytes words.now)
         → IfErr result (λ e. e ≡ LineError.Memory) }
+    ensures err { IfErr result (λ e. (e ≡ LineError.Usage) ⊎ (e ≡ LineError.Memory)) }
 {
     let Some((first, rest)) = words.split_first() else {
         return Ok(());
@@ -232,6 +233,7 @@ fn take_options<'a>(
         × (map (λ word. word.now) others.new.items
         ≡ map (λ word. word.now) others.old.items ++ more)) }
     ensures free { AreFree (map string_bytes words.now) → IfErr result (λ e. e ≡ LineError.Memory) }
+    ensures err { IfErr result (λ e. (e ≡ LineError.Usage) ⊎ (e ≡ LineError.Memory)) }
 {
     let mut left = words;
     while let Some((word, behind)) = left.split_first() {

@@ -143,7 +143,7 @@ fn answered<T: Texts>(alloc: Global, line: Line, texts: &T) -> Result<(Vec<u8>, 
     ensures err { IfErr result
         (IsFileRefused (T.holds texts.now) (T.lacks texts.now) (string_bytes line.file)) }
 {
-    let Line { task, file } = line;
+    let Line { task, file, .. } = line;
     match texts.get(file.as_str()) {
         Ok(text) => Ok(answer_text(alloc, command_of(task), text)?),
         Err(unread) => Err(without_text(unread, file)),

@@ -1,7 +1,7 @@
-use Rattle.std.proofs.Common.{◌≡◌, List, [], ℕ, map, string_bytes, sym, subst}
+use Rattle.std.proofs.Common.{inl, inr, ⊎_elim, ◌≡◌, List, [], ℕ, map, string_bytes, sym, subst}
 use Rattle.nll_command_line.specs.Grammar.{IsHelpFor, IsLineError}
 use Rattle.nll_command_line.specs.Options.{ArePlaced, Given}
-use Rattle.nll_command_line.proofs.AnswerLemmas.{line_ok, line_plain, line_help, line_err}
+use Rattle.nll_command_line.proofs.AnswerLemmas.{line_ok, line_plain, line_help, line_err, line_told}
 use Rattle.nll_command_line.proofs.OptionLemmas.{placed_unique}
 use Rattle.nll_command_line.proofs.PlacingLemmas.{plain_placed, help_placed}
 use Rattle.nll_command_line.proofs.command_line.line.Goals as goal
@@ -44,3 +44,12 @@ returns-clause-err c = λ free.
     let placed : ArePlaced told.0 (map (λ word. word.now) c.as_slice.result.now) words = rw c.as_slice.ensures.value told.1 in
     let same = (placed_unique _ _ _ placed free).1 in
     line_err c.with_options.result c.asked-asked.result c.with_options.ensures.err words (rw same at c.asked-asked.ensures.err)
+
+pub returns-in-Err-clause-told : goal.returns-in-Err-clause-told
+returns-in-Err-clause-told c = ⊎_elim inl (λ memory. inr (inl memory)) c.in-Err.ensures.err
+
+pub returns-clause-told : goal.returns-clause-told
+returns-clause-told c =
+    let told = c.in_default.ensures.ok in
+    let placed : ArePlaced told.0 (map (λ word. word.now) c.as_slice.result.now) (map string_bytes c.args.words.now) = rw c.as_slice.ensures.value told.1 in
+    line_told c.with_options.result c.asked-asked.result c.with_options.ensures.err told.0 _ _ placed c.asked-asked.ensures.err
