@@ -1,5 +1,5 @@
 -- What is answered to words of which the options are taken out.
-use Rattle.std.proofs.Common.{◌≡◌, ◌⊎◌, ⊎_elim, inl, inr, ◌∙◌, ℕ, List, [], Option, None, Some, Result, Ok, Err, IfErr, IfOk, IsOk, MatchResult, option_map, string_bytes, sym, ap, subst}
+use Rattle.std.proofs.Common.{◌≡◌, ◌⊎◌, ⊎_elim, inl, inr, ◌∙◌, ℕ, List, Result, Ok, Err, IfErr, IfOk, IsOk, MatchResult, option_map, string_bytes, sym, subst}
 use Rattle.std.proofs.lemmas.Bool.{false≢true}
 use Rattle.nll_command_line.specs.declared.task.Asked.{Asked}
 use Rattle.nll_command_line.specs.declared.task.Line.{Line}

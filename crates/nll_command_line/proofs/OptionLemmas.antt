@@ -1,5 +1,5 @@
 -- What options say, and which words have options among them.
-use Rattle.std.proofs.Common.{◌≡◌, ◌⊎◌, inl, inr, ◌∙◌, ℕ, Bool, true, false, List, [], ◌∷◌, ◌++◌, map, Option, Some, None, is_some, length, arith, refl, sym, ap, subst, append_assoc, true≢false}
+use Rattle.std.proofs.Common.{◌≡◌, ◌⊎◌, inl, inr, ◌∙◌, ℕ, true, false, List, [], ◌∷◌, ◌++◌, Option, Some, None, is_some, length, arith, refl, sym, ap, subst, append_assoc, true≢false}
 use Rattle.std.specs.List.{filter_map}
 use Rattle.std.specs.Option.{option_to_list}
 use Rattle.std.proofs.lemmas.List.{append-nil}
@@ -114,6 +114,7 @@ free_first _ _ _ (other given word others words plain h) e f w behind g =
   where
     first : {x y : Text} {xs ys : List Text} → x ∷ xs ≡ y ∷ ys → x ≡ y
     first e = cc
+
     rest : {x y : Text} {xs ys : List Text} → x ∷ xs ≡ y ∷ ys → xs ≡ ys
     rest e = cc
 free_first _ _ _ (option g given front others words written lawful h) e f w behind k = cc

@@ -7,7 +7,7 @@ use Rattle.nll_command_line.specs.declared.task.Task.TheVariants.{Values, Check}
 use Rattle.nll_command_line.specs.declared.options.Key.{Key}
 use Rattle.nll_command_line.specs.declared.options.Key.TheVariants as key
 use Rattle.nll_command_line.specs.CommandLine.{IsPlainLine, name_of, begins_as_option, AsksPlainlyForHelp, IsHelpWord, MayStandBeforeHelp}
-use Rattle.nll_command_line.specs.Options.{ArePlaced, behind, unread, HasOptions, none, ends, other, EndsOptions, word_of}
+use Rattle.nll_command_line.specs.Options.{ArePlaced, behind, unread, none, ends, other, EndsOptions, word_of}
 
 abbrev Text : Type 0
 Text = List ℕ

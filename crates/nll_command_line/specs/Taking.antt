@@ -1,9 +1,9 @@
 -- What words are to the reader of options, and what it holds.
 -- Source: project's choice. Only private contracts cite this file.
-use Rattle.std.specs.Prelude.{◌≡◌, ℕ, false, List, [], ◌∷◌, ◌++◌, Option, None, Some, option_map}
+use Rattle.std.specs.Prelude.{◌≡◌, ℕ, false, List, [], ◌∷◌, ◌++◌, option_map}
 use Rattle.nll_command_line.specs.CommandLine.{begins_as_option}
-use Rattle.nll_command_line.specs.Options.{EndsOptions, Given, HasOptions, IsLawful, Says, key_of}
-use Rattle.nll_command_line.specs.Options.{value_of, word_of}
+use Rattle.nll_command_line.specs.Options.{EndsOptions, Given, HasOptions, Says}
+use Rattle.nll_command_line.specs.Options.{word_of}
 use Rattle.nll_command_line.specs.declared.options.Kind.{Kind}
 use Rattle.nll_command_line.specs.declared.options.Kind.TheVariants as kind
 use Rattle.nll_command_line.specs.declared.options.Options.{Options}

@@ -1,6 +1,6 @@
-use Rattle.std.proofs.Common.{inl, inr, ⊎_elim, ◌≡◌, List, [], ℕ, map, string_bytes, sym, subst}
-use Rattle.nll_command_line.specs.Grammar.{IsHelpFor, IsLineError}
-use Rattle.nll_command_line.specs.Options.{ArePlaced, Given}
+use Rattle.std.proofs.Common.{inl, inr, ⊎_elim, List, ℕ, map, string_bytes, sym, subst}
+use Rattle.nll_command_line.specs.Grammar.{IsHelpFor}
+use Rattle.nll_command_line.specs.Options.{ArePlaced}
 use Rattle.nll_command_line.proofs.AnswerLemmas.{line_ok, line_plain, line_help, line_err, line_told}
 use Rattle.nll_command_line.proofs.OptionLemmas.{placed_unique}
 use Rattle.nll_command_line.proofs.PlacingLemmas.{plain_placed, help_placed}

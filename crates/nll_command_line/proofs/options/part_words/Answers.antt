@@ -1,5 +1,4 @@
 use Rattle.std.proofs.Common.{◌≡◌, ◌++◌, [], ◌∷◌, List, ℕ, map, string_bytes, refl, sym, ap, ◌∙◌, subst, true, false, is_some, true≢false}
-use Rattle.std.proofs.lemmas.List.{map-append}
 use Rattle.std.proofs.lemmas.Result.{on_ok_weaker}
 use Rattle.nll_command_line.specs.CommandLine.{begins_as_option}
 use Rattle.nll_command_line.specs.Options.{ArePlaced, no_words as no_words_at_all, unread, behind}

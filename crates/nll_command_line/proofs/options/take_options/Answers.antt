@@ -1,7 +1,7 @@
-use Rattle.std.proofs.Common.{◌≡◌, ◌++◌, [], ◌∷◌, List, ℕ, map, string_bytes, refl, sym, ap, ◌∙◌, subst, append_assoc}
+use Rattle.std.proofs.Common.{◌≡◌, ◌++◌, [], ◌∷◌, List, ℕ, map, string_bytes, sym, ap, ◌∙◌, subst, append_assoc}
 use Rattle.std.proofs.lemmas.List.{append-nil, map-append}
 use Rattle.std.proofs.lemmas.Result.{on_ok_weaker}
-use Rattle.nll_command_line.specs.Options.{Given, HasOptions, none, ends, key_of, word_of, value_of}
+use Rattle.nll_command_line.specs.Options.{Given, HasOptions, none, ends, key_of, word_of}
 use Rattle.nll_command_line.specs.Taking.{AreFree}
 use Rattle.nll_command_line.specs.declared.options.Key.{Key}
 use Rattle.nll_command_line.proofs.OptionLemmas.{no_words, leads_other, leads_joined, leads_apart, free_rest, free_alone, free_joined}
