@@ -69,15 +69,7 @@ help_told words (line.Help text) bytes status plain told is = ⊎_elim
     (λ usage. absurd (true≢false (sym (ap is_usage usage))))
     (⊎_elim
     (λ memory. absurd (true≢false (sym (ap is_memory memory))))
-    (λ h. record {
-      given = h.0;
-      others = h.1;
-      placed = h.2;
-      asked = h.3.0;
-      other = no_plain words (line.Help text) refl plain;
-      is = is.0 ∙ h.3.2;
-      told = is.1;
-    }))
+    (λ h. (no_plain words (line.Help text) refl plain, h.0, h.1, h.2, record { asked = h.3.0; is = is.0 ∙ h.3.2; told = is.1 })))
     told
 help_told words line.Usage bytes status plain told is = absurd is
 help_told words line.Memory bytes status plain told is = absurd is

@@ -57,7 +57,8 @@ IsAskedCut holds regions count how None c = IsDealtCut regions count how c
 
 -- ---- why there is no cut
 
--- The text lists owners, and this is why its list is no cut of so many regions among so many owners.
+-- The text lists owners, and this is why its list is no cut of so many regions among so many
+-- owners.
 pub record IsNoCut (regions count : ℕ) (text : List ℕ) (why : CutError) : Type 0 where
   pub list : List ℕ
   pub means : Means text list

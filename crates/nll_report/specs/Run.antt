@@ -69,16 +69,17 @@ pub record IsReport (holds : Holds) (words : Words) (report : List ℕ) (status 
   pub asked : IsAsked words task file count how path
   pub answer : IsFileAnswer holds task file report status
 
--- The words without their options ask for help, and are no plain line; the bytes are the help for
--- them, with status 0.
-pub record IsHelp (words : Words) (bytes : List ℕ) (status : ℕ) : Type 0 where
-  pub given : List Given
-  pub others : Words
-  pub placed : ArePlaced given others words
+-- The words ask for help; the bytes are the help for them, with status 0.
+pub record IsHelpWith (others : Words) (bytes : List ℕ) (status : ℕ) : Type 0 where
   pub asked : AsksForHelp others
-  pub other : IsNoPlainLine words
   pub is : bytes ≡ help_for others
   pub told : status ≡ 0
+
+-- the words are no plain line, and without their options they ask for help, which is given
+abbrev pub IsHelp : Words → List ℕ → ℕ → Type 0
+IsHelp words bytes status =
+    IsNoPlainLine words × (given : List Given) × (others : Words)
+    × ArePlaced given others words × IsHelpWith others bytes status
 
 -- the bytes and the status are a report and its status, or those of help
 abbrev pub IsRun : Holds → Words → List ℕ → ℕ → Type 0
@@ -125,8 +126,8 @@ IsFileRefused holds lacks file Rank = ⊥
 IsFileRefused holds lacks file Memory = Unit {0}
 IsFileRefused holds lacks file CannotWrite = ⊥
 
--- the refusal tells the truth of a text of the file; or owners are asked for, and it tells the truth
--- of the cut file or of the owners at work
+-- the refusal tells the truth of a text of the file; or owners are asked for, and it tells the
+-- truth of the cut file or of the owners at work
 abbrev pub IsTaskRefused : Holds → Lacks → List ℕ → Option ℕ → Option Deal → Option (List ℕ)
     → Refusal → Type 0
 IsTaskRefused holds lacks file count how path refusal =

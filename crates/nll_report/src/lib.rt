@@ -1,7 +1,8 @@
 //! The program over a text's answer: its files, its streams, its refusals and its status.
 //!
 //! Read `program` first (what is done with the words), then `owners`, `reading`, `sink`, `writing`,
-//! `messages`, `disk` and `words`. The words are read in `nll_command_line`, and a text is answered in `nll_answer`.
+//! `messages`, `disk` and `words`. The words are read in `nll_command_line`, and a text is answered
+//! in `nll_answer`.
 #![tactic(auto)]
 
 mod disk;

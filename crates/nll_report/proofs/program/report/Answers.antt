@@ -1,4 +1,4 @@
-use Rattle.std.proofs.Common.{inl, string_bytes}
+use Rattle.std.proofs.Common.{inl, inr, string_bytes}
 use Rattle.std.proofs.lemmas.Result.{IfErr-weaker, IfOk-weaker, MatchResult-weaker}
 use Rattle.nll_report.proofs.LineLemmas.{asked_line, help_told, lawful_count, words_told}
 use Rattle.nll_report.proofs.RunLemmas.{line_told}
@@ -26,3 +26,15 @@ returns-in-Ok-clause-err g c =
     IfErr-weaker c.answered.result _ _
     (λ e h. line_told _ _ _ c.in-Ok.line.task _ _ _ _ e (asked_line string_bytes _ _ _ _ _ c.in-Ok.line.cut c.in-Ok.line.mail c.in-Ok.ensures.ok c.in-Ok.ensures.dealt c.in-Ok.ensures.help) h)
     c.answered.ensures.err
+
+pub returns-in-Err-clause-ok : goal.returns-in-Err-clause-ok
+returns-in-Err-clause-ok g c =
+    IfOk-weaker c.without_line.result _ _
+    (λ r h. inr (help_told _ c.in-Err.error _ _ c.in-Err.ensures.plain c.in-Err.ensures.told h))
+    (MatchResult-weaker c.without_line.result c.without_line.ensures (λ r h. h) (λ e h. tt))
+
+pub returns-in-Err-clause-err : goal.returns-in-Err-clause-err
+returns-in-Err-clause-err g c =
+    IfErr-weaker c.without_line.result _ _
+    (λ e h. words_told (g.T.Texts.holds c.args.texts.now) (g.T.Texts.lacks c.args.texts.now) _ c.in-Err.error e c.in-Err.ensures.plain c.in-Err.ensures.help h)
+    (MatchResult-weaker c.without_line.result c.without_line.ensures (λ r h. tt) (λ e h. h))
