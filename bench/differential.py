@@ -33,11 +33,11 @@ HERE = os.path.dirname(os.path.abspath(__file__))
 BASELINE = os.path.join(HERE, "baseline", "target", "release", "baseline")
 
 
-def program_answer(program, command, path, seconds):
+def program_answer(program, command, path, seconds, options=()):
     """Standard output, status and standard error of a program, which may have words behind its
     path; a run past the time has none."""
     try:
-        done = subprocess.run([*shlex.split(program), command, path], stdin=subprocess.DEVNULL,
+        done = subprocess.run([*shlex.split(program), command, path, *options], stdin=subprocess.DEVNULL,
                               capture_output=True, timeout=seconds, check=False)
     except subprocess.TimeoutExpired:
         return b"", "no answer in time", b""
