@@ -16,6 +16,7 @@ import argparse
 import multiprocessing
 import os
 import random
+import shlex
 import sys
 import tempfile
 
@@ -25,7 +26,7 @@ import reference_cut
 import reference_text
 import small_mir
 from compare_owners import crowded
-from differential import BASELINE, memory_folder, program_answer
+from differential import BASELINE, ended, memory_folder
 
 # Lines of a cut file that are wrong, or seem so.
 LINES = [b"65535", b"65536", b"999999999", b"1000000000", b"4294967296", b"01", b"00", b"+1", b"-1", b"1 1", b"a",
@@ -37,8 +38,10 @@ HEADERS = [b"nll-cut 2", b"nll-cut", b"nll-cut 1 1", b"nll-facts 1", b"nll-cut 0
 
 # Options that are refused, whatever the text.
 USAGES = [["--owners", "0"], ["--owners", "65"], ["--owners", "-1"], ["--owners", "x"], ["--owners", ""],
-          ["--owners", "65537"], ["--owners", "18446744073709551617"], ["--owners"], ["--deal", "random"],
-          ["--deal", "2"], ["--deal"], ["--mail", "post"], ["--mail"], ["--cut"], ["--owner", "2", "--deals", "round"]]
+          ["--owners", "65537"], ["--owners", "18446744073709551617"], ["--owners", "01"], ["--owners", "+1"],
+          ["--owners=0"], ["--owners=65"], ["--owners="], ["--owners"], ["--owners", "1", "--owners", "1"],
+          ["--deal", "random"], ["--deal", "2"], ["--deal="], ["--deal"], ["--deal=round", "--deal", "round"],
+          ["--mail", "post"], ["--mail"], ["--cut"], ["--owner", "2"], ["--deals", "round"]]
 
 
 def region_count(text):
@@ -74,7 +77,7 @@ def hostile_cut(rng, lines):
         lines[at + 1:] = rng.choice([lines[at + 2:], [b"0"] * rng.randrange(3) + lines[at + 1:], []])
     elif kind == "owner":
         for _ in range(rng.choice([1, 2])):
-            lines[rng.randrange(1, len(lines))] = b"%d" % rng.choice([1, 2, 63, 64, 65, 1_000, 65_534, 65_535])
+            lines[rng.randrange(1, len(lines))] = b"%d" % rng.choice([1, 63, 64, 65, 1_000, 65_535, 65_535, 65_536, 999_999_999])
     cut = b"\n".join(lines) + rng.choice([b"\n", b"\n", b"", b"\n\n", b"\nend\n" if kind == "end" else b"\n"])
     if kind == "bytes":
         for _ in range(rng.choice([1, 2])):
@@ -96,6 +99,10 @@ def cut_of(rng, regions, owners):
     return b"\n".join(lines) + rng.choice([b"\n", b"\n", b""])
 
 
+# Stands among words for the path of the text.
+FILE = "FILE"
+
+
 class Case:
     """A text, and with which owners it is asked for."""
 
@@ -108,10 +115,11 @@ class Case:
         self.cut = None
         self.usage = rng.choice(USAGES)
         self.has_cut = rng.random() < 0.5
-        self.options = self.chosen_options(rng)
+        self.words = self.chosen_words(rng)
 
-    def chosen_options(self, rng):
-        """The options in random order; some that stand for what is meant anyway are left out."""
+    def chosen_words(self, rng):
+        """The words behind the command, of which one is FILE: options in random order, some of them one word. Some
+        that say what is meant anyway are left out."""
         pairs = []
         if self.has_cut:
             if rng.random() < 0.1:
@@ -125,7 +133,9 @@ class Case:
             pairs.append(["--owners", str(self.owners)])
         if rng.random() < 0.3:
             pairs.append(["--mail", "queue"])
+        pairs = [["=".join(pair)] if rng.random() < 0.2 else pair for pair in pairs]
         rng.shuffle(pairs)
+        pairs.insert(rng.choice([0, 0, rng.randrange(len(pairs) + 1)]), [FILE])
         return sum(pairs, [])
 
     def refusal(self):
@@ -153,8 +163,9 @@ class Comparison:
         self.folder = tempfile.TemporaryDirectory(dir=memory_folder())
         self.path = os.path.join(self.folder.name, "text")
 
-    def ask(self, program, command, options=()):
-        return program_answer(program, command, self.path, self.args.seconds, options)
+    def ask(self, program, command, words=(FILE,)):
+        words = [self.path if word == FILE else word for word in words]
+        return ended([*shlex.split(program), command, *words], self.args.seconds)
 
     def answers(self, command, case):
         """The answers to one command by the name of who gave them."""
@@ -165,7 +176,7 @@ class Comparison:
         if refusal is not None:
             line = (b"", 2, f"{refusal}\n".encode())
             found = {who: answer if answer[1] == 2 else line for who, answer in found.items()}
-        return {"nllc": self.ask(self.args.nllc, command, case.options), **found}
+        return {"nllc": self.ask(self.args.nllc, command, case.words), **found}
 
     def difference(self, case):
         """The words on which answers differ and these answers, or None."""
@@ -173,10 +184,10 @@ class Comparison:
         for command in ("values", "check"):
             found = self.answers(command, case)
             if len(set(found.values())) > 1:
-                return [command, *case.options], found
-        out, status, err = self.ask(self.args.nllc, "values", case.usage)
+                return [command, *case.words], found
+        out, status, err = self.ask(self.args.nllc, "values", [FILE, *case.usage])
         if out or status != 2 or not err.startswith(b"usage: "):
-            return ["values", *case.usage], {"nllc": (out, status, err), "wanted": (b"", 2, b"usage: ..")}
+            return ["values", FILE, *case.usage], {"nllc": (out, status, err), "wanted": (b"", 2, b"usage: ..")}
         return None
 
 

@@ -41,41 +41,62 @@ pub struct Asked<'w> {
 
 /// The number of owners that a word gives.
 fn owner_count(word: &str) -> Option<u16> {
-    word.parse().ok().filter(|count| (1..=64).contains(count))
+    let count: u16 = word.parse().ok().filter(|count| (1..=64).contains(count))?;
+    (word == count.to_string()).then_some(count)
 }
 
-/// The solver that options ask for. Each stands at most once; without the first and the third one
-/// thread solves.
-fn threads<'w>(options: &'w [String]) -> Option<Solver<'w>> {
-    let (mut owners, mut deal, mut cut, mut mail) = (None, None, None, None);
-    for option in options.chunks(2) {
-        let [name, value] = option else {
-            return None;
-        };
-        let known: &mut Option<&'w str> = match name.as_str() {
-            "--owners" => &mut owners,
-            "--deal" => &mut deal,
-            "--cut" => &mut cut,
-            "--mail" => &mut mail,
+/// What the words behind a command say, each thing at most once.
+#[derive(Default)]
+struct Said<'w> {
+    file: Option<&'w str>,
+    owners: Option<&'w str>,
+    deal: Option<&'w str>,
+    cut: Option<&'w str>,
+    mail: Option<&'w str>,
+}
+
+impl<'w> Said<'w> {
+    /// What is said; an option is two words, or one with a `=`.
+    fn of(words: &'w [String]) -> Option<Said<'w>> {
+        let mut said = Said::default();
+        let mut words = words.iter();
+        while let Some(word) = words.next() {
+            let (name, value) = match word.split_once('=') {
+                _ if !word.starts_with("--") => ("", word.as_str()),
+                Some(pair) => pair,
+                None => (word.as_str(), words.next().filter(|value| !value.starts_with('-'))?.as_str()),
+            };
+            let place = match name {
+                "" => &mut said.file,
+                "--owners" => &mut said.owners,
+                "--deal" => &mut said.deal,
+                "--cut" => &mut said.cut,
+                "--mail" => &mut said.mail,
+                _ => return None,
+            };
+            if place.replace(value).is_some() {
+                return None;
+            }
+        }
+        Some(said)
+    }
+
+    /// The solver that is asked for: one thread where there is no number of owners and no cut file.
+    fn solver(&self) -> Option<Solver<'w>> {
+        let count = owner_count(self.owners.unwrap_or("1"))?;
+        let dealt = match self.deal.unwrap_or("round") {
+            "round" => Deal::Round,
+            "blocks" => Deal::Blocks,
             _ => return None,
         };
-        if known.replace(value).is_some() {
+        if self.mail.is_some_and(|mail| mail != "queue") {
             return None;
         }
-    }
-    let count = owner_count(owners.unwrap_or("1"))?;
-    let dealt = match deal.unwrap_or("round") {
-        "round" => Deal::Round,
-        "blocks" => Deal::Blocks,
-        _ => return None,
-    };
-    if mail.is_some_and(|mail| mail != "queue") {
-        return None;
-    }
-    match cut {
-        None if owners.is_none() => Some(Solver::Runs),
-        None => Some(Solver::Threads(count, dealt)),
-        Some(path) => Some(Solver::Threads(count, Deal::Listed(path))),
+        Some(match self.cut {
+            None if self.owners.is_none() => Solver::Runs,
+            None => Solver::Threads(count, dealt),
+            Some(path) => Solver::Threads(count, Deal::Listed(path)),
+        })
     }
 }
 
@@ -92,10 +113,11 @@ pub fn asked(words: &[String]) -> Option<Asked<'_>> {
         [command, count, path] if command == "owners" => {
             Some(Asked { command, path, solver: Solver::Turns(owner_count(count)?) })
         }
-        [first, command, path, options @ ..]
+        [first, command, rest @ ..]
             if first == "threads" && THREAD_COMMANDS.contains(&command.as_str()) =>
         {
-            Some(Asked { command, path, solver: threads(options)? })
+            let said = Said::of(rest)?;
+            Some(Asked { command, path: said.file?, solver: said.solver()? })
         }
         _ => None,
     }
