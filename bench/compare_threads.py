@@ -106,11 +106,11 @@ FILE = "FILE"
 class Case:
     """A text, and with which owners it is asked for."""
 
-    def __init__(self, seed, folder):
+    def __init__(self, seed, folder, most):
         rng = random.Random(seed)
         self.text = text_of(rng)
         self.regions = region_count(self.text)
-        self.owners = rng.choice([1, 2, 3, 4, rng.randrange(5, 65), 64])
+        self.owners = min(most, rng.choice([1, 2, 3, 4, rng.randrange(5, 65), 64]))
         self.cut_path = os.path.join(folder, "owners.cut")
         self.cut = None
         self.usage = rng.choice(USAGES)
@@ -201,7 +201,7 @@ def begin(args):
 
 def compare(seed):
     """None where all answers are the same, else the case, the words and the answers."""
-    case = Case(seed, COMPARISON.folder.name)
+    case = Case(seed, COMPARISON.folder.name, COMPARISON.args.most)
     difference = COMPARISON.difference(case)
     return None if difference is None else (case, *difference)
 
@@ -225,6 +225,7 @@ def main():
     parser.add_argument("--baseline", metavar="PATH", default=BASELINE)
     parser.add_argument("--count", type=int, default=10_000)
     parser.add_argument("--seed", type=int, default=1)
+    parser.add_argument("--most", type=int, default=64, help="the most owners, for a slow program")
     parser.add_argument("--seconds", type=float, default=20.0, help="time limit of a run")
     parser.add_argument("--processes", type=int, default=2)
     parser.add_argument("--save", default=os.path.join(tempfile.gettempdir(), "nllc-differences"))

@@ -22,6 +22,9 @@ from measure_owners import groups_of
 # Stands among numbers of owners for one thread that has no owners.
 ONE = 0
 
+# Stands among numbers of owners for reading a text that is refused.
+READING = "reading"
+
 # The families that aren't dealt as the others are.
 DEALS = {"islands": "blocks"}
 
@@ -69,23 +72,20 @@ def ended(args, command, statuses, out=os.devnull):
     return found
 
 
-def reading_times(args, text):
-    """The best time of each program to read and refuse a text."""
-    best = dict.fromkeys(args.programs, math.inf)
-    for _ in range(args.runs):
-        for who, program in args.programs.items():
-            command = command_of(program, "check", refused_of(text), ONE, "")
-            best[who] = min(best[who], ended(args, command, (2,)).wall)
-    return best
+def time_of(args, program, text, kind, deal):
+    """The time of a program to read and refuse a text, or to answer `check` by so many owners."""
+    if kind == READING:
+        return ended(args, command_of(program, "check", refused_of(text), ONE, deal), (2,)).wall
+    return ended(args, command_of(program, "check", text, kind, deal), (0, 1)).wall
 
 
-def check_times(args, text, owners, deal):
-    """The best time of each program to answer `check`."""
-    best = dict.fromkeys(args.programs, math.inf)
+def best_times(args, text, deal):
+    """The best times of each program: to read and refuse a text, and to answer by each number of owners."""
+    best = {kind: dict.fromkeys(args.programs, math.inf) for kind in [READING, *args.counts]}
     for _ in range(args.runs):
-        for who, program in args.programs.items():
-            command = command_of(program, "check", text, owners, deal)
-            best[who] = min(best[who], ended(args, command, (0, 1)).wall)
+        for kind, times in best.items():
+            for who, program in args.programs.items():
+                times[who] = min(times[who], time_of(args, program, text, kind, deal))
     return best
 
 
@@ -115,14 +115,14 @@ def counts_of(args, text, owners, deal):
 
 def add_text(args, found, text, deal):
     """Adds what one text takes, for each number of owners, and what reading it takes."""
-    reading = reading_times(args, text)
-    found["reading"].update(reading)
+    best = best_times(args, text, deal)
+    reading = best[READING]
+    found[READING].update(reading)
     for owners in args.counts:
         peaks = values_peaks(args, text, owners, deal)
         counts = counts_of(args, text, owners, deal)
         figures = found.setdefault(owners, Figures(Counter(), [], Counter()))
-        times = check_times(args, text, owners, deal)
-        figures.seconds.update({who: times[who] - reading[who] for who in times})
+        figures.seconds.update({who: best[owners][who] - reading[who] for who in reading})
         figures.peaks.append((peaks, counts["received"]))
         figures.counts.update(counts)
 
@@ -135,10 +135,11 @@ def bar_of(found, owners):
 
 
 def judged(seconds, most, noise):
-    """Whether seconds are at most so many; nothing where they are too close to tell."""
-    if seconds <= most:
+    """Whether seconds are at most so many; nothing where they are too close to tell. Differences of times may
+    come to less than nothing."""
+    if seconds <= most and most > 0:
         return True
-    return None if seconds <= most + noise else False
+    return None if seconds <= max(most, 0) + noise else False
 
 
 def judge_memory(found, owners):
@@ -157,8 +158,8 @@ def judge_many(found):
 
 def judge(name, found, owners):
     """What is wanted of these owners, and whether it is met."""
-    seconds, noise = found[owners].seconds, NOISE * found["reading"]["nllc"]
-    wide = noise + MOST_TIME * NOISE * found["reading"]["partner"]
+    seconds, noise = found[owners].seconds, NOISE * found[READING]["nllc"]
+    wide = noise + MOST_TIME * NOISE * found[READING]["partner"]
     verdicts = {"partner's time": judged(seconds["nllc"], MOST_TIME * seconds["partner"], wide),
                 "partner's memory": judge_memory(found, owners)}
     if owners == ONE:
@@ -197,7 +198,7 @@ def print_row(name, found, owners, verdicts):
 
 def print_group(args, name, texts, verdicts):
     """Prints the rows of some texts together. Answers whether all runs ended with the same answers."""
-    found = {"reading": Counter()}
+    found = {READING: Counter()}
     deal = DEALS.get(name, args.deal)
     try:
         for text in texts:
