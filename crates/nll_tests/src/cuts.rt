@@ -57,8 +57,8 @@ pub fn write_cut_file(out: &mut Transcript, text: &[u8]) {
             }
         }
         Err(error) => {
-            out.number("line ", error.line as u32, ": ");
-            out.show("", &error.kind);
+            out.show("line ", &error.line);
+            out.show(": ", &error.kind);
         }
     }
 }
