@@ -1,22 +1,29 @@
 #!/usr/bin/env python3
 """What `nllc.sh --prove` runs: proves the program and what it stands on, and builds it.
 
-Crates that don't stand on one another are proved side by side, as many as there are processors, and 4 GB
-of memory for each; one that alone can be proved next has all processors. It says on standard error how far
-it is; what `rt` prints goes to out/prove.log. What is proved is kept, so that the next run has only the rest
-to do. Python 3.8 is enough, as for `rt`.
+Crates that don't stand on one another are proved side by side, each in a room of its own, with as many processes in
+all as there are processors and memory for: 4 GB for each. Which crate begins when, tools/shares.py says, and what a
+room is, tools/rooms.py. It says on standard error how far it is; what `rt` prints goes to out/prove.log. What is proved
+is kept, so that the next run has only the rest to do. Python 3.8 is enough, as for `rt`.
 """
 
+import contextlib
 import os
 import signal
 import sys
+import tempfile
 import time
 
 from crates import below, uses_of
-from proving import most_at_once, prove, prove_alone, started
+from proving import most_at_once, started
+from rooms import Room, alone_in, folder_of, remove_left
+from shares import ahead_of, lines_in, shares
 
 ROOT = os.path.dirname(os.path.dirname(os.path.realpath(__file__)))
 PROGRAM = "nllc"
+# How `rt` ends where a check was killed, most likely for memory, or where it was killed itself.
+KILLED = (256 - signal.SIGKILL, -signal.SIGKILL)
+PAUSE = 0.1
 
 
 def say(text):
@@ -24,75 +31,122 @@ def say(text):
 
 
 class Progress:
-    """Says which crates are proved, each once, and knows which aren't."""
+    """Says which crates are proved, each once."""
 
     def __init__(self, total):
-        self.total, self.proved, self.others = total, [], []
+        self.total, self.proved = total, []
 
-    def told(self, crate, is_proved, _):
-        if not is_proved:
-            self.others.append(crate)
-        elif crate not in self.proved:
+    def told(self, crate):
+        if crate not in self.proved:
             self.proved.append(crate)
             say("{} of {} proved: {}".format(len(self.proved), self.total, crate))
 
-    def first_failure(self):
-        return next((crate for crate in self.others if crate not in self.proved), None)
+
+class Check:
+    """The check of a library in its room, which ends with the block; what is kept of it is then in the tree."""
+
+    def __init__(self, root, crate, libraries, jobs):
+        self.root, self.crate, self.jobs = root, crate, jobs
+        self.room = Room(root, crate, libraries)
+
+    def __enter__(self):
+        words = ["rt", "lib", "--jobs", str(self.jobs)]
+        with contextlib.ExitStack() as ends:
+            ends.callback(self.room.remove)
+            self.room.open()
+            self.printed = ends.enter_context(tempfile.TemporaryFile("w+", encoding="utf-8", errors="replace"))
+            self.running = ends.enter_context(started(words, self.room.folder, self.printed))
+            self.ends = ends.pop_all()
+        return self
+
+    def __exit__(self, *_):
+        self.ends.close()
+
+    def end(self, log):
+        """Has `rt` take the library into the tree, if it's built; gives the status of `rt`."""
+        self.room.close()
+        status = self.running.returncode
+        if status == 0:
+            words = ["rt", "lib", "--jobs", str(self.jobs)]
+            with started(words, folder_of(self.root, self.crate), self.printed) as running:
+                status = running.wait()
+        self.printed.seek(0)
+        log.write("== {}\n{}".format(self.crate, self.printed.read()))
+        log.flush()
+        self.ends.close()
+        return status
 
 
-class Steps:
-    """Which crate is to be proved by itself."""
+class Libraries:
+    """The libraries that a program stands on, and the checks that are under way."""
 
-    def __init__(self, uses, progress):
-        self.uses, self.progress, self.new = uses, progress, set()
-        self.names = [*below(uses, PROGRAM), PROGRAM]
+    def __init__(self, root, number):
+        self.root, self.uses, self.number = root, uses_of(root), number
+        self.names, self.proved, self.running = below(self.uses, PROGRAM), set(), {}
+        self.ahead = ahead_of(self.uses, {name: lines_in(root, name) for name in self.names})
 
-    def told(self, crate, is_proved, is_new):
-        self.progress.told(crate, is_proved, is_new)
-        if is_new:
-            self.new.add(crate)
+    def begin(self, checks):
+        """Begins the checks that there are processors for."""
+        ready = [name for name in self.names if name not in self.proved and name not in self.running
+                 and self.proved.issuperset(self.uses[name])]
+        jobs = {name: check.jobs for name, check in self.running.items()}
+        for name, share in shares(ready, jobs, self.number, self.ahead).items():
+            check = Check(self.root, name, below(self.uses, name), share)
+            self.running[name] = checks.enter_context(check)
 
-    def next_alone(self):
-        """The one crate that can be proved now, where this run proved one below it, so that it's checked anew."""
-        proved = set(self.progress.proved)
-        ready = [name for name in self.names if name not in proved and proved.issuperset(self.uses[name])]
-        return ready[0] if len(ready) == 1 and self.new & set(below(self.uses, ready[0])) else None
+    def wait(self):
+        """Waits until a check ends, and gives it."""
+        while True:
+            for name, check in self.running.items():
+                if check.running.poll() is not None:
+                    return self.running.pop(name)
+            time.sleep(PAUSE)
+
+    def prove(self, progress, log):
+        """Proves all; gives the first that isn't proved, or None. Where a check was killed, half as many run at a time."""
+        with contextlib.ExitStack() as checks:
+            while len(self.proved) < len(self.names):
+                self.begin(checks)
+                check = self.wait()
+                status = check.end(log)
+                if status == 0:
+                    self.proved.add(check.crate)
+                    progress.told(check.crate)
+                elif status in KILLED and self.number > 1:
+                    self.number //= 2
+                    log.write("a check was killed: {} at a time now\n".format(self.number))
+                else:
+                    return check.crate
+        return None
 
 
-def prove_program(root, progress, number, log):
-    """Proves the program and what it stands on; gives the status of `rt`."""
-    steps, folder = Steps(uses_of(root), progress), os.path.join(root, "crates")
-    while PROGRAM not in progress.proved:
-        crate = steps.next_alone()
-        if crate and prove_alone(os.path.join(folder, crate), number, log) == 0:
-            steps.told(crate, True, True)
-            continue
-        status = prove(os.path.join(folder, PROGRAM), number, steps.told, log,
-                       is_enough=lambda: not crate and steps.next_alone() is not None)
-        if status is not None:
-            return status
-    return 0
-
-
-def build(folder, log):
-    """Has `rt` build and run the program, over what is kept of its check."""
-    say("building the program")
-    with started(["rt", "run", "--", "--help"], folder, log) as running:
+def build(folder, number, progress, log):
+    """Has `rt` prove, build and run the program."""
+    words = ["rt", "run", "--jobs", str(number), "--", "--help"]
+    with started(words, folder) as running:
+        for line in running.stdout:
+            log.write(line)
+            if line.startswith("logic=proved "):
+                progress.told(PROGRAM)
+                say("building the program")
         return running.wait()
 
 
 def prove_and_build(root):
-    folder, path = os.path.join(root, "crates", PROGRAM), os.path.join(root, "out", "prove.log")
-    program, began = os.path.join(folder, "out", PROGRAM), time.time()
-    progress = Progress(len(below(uses_of(root), PROGRAM)) + 1)
-    os.makedirs(os.path.dirname(path), exist_ok=True)
-    with open(path, "w", encoding="utf-8") as log:
-        status = prove_program(root, progress, most_at_once(), log)
-        if status == 0:
-            status = build(folder, log)
-    if status:
-        say("not proved: {}; see {}".format(progress.first_failure() or "what rt says", path))
+    folder, out = folder_of(root, PROGRAM), os.path.join(root, "out")
+    path, program, began = os.path.join(out, "prove.log"), os.path.join(folder, "out", PROGRAM), time.time()
+    os.makedirs(out, exist_ok=True)
+    with alone_in(out, lambda: say("waiting for another run to finish here")), open(path, "w", encoding="utf-8") as log:
+        remove_left(root)
+        libraries = Libraries(root, most_at_once())
+        progress = Progress(len(libraries.names) + 1)
+        failed = libraries.prove(progress, log)
+        if failed is None and build(folder, libraries.number, progress, log):
+            failed = "what rt says" if PROGRAM in progress.proved else PROGRAM
+    if failed:
+        say("not proved: {}; see {}".format(failed, path))
         return 1
+    progress.told(PROGRAM)
     os.utime(program, (began, began))  # rt leaves it as it is where no source has other words
     say("proved and built: " + program)
     return 0

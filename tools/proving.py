@@ -46,12 +46,6 @@ def started(words, folder, output=subprocess.PIPE):
             running.stdout.close()
 
 
-def prove_alone(folder, number, log):
-    """Proves the crate in this folder with so many processors; gives the status of `rt`."""
-    with started(["rt", "check", "--jobs", str(number)], folder, log) as running:
-        return running.wait()
-
-
 class Reader:
     """Reads what `rt all check` prints, a part for each crate, and calls `told` as each of them ends."""
 
@@ -77,27 +71,24 @@ class Reader:
             self.killed = self.killed or bool(KILLED.match(line))
 
 
-def prove_once(folder, number, told, log, watching, is_enough):
+def prove_once(folder, number, told, log, watching):
     reader = Reader(told)
     with started(["rt", "all", "check", "--jobs", str(number)], folder) as running, watching(running.pid):
         for line in running.stdout:
             log.write(line)
             log.flush()
             reader.read(line.rstrip("\n"))
-            if is_enough():
-                return None, False
         return running.wait(), reader.killed
 
 
-def prove(folder, number, told, log, watching=lambda pid: contextlib.nullcontext(), is_enough=lambda: False):
+def prove(folder, number, told, log, watching=lambda pid: contextlib.nullcontext()):
     """Proves the crate in this folder and those below it, so many at a time; gives the status of `rt`.
 
     `told(crate, is_proved, is_new)` is called as each ends; one that isn't new was proved by an earlier run.
     Where a check was killed, most likely for memory, the rest is tried again with half as many at a time.
-    Once `is_enough()`, it stops, keeps what is proved, and gives None.
     """
     while True:
-        status, killed = prove_once(folder, number, told, log, watching, is_enough)
+        status, killed = prove_once(folder, number, told, log, watching)
         if not killed or number == 1:
             return status
         number //= 2

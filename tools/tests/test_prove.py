@@ -20,28 +20,25 @@ sys.path.insert(0, str(ROOT / "tools"))
 import prove  # noqa: E402 (it stands in tools/)
 import proving  # noqa: E402
 
-# An `rt` that proves low, then nllc by itself, and then makes a program.
+# An `rt` that proves libraries, and makes a program.
 PROVES = """#!/bin/sh
-echo "$@" in $(basename "$PWD") >> {said}
-if [ "$1" = all ]; then
-    echo "== low"; echo "fn low::f: proved"; echo "logic=proved functions=1"
-    echo "== nllc"; echo "logic=proved functions=1"; echo "== summary"; echo "low: ok"
+echo "$@" in "${{PWD#{root}/}}" >> {said}
+mkdir -p out; echo "fn f: proved"; echo "logic=proved functions=1"
+if [ "$1" = lib ]; then
+    mkdir -p out/rlib out/incremental; touch out/rlib/stamp out/incremental/found
 else
-    mkdir -p out && printf '#!/bin/sh\\necho proved "$@"\\n' > out/nllc && chmod +x out/nllc
+    printf '#!/bin/sh\\necho proved "$@"\\n' > out/nllc && chmod +x out/nllc
 fi
 """
 FAILS = """#!/bin/sh
-echo "== low"; echo "logic=proved functions=1"; echo "== nllc"; echo "logic=not-proved functions=1"
-echo "== summary"; echo "nllc: failed (1)"; exit 1
+echo "logic=not-proved functions=1"; exit 1
 """
-# An `rt` that proves low, and of which the other check is killed while more than one runs at a time.
+# An `rt` of which a check with more than one process is killed.
 KILLED = """#!/bin/sh
 echo "$@" >> {said}
-[ "$1" = run ] && exit 1
-echo "== low"; echo "logic=proved functions=1"; echo "== nllc"; echo "fn nllc::f"
-echo "== summary"; [ "$4" = 1 ] || echo "nllc: failed (-9)"; exit 1
+[ "$3" = 1 ] || exit 247
 """
-WAITS = "#!/bin/sh\necho $$ > {said}\nexec sleep 60\n"
+WAITS = "#!/bin/sh\nmkdir -p out/incremental && touch out/incremental/found\necho $$ > {said}\nexec sleep 60\n"
 
 
 class Proving(unittest.TestCase):
@@ -50,11 +47,12 @@ class Proving(unittest.TestCase):
         self.addCleanup(self.folder.cleanup)
         self.root = pathlib.Path(self.folder.name) / "repository"
         self.said = pathlib.Path(self.folder.name) / "said"
-        (self.root / "crates/nllc/src").mkdir(parents=True)
-        (self.root / "crates/nllc/src/main.rt").write_text("fn main() {}\n")
+        for file in ("low/src/lib.rt", "beside/src/lib.rt", "nllc/src/main.rt"):
+            (self.root / "crates" / file).parent.mkdir(parents=True)
+            (self.root / "crates" / file).write_text("fn main() {}\n")
         (self.root / "crates.txt").write_text("low:\nbeside: low\nnllc: low\n")
         (self.root / "tools").mkdir()
-        for name in ("nllc.sh", "tools/prove.py", "tools/proving.py", "tools/crates.py"):
+        for name in ("nllc.sh", "tools/prove.py", "tools/rooms.py", "tools/shares.py", "tools/proving.py", "tools/crates.py"):
             shutil.copy(ROOT / name, self.root / name)
 
     def script(self, path, *words):
@@ -68,7 +66,7 @@ class Proving(unittest.TestCase):
         """Starts the script with this `rt`."""
         file = pathlib.Path(self.folder.name) / "bin" / "rt"
         file.parent.mkdir(exist_ok=True)
-        file.write_text(rt.format(said=self.said))
+        file.write_text(rt.format(said=self.said, root=self.root))
         file.chmod(file.stat().st_mode | stat.S_IXUSR)
         return self.script(f"{file.parent}:{os.environ['PATH']}", *words)
 
@@ -93,8 +91,13 @@ class Proving(unittest.TestCase):
         self.assertEqual(told.splitlines()[1:], [
             "nllc.sh: 1 of 2 proved: low", "nllc.sh: 2 of 2 proved: nllc", "nllc.sh: building the program",
             "nllc.sh: proved and built: /crates/nllc/out/nllc"])
-        self.assertRegex(self.said.read_text(), r"\Aall check --jobs (\d+) in nllc\ncheck --jobs \1 in nllc\nrun -- --help in nllc\n\Z")
-        self.assertIn("fn low::f: proved", (self.root / "out/prove.log").read_text())
+        jobs = self.said.read_text().split()[2]
+        self.assertEqual(self.said.read_text().splitlines(), [
+            f"lib --jobs {jobs} in out/rooms/low/crates/low", f"lib --jobs {jobs} in crates/low",
+            f"run --jobs {jobs} -- --help in crates/nllc"])
+        self.assertIn("== low\nfn f: proved", (self.root / "out/prove.log").read_text())
+        self.assertTrue((self.root / "crates/low/out/incremental/found").exists())
+        self.assertFalse((self.root / "out/rooms").exists())
 
     def test_the_proved_program_answers_until_a_source_is_newer(self):
         self.run_with(PROVES, "--prove")
@@ -104,29 +107,26 @@ class Proving(unittest.TestCase):
         self.assertEqual(self.run_without_rt("check", "a"), 127)
 
     def test_what_changed_while_it_was_proved_is_newer(self):
-        self.run_with(PROVES.replace("mkdir", "touch src/main.rt; sleep 0.05; mkdir"), "--prove")
+        self.run_with(PROVES.replace("printf", "touch src/main.rt; sleep 0.05; printf"), "--prove")
         self.assertEqual(self.run_without_rt("check", "a"), 127)
 
     def test_the_crate_that_fails_is_told(self):
         status, _, told = self.run_with(FAILS, "--prove")
         self.assertEqual(status, 1)
-        self.assertEqual(told.splitlines()[-1], "nllc.sh: not proved: nllc; see /out/prove.log")
+        self.assertEqual(told.splitlines()[-1], "nllc.sh: not proved: low; see /out/prove.log")
 
-    def test_after_a_killed_check_the_rest_is_tried_again(self):
+    def test_a_killed_check_is_tried_again_with_fewer_at_a_time(self):
         _, _, told = self.run_with(KILLED, "--prove")
-        self.assertEqual(self.said.read_text().splitlines()[-1], "all check --jobs 1")
+        said = self.said.read_text().splitlines()
+        self.assertEqual(said[-3:], ["lib --jobs 1", "lib --jobs 1", "run --jobs 1 -- --help"])
         self.assertEqual(told.count("1 of 2 proved: low"), 1, told)
-        self.assertIn("not proved: nllc", told)
 
-    def test_a_crate_is_told_once_and_one_that_is_proved_later_has_not_failed(self):
+    def test_a_crate_is_told_once(self):
         said = io.StringIO()
         progress = prove.Progress(2)
         with contextlib.redirect_stderr(said):
-            for crate, is_proved in (("low", True), ("nllc", False), ("low", True)):
-                progress.told(crate, is_proved, True)
-            self.assertEqual(progress.first_failure(), "nllc")
-            progress.told("nllc", True, True)
-        self.assertIsNone(progress.first_failure())
+            for crate in ("low", "low", "nllc"):
+                progress.told(crate)
         self.assertEqual(said.getvalue(), "nllc.sh: 1 of 2 proved: low\nnllc.sh: 2 of 2 proved: nllc\n")
 
     def test_after_a_killed_check_half_as_many_run_at_a_time(self):
@@ -151,6 +151,8 @@ class Proving(unittest.TestCase):
             self.assertEqual(running.returncode, status, told)
             with self.assertRaises(ProcessLookupError):
                 os.kill(int(self.said.read_text()), 0)
+            self.assertTrue((self.root / "crates/low/out/incremental/found").exists())
+            self.assertFalse((self.root / "out/rooms").exists())
 
 
 class Reading(unittest.TestCase):

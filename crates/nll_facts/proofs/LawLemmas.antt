@@ -1,23 +1,22 @@
 -- A facts text has one meaning or one fault.
-use Rattle.std.proofs.Common.{map, ◌⊎◌, inl, inr, ⊎_elim, ◌≡◌, ℕ, ◌<◌, ◌≤◌, length, ◌^◌, cond, List, [], ◌∷◌, Contains, refl, sym, ap, ◌∙◌, subst, arith}
+use Rattle.std.proofs.Common.{map, ◌⊎◌, inl, inr, ⊎_elim, ◌≡◌, ℕ, ◌≤◌, length, cond, List, [], ◌∷◌, Contains, refl, sym, ap, ◌∙◌, subst, arith}
 use Rattle.std.specs.Prelude.{codes}
 use Rattle.std.specs.List.{AllByRecursion}
 use Rattle.std.specs.Str.{bytes_eq}
 use Rattle.std.specs.Str.Parse.{digits_value}
 use Rattle.std.specs.Fmt.{decimal}
-use Rattle.std.proofs.lemmas.Bool.{cases_eq, cases_lt}
-use Rattle.std.proofs.lemmas.Fmt.{decimal_is_IsNumeral}
-use Rattle.nll_text.specs.Tokens.{Token, word, region, IsMadeOf}
-use Rattle.nll_text.proofs.DecisionLemmas.{tokens_or_not}
-use Rattle.nll_text.proofs.TokenLemmas.{one_token_list_lem, made_or_not}
+use Rattle.std.proofs.lemmas.Bool.{cases_eq}
+use Rattle.nll_text.specs.Tokens.{Token, word, region}
 use Rattle.nll_problem.specs.Problem.{Problem, SameProblem}
 use Rattle.nll_problem.proofs.SameLemmas.{same_problem, same_problem_back, same_problem_chain}
 use Rattle.nll_reading.specs.Labels.{Labels, numbers}
+use Rattle.nll_reading.specs.Parts.{Name, IsSmall, token_of}
 use Rattle.nll_reading.specs.Text.{IsText, IsFault, HasAtMost}
 use Rattle.nll_reading.specs.declared.error.TextKind.{TextKind}
+use Rattle.nll_reading.proofs.PartLemmas as lemmas
+use Rattle.nll_reading.proofs.PartLemmas.{printed}
 use Rattle.nll_reading.proofs.TextLaws as laws
-use Rattle.nll_facts.specs.FactsForms.{Name, Form, points, universal, outlives, further, next, return, base, constraint, end, HasForm, Part, IsSmall, AreSpelled, parts, token_of, most_tokens}
-use Rattle.nll_facts.specs.FactsForms as forms
+use Rattle.nll_facts.specs.FactsForms.{Form, points, universal, outlives, further, next, return, base, constraint, end, HasForm, parts, most_tokens}
 use Rattle.nll_facts.specs.FactsSaid.{reached, names_said, problem_said}
 use Rattle.nll_facts.specs.FactsText.{facts, Means}
 use Rattle.nll_facts.proofs.TextLemmas.{ended, not_ended}
@@ -53,9 +52,6 @@ unspelled (word w ∷ ts) =
     end)))))))
 unspelled _ = end
 
-printed : (n : ℕ) → n < 10 ^ 9 → digits_value 10 (decimal n) ≡ n
-printed n small = (decimal_is_IsNumeral n (omega (arith, small))).1
-
 unspelled_spelled : (f : Form) → AllByRecursion IsSmall (parts f) → unspelled (map token_of (parts f)) ≡ f
 unfolding unspelled number_in name_in behind
 unspelled_spelled (points n) small = ap points (printed n small.1.0)
@@ -69,44 +65,10 @@ unspelled_spelled (constraint a b p) small = ap (λ (n : ℕ). constraint a b n)
 unspelled_spelled end small = refl
 
 one_form : (line : List ℕ) (f g : Form) → HasForm line f → HasForm line g → f ≡ g
-one_form line f g h k =
-    sym (unspelled_spelled f h.small)
-    ∙ (ap unspelled (one_token_list_lem line (map token_of (parts f)) (map token_of (parts g)) h.made k.made) ∙ unspelled_spelled g k.small)
-
--- ---- a line has a form or none
-
-small_or_not : (these : List Part) → AllByRecursion IsSmall these ⊎ (AllByRecursion IsSmall these → ⊥)
-small_or_not [] = inl tt
-small_or_not (x ∷ these) = ⊎_elim
-    (λ h. ⊎_elim (λ k. inl (h, k)) (λ no. inr (λ k. no k.1)) (small_or_not these))
-    (λ h. inr (λ k. h k.0))
-    (part_small_or_not x)
-  where
-    part_small_or_not : (x : Part) → IsSmall x ⊎ (IsSmall x → ⊥)
-    part_small_or_not (forms.keyword w) = inl tt
-    part_small_or_not (forms.number n) = ⊎_elim inl (λ h. inr (λ k. omega (arith, h, k))) (cases_lt n (10 ^ 9))
-    part_small_or_not (forms.region x) = inl tt
-
--- the form that tokens have is the one that they spell
-spelled_or_none : (ts : List Token) → ((f : Form) × AreSpelled ts (parts f)) ⊎ ((f : Form) → AreSpelled ts (parts f) → ⊥)
-spelled_or_none ts =
-    let own : (f : Form) → AreSpelled ts (parts f) → unspelled ts ≡ f = λ f h. ap unspelled h.same ∙ unspelled_spelled f h.small in
-    ⊎_elim
-    (λ same. ⊎_elim
-    (λ small. inl (unspelled ts, record { same = same; small = small }))
-    (λ no. inr (λ f h. no (subst (λ (g : Form). AllByRecursion IsSmall (parts g)) (sym (own f h)) h.small)))
-    (small_or_not (parts (unspelled ts))))
-    (λ no. inr (λ f h. no (h.same ∙ sym (ap (λ (g : Form). map token_of (parts g)) (own f h)))))
-    (tokens_or_not ts (map token_of (parts (unspelled ts))))
+one_form = lemmas.one_form Form parts unspelled unspelled_spelled
 
 form_or_none : (line : List ℕ) → ((f : Form) × HasForm line f) ⊎ ((f : Form) → HasForm line f → ⊥)
-form_or_none line = ⊎_elim
-    (λ made. ⊎_elim
-    (λ h. inl (h.0, record { made = subst (IsMadeOf line) h.1.same made.1; small = h.1.small }))
-    (λ no. inr (λ f h. no f (record { same = one_token_list_lem line made.0 (map token_of (parts f)) made.1 h.made; small = h.small })))
-    (spelled_or_none made.0))
-    (λ no. inr (λ f h. no (map token_of (parts f)) h.made))
-    (made_or_not line)
+form_or_none = lemmas.form_or_none Form parts unspelled unspelled_spelled
 
 -- the last line is among the lines, or it isn't
 ended_or_not : (forms : List Form) → Contains forms end ⊎ (Contains forms end → ⊥)

@@ -10,13 +10,14 @@ use Rattle.nll_problem.specs.Problem.{Problem, SameProblem}
 use Rattle.nll_problem.specs.Building.{AddsFact, bare_problem}
 use Rattle.nll_problem.specs.GraphBuilding.{bare_graph}
 use Rattle.nll_reading.specs.Names.{number_of}
+use Rattle.nll_reading.specs.Parts.{Part, keyword, number, region}
 use Rattle.nll_reading.specs.Reading as reading
 use Rattle.nll_reading.specs.Text.{Says, IsFault, IsHeaded, IsRefusal}
 use Rattle.nll_reading.specs.declared.error.TextError.{TextError}
 use Rattle.nll_reading.specs.declared.error.TextKind.{TextKind}
 use Rattle.nll_reading.specs.declared.error.TextKind.TheVariants.{Memory}
 use Rattle.nll_facts.specs.FactsForms.{Form, points, universal, outlives, further, next, return}
-use Rattle.nll_facts.specs.FactsForms.{base, constraint, end, Part, keyword, number, region, parts}
+use Rattle.nll_facts.specs.FactsForms.{base, constraint, end, parts}
 use Rattle.nll_facts.specs.FactsSaid.{Said, said, group, is_in_order, first_fault}
 use Rattle.nll_facts.specs.FactsText.{facts}
 use Rattle.nll_facts.specs.declared.reader.Reader.{Reader}

@@ -14,8 +14,9 @@ use Rattle.nll_problem.specs.Limits.{most_constraints}
 use Rattle.nll_problem.specs.declared.error.Kind.TheVariants.{Points, Edges, Universals, Regions}
 use Rattle.nll_problem.specs.declared.error.Kind.TheVariants.{Constraints}
 use Rattle.nll_reading.specs.Names.{number_of}
+use Rattle.nll_reading.specs.Parts.{Name}
 use Rattle.nll_reading.specs.Kinds.{kinds}
-use Rattle.nll_facts.specs.FactsForms.{Name, Form, points, universal, outlives, further, next}
+use Rattle.nll_facts.specs.FactsForms.{Form, points, universal, outlives, further, next}
 use Rattle.nll_facts.specs.FactsForms.{return, base, constraint, end}
 use Rattle.nll_reading.specs.declared.error.TextKind.{TextKind}
 use Rattle.nll_reading.specs.declared.error.TextKind.TheVariants.{Syntax, Unknown, Duplicate, Range}

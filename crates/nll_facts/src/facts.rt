@@ -1,38 +1,24 @@
 //! Reading a whole facts text.
 
-ghost use Rattle.std.specs.Prelude.{◌≡◌, ◌≢◌, ◌⊎◌, ◌<◌, ◌^◌, ℕ, List, [], length};
+ghost use Rattle.std.specs.Prelude.{◌≡◌, ◌<◌, ◌^◌, ℕ, List, [], length};
 ghost use Rattle.std.specs.Prelude.{OnOk, IfOk, IfErr};
-ghost use Rattle.std.specs.Str.{IsUtf8};
 ghost use Rattle.nll_text.specs.Lines.{lines_left};
-ghost use Rattle.nll_reading.specs.Text.{IsFault, IsHeaded, IsHeader, IsHeaderFault, IsRefusal};
+ghost use Rattle.nll_reading.specs.Text.{IsFault, IsHeaded, IsRefusal};
 ghost use Rattle.nll_facts.specs.FactsSaid.{said};
 ghost use Rattle.nll_facts.specs.FactsText.{facts, Means};
 ghost use Rattle.nll_facts.specs.FactsReading.{said_by, IsReady, HasRead, RefusesBody};
 
 use crate::reader::Reader;
-use nll_problem::{Kind, Problem};
-use nll_reading::{Labels, MAX_TEXT, TextError, TextKind};
-use nll_text::{is_header, next_line};
+use nll_problem::Problem;
+use nll_reading::{Labels, TextError, TextKind, open_text};
+use nll_text::next_line;
 use std::alloc::Global;
-use std::str;
 
 /// A problem and the names that its text gives to regions and points.
 #[derive(Drop)]
 pub struct Facts {
     pub problem: Problem,
     pub labels: Labels,
-}
-
-// The error of a line; want of memory is no line's.
-fn refusal(line: u64, kind: TextKind) -> TextError
-    ensures memory { kind ≡ TextKind.Memory → result ≡ record { line = 0; kind = TextKind.Memory } }
-    ensures fault { (result ≡ record { line = 0; kind = TextKind.Memory })
-        ⊎ ((result ≡ record { line = line; kind = kind }) × (kind ≢ TextKind.Memory)) }
-{
-    match kind {
-        TextKind::Memory => TextError { line: 0, kind },
-        _ => TextError { line, kind },
-    }
 }
 
 // Takes in the lines behind the header, to the end.
@@ -51,7 +37,7 @@ fn read_lines(reader: &mut Reader, body: Option<&[u8]>) -> Result<(), TextError>
         let (line, after) = next_line(text);
         number += 1;
         if let Err(kind) = reader.read_line(line) {
-            return Err(refusal(number, kind));
+            return Err(TextError::at(number, kind));
         }
         rest = after;
     }
@@ -98,33 +84,6 @@ pub fn read_facts(alloc: Global, text: &[u8]) -> Result<Facts, TextError>
     ensures ok { IfOk result (λ q. Means text.now q.problem q.labels) }
     ensures fault { IfErr result (IsRefusal (IsFault facts text.now)) }
 {
-    if text.len() > MAX_TEXT {
-        return Err(TextError {
-            line: 1,
-            kind: TextKind::Limit(Kind::Text),
-        });
-    }
-    let (header, body) = next_line(text);
-    check_header(header)?;
+    let body = open_text(text, b"nll-facts", b"1")?;
     read_body(alloc, body)
-}
-
-// Whether the first line is the header.
-fn check_header(header: &[u8]) -> Result<(), TextError>
-    ensures ok { OnOk result (IsUtf8 header.now × IsHeader facts header.now) }
-    ensures fault { IfErr result (IsHeaderFault facts header.now) }
-{
-    let Ok(_) = str::from_utf8(header) else {
-        return Err(TextError {
-            line: 1,
-            kind: TextKind::NotUtf8,
-        });
-    };
-    if !is_header(header, b"nll-facts", b"1") {
-        return Err(TextError {
-            line: 1,
-            kind: TextKind::Header,
-        });
-    }
-    Ok(())
 }

@@ -1,8 +1,7 @@
 //! The reader of facts texts, which list a problem line by line.
-//! Read `line`, `arguments`, `reader`, `facts`, then `laws`; the definitions are in specs/.
+//! Read `line`, `reader`, `facts`, then `laws`; the definitions are in specs/.
 #![tactic(auto)]
 
-mod arguments;
 mod facts;
 mod laws;
 mod line;

@@ -4,9 +4,10 @@ ghost use Rattle.std.specs.Prelude.{codes};
 ghost use Rattle.nll_text.specs.Lexing.{BeginsNotWith};
 ghost use Rattle.nll_text.specs.Tokens as lex;
 ghost use Rattle.nll_facts.specs.FactsForms.{parts};
-ghost use Rattle.nll_facts.specs.FactsLines.{view, Reads};
+ghost use Rattle.nll_facts.specs.FactsLines.{view};
+ghost use Rattle.nll_reading.specs.Parts.{Reads};
 
-use crate::arguments::{
+use nll_reading::{
     nothing, number, region, region_number, two_numbers, two_regions, two_regions_number,
 };
 use nll_text::after_word;

@@ -8,22 +8,20 @@ ghost use Rattle.std.specs.Prelude.{IsTrue, IfOk, IfErr, OnOk, OnErr};
 ghost use Rattle.nll_problem.specs.Limits.{most_regions};
 ghost use Rattle.nll_problem.specs.Problem.{SameProblem};
 ghost use Rattle.nll_facts.specs.FactsForms as forms;
-ghost use Rattle.nll_facts.specs.FactsForms.{Form, HasForm};
 ghost use Rattle.nll_facts.specs.FactsLines.{view};
 ghost use Rattle.nll_facts.specs.FactsSaid as specs;
-ghost use Rattle.nll_facts.specs.FactsSaid.{Said, first_fault, is_declared, is_in_order, said};
+ghost use Rattle.nll_facts.specs.FactsSaid.{first_fault, is_declared, is_in_order, said};
 ghost use Rattle.nll_facts.specs.FactsReading.{said_by, IsKept, IsReady, HasTexts, ReadsLine};
 ghost use Rattle.nll_facts.specs.FactsReading.{IsDue, IsTaken, IsRefused};
 ghost use Rattle.nll_facts.specs.FactsText.{facts};
-ghost use Rattle.nll_reading.specs.Text.{Fits, IsFaulty};
+ghost use Rattle.nll_reading.specs.Text.{IsFaulty};
 ghost use Rattle.nll_reading.specs.Names.{number_of};
 
 use crate::line::{Line, line_of};
 use nll_problem::{
     Constraint, Kind, MAX_POINTS, MAX_UNIVERSALS, Problem, ProblemBuilder, RegionId,
 };
-use nll_reading::{Names, TextKind};
-use nll_text::is_skipped_line;
+use nll_reading::{Names, TextKind, pass_over};
 use std::alloc::Global;
 
 /// What the lines read so far say.
@@ -322,19 +320,6 @@ impl Reader {
             unreachable!();
         };
         (finished(builder), names)
-    }
-}
-
-// Passes over a line of none of the forms, where it says nothing.
-fn pass_over(line: &[u8]) -> Result<(), TextKind>
-    requires { (form : Form) → HasForm line.now form → ⊥ }
-    ensures ok { OnOk result ((s : Said) → Fits facts s line.now []) }
-    ensures fault { IfErr result (λ kind. (s : Said) → IsFaulty facts s line.now kind) }
-{
-    match is_skipped_line(line) {
-        Ok(true) => Ok(()),
-        Ok(false) => Err(TextKind::Syntax),
-        Err(_) => Err(TextKind::NotUtf8),
     }
 }
 

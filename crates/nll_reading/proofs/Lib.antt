@@ -1,4 +1,6 @@
 pub mod LabelLemmas
+pub mod ListingLemmas
 pub mod NameLemmas
+pub mod PartLemmas
 pub mod ReadingLemmas
 pub mod TextLaws

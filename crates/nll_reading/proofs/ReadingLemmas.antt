@@ -2,7 +2,7 @@
 use Rattle.std.proofs.Common.{◌≡◌, ℕ, ◌+◌, ◌-◌, ◌≤◌, ⊎_elim, List, [], ◌∷◌, ◌++◌, inl, inr, length, refl, sym, ap, ◌∙◌, subst, append_assoc, arith, length-append, None}
 use Rattle.std.proofs.lemmas.List.{append-nil}
 use Rattle.nll_text.specs.Tokens.{IsNotMadeWithin}
-use Rattle.nll_reading.specs.Text.{Format, HasAtMost, Fits, skipped, of_form, IsFaulty, not_utf8, no_form, at_form, Says, HasFault, IsCut, IsHeaded, IsFault, header_not_utf8, no_header, at_line, IsRefusal, IsHeaderFault}
+use Rattle.nll_reading.specs.Text.{Format, HasAtMost, Fits, skipped, of_form, IsFaulty, not_utf8, no_form, at_form, Says, HasFault, IsCut, IsHeaded, IsFault, too_long, header_not_utf8, no_header, at_line, IsRefusal, IsHeaderFault, IsUnopened}
 use Rattle.nll_reading.specs.Reading.{ReadsLine, skips, reads}
 use Rattle.nll_reading.specs.declared.error.TextError.{TextError}
 use Rattle.nll_reading.specs.declared.error.TextKind.{TextKind}
@@ -115,4 +115,11 @@ pub body_refused : (format : Format) (text : List ℕ) (body : List (List ℕ)) 
 body_refused format text body e headed wrong = ⊎_elim inl
     (λ h. let place : e.line - 2 + 2 ≡ e.line = omega (arith, h.0) in
     inr (subst (λ n. IsFault format text n e.kind) place (at_line body (e.line - 2) e.kind headed h.1)))
+    wrong
+
+-- a text that isn't opened is refused
+pub unopened_refused : (format : Format) (text : List ℕ) (e : TextError) → IsUnopened format.kind format.version text e → IsRefusal (IsFault format text) e
+unopened_refused format text e wrong = ⊎_elim
+    (λ h. rw h.0 (inr (too_long h.1)))
+    (λ h. header_refused format text h.0 h.1 e h.2 h.3)
     wrong

@@ -5,7 +5,7 @@ use Rattle.std.specs.Prelude.{◌≡◌, ◌⊎◌, ℕ, ◌+◌, ◌<◌, ◌�
 use Rattle.std.specs.Prelude.{Option, Some, None}
 use Rattle.std.specs.Str.{IsUtf8}
 use Rattle.nll_text.specs.Lines.{lines_of, is_skipped}
-use Rattle.nll_text.specs.Header as header
+use Rattle.nll_text.specs.Header as headers
 use Rattle.nll_text.specs.Tokens.{Token, IsMadeOf}
 use Rattle.nll_problem.specs.Limits.{most_bytes}
 use Rattle.nll_problem.specs.declared.error.Kind.TheVariants.{Text}
@@ -38,7 +38,7 @@ HasAtMost format most =
 
 -- the line is the header of a text of the format
 abbrev pub IsHeader : Format → List ℕ → Type 0
-IsHeader format line = header.IsHeader format.kind format.version line
+IsHeader format line = headers.IsHeader format.kind format.version line
 
 -- ---- one line
 
@@ -85,12 +85,16 @@ pub record IsCut (text header : List ℕ) (body : List (List ℕ)) : Type 0 wher
   pub short : length text ≤ most_bytes
   pub cut : lines_of text ≡ header ∷ body
 
--- The text's first line is a header of the format, and these are the lines after it.
-pub record IsHeaded (format : Format) (text : List ℕ) (body : List (List ℕ)) : Type 0 where
+-- The text's first line is a header of these two runs, and these are the lines after it.
+pub record HasHeader (kind version text : List ℕ) (body : List (List ℕ)) : Type 0 where
   pub header : List ℕ
   pub cut : IsCut text header body
   pub utf8 : IsUtf8 header
-  pub is_header : IsHeader format header
+  pub is_header : headers.IsHeader kind version header
+
+-- the text's first line is a header of the format, and these are the lines after it
+abbrev pub IsHeaded : Format → List ℕ → List (List ℕ) → Type 0
+IsHeaded format = HasHeader format.kind format.version
 
 -- The text fits: a header, and lines without a fault of these forms, behind which it may stop.
 pub record IsText (format : Format) (text : List ℕ) (forms : List format.Form) : Type 0 where
@@ -119,8 +123,31 @@ abbrev pub IsRefusal : (ℕ → TextKind → Type 0) → TextError → Type 0
 IsRefusal fault error =
     (error ≡ record { line = 0; kind = Memory }) ⊎ fault error.line error.kind
 
--- The error tells what is wrong with the first line.
+-- The error tells what is wrong with a first line that is to be a header of these two runs.
+abbrev pub IsNoHeader : List ℕ → List ℕ → List ℕ → TextError → Type 0
+IsNoHeader kind version line error =
+    ((error ≡ record { line = 1; kind = NotUtf8 }) × (IsUtf8 line → ⊥))
+    ⊎ ((error ≡ record { line = 1; kind = Header }) × IsUtf8 line
+    × (headers.IsHeader kind version line → ⊥))
+
+-- the error tells what is wrong with the first line of a text of the format
 abbrev pub IsHeaderFault : Format → List ℕ → TextError → Type 0
-IsHeaderFault format header error =
-    ((error ≡ record { line = 1; kind = NotUtf8 }) × (IsUtf8 header → ⊥))
-    ⊎ ((error ≡ record { line = 1; kind = Header }) × IsUtf8 header × (IsHeader format header → ⊥))
+IsHeaderFault format = IsNoHeader format.kind format.version
+
+-- The error tells that the text is too long, or what is wrong with its first line.
+abbrev pub IsUnopened : List ℕ → List ℕ → List ℕ → TextError → Type 0
+IsUnopened kind version text error =
+    ((error ≡ record { line = 1; kind = Limit Text }) × (most_bytes < length text))
+    ⊎ ((line : List ℕ) × (body : List (List ℕ)) × IsCut text line body
+    × IsNoHeader kind version line error)
+
+-- ---- a line of none of the forms
+
+-- the line says nothing: it is skipped
+abbrev pub IsPassedOver : List ℕ → Type 0
+IsPassedOver line = IsUtf8 line × (is_skipped line ≡ true)
+
+-- the kind tells what is wrong with a line that has no form
+abbrev pub IsFormless : List ℕ → TextKind → Type 0
+IsFormless line kind = ((kind ≡ NotUtf8) × (IsUtf8 line → ⊥))
+    ⊎ ((kind ≡ Syntax) × IsUtf8 line × (is_skipped line ≡ false))

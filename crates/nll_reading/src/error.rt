@@ -1,5 +1,7 @@
 //! Why a text is refused.
 
+ghost use Rattle.std.specs.Prelude.{◌≡◌, ◌≢◌, ◌⊎◌};
+
 use nll_problem::{BuildError, Kind};
 use nll_sets::Memory;
 use std::alloc::{AllocError, AllocFailed};
@@ -52,6 +54,21 @@ pub enum TextKind {
 pub struct TextError {
     pub line: u64,
     pub kind: TextKind,
+}
+
+impl TextError {
+    /// The error of a line. Out of memory is no line's: it is told at line 0.
+    pub fn at(line: u64, kind: TextKind) -> TextError
+        ensures memory { kind ≡ TextKind.Memory
+            → result ≡ record { line = 0; kind = TextKind.Memory } }
+        ensures fault { (result ≡ record { line = 0; kind = TextKind.Memory })
+            ⊎ ((result ≡ record { line = line; kind = kind }) × (kind ≢ TextKind.Memory)) }
+    {
+        match kind {
+            TextKind::Memory => TextError { line: 0, kind },
+            _ => TextError { line, kind },
+        }
+    }
 }
 
 impl From<AllocError> for TextKind {

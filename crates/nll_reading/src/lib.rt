@@ -1,16 +1,22 @@
 //! What all texts share above their lines and tokens: what a text is, the kinds of its faults,
-//! names and labels.
+//! the parts of lines, names and labels.
 //!
-//! Reading order: `limits`, `error`, `name`, `names`, `labels`.
+//! Reading order: `limits`, `error`, `opening`, `arguments`, `name`, `names`, `labels`.
 #![tactic(auto)]
 
+mod arguments;
 mod error;
 mod labels;
 mod limits;
 mod name;
 mod names;
+mod opening;
 
+pub use arguments::{
+    nothing, number, region, region_number, two_numbers, two_regions, two_regions_number,
+};
 pub use error::{TextError, TextKind};
 pub use labels::{Labels, PointName};
 pub use limits::MAX_TEXT;
 pub use names::Names;
+pub use opening::{open_text, pass_over};

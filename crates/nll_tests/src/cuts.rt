@@ -3,12 +3,13 @@
 use super::calls::Call;
 use super::calls::Call::{Holds, Next, Region, Ret};
 use super::cuts::Deal::{Blocks, Listed, Round};
-use super::rows::Asked::{Cut, Made};
+use super::rows::Asked::{Cut, CutFile, Made};
 use super::rows::{Row, compare_rows};
 use super::telling::OfProblem::ReadersAmong;
 use super::transcript::Transcript;
 use nll_core::RegionId;
 use nll_cut::CutError;
+use nll_cut_text::read_cut;
 use std::alloc::Global;
 
 /// How regions are dealt.
@@ -44,6 +45,21 @@ pub fn write_cut(out: &mut Transcript, numbers: (u32, u16), deal: Deal) {
             }
         }
         Err(error) => out.show("", &error),
+    }
+}
+
+/// Writes the owners that a cut file lists, or the line and kind of its fault.
+pub fn write_cut_file(out: &mut Transcript, text: &[u8]) {
+    match read_cut(out.alloc, text) {
+        Ok(list) => {
+            for owner in list.as_slice() {
+                out.number("", u32::from(*owner), "|");
+            }
+        }
+        Err(error) => {
+            out.show("line ", &error.line);
+            out.show(": ", &error.kind);
+        }
     }
 }
 
@@ -161,6 +177,100 @@ const READERS: &[Row] = &[
         "0 reads 3|1 reads|2 reads 0|3 reads 0|4 reads|",
     ),
 ];
+
+// Cut files, and the owners that they list or their fault.
+const FILES: &[Row] = &[
+    ("an empty file", CutFile(b""), "line 1: Header"),
+    ("a header alone", CutFile(b"nll-cut 1"), ""),
+    (
+        "three regions",
+        CutFile(b"nll-cut 1\n0\n16\n0\n"),
+        "0|16|0|",
+    ),
+    ("no last line feed", CutFile(b"nll-cut 1\n7\n63"), "7|63|"),
+    (
+        "the highest number",
+        CutFile(b"nll-cut 1\n65535\n"),
+        "65535|",
+    ),
+    (
+        "a higher number",
+        CutFile(b"nll-cut 1\n65536\n"),
+        "line 2: Range",
+    ),
+    (
+        "the highest number of nine digits",
+        CutFile(b"nll-cut 1\n1\n999999999\n"),
+        "line 3: Range",
+    ),
+    (
+        "ten digits",
+        CutFile(b"nll-cut 1\n1000000000\n"),
+        "line 2: Syntax",
+    ),
+    (
+        "a zero in front",
+        CutFile(b"nll-cut 1\n01\n"),
+        "line 2: Syntax",
+    ),
+    (
+        "two numbers",
+        CutFile(b"nll-cut 1\n1 2\n"),
+        "line 2: Syntax",
+    ),
+    ("a word", CutFile(b"nll-cut 1\n1\nend\n"), "line 3: Syntax"),
+    (
+        "remarks and lines of blanks",
+        CutFile(b" nll-cut\t1 \n\n # of two\n 1\n \t\n2 \n#"),
+        "1|2|",
+    ),
+    (
+        "carriage returns",
+        CutFile(b"nll-cut 1\r\n3\r\n\r\n4\r\n"),
+        "3|4|",
+    ),
+    (
+        "a remark behind a number",
+        CutFile(b"nll-cut 1\n1 # a\n"),
+        "line 2: Syntax",
+    ),
+    (
+        "a remark in front",
+        CutFile(b"# a\nnll-cut 1\n1\n"),
+        "line 1: Header",
+    ),
+    (
+        "another version",
+        CutFile(b"nll-cut 2\n1\n"),
+        "line 1: Header",
+    ),
+    (
+        "another kind of text",
+        CutFile(b"nll-facts 1\n1\n"),
+        "line 1: Header",
+    ),
+    (
+        "a header that isn't UTF-8",
+        CutFile(b"nll-cut 1\xff\n"),
+        "line 1: NotUtf8",
+    ),
+    (
+        "a remark that isn't UTF-8",
+        CutFile(b"nll-cut 1\n1\n# \xff\n"),
+        "line 3: NotUtf8",
+    ),
+    (
+        "the first of two faulty lines",
+        CutFile(b"nll-cut 1\n70000\n\xff\n"),
+        "line 2: Range",
+    ),
+];
+
+// A cut file lists the owners of the regions in their order, or has one fault.
+#[test]
+fn owners_are_listed_in_files(rt: HostRuntime) {
+    compare_rows(&rt, rt.alloc(), FILES);
+}
 
 // Each region has the owner that the rule gives it, and of several faults the first is told. An
 // owner reads the regions of others that its constraints read, and none of its own; a number past

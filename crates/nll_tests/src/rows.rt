@@ -2,7 +2,7 @@
 //! is asked, and what is told.
 use super::building::write_new;
 use super::calls::{Call, Calls, write_behind, write_problem, write_random};
-use super::cuts::{Deal, write_cut};
+use super::cuts::{Deal, write_cut, write_cut_file};
 use super::frontiers::{write_frontier, write_frontier_to_end};
 use super::graphs::{Then, write_graph_then};
 use super::lines::{OfLine, write_line};
@@ -41,6 +41,8 @@ pub enum Asked {
     FrontierToEnd(&'static [(u32, u32)]),
     /// Of so many regions and owners: how they are dealt.
     Cut(u32, u16, Deal),
+    /// Of a text: which owners it lists, as a cut file.
+    CutFile(&'static [u8]),
     /// Of a set of a length: what it tells as elements are put in, and of the next element from
     /// some numbers on.
     Sets(u32, &'static [u32], &'static [u32]),
@@ -74,6 +76,7 @@ fn write_told(out: &mut Transcript, says: &str, asked: Asked) {
         Asked::Frontier(runs) => write_frontier(out, runs),
         Asked::FrontierToEnd(runs) => write_frontier_to_end(out, runs),
         Asked::Cut(regions, owners, deal) => write_cut(out, (regions, owners), deal),
+        Asked::CutFile(text) => write_cut_file(out, text),
         Asked::Sets(len, inserted, from) => write_sets(out, len, inserted, from),
         Asked::LastBit => write_last_bit(out),
         Asked::Runs(elements) => write_runs(out, elements),

@@ -23,7 +23,7 @@ returns-in-Err-clause-fault c = λ text headed.
     (λ memory. absurd (told.1 memory))
     (λ wrong. rw told.0 (inr (omega (arith, r.place), read_fault _ _ _ _ _ _ _ _ next r c.in-Err.kind wrong)))
     c.in-Err.ensures.fault)
-    c.refusal.ensures.fault)
+    c.at.ensures.fault)
 
 pub loop-rest-smaller : goal.loop-rest-smaller
 loop-rest-smaller c = let next = ap lines_left c.in-Some.is ∙ c.next_line.ensures in omega (arith, ap length next)

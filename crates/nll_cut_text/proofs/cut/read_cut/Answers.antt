@@ -1,0 +1,18 @@
+use Rattle.std.proofs.lemmas.Result.{err_from_is_err_and, IfOk-weaker, IfErr-weaker}
+use Rattle.nll_reading.proofs.ReadingLemmas.{unopened_refused}
+use Rattle.nll_cut_text.specs.CutText.{cut}
+use Rattle.nll_cut_text.proofs.cut.read_cut.Goals as goal
+
+pub returns-in_err-body-clause-fault : goal.returns-in_err-body-clause-fault
+returns-in_err-body-clause-fault c =
+    let p = err_from_is_err_and c.from_residual.result c.from_residual.ensures.1 in
+    rw (p.1, p.2) (unopened_refused cut _ _ c.in_err-body.ensures.fault)
+
+pub read_lines-requires : goal.read_lines-requires
+read_lines-requires c = record { long = c.in_ok-body.ensures.few }
+
+pub returns-clause-ok : goal.returns-clause-ok
+returns-clause-ok c = IfOk-weaker c.read_lines.result _ _ (λ list means. means c.args.text.now c.in_ok-body.ensures.ok) c.read_lines.ensures.ok
+
+pub returns-clause-fault : goal.returns-clause-fault
+returns-clause-fault c = IfErr-weaker c.read_lines.result _ _ (λ e refuses. refuses c.args.text.now c.in_ok-body.ensures.ok) c.read_lines.ensures.fault

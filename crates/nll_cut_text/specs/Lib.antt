@@ -1,0 +1,2 @@
+pub mod CutText
+pub mod CutReading

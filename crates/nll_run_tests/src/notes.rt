@@ -1,0 +1,124 @@
+//! Notes of what two owners do in their turns.
+use super::watching::{Step, Watch};
+use nll_worker::Gate;
+use std::alloc::{AllocError, Global};
+use std::sync::atomic::{AtomicBool, AtomicU64, Ordering};
+
+/// What one owner did.
+#[derive(Drop)]
+struct Page {
+    turns: AtomicU64,
+    owed: AtomicU64,
+    posts: AtomicU64,
+    cleared: AtomicU64,
+    // Whether it owed, and whether it posted or cleared, in the turn that it's in.
+    has_owed: AtomicBool,
+    has_acted: AtomicBool,
+    // How often it posted in a turn in which it hadn't owed, or owed where it had posted or cleared.
+    late: AtomicU64,
+}
+
+impl Page {
+    // A page that says nothing.
+    fn new() -> Page {
+        Page {
+            turns: AtomicU64::new(0),
+            owed: AtomicU64::new(0),
+            posts: AtomicU64::new(0),
+            cleared: AtomicU64::new(0),
+            has_owed: AtomicBool::new(false),
+            has_acted: AtomicBool::new(false),
+            late: AtomicU64::new(0),
+        }
+    }
+
+    // Notes that a turn begins.
+    fn begin(&self) {
+        self.turns.fetch_add(1, Ordering::SeqCst);
+        self.has_owed.store(false, Ordering::SeqCst);
+        self.has_acted.store(false, Ordering::SeqCst);
+    }
+
+    // Notes a step that came too late, where it did.
+    fn judge(&self, is_late: bool) {
+        if is_late {
+            self.late.fetch_add(1, Ordering::SeqCst);
+        }
+    }
+
+    // Notes a step.
+    fn step(&self, step: Step) {
+        match step {
+            Step::Owe(amount) => {
+                self.owed.fetch_add(amount, Ordering::SeqCst);
+                self.has_owed.store(true, Ordering::SeqCst);
+                self.judge(self.has_acted.load(Ordering::SeqCst));
+            }
+            Step::Post => {
+                self.posts.fetch_add(1, Ordering::SeqCst);
+                self.has_acted.store(true, Ordering::SeqCst);
+                self.judge(!self.has_owed.load(Ordering::SeqCst));
+            }
+            Step::Clear(amount) => {
+                self.cleared.fetch_add(amount, Ordering::SeqCst);
+                self.has_acted.store(true, Ordering::SeqCst);
+            }
+        }
+    }
+
+    // Writes what was noted.
+    fn write(&self, out: &mut String) -> Result<(), AllocError> {
+        let turns = self.turns.load(Ordering::SeqCst);
+        let owed = self.owed.load(Ordering::SeqCst);
+        let posts = self.posts.load(Ordering::SeqCst);
+        let cleared = self.cleared.load(Ordering::SeqCst);
+        let late = self.late.load(Ordering::SeqCst);
+        write!(out, "{turns} {owed} {posts} {cleared} {late}|")
+    }
+}
+
+/// Notes of what the owners 0 and 1 did, as a gate and as a watch of mailboxes and ledgers.
+#[derive(Drop)]
+pub struct Notes {
+    first: Page,
+    second: Page,
+}
+
+impl Notes {
+    /// Notes that say nothing.
+    pub fn new() -> Notes {
+        Notes {
+            first: Page::new(),
+            second: Page::new(),
+        }
+    }
+
+    /// For each of the two: its turns, what it owed beside its load, its posts, what it cleared, and
+    /// how often it owed too late: where it had posted or cleared in that turn.
+    pub fn written(&self, alloc: Global) -> Result<String, AllocError> {
+        let mut out = String::new(alloc);
+        let first = self.first.write(&mut out);
+        let second = self.second.write(&mut out);
+        first.and(second).and(Ok(out))
+    }
+}
+
+impl Gate for Notes {
+    fn enter(&self, owner: usize, _: u64) {
+        match owner {
+            0 => self.first.begin(),
+            1 => self.second.begin(),
+            _ => {}
+        }
+    }
+}
+
+impl Watch for Notes {
+    fn before(&self, owner: u16, step: Step) {
+        match owner {
+            0 => self.first.step(step),
+            1 => self.second.step(step),
+            _ => {}
+        }
+    }
+}
