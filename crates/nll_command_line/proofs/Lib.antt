@@ -1,7 +1,10 @@
+pub mod AnswerLemmas
 pub mod FileWordLemmas
 pub mod GrammarLemmas
 pub mod HelpLemmas
 pub mod LineErrorLemmas
 pub mod LineLemmas
+pub mod OptionLemmas
+pub mod PlacingLemmas
 pub mod PlainLineLemmas
 pub mod TaskWordLemmas

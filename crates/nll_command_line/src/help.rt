@@ -1,5 +1,5 @@
 //! The text of help.
-ghost use Rattle.std.specs.Prelude.{◌≡◌, map, string_bytes};
+ghost use Rattle.std.specs.Prelude.{◌≡◌, map};
 ghost use Rattle.nll_command_line.specs.Help.{help_for, help_of};
 
 use crate::task::{Task, task_of};
@@ -51,12 +51,12 @@ Options:
 ";
 
 /// The help that words ask for: of the command that the first one names, else of the program.
-pub(crate) fn help_for(words: &[String]) -> &'static str
-    ensures { result.now ≡ help_for (map string_bytes words.now) }
+pub(crate) fn help_for(words: &[&str]) -> &'static str
+    ensures { result.now ≡ help_for (map (λ word. word.now) words.now) }
 {
     match words {
         [] => PROGRAM,
-        [word, ..] => help_of(task_of(word.as_str())),
+        [word, ..] => help_of(task_of(word)),
     }
 }
 

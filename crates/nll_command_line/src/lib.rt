@@ -6,8 +6,10 @@
 mod command_line;
 mod error;
 mod help;
+mod options;
 mod task;
 
 pub use command_line::line;
 pub use error::LineError;
+pub use options::{Deal, MailKind};
 pub use task::{Line, Task};

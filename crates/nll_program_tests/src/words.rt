@@ -2,17 +2,36 @@
 use super::comparing::compare;
 use super::fakes::words_of;
 use super::rows::{ALONE, Asked, compare_rows, compare_same};
-use super::saying::{say, show};
+use super::saying::{count, say, show};
 use clap::{Arg, ArgAction, Command};
 use nll_report::{Line, LineError, line};
 use std::alloc::Global;
 use std::process::Abort;
+use std::sync::Wait;
+use std::thread::Threads;
 
 // Writes a task and its file.
 fn write_line(out: &mut String, line: &Line) {
     show(out, &line.task);
     say(out, " ");
     say(out, line.file.as_str());
+    if let Some(owners) = line.owners {
+        say(out, ", ");
+        count(out, u64::from(owners));
+        say(out, " owners");
+    }
+    if let Some(deal) = &line.deal {
+        say(out, ", ");
+        show(out, deal);
+    }
+    if let Some(cut) = &line.cut {
+        say(out, ", cut ");
+        say(out, cut.as_str());
+    }
+    if let Some(mail) = &line.mail {
+        say(out, ", ");
+        show(out, mail);
+    }
 }
 
 /// The task and the file that words between bars ask for, the help, or why they are refused.
@@ -48,6 +67,23 @@ values|a=b c ~ Values a=b c
 values|ä.facts ~ Values ä.facts
 ";
 
+// Options before the file and behind it, in two words or one.
+const OPTIONS: &str = "
+values|a|--owners|2 ~ Values a, 2 owners
+values|--owners=2|a ~ Values a, 2 owners
+check|--owners|64|a ~ Check a, 64 owners
+values|a|--owners|1|-- ~ Values a, 1 owners
+values|a|--deal|round ~ Values a, Round
+values|--deal=blocks|a|--owners=3 ~ Values a, 3 owners, Blocks
+values|a|--cut|c ~ Values a, cut c
+values|--cut=-c|a|--owners|2 ~ Values a, 2 owners, cut -c
+values|--cut=|a ~ Values a, cut\x20
+values|a|--mail|queue ~ Values a, Queue
+values|--owners|2|--|--owners ~ Values --owners, 2 owners
+values|--cut|values|values ~ Values values, cut values
+values|a|--mail=queue|--deal|blocks|--owners=7 ~ Values a, 7 owners, Blocks, Queue
+";
+
 // Whatever is not of that form, options that there are not, and help behind a word that is refused.
 const REFUSED: &str = "
  ~ usage
@@ -77,11 +113,28 @@ values|a|-V
 values|--versio|a
 --owners|2|values|a
 -x|values|a
-values|a|--owners|2
-values|--owners=2|a
-values|a|--deal|round
-values|a|--cut|c
+values|a|--owners|0
+values|a|--owners|65
+values|a|--owners|01
+values|a|--owners|+2
+values|a|--owners|1000000000
+values|a|--owners=
+values|a|--owners
+values|--owners|a
+values|a|--owners|2|--owners|2
+values|a|--deal|row
+values|a|--deal
+values|a|--deal|round|--cut|c
+values|a|--cut|c|--cut|c
+values|a|--cut|-c
+values|a|--cut
 values|a|--mail|ring
+values|a|--own|2
+values|a|--owner|2
+values|a|-owners|2
+values|--owners|--help
+values|a|--|--owners|2
+--owners=2|values|a
 values|a|--schedule|s
 values|-a
 values|-1
@@ -156,7 +209,7 @@ check|-h
 ";
 
 // Ends the test unless that is told of each of the words.
-fn compare_words<R: Abort + AllocGlobal>(rt: &R, same: &str, rows: &str) {
+fn compare_words<R: Abort + AllocGlobal + Threads + Wait + Sync>(rt: &R, same: &str, rows: &str) {
     compare_same(rt, Asked::Line, ALONE, same, rows);
 }
 
@@ -165,6 +218,7 @@ fn compare_words<R: Abort + AllocGlobal>(rt: &R, same: &str, rows: &str) {
 #[test]
 fn reads_words(rt: HostRuntime) {
     compare_rows(&rt, Asked::Line, TAKEN);
+    compare_rows(&rt, Asked::Line, OPTIONS);
     compare_words(&rt, "usage", REFUSED);
     compare_words(&rt, HELP, ASK_HELP);
     compare_words(&rt, VALUES_HELP, ASK_VALUES_HELP);

@@ -1,5 +1,6 @@
 -- What the program tells where it gives no report.
-use Rattle.std.proofs.Common.{◌≡◌, ◌⊎◌, ℕ, List, [], ◌∷◌, ◌++◌, Option, length, take, ⊎_elim, ap, sym, subst, arith}
+use Rattle.std.proofs.Common.{◌≡◌, ◌⊎◌, ◌∙◌, ℕ, List, [], ◌∷◌, ◌++◌, Option, None, Some, length, take, inl, inr, ⊎_elim, refl, ap, sym, subst, arith}
+use Rattle.std.proofs.lemmas.Bool.{true≢false}
 use Rattle.std.proofs.lemmas.List.{length-append}
 use Rattle.std.specs.Io.KnownBytes.{Appends}
 use Rattle.nll_reading.specs.declared.error.TextKind.{TextKind}
@@ -10,10 +11,14 @@ use Rattle.nll_answer.specs.declared.error.AnswerError.{AnswerError}
 use Rattle.nll_answer.specs.declared.error.AnswerError.TheVariants as answer
 use Rattle.nll_report.specs.Refusal.{refusal_at, refusal_of}
 use Rattle.nll_report.specs.declared.messages.Refusal.{Refusal}
-use Rattle.nll_report.specs.declared.messages.Refusal.TheVariants.{Usage, CannotRead, Text, Limit, Memory, CannotWrite}
-use Rattle.nll_command_line.specs.CommandLine.{AsksPlainlyForHelp, IsLine, IsNoPlainLine}
+use Rattle.nll_report.specs.declared.messages.Refusal.TheVariants.{Usage, CannotRead, Text, Limit, CutText, CutLength, NoSuchOwner, Thread, Rank, Memory, CannotWrite}
+use Rattle.nll_command_line.specs.CommandLine.{AsksPlainlyForHelp, IsNoPlainLine}
 use Rattle.nll_command_line.specs.declared.task.Task.{Task}
-use Rattle.nll_report.specs.Run.{Holds, Lacks, Words, IsBegun, IsFileFault, IsFileRefused, IsRefused, IsRun}
+use Rattle.nll_command_line.specs.declared.options.Deal.{Deal}
+use Rattle.nll_report.specs.Owners.{IsCutFileRefused, IsCutRefused, count_of, deal_of}
+use Rattle.nll_report.specs.Run.{Words, IsAsked, IsBegun, IsFileFault, IsFileRefused, IsRefused, IsRun, IsTaskRefused}
+use Rattle.nll_report.specs.Texts.{Holds, Lacks}
+use Rattle.nll_report.proofs.OwnerLemmas.{is_wanting}
 use Rattle.nll_report.specs.Sink.{IsCut, MayRefuse}
 
 -- no words at all are no plain line
@@ -52,15 +57,38 @@ begun_by holds words status room old new bytes slice written run is begun refuse
     cut_slice : IsCut room old new slice
     cut_slice = record { count = written; begun = begun; refused = refused }
 
--- the refusal of a line's file
-pub line_told : (holds : Holds) (lacks : Lacks) (words : Words) (task : Task) (file : List ℕ) (refusal : Refusal)
-    → IsLine task file words → (AsksPlainlyForHelp words → ⊥) → IsFileRefused holds lacks file refusal → IsRefused holds lacks words refusal
-line_told holds lacks words task file Usage is other h = absurd h
-line_told holds lacks words task file (CannotRead path) is other h = record { task = task; file = file; line = is; other = other; refused = h }
-line_told holds lacks words task file (Text line kind) is other h = record { task = task; file = file; line = is; other = other; refused = h }
-line_told holds lacks words task file (Limit counted) is other h = record { task = task; file = file; line = is; other = other; refused = h }
-line_told holds lacks words task file Memory is other h = tt
-line_told holds lacks words task file CannotWrite is other h = absurd h
+-- owners at work refuse no words, and nothing of standard output
+module _ (holds : Holds) (lacks : Lacks) (file : List ℕ) (count : ℕ) (how : Deal) (refusal : Refusal) where
+  unwanted : (regions : ℕ) (path : Option (List ℕ)) → (refusal ≡ Usage) ⊎ (refusal ≡ CannotWrite) → IsCutRefused holds lacks regions count path refusal → ⊥
+  unwanted regions None is h = ⊎_elim
+      (λ usage. true≢false (sym (ap is_wanting (sym usage ∙ h))))
+      (λ write. true≢false (sym (ap is_wanting (sym write ∙ h))))
+      is
+  unwanted regions (Some path) is h = ⊎_elim
+      (λ usage. true≢false (sym (ap is_wanting (subst (λ r. IsCutFileRefused holds lacks regions count path r) usage h).2)))
+      (λ write. true≢false (sym (ap is_wanting (subst (λ r. IsCutFileRefused holds lacks regions count path r) write h).2)))
+      is
+
+-- the refusal of what a line asks for
+pub line_told : (holds : Holds) (lacks : Lacks) (words : Words) (task : Task) (file : List ℕ) (count : Option ℕ) (how : Option Deal) (path : Option (List ℕ))
+    (refusal : Refusal) → IsAsked words task file count how path → IsTaskRefused holds lacks file count how path refusal → IsRefused holds lacks words refusal
+line_told holds lacks words task file count how path Usage asked h = absurd (⊎_elim
+    (λ none. none)
+    (λ owners. unwanted holds lacks file (count_of count) (deal_of how) Usage owners.1.problem.regions path (inl refl) owners.1.refused)
+    h)
+line_told holds lacks words task file count how path (CannotRead other) asked h = record { task = task; file = file; count = count; how = how; path = path; asked = asked; refused = h }
+line_told holds lacks words task file count how path (Text line kind) asked h = record { task = task; file = file; count = count; how = how; path = path; asked = asked; refused = h }
+line_told holds lacks words task file count how path (Limit counted) asked h = record { task = task; file = file; count = count; how = how; path = path; asked = asked; refused = h }
+line_told holds lacks words task file count how path (CutText line kind) asked h = record { task = task; file = file; count = count; how = how; path = path; asked = asked; refused = h }
+line_told holds lacks words task file count how path CutLength asked h = record { task = task; file = file; count = count; how = how; path = path; asked = asked; refused = h }
+line_told holds lacks words task file count how path (NoSuchOwner index) asked h = record { task = task; file = file; count = count; how = how; path = path; asked = asked; refused = h }
+line_told holds lacks words task file count how path Thread asked h = record { task = task; file = file; count = count; how = how; path = path; asked = asked; refused = h }
+line_told holds lacks words task file count how path Rank asked h = record { task = task; file = file; count = count; how = how; path = path; asked = asked; refused = h }
+line_told holds lacks words task file count how path Memory asked h = tt
+line_told holds lacks words task file count how path CannotWrite asked h = absurd (⊎_elim
+    (λ none. none)
+    (λ owners. unwanted holds lacks file (count_of count) (deal_of how) CannotWrite owners.1.problem.regions path (inr refl) owners.1.refused)
+    h)
 
 -- ---- a text that has no answer
 
@@ -87,6 +115,7 @@ module _ (holds : Holds) (lacks : Lacks) (file text : List ℕ) (held : holds fi
   error_told (answer.Text error) h = fault_told error.line error.kind h
   error_told (answer.Rule (rule.Limit counted)) h = record { text = text; held = held; over = h }
   error_told (answer.Rule rule.Memory) h = tt
+  error_told (answer.Run error) h = absurd h
   error_told answer.Memory h = tt
 
 -- the same, of a text by its path and its bytes

@@ -1,44 +1,55 @@
-use Rattle.std.proofs.Common.{◌≡◌, ◌∙◌, true, map, string_bytes, sym, ap, subst}
-use Rattle.std.proofs.lemmas.Result.{IfOk-weaker}
-use Rattle.clap.specs.Words.{HasKind, fault_of, is_simple, is_simple_and_free, kind_of, subcommand_of, subcommand_rows_of, takes}
-use Rattle.clap.specs.declared.error.kind.ErrorKind.TheVariants.{OutOfMemory}
-use Rattle.nll_command_line.specs.Grammar.{IsTold, line_of_matches, program}
-use Rattle.nll_command_line.proofs.GrammarLemmas.{is_simple-program, is_simple_and_free-program, plain_result}
-use Rattle.nll_command_line.proofs.HelpLemmas.{help_given, help_is_not_taken}
-use Rattle.nll_command_line.proofs.LineErrorLemmas.{matches_without_line, memory_told, words_without_matches}
-use Rattle.nll_command_line.proofs.LineLemmas.{line_is}
-use Rattle.nll_command_line.proofs.PlainLineLemmas.{line_by_grammar-plain, takes-plain}
+use Rattle.std.proofs.Common.{inl, inr, ⊎_elim, List, ℕ, map, string_bytes, sym, subst}
+use Rattle.nll_command_line.specs.Grammar.{IsHelpFor}
+use Rattle.nll_command_line.specs.Options.{ArePlaced}
+use Rattle.nll_command_line.proofs.AnswerLemmas.{line_ok, line_plain, line_help, line_err, line_told}
+use Rattle.nll_command_line.proofs.OptionLemmas.{placed_unique}
+use Rattle.nll_command_line.proofs.PlacingLemmas.{plain_placed, help_placed}
 use Rattle.nll_command_line.proofs.command_line.line.Goals as goal
+use Rattle.nll_command_line.proofs.command_line.line.Goals.{After-with_options}
 
-pub returns-in-Ok : goal.returns-in-Ok
-returns-in-Ok c =
-    let texts = map string_bytes c.args.words.now in
-    let app_is = c.in_ok-grammar.ensures in
-    let read : subcommand_rows_of c.in-Ok.matches ≡ subcommand_of program texts =
-    (c.in-Ok.ensures.matches (ap is_simple app_is ∙ is_simple-program)).1 ∙ ap (λ a. subcommand_of a texts) app_is in
-    let none = ap (λ a. fault_of a texts) (sym app_is) ∙ c.in-Ok.ensures.kinds (ap is_simple_and_free app_is ∙ is_simple_and_free-program) in
-    record {
-      ok = IfOk-weaker c.line_of-line.result _ _ (λ l h. line_is texts _ _ none (sym (ap line_of_matches read) ∙ h)) c.line_of-line.ensures.ok;
-      plain = λ task file h.
-          plain_result c.line_of-line.result task file (sym (line_by_grammar-plain task file _ h) ∙ ap line_of_matches (sym read)) c.line_of-line.ensures.ok c.line_of-line.ensures.err;
-      help = λ h. absurd (help_is_not_taken texts none h);
-      err = matches_without_line texts c.line_of-line.result none (ap line_of_matches (sym read)) c.line_of-line.ensures.err;
-    }
+pub returns-in-Err-clause-plain : goal.returns-in-Err-clause-plain
+returns-in-Err-clause-plain c = λ task file h. c.in-Err.ensures.free (plain_placed task file _ h)
 
-pub returns-in-Err : goal.returns-in-Err
-returns-in-Err c =
-    let texts = map string_bytes c.args.words.now in
-    let app_is = c.in_ok-grammar.ensures in
-    let kinds = c.in-Err.ensures.kinds (ap is_simple_and_free app_is ∙ is_simple_and_free-program) in
-    let passes : takes program texts ≡ true → kind_of c.in-Err.error ≡ OutOfMemory =
-    λ h. c.in-Err.ensures.passes (ap (λ a. takes a texts) app_is ∙ h) in
-    let told = subst (λ k. IsTold texts k c.refusal-refusal.result) c.kind.ensures c.refusal-refusal.ensures in
-    let refused = words_without_matches texts c.refusal-refusal.result (kind_of c.in-Err.error)
-    (subst (λ a. HasKind (fault_of a texts) c.in-Err.error) app_is kinds) passes told in
-    record {
-      ok = tt;
-      plain = λ task file h.
-          memory_told texts c.refusal-refusal.result (subst (λ k. IsTold texts k c.refusal-refusal.result) (passes (takes-plain task file texts h)) told);
-      help = λ h. help_given texts c.refusal-refusal.result h refused;
-      err = refused;
-    }
+pub returns-in-Err-clause-help : goal.returns-in-Err-clause-help
+returns-in-Err-clause-help c = λ h. subst (IsHelpFor (map string_bytes c.args.words.now)) (sym (c.in-Err.ensures.free (help_placed _ h))) tt
+
+pub returns-clause-ok : goal.returns-clause-ok
+returns-clause-ok c =
+    let told = c.in_default.ensures.ok in
+    let placed : ArePlaced told.0 (map (λ word. word.now) c.as_slice.result.now) (map string_bytes c.args.words.now) = rw c.as_slice.ensures.value told.1 in
+    line_ok _ c.with_options.result c.asked-asked.result c.with_options.ensures.ok c.with_options.ensures.asked told.0 _ _ c.asked-asked.ensures.ok placed told.2
+
+pub returns-clause-plain : goal.returns-clause-plain
+returns-clause-plain c = λ task file h.
+    let told = c.in_default.ensures.ok in
+    let words : List (List ℕ) = map string_bytes c.args.words.now in
+    let placed : ArePlaced told.0 (map (λ word. word.now) c.as_slice.result.now) words = rw c.as_slice.ensures.value told.1 in
+    let same = (placed_unique _ _ _ placed (plain_placed task file words h)).1 in
+    line_plain _ c.with_options.result c.asked-asked.result c.with_options.ensures.ok c.with_options.ensures.asked c.with_options.ensures.err task file
+    (c.asked-asked.ensures.plain task file (rw same h))
+
+pub returns-clause-help : goal.returns-clause-help
+returns-clause-help c = λ h.
+    let told = c.in_default.ensures.ok in
+    let words : List (List ℕ) = map string_bytes c.args.words.now in
+    let placed : ArePlaced told.0 (map (λ word. word.now) c.as_slice.result.now) words = rw c.as_slice.ensures.value told.1 in
+    let same = (placed_unique _ _ _ placed (help_placed words h)).1 in
+    line_help c.with_options.result c.asked-asked.result c.with_options.ensures.asked c.with_options.ensures.err words
+    (rw same at (c.asked-asked.ensures.help (rw same h)))
+
+pub returns-clause-err : goal.returns-clause-err
+returns-clause-err c = λ free.
+    let told = c.in_default.ensures.ok in
+    let words : List (List ℕ) = map string_bytes c.args.words.now in
+    let placed : ArePlaced told.0 (map (λ word. word.now) c.as_slice.result.now) words = rw c.as_slice.ensures.value told.1 in
+    let same = (placed_unique _ _ _ placed free).1 in
+    line_err c.with_options.result c.asked-asked.result c.with_options.ensures.err words (rw same at c.asked-asked.ensures.err)
+
+pub returns-in-Err-clause-told : goal.returns-in-Err-clause-told
+returns-in-Err-clause-told c = ⊎_elim inl (λ memory. inr (inl memory)) c.in-Err.ensures.err
+
+pub returns-clause-told : goal.returns-clause-told
+returns-clause-told c =
+    let told = c.in_default.ensures.ok in
+    let placed : ArePlaced told.0 (map (λ word. word.now) c.as_slice.result.now) (map string_bytes c.args.words.now) = rw c.as_slice.ensures.value told.1 in
+    line_told c.with_options.result c.asked-asked.result c.with_options.ensures.err told.0 _ _ placed c.asked-asked.ensures.err
