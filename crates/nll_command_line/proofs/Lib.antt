@@ -8,3 +8,4 @@ pub mod OptionLemmas
 pub mod PlacingLemmas
 pub mod PlainLineLemmas
 pub mod TaskWordLemmas
+pub mod WordLemmas

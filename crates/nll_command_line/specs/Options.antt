@@ -1,7 +1,7 @@
 -- The options among the words behind a command, and what they say.
 -- Source: project's choice; docs/FORMATS.md says the same in words.
 use Rattle.std.specs.Prelude.{◌≡◌, ◌≢◌, ◌⊎◌, ℕ, ◌<◌, ◌≤◌, true, false, List, [], ◌∷◌, ◌++◌, codes}
-use Rattle.std.specs.Prelude.{Option, None, Some}
+use Rattle.std.specs.Prelude.{Option, None, Some, option_map, string_bytes}
 use Rattle.std.specs.List.{filter_map}
 use Rattle.std.specs.Option.{option_to_list}
 use Rattle.std.specs.Fmt.{decimal}
@@ -13,6 +13,7 @@ use Rattle.nll_command_line.specs.declared.options.MailKind.{MailKind}
 use Rattle.nll_command_line.specs.declared.options.MailKind.TheVariants.{Queue}
 use Rattle.nll_command_line.specs.declared.options.Key.{Key}
 use Rattle.nll_command_line.specs.declared.options.Key.TheVariants as key
+use Rattle.nll_command_line.specs.declared.task.Line.{Line}
 
 -- An option: a number of owners, how regions are dealt, a cut file, or the kind of mailboxes.
 pub data Given : Type 0 where
@@ -101,10 +102,37 @@ abbrev pub mail_in : Given → Option MailKind
 mail_in (mail kind) = Some kind
 mail_in _ = None
 
--- No option is given twice, and these are what the options give.
-pub record Says (given : List Given) (count : Option ℕ) (how : Option Deal) (file : Option (List ℕ))
-    (kind : Option MailKind) : Type 0 where
-  pub owners : filter_map owners_in given ≡ option_to_list count
-  pub deal : filter_map deal_in given ≡ option_to_list how
-  pub cut : filter_map cut_in given ≡ option_to_list file
-  pub mail : filter_map mail_in given ≡ option_to_list kind
+-- What options give: of each option its value, where it is given.
+pub record Said : Type 0 where
+  pub owners : Option ℕ
+  pub deal : Option Deal
+  pub cut : Option (List ℕ)
+  pub mail : Option MailKind
+
+-- no option is given
+abbrev pub no_options : Said
+no_options = record { owners = None; deal = None; cut = None; mail = None }
+
+-- No option is given twice, and this is what they give.
+pub record Says (given : List Given) (said : Said) : Type 0 where
+  pub owners : filter_map owners_in given ≡ option_to_list said.owners
+  pub deal : filter_map deal_in given ≡ option_to_list said.deal
+  pub cut : filter_map cut_in given ≡ option_to_list said.cut
+  pub mail : filter_map mail_in given ≡ option_to_list said.mail
+
+-- The words are those others, with options among them that give this. The regions are not both dealt
+-- and cut by a file.
+pub record AreRead (words others : List (List ℕ)) (said : Said) : Type 0 where
+  pub given : List Given
+  pub placed : ArePlaced given others words
+  pub says : Says given said
+  pub one_cut : (said.deal ≡ None) ⊎ (said.cut ≡ None)
+
+-- what the options of a line give
+abbrev pub said_by : Line → Said
+said_by line = record {
+  owners = line.owners;
+  deal = line.deal;
+  cut = option_map string_bytes line.cut;
+  mail = line.mail;
+}

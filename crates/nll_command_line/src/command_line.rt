@@ -1,13 +1,14 @@
 //! What the words of the command line ask for.
-ghost use Rattle.std.specs.Prelude.{◌≡◌, ◌≢◌, ◌⊎◌, ℕ, List, [], None, Some, false, map, string_bytes};
-ghost use Rattle.std.specs.Prelude.{Err, IfErr, IfOk, IsOk, MatchResult, OnErr, option_map};
-ghost use Rattle.nll_command_line.specs.Options.{ArePlaced, Given, Says};
+ghost use Rattle.std.specs.Prelude.{◌≡◌, ◌≢◌, ◌⊎◌, ℕ, List, None, Some, false, map, string_bytes};
+ghost use Rattle.std.specs.Prelude.{Err, IfErr, IfOk, IsOk, IsOkAnd, MatchResult, OnErr};
+ghost use Rattle.nll_command_line.specs.Options.{AreRead, Said, said_by};
 ghost use Rattle.nll_command_line.specs.declared.task.Task.{Task};
+ghost use Rattle.nll_command_line.specs.Taking.{said_of};
 ghost use Rattle.nll_command_line.specs.CommandLine.{AsksPlainlyForHelp, IsLine, IsPlainLine};
 ghost use Rattle.clap.specs.Words.{app_of, found_of, rows_of, rule_of};
 ghost use Rattle.clap.specs.Words.{new_app, subcommand_rows_of, with_rule, with_subcommand};
 ghost use Rattle.clap.specs.declared.builder.Command.TheViews.{out-Command};
-ghost use Rattle.nll_command_line.specs.Grammar.{IsHelpFor, IsLineError, IsTold};
+ghost use Rattle.nll_command_line.specs.Grammar.{IsHelpFor, IsLineError, IsTold, IsWordsError};
 ghost use Rattle.nll_command_line.specs.Grammar.{bare_program, file_rule, program};
 ghost use Rattle.nll_command_line.specs.Grammar.{line_of_found, line_of_matches};
 
@@ -29,22 +30,17 @@ const FILE: &str = "FILE";
 /// - `Usage`: a word is refused, or one is missing.
 /// - `Memory`: an allocation was refused.
 pub fn line(alloc: Global, words: &[String]) -> Result<Line, LineError>
-    ensures ok { IfOk result (λ l. (given : List Given) × (others : List (List ℕ))
-        × ArePlaced given others (map string_bytes words.now)
-        × IsLine l.task (string_bytes l.file) others
-        × Says given l.owners l.deal (option_map string_bytes l.cut) l.mail) }
-    ensures dealt { IfOk result (λ l. (l.deal ≡ None) ⊎ (l.cut ≡ None)) }
-    ensures plain { (task : Task) (file : List ℕ)
-        → IsPlainLine task file (map string_bytes words.now)
-        → MatchResult result (λ l. (l.task ≡ task) × (string_bytes l.file ≡ file))
-        (λ e. e ≡ LineError.Memory) }
-    ensures help { AsksPlainlyForHelp (map string_bytes words.now)
-        → MatchResult result (λ _. ⊥) (IsHelpFor (map string_bytes words.now)) }
-    ensures err { ArePlaced [] (map string_bytes words.now) (map string_bytes words.now)
-        → IfErr result (IsLineError (map string_bytes words.now)) }
-    ensures told { IfErr result (λ e. (e ≡ LineError.Usage) ⊎ ((e ≡ LineError.Memory)
-        ⊎ ((given : List Given) × (others : List (List ℕ))
-        × ArePlaced given others (map string_bytes words.now) × IsLineError others e))) }
+    ensures ok { IfOk result (λ l. (others : List (List ℕ))
+        × AreRead (map string_bytes words.now) others (said_by l)
+        × IsLine l.task (string_bytes l.file) others) }
+    ensures plain { (task : Task) (file : List ℕ) (others : List (List ℕ)) (said : Said)
+        → AreRead (map string_bytes words.now) others said → IsPlainLine task file others
+        → MatchResult result (λ l. (l.task ≡ task) × (string_bytes l.file ≡ file)
+        × (said_by l ≡ said)) (λ e. e ≡ LineError.Memory) }
+    ensures help { (others : List (List ℕ)) (said : Said)
+        → AreRead (map string_bytes words.now) others said → AsksPlainlyForHelp others
+        → MatchResult result (λ _. ⊥) (IsHelpFor others) }
+    ensures err { IfErr result (IsWordsError (map string_bytes words.now)) }
 {
     let mut options = Options::none();
     let mut others = Vec::new(alloc);
@@ -63,12 +59,8 @@ fn with_options(
     asked: Result<Asked, LineError>,
     options: Options<'_>,
 ) -> Result<Line, LineError>
-    ensures ok { IfOk result (λ l. IfOk asked (λ a. (l.task ≡ a.task)
-        × (string_bytes l.file ≡ string_bytes a.file)
-        × (l.owners ≡ options.entry.owners) × (l.deal ≡ options.entry.deal)
-        × (option_map string_bytes l.cut ≡ option_map (λ file. file.now) options.entry.cut)
-        × (l.mail ≡ options.entry.mail))) }
-    ensures asked { IfOk result (λ _. IsOk asked) }
+    ensures ok { IfOk result (λ l. IsOkAnd asked (λ a. (l.task ≡ a.task)
+        × (string_bytes l.file ≡ string_bytes a.file) × (said_by l ≡ said_of options.entry))) }
     ensures err { IfErr result (λ e. (asked ≡ Err e) ⊎ (IsOk asked × (e ≡ LineError.Memory))) }
 {
     let asked = asked?;

@@ -3,9 +3,10 @@ ghost use Rattle.std.specs.Prelude.{◌≡◌, ◌≢◌, ◌⊎◌, ◌++◌, �
 ghost use Rattle.std.specs.Prelude.{MatchOption, OnOk, IfOk, IfErr, None, false};
 ghost use Rattle.nll_command_line.specs.CommandLine as lines;
 ghost use Rattle.nll_command_line.specs.CommandLine.{begins_as_option};
-ghost use Rattle.nll_command_line.specs.Options.{ArePlaced, Given, HasOptions, IsLawful, key_of};
+ghost use Rattle.nll_command_line.specs.Options.{AreRead, Given, HasOptions, IsLawful, key_of};
 ghost use Rattle.nll_command_line.specs.Options.{value_of, word_of};
-ghost use Rattle.nll_command_line.specs.Taking.{AreFree, IsKind, SaysBy};
+ghost use Rattle.nll_command_line.specs.Taking.{AreReadJust, AreUnreadable, HasJust, HasNone};
+ghost use Rattle.nll_command_line.specs.Taking.{IsKind, IsUnfit, IsUnfitBefore, SaysBy, said_of};
 
 use crate::error::LineError;
 use nll_text::number_of;
@@ -75,7 +76,8 @@ impl<'a> Options<'a> {
         ensures ok { OnOk result ((given : List Given) → SaysBy given self.old
             → (g : Given) × (key_of g ≡ key) × (value_of g ≡ value.now) × IsLawful g
             × SaysBy (given ++ g ∷ []) self.new) }
-        ensures err { IfErr result (λ e. e ≡ LineError.Usage) }
+        ensures err { IfErr result (λ e. (e ≡ LineError.Usage)
+            × ((given : List Given) → SaysBy given self.old → IsUnfit given key value.now)) }
     {
         match key {
             Key::Owners => self.give_owners(value),
@@ -89,7 +91,9 @@ impl<'a> Options<'a> {
         ensures ok { OnOk result ((given : List Given) → SaysBy given self.old
             → (g : Given) × (key_of g ≡ Key.Owners) × (value_of g ≡ value.now) × IsLawful g
             × SaysBy (given ++ g ∷ []) self.new) }
-        ensures err { IfErr result (λ e. e ≡ LineError.Usage) }
+        ensures err { IfErr result (λ e. (e ≡ LineError.Usage)
+            × ((given : List Given) → SaysBy given self.old
+            → IsUnfit given Key.Owners value.now)) }
     {
         let Some(number) = number_of(value.as_bytes()) else {
             return Err(LineError::Usage);
@@ -105,7 +109,9 @@ impl<'a> Options<'a> {
         ensures ok { OnOk result ((given : List Given) → SaysBy given self.old
             → (g : Given) × (key_of g ≡ Key.Deal) × (value_of g ≡ value.now) × IsLawful g
             × SaysBy (given ++ g ∷ []) self.new) }
-        ensures err { IfErr result (λ e. e ≡ LineError.Usage) }
+        ensures err { IfErr result (λ e. (e ≡ LineError.Usage)
+            × ((given : List Given) → SaysBy given self.old
+            → IsUnfit given Key.Deal value.now)) }
     {
         let deal = match value {
             "round" => Deal::Round,
@@ -123,7 +129,9 @@ impl<'a> Options<'a> {
         ensures ok { OnOk result ((given : List Given) → SaysBy given self.old
             → (g : Given) × (key_of g ≡ Key.Cut) × (value_of g ≡ value.now) × IsLawful g
             × SaysBy (given ++ g ∷ []) self.new) }
-        ensures err { IfErr result (λ e. e ≡ LineError.Usage) }
+        ensures err { IfErr result (λ e. (e ≡ LineError.Usage)
+            × ((given : List Given) → SaysBy given self.old
+            → IsUnfit given Key.Cut value.now)) }
     {
         if self.cut.is_some() {
             return Err(LineError::Usage);
@@ -136,7 +144,9 @@ impl<'a> Options<'a> {
         ensures ok { OnOk result ((given : List Given) → SaysBy given self.old
             → (g : Given) × (key_of g ≡ Key.Mail) × (value_of g ≡ value.now) × IsLawful g
             × SaysBy (given ++ g ∷ []) self.new) }
-        ensures err { IfErr result (λ e. e ≡ LineError.Usage) }
+        ensures err { IfErr result (λ e. (e ≡ LineError.Usage)
+            × ((given : List Given) → SaysBy given self.old
+            → IsUnfit given Key.Mail value.now)) }
     {
         let mail = match value {
             "queue" => MailKind::Queue,
@@ -198,13 +208,12 @@ pub(crate) fn part_words<'a>(
 ) -> Result<(), LineError>
     requires none { SaysBy [] options.old }
     requires empty { others.old.items ≡ [] }
-    ensures ok { OnOk result ((given : List Given) × ArePlaced given
-        (map (λ word. word.now) others.new.items) (map string_bytes words.now)
-        × SaysBy given options.new) }
-    ensures dealt { OnOk result ((options.new.deal ≡ None) ⊎ (options.new.cut ≡ None)) }
-    ensures free { ArePlaced [] (map string_bytes words.now) (map string_bytes words.now)
-        → IfErr result (λ e. e ≡ LineError.Memory) }
-    ensures err { IfErr result (λ e. (e ≡ LineError.Usage) ⊎ (e ≡ LineError.Memory)) }
+    ensures ok { OnOk result (AreRead (map string_bytes words.now)
+        (map (λ word. word.now) others.new.items) (said_of options.new)) }
+    ensures just { OnOk result (AreReadJust (map string_bytes words.now)
+        (map (λ word. word.now) others.new.items) (said_of options.new)) }
+    ensures err { IfErr result (λ e. (e ≡ LineError.Memory)
+        ⊎ ((e ≡ LineError.Usage) × AreUnreadable (map string_bytes words.now))) }
 {
     let Some((first, rest)) = words.split_first() else {
         return Ok(());
@@ -229,11 +238,12 @@ fn take_options<'a>(
 ) -> Result<(), LineError>
     requires { SaysBy [] options.old }
     ensures ok { OnOk result ((given : List Given) × (more : List (List ℕ))
-        × HasOptions given more (map string_bytes words.now) × SaysBy given options.new
+        × HasOptions given more (map string_bytes words.now)
+        × HasJust given more (map string_bytes words.now) × SaysBy given options.new
         × (map (λ word. word.now) others.new.items
         ≡ map (λ word. word.now) others.old.items ++ more)) }
-    ensures free { AreFree (map string_bytes words.now) → IfErr result (λ e. e ≡ LineError.Memory) }
-    ensures err { IfErr result (λ e. (e ≡ LineError.Usage) ⊎ (e ≡ LineError.Memory)) }
+    ensures err { IfErr result (λ e. (e ≡ LineError.Memory)
+        ⊎ ((e ≡ LineError.Usage) × HasNone (map string_bytes words.now))) }
 {
     let mut left = words;
     while let Some((word, behind)) = left.split_first() {
@@ -263,7 +273,9 @@ fn give_next<'a>(
         → (g : Given) × (key_of g ≡ key) × (begins_as_option (value_of g) ≡ false) × IsLawful g
         × (map string_bytes words.entry.now ≡ value_of g ∷ map string_bytes behind.now)
         × SaysBy (given ++ g ∷ []) options.new) }
-    ensures err { IfErr result (λ e. e ≡ LineError.Usage) }
+    ensures err { IfErr result (λ e. (e ≡ LineError.Usage)
+        × ((given : List Given) → SaysBy given options.old
+        → IsUnfitBefore given key (map string_bytes words.entry.now))) }
 {
     let Some((value, behind)) = words.split_first() else {
         return Err(LineError::Usage);

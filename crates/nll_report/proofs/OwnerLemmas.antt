@@ -21,6 +21,7 @@ use Rattle.nll_answer.specs.Running.{IsRunError}
 use Rattle.nll_answer.specs.declared.answers.Command.{Command}
 use Rattle.nll_answer.specs.declared.error.AnswerError.{AnswerError}
 use Rattle.nll_answer.specs.declared.error.AnswerError.TheVariants as answer
+use Rattle.nll_command_line.specs.Options.{Said}
 use Rattle.nll_command_line.specs.declared.options.Deal.{Deal}
 use Rattle.nll_command_line.specs.declared.task.Task.{Task}
 use Rattle.nll_report.specs.Owners.{AsksForOwners, IsAskedCut, IsCutFileRefused, IsCutRefused, IsCutTextRefused, IsFileMeaning, IsOwnersRefused, IsWorkRefused, count_of, deal_of}
@@ -237,14 +238,14 @@ pub may_be_asked : (count : Option ℕ) (n : ℕ) → IfSome count (λ n. (0 < n
 may_be_asked None n lawful is = ap may_be_count is
 may_be_asked (Some count) n lawful is = ap may_be_count is ∙ may_be count lawful.0 lawful.1
 
-pub owners_told : (holds : Holds) (lacks : Lacks) (file : List ℕ) (count : Option ℕ) (how : Option Deal) (path : Option (List ℕ)) (n : ℕ) (deal : Deal) (other : Option (List ℕ))
-    (e : Refusal) → n ≡ count_of count → deal ≡ deal_of how → other ≡ path → AsksForOwners count path
-    → IsFileRefused holds lacks file e ⊎ IsOwnersRefused holds lacks file n deal other e → IsTaskRefused holds lacks file count how path e
-owners_told holds lacks file count how path n deal other e is_count is_deal is_path asks = ⊎_elim
+pub owners_told : (holds : Holds) (lacks : Lacks) (file : List ℕ) (said : Said) (n : ℕ) (deal : Deal) (path : Option (List ℕ)) (e : Refusal)
+    → n ≡ count_of said.owners → deal ≡ deal_of said.deal → path ≡ said.cut → AsksForOwners said.owners said.cut
+    → IsFileRefused holds lacks file e ⊎ IsOwnersRefused holds lacks file n deal path e → IsTaskRefused holds lacks file said e
+owners_told holds lacks file said n deal path e is_count is_deal is_path asks = ⊎_elim
     inl
     (λ h. inr (asks,
-    subst (λ m. IsOwnersRefused holds lacks file m (deal_of how) path e) is_count
-    (subst (λ d. IsOwnersRefused holds lacks file n d path e) is_deal
+    subst (λ m. IsOwnersRefused holds lacks file m (deal_of said.deal) said.cut e) is_count
+    (subst (λ d. IsOwnersRefused holds lacks file n d said.cut e) is_deal
     (subst (λ p. IsOwnersRefused holds lacks file n deal p e) is_path h))))
 
 pub file_answer : (holds : Holds) (task : Task) (file : List ℕ) (command : Command) (q : Problem) (labels : Labels) (report : List ℕ) (status : ℕ) → command ≡ command_of task

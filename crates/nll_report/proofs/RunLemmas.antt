@@ -14,16 +14,17 @@ use Rattle.nll_report.specs.declared.messages.Refusal.{Refusal}
 use Rattle.nll_report.specs.declared.messages.Refusal.TheVariants.{Usage, CannotRead, Text, Limit, CutText, CutLength, NoSuchOwner, Thread, Rank, Memory, CannotWrite}
 use Rattle.nll_command_line.specs.CommandLine.{AsksPlainlyForHelp, IsNoPlainLine}
 use Rattle.nll_command_line.specs.declared.task.Task.{Task}
+use Rattle.nll_command_line.specs.Options.{ArePlaced, AreRead, Given, Said, behind, no_words, unread}
 use Rattle.nll_command_line.specs.declared.options.Deal.{Deal}
 use Rattle.nll_report.specs.Owners.{IsCutFileRefused, IsCutRefused, count_of, deal_of}
-use Rattle.nll_report.specs.Run.{Words, IsAsked, IsBegun, IsFileFault, IsFileRefused, IsRefused, IsRun, IsTaskRefused}
+use Rattle.nll_report.specs.Run.{Words, AreRefused, IsAsked, IsBegun, IsFileFault, IsFileRefused, IsLineRefused, IsRefused, IsRun, IsTaskRefused}
 use Rattle.nll_report.specs.Texts.{Holds, Lacks}
 use Rattle.nll_report.proofs.OwnerLemmas.{is_wanting}
 use Rattle.nll_report.specs.Sink.{IsCut, MayRefuse}
 
 -- no words at all are no plain line
-no_words : IsNoPlainLine []
-no_words task file line = ⊎_elim
+no_plain : IsNoPlainLine []
+no_plain task file line = ⊎_elim
     (λ plain. let none : 0 ≡ 2 = ap length plain.0 in absurd (omega (arith, none)))
     (⊎_elim
     (λ plain. let none : 0 ≡ 3 = ap length plain in absurd (omega (arith, none)))
@@ -36,11 +37,21 @@ no_help h =
     let long : 0 ≡ length (h.front ++ h.word ∷ h.rest) = ap length h.are in
     absurd (omega (arith, long, length-append h.front (h.word ∷ h.rest)))
 
+nothing_else : (given : List Given) (others words : Words) → ArePlaced given others words → words ≡ [] → others ≡ []
+nothing_else _ _ _ no_words e = refl
+nothing_else _ _ _ (unread first rest begins) e = cc
+nothing_else _ _ _ (behind given first others rest plain h) e = cc
+
+no_line : AreRefused []
+no_line others said read =
+    let none = nothing_else read.given others [] read.placed refl in
+    (subst IsNoPlainLine (sym none) no_plain, λ h. no_help (subst AsksPlainlyForHelp none h))
+
 -- words that are lost, or want of memory, are refused as no words are
 pub lost_words : (holds : Holds) (lacks : Lacks) (refusal : Refusal) → (refusal ≡ Usage) ⊎ (refusal ≡ Memory)
     → IsRefused holds lacks [] refusal
 lost_words holds lacks refusal = ⊎_elim
-    (λ is. subst (IsRefused holds lacks []) (sym is) (no_words, no_help))
+    (λ is. subst (IsRefused holds lacks []) (sym is) no_line)
     (λ is. subst (IsRefused holds lacks []) (sym is) tt)
 
 -- bytes of a run of which a sink took some only
@@ -70,25 +81,29 @@ module _ (holds : Holds) (lacks : Lacks) (file : List ℕ) (count : ℕ) (how : 
       is
 
 -- the refusal of what a line asks for
-pub line_told : (holds : Holds) (lacks : Lacks) (words : Words) (task : Task) (file : List ℕ) (count : Option ℕ) (how : Option Deal) (path : Option (List ℕ))
-    (refusal : Refusal) → IsAsked words task file count how path → IsTaskRefused holds lacks file count how path refusal → IsRefused holds lacks words refusal
-line_told holds lacks words task file count how path Usage asked h = absurd (⊎_elim
-    (λ none. none)
-    (λ owners. unwanted holds lacks file (count_of count) (deal_of how) Usage owners.1.problem.regions path (inl refl) owners.1.refused)
-    h)
-line_told holds lacks words task file count how path (CannotRead other) asked h = record { task = task; file = file; count = count; how = how; path = path; asked = asked; refused = h }
-line_told holds lacks words task file count how path (Text line kind) asked h = record { task = task; file = file; count = count; how = how; path = path; asked = asked; refused = h }
-line_told holds lacks words task file count how path (Limit counted) asked h = record { task = task; file = file; count = count; how = how; path = path; asked = asked; refused = h }
-line_told holds lacks words task file count how path (CutText line kind) asked h = record { task = task; file = file; count = count; how = how; path = path; asked = asked; refused = h }
-line_told holds lacks words task file count how path CutLength asked h = record { task = task; file = file; count = count; how = how; path = path; asked = asked; refused = h }
-line_told holds lacks words task file count how path (NoSuchOwner index) asked h = record { task = task; file = file; count = count; how = how; path = path; asked = asked; refused = h }
-line_told holds lacks words task file count how path Thread asked h = record { task = task; file = file; count = count; how = how; path = path; asked = asked; refused = h }
-line_told holds lacks words task file count how path Rank asked h = record { task = task; file = file; count = count; how = how; path = path; asked = asked; refused = h }
-line_told holds lacks words task file count how path Memory asked h = tt
-line_told holds lacks words task file count how path CannotWrite asked h = absurd (⊎_elim
-    (λ none. none)
-    (λ owners. unwanted holds lacks file (count_of count) (deal_of how) CannotWrite owners.1.problem.regions path (inr refl) owners.1.refused)
-    h)
+module _ (holds : Holds) (lacks : Lacks) (words : Words) (task : Task) (file : List ℕ) (said : Said) (asked : IsAsked words task file said) where
+  line_refused : (refusal : Refusal) → IsTaskRefused holds lacks file said refusal → IsLineRefused holds lacks words refusal
+  line_refused refusal h = record { task = task; file = file; said = said; asked = asked; refused = h }
+
+  -- neither words nor standard output
+  not_asked : (refusal : Refusal) → (refusal ≡ Usage) ⊎ (refusal ≡ CannotWrite) → IsTaskRefused holds lacks file said refusal → (IsFileRefused holds lacks file refusal → ⊥) → ⊥
+  not_asked refusal is h none = ⊎_elim
+      none
+      (λ owners. unwanted holds lacks file (count_of said.owners) (deal_of said.deal) refusal owners.1.problem.regions said.cut is owners.1.refused)
+      h
+
+  pub line_told : (refusal : Refusal) → IsTaskRefused holds lacks file said refusal → IsRefused holds lacks words refusal
+  line_told Usage h = absurd (not_asked Usage (inl refl) h (λ none. none))
+  line_told (CannotRead other) h = line_refused (CannotRead other) h
+  line_told (Text line kind) h = line_refused (Text line kind) h
+  line_told (Limit counted) h = line_refused (Limit counted) h
+  line_told (CutText line kind) h = line_refused (CutText line kind) h
+  line_told CutLength h = line_refused CutLength h
+  line_told (NoSuchOwner index) h = line_refused (NoSuchOwner index) h
+  line_told Thread h = line_refused Thread h
+  line_told Rank h = line_refused Rank h
+  line_told Memory h = tt
+  line_told CannotWrite h = absurd (not_asked CannotWrite (inr refl) h (λ none. none))
 
 -- ---- a text that has no answer
 

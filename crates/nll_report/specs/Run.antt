@@ -1,6 +1,6 @@
 -- What the program makes of its words, over the texts that are held at paths.
 -- Source: project's choice.
-use Rattle.std.specs.Prelude.{◌≡◌, ◌⊎◌, ℕ, List, Option, None, string_bytes}
+use Rattle.std.specs.Prelude.{◌≡◌, ◌⊎◌, ℕ, List, Option, string_bytes}
 use Rattle.std.specs.Io.KnownBytes.{Appends}
 use Rattle.nll_reading.specs.declared.error.TextKind.{TextKind}
 use Rattle.nll_answer.specs.declared.answers.Command.{Command}
@@ -18,9 +18,7 @@ use Rattle.nll_command_line.specs.declared.task.Task.TheVariants.{Values, Check}
 use Rattle.nll_answer.specs.Answer.{IsAnswer}
 use Rattle.nll_answer.specs.Texts.{IsTextFault, IsAnswerError}
 use Rattle.nll_command_line.specs.CommandLine.{AsksPlainlyForHelp, IsLine, IsNoPlainLine}
-use Rattle.nll_command_line.specs.Options.{ArePlaced, Given, Says}
-use Rattle.nll_command_line.specs.declared.options.Deal.{Deal}
-use Rattle.nll_command_line.specs.declared.options.MailKind.{MailKind}
+use Rattle.nll_command_line.specs.Options.{AreRead, Said}
 use Rattle.nll_command_line.specs.Help.{help_for}
 use Rattle.nll_command_line.specs.declared.error.LineError.{LineError}
 use Rattle.nll_command_line.specs.declared.error.LineError.TheVariants as line
@@ -45,41 +43,33 @@ pub record IsFileAnswer (holds : Holds) (task : Task) (file report : List ℕ) (
   pub held : holds file text
   pub answer : IsAnswer (command_of task) text report status
 
--- The words are a line of this task and file, with these options among them, and do not plainly ask
--- for help. At most one of them says how regions are cut.
-pub record IsAsked (words : Words) (task : Task) (file : List ℕ) (count : Option ℕ)
-    (how : Option Deal) (path : Option (List ℕ)) : Type 0 where
-  pub given : List Given
+-- The words are a line of this task and file, with options among them that give this, and do not
+-- plainly ask for help.
+pub record IsAsked (words : Words) (task : Task) (file : List ℕ) (said : Said) : Type 0 where
   pub others : Words
-  pub kind : Option MailKind
-  pub placed : ArePlaced given others words
+  pub read : AreRead words others said
   pub line : IsLine task file others
-  pub said : Says given count how path kind
-  pub one_cut : (how ≡ None) ⊎ (path ≡ None)
-  pub other : AsksPlainlyForHelp words → ⊥
+  pub other : AsksPlainlyForHelp others → ⊥
 
 -- The words are a line and do not plainly ask for help, and the report and the status answer its
 -- task on its file, with owners as without.
 pub record IsReport (holds : Holds) (words : Words) (report : List ℕ) (status : ℕ) : Type 0 where
   pub task : Task
   pub file : List ℕ
-  pub count : Option ℕ
-  pub how : Option Deal
-  pub path : Option (List ℕ)
-  pub asked : IsAsked words task file count how path
+  pub said : Said
+  pub asked : IsAsked words task file said
   pub answer : IsFileAnswer holds task file report status
 
--- The words ask for help; the bytes are the help for them, with status 0.
-pub record IsHelpWith (others : Words) (bytes : List ℕ) (status : ℕ) : Type 0 where
+-- The words, but for options among them, are no plain line and ask for help, which the bytes are,
+-- with status 0.
+pub record IsHelp (words : Words) (bytes : List ℕ) (status : ℕ) : Type 0 where
+  pub others : Words
+  pub said : Said
+  pub read : AreRead words others said
+  pub plain : IsNoPlainLine others
   pub asked : AsksForHelp others
   pub is : bytes ≡ help_for others
   pub told : status ≡ 0
-
--- the words are no plain line, and without their options they ask for help, which is given
-abbrev pub IsHelp : Words → List ℕ → ℕ → Type 0
-IsHelp words bytes status =
-    IsNoPlainLine words × (given : List Given) × (others : Words)
-    × ArePlaced given others words × IsHelpWith others bytes status
 
 -- the bytes and the status are a report and its status, or those of help
 abbrev pub IsRun : Holds → Words → List ℕ → ℕ → Type 0
@@ -128,12 +118,11 @@ IsFileRefused holds lacks file CannotWrite = ⊥
 
 -- the refusal tells the truth of a text of the file; or owners are asked for, and it tells the
 -- truth of the cut file or of the owners at work
-abbrev pub IsTaskRefused : Holds → Lacks → List ℕ → Option ℕ → Option Deal → Option (List ℕ)
-    → Refusal → Type 0
-IsTaskRefused holds lacks file count how path refusal =
+abbrev pub IsTaskRefused : Holds → Lacks → List ℕ → Said → Refusal → Type 0
+IsTaskRefused holds lacks file said refusal =
     IsFileRefused holds lacks file refusal
-    ⊎ (AsksForOwners count path
-    × IsOwnersRefused holds lacks file (count_of count) (deal_of how) path refusal)
+    ⊎ (AsksForOwners said.owners said.cut × IsOwnersRefused holds lacks file
+    (count_of said.owners) (deal_of said.deal) said.cut refusal)
 
 -- The words are a line and do not plainly ask for help, and the refusal tells the truth of what it
 -- asks for.
@@ -141,15 +130,19 @@ pub record IsLineRefused (holds : Holds) (lacks : Lacks) (words : Words) (refusa
     : Type 0 where
   pub task : Task
   pub file : List ℕ
-  pub count : Option ℕ
-  pub how : Option Deal
-  pub path : Option (List ℕ)
-  pub asked : IsAsked words task file count how path
-  pub refused : IsTaskRefused holds lacks file count how path refusal
+  pub said : Said
+  pub asked : IsAsked words task file said
+  pub refused : IsTaskRefused holds lacks file said refusal
+
+-- however the words are read, with options among them or without, the others are no plain line and
+-- do not plainly ask for help
+abbrev pub AreRefused : Words → Type 0
+AreRefused words = (others : Words) (said : Said) → AreRead words others said
+    → IsNoPlainLine others × (AsksPlainlyForHelp others → ⊥)
 
 -- the refusal tells the truth of the words and the texts; want of memory says nothing of them
 abbrev pub IsRefused : Holds → Lacks → Words → Refusal → Type 0
-IsRefused holds lacks words Usage = IsNoPlainLine words × (AsksPlainlyForHelp words → ⊥)
+IsRefused holds lacks words Usage = AreRefused words
 IsRefused holds lacks words (CannotRead path) = IsLineRefused holds lacks words (CannotRead path)
 IsRefused holds lacks words (Text line kind) = IsLineRefused holds lacks words (Text line kind)
 IsRefused holds lacks words (Limit counted) = IsLineRefused holds lacks words (Limit counted)

@@ -1,7 +1,8 @@
 //! The whole program, over whatever holds its files and takes its lines.
-ghost use Rattle.std.specs.Prelude.{◌≡◌, ◌⊎◌, ◌<◌, ◌≤◌, ℕ, List, map, option_map};
+ghost use Rattle.std.specs.Prelude.{◌≡◌, ◌⊎◌, ◌<◌, ◌≤◌, ℕ, List, map};
 ghost use Rattle.std.specs.Prelude.{IfErr, IfOk, IfSome, MatchResult, string_bytes};
 ghost use Rattle.std.specs.Io.KnownBytes.{Appends};
+ghost use Rattle.nll_command_line.specs.Options.{said_by};
 ghost use Rattle.nll_problem.specs.Limits.{most_owners};
 ghost use Rattle.nll_report.specs.declared.messages.Refusal.{Refusal};
 ghost use Rattle.nll_report.specs.Refusal.{refusal_line, status_of};
@@ -154,7 +155,7 @@ fn answered<R: AllocGlobal + Threads + Wait + Sync, T: Texts>(
         IsFileAnswer (T.holds texts.now) line.task (string_bytes line.file) r.0.items r.1) }
     ensures status { IfOk result (λ r. r.1 ≤ 1) }
     ensures err { IfErr result (IsTaskRefused (T.holds texts.now) (T.lacks texts.now)
-        (string_bytes line.file) line.owners line.deal (option_map string_bytes line.cut)) }
+        (string_bytes line.file) (said_by line)) }
 {
     let Line {
         task,

@@ -1,5 +1,6 @@
 use Rattle.std.proofs.Common.{ap, inl, option_map, string_bytes}
 use Rattle.std.proofs.lemmas.Result.{IfErr-weaker}
+use Rattle.nll_command_line.specs.Options.{said_by}
 use Rattle.nll_report.proofs.OwnerLemmas.{may_be_asked, owners_told}
 use Rattle.nll_report.proofs.program.answered.Goals as goal
 
@@ -10,8 +11,8 @@ pub returns-in-Some-clause-err : goal.returns-in-Some-clause-err
 returns-in-Some-clause-err g c =
     let asked = c.in-Some.ensures in
     IfErr-weaker c.answered_by_owners.result _ _
-    (λ e h. owners_told (g.T.Texts.holds c.args.texts.now) (g.T.Texts.lacks c.args.texts.now) (string_bytes c.args.line.file) c.args.line.owners c.args.line.deal
-    (option_map string_bytes c.args.line.cut) _ _ _ e asked.1 asked.2 (ap (option_map string_bytes) asked.3) asked.0 h)
+    (λ e h. owners_told (g.T.Texts.holds c.args.texts.now) (g.T.Texts.lacks c.args.texts.now) (string_bytes c.args.line.file) (said_by c.args.line)
+    _ _ _ e asked.1 asked.2 (ap (option_map string_bytes) asked.3) asked.0 h)
     c.answered_by_owners.ensures.err
 
 pub returns-in-None-clause-err : goal.returns-in-None-clause-err
