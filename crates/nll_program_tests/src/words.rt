@@ -161,7 +161,7 @@ Statuses:
   0  the values are printed, or check found no fault, or this help
   1  check found a fault
   2  the words, the file or its text are refused, and standard error says why
-  3  memory was refused, or standard output did not take the whole report
+  3  memory or a thread was refused, or standard output did not take the whole report
 
 docs/FORMATS.md says how facts texts and MIR texts are written, and how the reports are.
 With /dev/stdin for FILE the text is read from standard input.
@@ -169,24 +169,32 @@ With /dev/stdin for FILE the text is read from standard input.
 
 const VALUES_HELP: &str = "Prints the values of the regions of FILE
 
-Usage: nllc values <FILE>
+Usage: nllc values [OPTIONS] <FILE>
 
 Arguments:
   <FILE>  The facts text or MIR text, or /dev/stdin for standard input
 
 Options:
-  -h, --help  Print help
+      --owners <N>           Has 1 to 64 owners of regions find the answer, each in a thread of its own
+      --deal <round|blocks>  Deals the regions to the owners in turns, or in blocks of neighbours
+      --cut <CUT>            Deals the regions to the owners as the cut file CUT lists
+      --mail <queue>         The kind of mailboxes through which the owners tell each other
+  -h, --help                 Print help
 ";
 
 const CHECK_HELP: &str = "Checks the universal regions of FILE
 
-Usage: nllc check <FILE>
+Usage: nllc check [OPTIONS] <FILE>
 
 Arguments:
   <FILE>  The facts text or MIR text, or /dev/stdin for standard input
 
 Options:
-  -h, --help  Print help
+      --owners <N>           Has 1 to 64 owners of regions find the answer, each in a thread of its own
+      --deal <round|blocks>  Deals the regions to the owners in turns, or in blocks of neighbours
+      --cut <CUT>            Deals the regions to the owners as the cut file CUT lists
+      --mail <queue>         The kind of mailboxes through which the owners tell each other
+  -h, --help                 Print help
 ";
 
 // Words that ask for help of the program, or of a command where they stand behind it.
@@ -202,6 +210,8 @@ values|--help
 values|-h
 values|a|--help
 values|--help|a|b
+values|--owners|2|--help
+values|a|--cut=c|-h|--owners|0
 ";
 
 const ASK_CHECK_HELP: &str = "
@@ -232,19 +242,49 @@ Statuses:
   0  the values are printed, or check found no fault, or this help
   1  check found a fault
   2  the words, the file or its text are refused, and standard error says why
-  3  memory was refused, or standard output did not take the whole report
+  3  memory or a thread was refused, or standard output did not take the whole report
 
 docs/FORMATS.md says how facts texts and MIR texts are written, and how the reports are.
 With /dev/stdin for FILE the text is read from standard input.";
 
-// A command with its file, for `clap`.
+// An option with its value, for `clap`.
+fn option<'a>(alloc: Global, name: &'a str, value: &'a str, about: &'a str) -> Arg<'a> {
+    Arg::new(alloc, name)
+        .long(name)
+        .value_name(value)
+        .help(about)
+        .action(ArgAction::Set)
+}
+
+const OWNERS_ABOUT: &str =
+    "Has 1 to 64 owners of regions find the answer, each in a thread of its own";
+
+const DEAL_ABOUT: &str = "Deals the regions to the owners in turns, or in blocks of neighbours";
+
+const CUT_ABOUT: &str = "Deals the regions to the owners as the cut file CUT lists";
+
+const MAIL_ABOUT: &str = "The kind of mailboxes through which the owners tell each other";
+
+// A command with its options, for `clap`.
+fn with_options<'a>(rt: &impl Abort, alloc: Global, command: Command<'a>) -> Command<'a> {
+    let owners = option(alloc, "owners", "N", OWNERS_ABOUT);
+    let deal = option(alloc, "deal", "round|blocks", DEAL_ABOUT);
+    let cut = option(alloc, "cut", "CUT", CUT_ABOUT);
+    let mail = option(alloc, "mail", "queue", MAIL_ABOUT);
+    let command = command.arg(owners).expect(rt, "memory");
+    let command = command.arg(deal).expect(rt, "memory");
+    let command = command.arg(cut).expect(rt, "memory");
+    command.arg(mail).expect(rt, "memory")
+}
+
+// A command with its file and its options, for `clap`.
 fn command<'a>(rt: &impl Abort, alloc: Global, name: &'a str, about: &'a str) -> Command<'a> {
     let file = Arg::new(alloc, "FILE")
         .help("The facts text or MIR text, or /dev/stdin for standard input")
         .action(ArgAction::Set)
         .required(true);
     let command = Command::new(alloc, name).about(about);
-    command.arg(file).expect(rt, "memory")
+    with_options(rt, alloc, command.arg(file).expect(rt, "memory"))
 }
 
 // The program without its commands, for `clap`.
