@@ -11,6 +11,7 @@ use Rattle.std.specs.Option.{option_to_list}
 use Rattle.nll_command_line.specs.Options.{ArePlaced, AreRead, Given, HasOptions, Said, Says, no_options, no_words, behind, unread, none, ends, other, EndsOptions, word_of}
 use Rattle.nll_command_line.specs.Taking.{AreReadJust, AreUnreadable, HasJust, HasNone}
 use Rattle.nll_command_line.proofs.OptionLemmas.{same_said}
+use Rattle.nll_command_line.proofs.WordLemmas.{one_way}
 
 abbrev Text : Type 0
 Text = List ℕ
@@ -88,6 +89,16 @@ module _ (words : List Text) (first : Text) (rest : List Text) (e : words ≡ fi
 
   pub behind_none : HasNone rest → AreUnreadable words
   behind_none no os s r = let t = placed_behind r.given os words r.placed first rest e plain in no r.given t.0 s t.2 r.says
+
+-- ---- there is one reading
+
+pub read_in_one_way : (words others : List Text) (said : Said) → AreRead words others said → AreReadJust words others said
+read_in_one_way words others said read = at read.given others words read.placed read.says
+  where
+    at : (gs : List Given) (os ws : List Text) → ArePlaced gs os ws → Says gs said → AreReadJust ws os said
+    at _ _ _ no_words says = none_read_just [] said says refl
+    at _ _ _ (unread first rest begins) says = unread_read_just (first ∷ rest) said says first rest refl begins
+    at _ _ _ (behind given first others rest plain h) says = behind_read_just (first ∷ rest) first rest refl plain given others said says (one_way given others rest h)
 
 -- ---- words without options
 

@@ -127,6 +127,29 @@ none_left _ _ _ (option g given front others words written lawful h) e = elim wr
   | inr k ↦ let bad : (word_of (key_of g) ++ 61 ∷ value_of g) ∷ words ≡ [] = sym (ap (λ (xs : List Text). xs ++ words) k) ∙ e in cc
 ]
 
+-- ---- there is one reading
+
+pub one_way : (gs : List Given) (os ws : List Text) → HasOptions gs os ws → HasJust gs os ws
+one_way _ _ _ none gs os h = none_left gs os [] h refl
+one_way _ _ _ (ends word rest end) gs os h = only_end gs os word rest end (first_of gs os (word ∷ rest) h word rest refl)
+one_way _ _ _ (other given word others words plain h) gs os k =
+    let f = only_other gs os word words plain (first_of gs os (word ∷ words) k word words refl) in
+    let r = one_way given others words h gs f.0 f.2 in
+    (r.0, f.1 ∙ ap (λ xs. word ∷ xs) r.1)
+one_way _ _ _ (option g given front others words written lawful h) gs os k = elim written [
+  | inl w ↦
+      let word = word_of (key_of g) in
+      let f = only_apart gs os word (value_of g ∷ words) (key_of g) refl (first_of gs os (front ++ words) k word (value_of g ∷ words) (ap (λ (xs : List Text). xs ++ words) w.0)) in
+      let both : value_of f.0 ∷ f.2 ≡ value_of g ∷ words = sym f.5 in
+      let r = one_way given others words h f.1 os (subst (λ (xs : List Text). HasOptions f.1 os xs) (tail both) f.8) in
+      (f.7 ∙ (ap (λ x. x ∷ f.1) (same_option f.0 g f.6 lawful f.3 (head both)) ∙ ap (λ xs. g ∷ xs) r.0), r.1)
+  | inr w ↦
+      let word = word_of (key_of g) ++ 61 ∷ value_of g in
+      let f = only_joined gs os word words (key_of g) (value_of g) refl (first_of gs os (front ++ words) k word words (ap (λ (xs : List Text). xs ++ words) w)) in
+      let r = one_way given others words h f.1 os f.6 in
+      (f.5 ∙ (ap (λ x. x ∷ f.1) (same_option f.0 g f.4 lawful f.2 f.3) ∙ ap (λ xs. g ∷ xs) r.0), r.1)
+]
+
 -- ---- the words read so far
 
 -- what the words left have among them comes behind what was read, and nothing else does

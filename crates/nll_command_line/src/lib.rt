@@ -12,6 +12,6 @@ mod task;
 
 pub use command_line::line;
 pub use error::LineError;
-pub use laws::{help_is_read, plain_line_is_read};
+pub use laws::{help_is_read, one_reading, plain_line_is_read};
 pub use options::{Deal, MailKind};
 pub use task::{Line, Task};
