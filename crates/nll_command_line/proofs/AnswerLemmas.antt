@@ -1,6 +1,5 @@
 -- What is answered to words of which the options are taken out.
-use Rattle.std.proofs.Common.{◌≡◌, ◌⊎◌, ⊎_elim, ◌∙◌, ℕ, List, Result, Ok, Err, IfErr, IfOk, IsOk, IsOkAnd, MatchResult, refl, string_bytes, sym, subst}
-use Rattle.std.proofs.lemmas.Bool.{false≢true}
+use Rattle.std.proofs.Common.{◌≡◌, ◌⊎◌, ⊎_elim, ◌∙◌, ℕ, List, Result, Ok, Err, IfErr, IfOk, IsOk, IsOkAnd, MatchResult, string_bytes, sym, subst}
 use Rattle.nll_command_line.specs.declared.task.Asked.{Asked}
 use Rattle.nll_command_line.specs.declared.task.Line.{Line}
 use Rattle.nll_command_line.specs.declared.task.Task.{Task}
@@ -9,7 +8,7 @@ use Rattle.nll_command_line.specs.declared.error.LineError.TheVariants.{Help, Us
 use Rattle.nll_command_line.specs.CommandLine.{IsLine}
 use Rattle.nll_command_line.specs.Grammar.{IsHelpFor, IsLineError, IsWordsError}
 use Rattle.nll_command_line.specs.Options.{AreRead, Said, said_by}
-use Rattle.nll_command_line.specs.Taking.{AreReadJust}
+use Rattle.nll_command_line.specs.Taking.{AreReadJust, AreUnreadable}
 
 abbrev Text : Type 0
 Text = List ℕ
@@ -70,3 +69,9 @@ module _ (said : Said) (words others : List Text) (read : AreRead words others s
           (λ same. told e (subst (λ (x : Result Asked LineError). IfErr x (IsLineError others)) same m))
           (λ h. subst (IsWordsError words) (sym h.1) tt)
           err
+
+-- of words that can't be read
+pub unread_words : (words : List Text) (e : LineError) → (e ≡ Memory) ⊎ ((e ≡ Usage) × AreUnreadable words) → IsWordsError words e
+unread_words words e = ⊎_elim
+    (λ memory. subst (IsWordsError words) (sym memory) tt)
+    (λ h. subst (IsWordsError words) (sym h.0) (λ others said read. absurd (h.1 others said read)))

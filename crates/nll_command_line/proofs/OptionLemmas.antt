@@ -1,5 +1,5 @@
 -- What options say: one more of them, one that is there already, and that it is pinned.
-use Rattle.std.proofs.Common.{◌≡◌, ◌⊎◌, inl, inr, ◌∙◌, ℕ, true, false, List, [], ◌∷◌, ◌++◌, Option, Some, None, is_some, arith, refl, sym, ap, subst, true≢false, option_map}
+use Rattle.std.proofs.Common.{◌≡◌, ◌∙◌, ℕ, ◌<◌, ◌≤◌, true, false, List, [], ◌∷◌, ◌++◌, Option, Some, None, is_some, arith, refl, sym, ap, true≢false}
 use Rattle.std.specs.List.{filter_map}
 use Rattle.std.specs.Option.{option_to_list}
 use Rattle.std.specs.Fmt.{decimal}
@@ -12,7 +12,6 @@ use Rattle.nll_command_line.specs.declared.options.Deal.{Deal}
 use Rattle.nll_command_line.specs.declared.options.Deal.TheVariants.{Round, Blocks}
 use Rattle.nll_command_line.specs.declared.options.MailKind.{MailKind}
 use Rattle.nll_command_line.specs.declared.options.MailKind.TheVariants.{Queue}
-use Rattle.nll_command_line.specs.declared.options.Key.{Key}
 use Rattle.nll_command_line.specs.declared.options.Key.TheVariants as key
 
 pub none_of : {X : Type 0} (o : Option X) → is_some o ≡ false → o ≡ None
@@ -146,7 +145,7 @@ one_list None (Some y) e = cc
 one_list (Some x) None e = cc
 one_list (Some x) (Some y) e = cc
 
-said_with : Option ℕ → Option Deal → Option (List ℕ) → Option MailKind → Said
+abbrev said_with : Option ℕ → Option Deal → Option (List ℕ) → Option MailKind → Said
 said_with o d c m = record { owners = o; deal = d; cut = c; mail = m }
 
 -- what options give is pinned

@@ -88,7 +88,7 @@ module _ (words : List Text) (first : Text) (rest : List Text) (e : words ≡ fi
         ⊎_elim (λ h. dealt (sym (ap (λ (x : Said). x.deal) same) ∙ h)) (λ h. cut (sym (ap (λ (x : Said). x.cut) same) ∙ h)) r.one_cut
 
   pub behind_none : HasNone rest → AreUnreadable words
-  behind_none no os s r = let t = placed_behind r.given os words r.placed first rest e plain in no r.given t.0 s t.2 r.says
+  behind_none nothing os s r = let t = placed_behind r.given os words r.placed first rest e plain in nothing r.given t.0 s t.2 r.says
 
 -- ---- there is one reading
 

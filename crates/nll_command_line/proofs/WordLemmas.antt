@@ -1,8 +1,8 @@
 -- Words with options among them: what the first word is, and what was read so far.
-use Rattle.std.proofs.Common.{◌≡◌, ◌⊎◌, inl, inr, ◌∙◌, ℕ, Bool, true, false, ◌==◌, if◌then◌else◌, List, [], ◌∷◌, ◌++◌, length, arith, refl, sym, ap, subst, append_assoc, true≢false}
+use Rattle.std.proofs.Common.{◌≡◌, inl, inr, ◌∙◌, ℕ, true, false, ◌==◌, if◌then◌else◌, List, [], ◌∷◌, ◌++◌, length, arith, refl, sym, ap, subst, append_assoc, true≢false}
 use Rattle.std.proofs.lemmas.List.{append-nil, append_cancel_left, length-append}
 use Rattle.nll_command_line.specs.CommandLine.{begins_as_option}
-use Rattle.nll_command_line.specs.Options.{Given, EndsOptions, HasOptions, none, ends, other, option, IsLawful, IsWritten, Said, Says, key_of, value_of, word_of}
+use Rattle.nll_command_line.specs.Options.{Given, EndsOptions, HasOptions, none, ends, other, option, IsLawful, IsWritten, Says, key_of, value_of, word_of}
 use Rattle.nll_command_line.specs.Taking.{HasJust, HasNone, IsUnfit, IsUnfitBefore}
 use Rattle.nll_command_line.specs.declared.options.Key.{Key}
 use Rattle.nll_command_line.specs.declared.options.Key.TheVariants as key
@@ -35,14 +35,14 @@ begins_joined key.Deal value = refl
 begins_joined key.Cut value = refl
 begins_joined key.Mail value = refl
 
-third : Text → ℕ
+abbrev third : Text → ℕ
 third [] = 0
 third (a ∷ []) = 0
 third (a ∷ b ∷ []) = 0
 third (a ∷ b ∷ c ∷ rest) = c
 
 -- the option that has this third character
-key_at : ℕ → Key
+abbrev key_at : ℕ → Key
 key_at c = if c == 111 then key.Owners else (if c == 100 then key.Deal else (if c == 99 then key.Cut else key.Mail))
 
 read_alone : (k : Key) → key_at (third (word_of k)) ≡ k
@@ -93,27 +93,27 @@ first_of _ _ _ (option g given front others words written lawful h) w behind e =
 
 module _ (gs : List Given) (os : List Text) (w : Text) (behind : List Text) where
   only_other : begins_as_option w ≡ false → First gs os w behind → (more : List Text) × (os ≡ w ∷ more) × HasOptions gs more behind
-  only_other plain (at_end h no same) = absurd (true≢false (sym h.begins ∙ plain))
+  only_other plain (at_end h nothing same) = absurd (true≢false (sym h.begins ∙ plain))
   only_other plain (at_other more p e h) = (more, e, h)
   only_other plain (at_apart g later rest is p value lawful e h) = absurd (true≢false (sym (begins_alone (key_of g)) ∙ (ap begins_as_option (sym is) ∙ plain)))
   only_other plain (at_joined g later is lawful e h) = absurd (true≢false (sym (begins_joined (key_of g) (value_of g)) ∙ (ap begins_as_option (sym is) ∙ plain)))
 
   only_end : EndsOptions w → First gs os w behind → (gs ≡ []) × (os ≡ w ∷ behind)
-  only_end end (at_end h no same) = (no, same)
+  only_end end (at_end h nothing same) = (nothing, same)
   only_end end (at_other more p e h) = absurd (true≢false (sym end.begins ∙ p))
   only_end end (at_apart g later rest is p value lawful e h) = absurd (end.alone (key_of g) is)
   only_end end (at_joined g later is lawful e h) = absurd (end.joined (key_of g) (value_of g) is)
 
   only_apart : (k : Key) → w ≡ word_of k → First gs os w behind
       → (g : Given) × (later : List Given) × (rest : List Text) × (key_of g ≡ k) × (begins_as_option (value_of g) ≡ false) × (behind ≡ value_of g ∷ rest) × IsLawful g × (gs ≡ g ∷ later) × HasOptions later os rest
-  only_apart k here (at_end h no same) = absurd (h.alone k here)
+  only_apart k here (at_end h nothing same) = absurd (h.alone k here)
   only_apart k here (at_other more p e h) = absurd (true≢false (sym (begins_alone k) ∙ (ap begins_as_option (sym here) ∙ p)))
   only_apart k here (at_apart g later rest is p value lawful e h) = (g, later, rest, key_alone w (key_of g) k is here, p, value, lawful, e, h)
   only_apart k here (at_joined g later is lawful e h) = absurd (not_both w k (key_of g) (value_of g) here is)
 
   only_joined : (k : Key) (v : Text) → w ≡ word_of k ++ 61 ∷ v → First gs os w behind
       → (g : Given) × (later : List Given) × (key_of g ≡ k) × (value_of g ≡ v) × IsLawful g × (gs ≡ g ∷ later) × HasOptions later os behind
-  only_joined k v here (at_end h no same) = absurd (h.joined k v here)
+  only_joined k v here (at_end h nothing same) = absurd (h.joined k v here)
   only_joined k v here (at_other more p e h) = absurd (true≢false (sym (begins_joined k v) ∙ (ap begins_as_option (sym here) ∙ p)))
   only_joined k v here (at_apart g later rest is p value lawful e h) = absurd (not_both w (key_of g) k v is here)
   only_joined k v here (at_joined g later is lawful e h) = (g, later, key_joined w (key_of g) k (value_of g) v is here, value_joined w (key_of g) k (value_of g) v is here, lawful, e, h)

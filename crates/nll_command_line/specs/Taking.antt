@@ -1,6 +1,6 @@
 -- What words are to the reader of options, and what it holds.
 -- Source: project's choice. Only private contracts cite this file.
-use Rattle.std.specs.Prelude.{◌≡◌, ℕ, false, List, [], ◌∷◌, ◌++◌, option_map}
+use Rattle.std.specs.Prelude.{◌≡◌, ℕ, false, List, ◌∷◌, ◌++◌, option_map}
 use Rattle.nll_command_line.specs.CommandLine.{begins_as_option}
 use Rattle.nll_command_line.specs.Options.{AreRead, EndsOptions, Given, HasOptions, IsLawful}
 use Rattle.nll_command_line.specs.Options.{Said, Says, key_of, value_of, word_of}
