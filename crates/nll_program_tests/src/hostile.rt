@@ -230,7 +230,11 @@ fn write_changes(rt: &impl Abort, alloc: Global, out: &mut String, place: usize)
 
 // Ends the test unless that is told of the changes at the places from the first to before the
 // second.
-fn compare_changes<R: Abort + AllocGlobal + Threads + Wait + Sync>(rt: &R, (first, end): (usize, usize), want: &str) {
+fn compare_changes<R: Abort + AllocGlobal + Threads + Wait + Sync>(
+    rt: &R,
+    (first, end): (usize, usize),
+    want: &str,
+) {
     let mut told = String::new(rt.alloc());
     for place in first..end {
         write_changes(rt, rt.alloc(), &mut told, place);

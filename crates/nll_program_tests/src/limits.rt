@@ -67,7 +67,11 @@ fn refuses_declarations_past_the_limits(rt: HostRuntime) {
 }
 
 // What is answered to a text of so many blanks.
-fn compare_blanks<R: Abort + AllocGlobal + Threads + Wait + Sync>(rt: &R, bytes: usize, want: &[u8]) {
+fn compare_blanks<R: Abort + AllocGlobal + Threads + Wait + Sync>(
+    rt: &R,
+    bytes: usize,
+    want: &[u8],
+) {
     let text = Vec::from_elem(rt.alloc(), b' ', bytes).expect(rt, "memory");
     let told = answer_to(rt.alloc(), Command::Check, text.as_slice());
     drop(text);

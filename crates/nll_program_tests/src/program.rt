@@ -59,7 +59,11 @@ pub fn run<R: Abort + AllocGlobal + Threads + Wait + Sync>(
 }
 
 /// `help` where the program answers words with status 0 and a text that ends so on standard output.
-pub fn help_told<R: Abort + AllocGlobal + Threads + Wait + Sync>(rt: &R, words: &str, end: &str) -> String {
+pub fn help_told<R: Abort + AllocGlobal + Threads + Wait + Sync>(
+    rt: &R,
+    words: &str,
+    end: &str,
+) -> String {
     let told = run(rt, words, NEVER, NEVER);
     let is_help = told.starts_with("0>") && told.ends_with(end);
     if is_help {
@@ -71,7 +75,11 @@ pub fn help_told<R: Abort + AllocGlobal + Threads + Wait + Sync>(rt: &R, words: 
 }
 
 /// What the program does with words over a text at the path `sheet`, and streams of 1,024 bytes.
-pub fn run_on<R: Abort + AllocGlobal + Threads + Wait + Sync>(rt: &R, words: &str, text: &[u8]) -> String {
+pub fn run_on<R: Abort + AllocGlobal + Threads + Wait + Sync>(
+    rt: &R,
+    words: &str,
+    text: &[u8],
+) -> String {
     let words = words_of(rt, rt.alloc(), words);
     let sheet = Sheet {
         alloc: rt.alloc(),
@@ -143,12 +151,20 @@ const SHEET_CHECK: &str = "1>fault 'a must outlive 'static|>";
 const LEAF_CHECK: &str = "2>>nllc: cannot read leaf|";
 
 // Ends the test unless the program answers the words with help that ends so.
-fn compare_help<R: Abort + AllocGlobal + Threads + Wait + Sync>(rt: &R, end: &'static str, rows: &str) {
+fn compare_help<R: Abort + AllocGlobal + Threads + Wait + Sync>(
+    rt: &R,
+    end: &'static str,
+    rows: &str,
+) {
     compare_same(rt, Asked::Help(end), ALONE, "help", rows);
 }
 
 // Ends the test unless that is what the program does with these words over the sheet.
-fn compare_on_sheet<R: Abort + AllocGlobal + Threads + Wait + Sync>(rt: &R, words: &'static str, want: &str) {
+fn compare_on_sheet<R: Abort + AllocGlobal + Threads + Wait + Sync>(
+    rt: &R,
+    words: &'static str,
+    want: &str,
+) {
     compare_row(rt, Asked::Run(words), ALONE, SHEET, want);
 }
 

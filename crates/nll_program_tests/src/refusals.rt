@@ -177,7 +177,11 @@ nll-facts 1 ~ line 6: Syntax
 ";
 
 // Tries lines behind lines that are fine, each as the last one and with a further line.
-fn compare_behind<R: Abort + AllocGlobal + Threads + Wait + Sync>(rt: &R, before: &str, faulty: &str) {
+fn compare_behind<R: Abort + AllocGlobal + Threads + Wait + Sync>(
+    rt: &R,
+    before: &str,
+    faulty: &str,
+) {
     compare_within(rt, Asked::Said, (before, ""), faulty);
     compare_within(rt, Asked::Said, (before, "\r|end|"), faulty);
 }

@@ -56,7 +56,11 @@ fn put_meant(rt: &impl Abort, out: &mut Vec<u8>, row: &str) {
 }
 
 // The bytes that some of a row stands for, and what stands around it.
-fn bytes_of<R: Abort + AllocGlobal + Threads + Wait + Sync>(rt: &R, (front, back): Around<'_>, row: &str) -> Vec<u8> {
+fn bytes_of<R: Abort + AllocGlobal + Threads + Wait + Sync>(
+    rt: &R,
+    (front, back): Around<'_>,
+    row: &str,
+) -> Vec<u8> {
     let mut out = Vec::new(rt.alloc());
     put_meant(rt, &mut out, front);
     put_meant(rt, &mut out, row);
@@ -65,7 +69,12 @@ fn bytes_of<R: Abort + AllocGlobal + Threads + Wait + Sync>(rt: &R, (front, back
 }
 
 /// What is told of words, or of a text.
-pub fn told<R: Abort + AllocGlobal + Threads + Wait + Sync>(rt: &R, asked: Asked, words: &str, text: &[u8]) -> String {
+pub fn told<R: Abort + AllocGlobal + Threads + Wait + Sync>(
+    rt: &R,
+    asked: Asked,
+    words: &str,
+    text: &[u8],
+) -> String {
     match asked {
         Asked::Said => said(rt, rt.alloc(), text),
         Asked::Answer(command) => answer_to(rt.alloc(), command, text),
@@ -114,7 +123,11 @@ fn compare_each<R: Abort + AllocGlobal + Threads + Wait + Sync>(
 }
 
 /// Ends the test unless of each text of a table that is told which its row says.
-pub fn compare_rows<R: Abort + AllocGlobal + Threads + Wait + Sync>(rt: &R, asked: Asked, rows: &str) {
+pub fn compare_rows<R: Abort + AllocGlobal + Threads + Wait + Sync>(
+    rt: &R,
+    asked: Asked,
+    rows: &str,
+) {
     compare_each(rt, asked, ALONE, None, rows);
 }
 

@@ -243,10 +243,12 @@ pub owners_told : (holds : Holds) (lacks : Lacks) (file : List ℕ) (said : Said
     → IsFileRefused holds lacks file e ⊎ IsOwnersRefused holds lacks file n deal path e → IsTaskRefused holds lacks file said e
 owners_told holds lacks file said n deal path e is_count is_deal is_path asks = ⊎_elim
     inl
-    (λ h. inr (asks,
-    subst (λ m. IsOwnersRefused holds lacks file m (deal_of said.deal) said.cut e) is_count
-    (subst (λ d. IsOwnersRefused holds lacks file n d said.cut e) is_deal
-    (subst (λ p. IsOwnersRefused holds lacks file n deal p e) is_path h))))
+    (λ h. inr (
+      asks,
+      subst (λ m. IsOwnersRefused holds lacks file m (deal_of said.deal) said.cut e) is_count
+          (subst (λ d. IsOwnersRefused holds lacks file n d said.cut e) is_deal
+          (subst (λ p. IsOwnersRefused holds lacks file n deal p e) is_path h)),
+    ))
 
 pub file_answer : (holds : Holds) (task : Task) (file : List ℕ) (command : Command) (q : Problem) (labels : Labels) (report : List ℕ) (status : ℕ) → command ≡ command_of task
     → IsFileMeaning holds file q labels → IsProblemAnswer command q labels report status → IsFileAnswer holds task file report status

@@ -11,11 +11,7 @@ use nll_facts::Facts;
 use std::alloc::Global;
 
 /// The problem that the text of a file means, with its labels.
-pub(crate) fn facts_of<T: Texts>(
-    alloc: Global,
-    file: String,
-    texts: &T,
-) -> Result<Facts, Refusal>
+pub(crate) fn facts_of<T: Texts>(alloc: Global, file: String, texts: &T) -> Result<Facts, Refusal>
     ensures ok { IfOk result (λ facts. IsFileMeaning (T.holds texts.now) (string_bytes file)
         facts.problem facts.labels) }
     ensures named { IfOk result (λ facts. length facts.labels.names ≡ facts.problem.regions) }
