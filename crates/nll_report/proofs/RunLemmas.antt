@@ -14,7 +14,7 @@ use Rattle.nll_report.specs.declared.messages.Refusal.{Refusal}
 use Rattle.nll_report.specs.declared.messages.Refusal.TheVariants.{Usage, CannotRead, Text, Limit, CutText, CutLength, NoSuchOwner, Thread, Rank, Memory, CannotWrite}
 use Rattle.nll_command_line.specs.CommandLine.{AsksPlainlyForHelp, IsNoPlainLine}
 use Rattle.nll_command_line.specs.declared.task.Task.{Task}
-use Rattle.nll_command_line.specs.Options.{ArePlaced, AreRead, Given, Said, behind, no_words, unread}
+use Rattle.nll_command_line.specs.Options.{ArePlaced, Given, Said, behind, no_words, unread}
 use Rattle.nll_command_line.specs.declared.options.Deal.{Deal}
 use Rattle.nll_report.specs.Owners.{IsCutFileRefused, IsCutRefused, count_of, deal_of}
 use Rattle.nll_report.specs.Run.{Words, AreRefused, IsAsked, IsBegun, IsFileFault, IsFileRefused, IsLineRefused, IsRefused, IsRun, IsTaskRefused}
@@ -76,8 +76,12 @@ module _ (holds : Holds) (lacks : Lacks) (file : List ℕ) (count : ℕ) (how : 
       (λ write. true≢false (sym (ap is_wanting (sym write ∙ h))))
       is
   unwanted regions (Some path) is h = ⊎_elim
-      (λ usage. true≢false (sym (ap is_wanting (subst (λ r. IsCutFileRefused holds lacks regions count path r) usage h).2)))
-      (λ write. true≢false (sym (ap is_wanting (subst (λ r. IsCutFileRefused holds lacks regions count path r) write h).2)))
+      (λ usage.
+      let at : IsCutFileRefused holds lacks regions count path Usage = subst (λ r. IsCutFileRefused holds lacks regions count path r) usage h in
+      true≢false (sym (ap is_wanting at.2)))
+      (λ write.
+      let at : IsCutFileRefused holds lacks regions count path CannotWrite = subst (λ r. IsCutFileRefused holds lacks regions count path r) write h in
+      true≢false (sym (ap is_wanting at.2)))
       is
 
 -- the refusal of what a line asks for
@@ -85,15 +89,11 @@ module _ (holds : Holds) (lacks : Lacks) (words : Words) (task : Task) (file : L
   line_refused : (refusal : Refusal) → IsTaskRefused holds lacks file said refusal → IsLineRefused holds lacks words refusal
   line_refused refusal h = record { task = task; file = file; said = said; asked = asked; refused = h }
 
-  -- neither words nor standard output
-  not_asked : (refusal : Refusal) → (refusal ≡ Usage) ⊎ (refusal ≡ CannotWrite) → IsTaskRefused holds lacks file said refusal → (IsFileRefused holds lacks file refusal → ⊥) → ⊥
-  not_asked refusal is h none = ⊎_elim
-      none
-      (λ owners. unwanted holds lacks file (count_of said.owners) (deal_of said.deal) refusal owners.1.problem.regions said.cut is owners.1.refused)
-      h
-
   pub line_told : (refusal : Refusal) → IsTaskRefused holds lacks file said refusal → IsRefused holds lacks words refusal
-  line_told Usage h = absurd (not_asked Usage (inl refl) h (λ none. none))
+  line_told Usage h = absurd (⊎_elim
+      (λ none. none)
+      (λ owners. unwanted holds lacks file (count_of said.owners) (deal_of said.deal) Usage owners.1.problem.regions said.cut (inl refl) owners.1.refused)
+      h)
   line_told (CannotRead other) h = line_refused (CannotRead other) h
   line_told (Text line kind) h = line_refused (Text line kind) h
   line_told (Limit counted) h = line_refused (Limit counted) h
@@ -103,7 +103,10 @@ module _ (holds : Holds) (lacks : Lacks) (words : Words) (task : Task) (file : L
   line_told Thread h = line_refused Thread h
   line_told Rank h = line_refused Rank h
   line_told Memory h = tt
-  line_told CannotWrite h = absurd (not_asked CannotWrite (inr refl) h (λ none. none))
+  line_told CannotWrite h = absurd (⊎_elim
+      (λ none. none)
+      (λ owners. unwanted holds lacks file (count_of said.owners) (deal_of said.deal) CannotWrite owners.1.problem.regions said.cut (inr refl) owners.1.refused)
+      h)
 
 -- ---- a text that has no answer
 

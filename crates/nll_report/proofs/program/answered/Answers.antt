@@ -4,8 +4,8 @@ use Rattle.nll_command_line.specs.Options.{said_by}
 use Rattle.nll_report.proofs.OwnerLemmas.{may_be_asked, owners_told}
 use Rattle.nll_report.proofs.program.answered.Goals as goal
 
-pub answered_by_owners-in-Some-requires : goal.answered_by_owners-in-Some-requires
-answered_by_owners-in-Some-requires g c = may_be_asked c.args.line.owners _ c.requires c.in-Some.ensures.1
+pub answered_by_owners-requires-after_bounds : goal.answered_by_owners-requires-after_bounds
+answered_by_owners-requires-after_bounds g c = λ κs bounds. may_be_asked c.args.line.owners _ c.requires c.in-Some.ensures.1
 
 pub returns-in-Some-clause-err : goal.returns-in-Some-clause-err
 returns-in-Some-clause-err g c =

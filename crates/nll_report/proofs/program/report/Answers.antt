@@ -5,8 +5,8 @@ use Rattle.nll_report.proofs.LineLemmas.{asked_line, help_told, lawful_count, wo
 use Rattle.nll_report.proofs.RunLemmas.{line_told}
 use Rattle.nll_report.proofs.program.report.Goals as goal
 
-pub answered-in-Ok-requires : goal.answered-in-Ok-requires
-answered-in-Ok-requires g c = let ok = c.in-Ok.ensures.ok in lawful_count _ ok.0 (said_by c.in-Ok.line) ok.1
+pub answered-requires-after_bounds : goal.answered-requires-after_bounds
+answered-requires-after_bounds g c = λ κs bounds. let ok = c.in-Ok.ensures.ok in lawful_count _ ok.0 (said_by c.in-Ok.line) ok.1
 
 pub returns-in-Ok-clause-ok : goal.returns-in-Ok-clause-ok
 returns-in-Ok-clause-ok g c =
