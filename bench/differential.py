@@ -33,15 +33,19 @@ HERE = os.path.dirname(os.path.abspath(__file__))
 BASELINE = os.path.join(HERE, "baseline", "target", "release", "baseline")
 
 
-def program_answer(program, command, path, seconds):
-    """Standard output, status and standard error of a program, which may have words behind its
-    path; a run past the time has none."""
+def ended(words, seconds):
+    """Standard output, status and standard error of a run of these words; one past the time has none."""
     try:
-        done = subprocess.run([*shlex.split(program), command, path], stdin=subprocess.DEVNULL,
-                              capture_output=True, timeout=seconds, check=False)
+        done = subprocess.run(words, stdin=subprocess.DEVNULL, capture_output=True, timeout=seconds,
+                              check=False)
     except subprocess.TimeoutExpired:
         return b"", "no answer in time", b""
     return done.stdout, done.returncode, done.stderr
+
+
+def program_answer(program, command, path, seconds):
+    """The same of a program that is asked about a file; words may stand behind the program's path."""
+    return ended([*shlex.split(program), command, path], seconds)
 
 
 class Comparison:

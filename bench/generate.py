@@ -227,6 +227,20 @@ def full_family(rng, regions=65_000, points=1_048_576, constraints=1_000_000):
     return problem_text(points, 0, regions, facts)
 
 
+def islands_family(rng, islands=4, size=64, points=500):
+    """Islands of as many regions each, which tell each other nothing: in an island each region takes from each
+    other one. The graph has no stretch of points to go along, so that elements come one by one. Dealt in blocks
+    to as many owners as there are islands, each owner has one of them; 'static is a region of the first."""
+    facts = [b"next %d %d" % (p, q) for p in range(points) for q in rng.sample(range(points), 2)]
+    for island in range(islands):
+        first = island * size
+        names = [b"'r%d" % (number - 1) for number in range(max(1, first), first + size)]
+        facts += [b"base %s %d" % (name, p) for name in names for p in range(points) if rng.random() < 0.2]
+        facts += [b"constraint %s %s %d" % (sup, sub, rng.randrange(points))
+                  for sup in names for sub in names if sup != sub]
+    return problem_text(points, 0, islands * size - 1, facts)
+
+
 FAMILIES = {
     "chain": lambda rng: chain(1_000_000, 3),
     "dense": dense_family,
@@ -237,6 +251,7 @@ FAMILIES = {
     "most": most_family,
     "trickle": trickle_family,
     "full": full_family,
+    "islands": islands_family,
 }
 
 

@@ -49,10 +49,20 @@ def run(command, seconds, out=os.devnull):
     return Run(wall, used.ru_utime, used.ru_maxrss / 1024, code, line)
 
 
+def processor():
+    """The name of the processor, where the system tells it."""
+    try:
+        with open("/proc/cpuinfo", encoding="utf-8") as file:
+            names = [line.split(":", 1)[1].strip() for line in file if line.startswith("model name")]
+    except OSError:
+        names = []
+    return names[0] if names else "unknown processor"
+
+
 def machine(args):
     """What the figures were taken on, and of which commit."""
     least = run(["/bin/true"], args.seconds).peak
-    return (f"nproc {os.cpu_count()}, load at the start {os.getloadavg()[0]:.1f}, commit "
+    return (f"{processor()}, nproc {os.cpu_count()}, load at the start {os.getloadavg()[0]:.1f}, commit "
             f"{args.commit}, peak of a process that does nothing {least:.1f} MiB.\n")
 
 

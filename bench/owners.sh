@@ -11,6 +11,7 @@
 # differ or a run doesn't end. A process gets 6 GB.
 set -eu
 here=$(cd "$(dirname "$0")" && pwd)
+. "$here/texts.sh"
 program= inputs= owners="1 2 4 16 64" runs=3 seconds=60 order=owners
 families="chain-2000x100 chain-20000x50 chain cycle dense most points sparse stairs trickle full"
 while [ $# -gt 1 ]; do
@@ -31,13 +32,7 @@ done
 texts=$(mktemp -d)
 trap 'rm -rf "$texts"' EXIT
 cargo build --release --offline --quiet --manifest-path "$here/baseline/Cargo.toml"
-for family in $families; do
-    case $family in
-        chain-*) words="chain $(echo "${family#chain-}" | tr x ' ')" ;;
-        *) words="family $family" ;;
-    esac
-    python3 "$here/generate.py" $words > "$texts/$family.facts"
-done
+make_families "$texts" "$families"
 commit=$(git -C "$here" rev-parse --short HEAD 2>/dev/null || echo none)
 ulimit -v 6000000
 python3 "$here/measure_owners.py" --program "$program" --texts "$texts" ${inputs:+--inputs "$inputs"} \

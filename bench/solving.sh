@@ -9,6 +9,7 @@
 # `--runs` differ or don't end. A process gets 6 GB.
 set -eu
 here=$(cd "$(dirname "$0")" && pwd)
+. "$here/texts.sh"
 nllc= runs=5 seconds=60 inputs= families="chain cycle dense most points sparse stairs trickle"
 while [ $# -gt 0 ]; do
     case $1 in
@@ -24,19 +25,14 @@ done
 
 texts=$(mktemp -d)
 trap 'rm -rf "$texts"' EXIT
-mkdir "$texts/refused" "$texts/outputs"
+mkdir "$texts/outputs"
 cargo build --release --offline --quiet --manifest-path "$here/baseline/Cargo.toml"
 if [ -n "$inputs" ]; then
     cp "$inputs"/*.facts "$texts"
 else
-    for family in $families; do
-        python3 "$here/generate.py" family "$family" > "$texts/$family.facts"
-    done
+    make_families "$texts" "$families"
 fi
-for text in "$texts"/*.facts; do
-    # The last line of a text is its `end`; a constraint at no point comes in its place.
-    sed '$s/.*/constraint '"'static 'static"' 999999999/' "$text" > "$texts/refused/${text##*/}"
-done
+make_refused "$texts"
 commit=$(git -C "$here" rev-parse --short HEAD 2>/dev/null || echo none)
 ulimit -v 6000000
 python3 "$here/measure.py" solving --nllc "$nllc" --texts "$texts" --outputs "$texts/outputs" --runs "$runs" \

@@ -1,13 +1,14 @@
 //! What all owners of a problem share: who owns and reads which region, the steps of the graph by
 //! where they leave and by where they land, and the constraints by the region that they read.
 
+use crate::cut::Cut;
 use crate::problem::{Constraint, Problem};
 use crate::runs::{index_of, Lines, Run};
 use std::ops::Range;
 
 pub struct Ground<'p> {
     pub problem: &'p Problem<'p>,
-    pub owners: u16,
+    pub cut: Cut,
     pub lines: Lines,
     /// The jumps, as a target and a point, ascending, and where those of each target begin.
     landings: Vec<(u32, u32)>,
@@ -19,17 +20,17 @@ pub struct Ground<'p> {
 }
 
 impl<'p> Ground<'p> {
-    pub fn of(problem: &'p Problem<'p>, owners: u16) -> Ground<'p> {
+    pub fn of(problem: &'p Problem<'p>, cut: Cut) -> Ground<'p> {
         let (constraints, starts) = index_of(problem);
         let lines = Lines::of(problem);
         let (landings, landing_starts) = landings_of(&lines);
         let readers = vec![0; problem.regions() as usize];
         let mut ground =
-            Ground { problem, owners, lines, landings, landing_starts, constraints, starts, readers };
+            Ground { problem, cut, lines, landings, landing_starts, constraints, starts, readers };
         for number in 0..ground.constraints.len() {
             let Constraint { sub, sup, .. } = ground.constraints[number];
-            let reader = ground.owner_of(sup);
-            if ground.owner_of(sub) != reader {
+            let reader = ground.cut.owner_of(sup);
+            if ground.cut.owner_of(sub) != reader {
                 ground.readers[sub as usize] |= 1 << reader;
             }
         }
@@ -38,11 +39,6 @@ impl<'p> Ground<'p> {
 
     pub fn points(&self) -> u32 {
         self.problem.points
-    }
-
-    /// Regions are dealt in turns.
-    pub fn owner_of(&self, region: u32) -> u16 {
-        (region % u32::from(self.owners)) as u16
     }
 
     /// The places of the constraints that read a region, by the region that they fill.

@@ -1,17 +1,20 @@
 //! A plain Rust program that reads facts and MIR texts (version 1) and answers as `nllc` does,
 //! written by hand without any proof: the partner of `nllc` in measurements and in differential
 //! tests. Reading order: `main`, `text` (lines, tokens, which fault is told), `tables`, `facts`,
-//! `problem`, `solve`, `runs`, `report`; for MIR texts `shapes`, `body`, `mir`, `rules`; for owners
-//! `ground`, `link`, `owner`, `owners`.
+//! `problem`, `solve`, `runs`, `report`; for MIR texts `shapes`, `body`, `mir`, `rules`; for owners `cut`,
+//! `ground`, `link`, `owner`, `owners`, `threads`.
 //!
 //! `baseline read FILE` and `baseline problem FILE` print one line of counts, of what is read and
 //! of the problem that it means; `baseline bases FILE` prints those of a body with its base
 //! elements (of a facts text it is `problem`); `baseline values FILE` and `baseline check FILE` print what
 //! `nllc` prints; with `--runs` before the command, by the algorithm that `nllc` has. `baseline owners
-//! COUNT FILE` solves by so many owners and prints what that took. Status: 0 answered, 1 `check` found
-//! faults or owners other values, 2 words, file or text refused, 3 output failed.
+//! COUNT FILE` solves by so many owners that one thread drives, and prints what that took. Behind `baseline
+//! threads` stand the words of `nllc`, and owners work in threads of their own; `counts` in place of `values`
+//! prints how much grew and was received. Status: 0 answered, 1 `check` found faults or owners other values,
+//! 2 words, file or text refused, 3 output failed.
 
 mod body;
+mod cut;
 mod facts;
 mod ground;
 mod link;
@@ -26,19 +29,19 @@ mod shapes;
 mod solve;
 mod tables;
 mod text;
+mod threads;
+mod words;
 
+use cut::Cut;
 use facts::Facts;
+use ground::Ground;
 use mir::Reader;
 use problem::Problem;
 use std::fs::File;
 use std::io::{self, Read, Write};
 use std::process::exit;
 use text::Fault;
-
-const USAGE: &str = "usage: baseline [--runs] read|bases|problem|values|check|owners COUNT FILE";
-
-/// The commands that a file alone follows.
-const COMMANDS: [&str; 5] = ["read", "bases", "problem", "values", "check"];
+use words::{Deal, Solver, USAGE};
 
 /// The greatest length of a text in bytes.
 const TEXT_LIMIT: u64 = 67_108_864;
@@ -90,16 +93,47 @@ fn report<V: report::Value>(
     Ok(if faults.is_empty() { 0 } else { 1 })
 }
 
-/// Writes the answer of a command and gives the status.
-fn answer(command: &str, by_runs: bool, owners: u16, problem: &Problem) -> io::Result<i32> {
-    let mut out = io::stdout().lock();
-    match command {
-        "owners" => owners::report(problem, owners, &mut out),
-        "read" | "bases" | "problem" => report::counts(problem, &mut out).map(|()| 0),
-        _ if by_runs => report(command, problem, &runs::solve(problem), &mut out),
-        _ => report(command, problem, &solve::solve(problem), &mut out),
+/// The cut by which regions are dealt.
+fn cut_of(deal: Deal, owners: u16, regions: u32) -> Cut {
+    let path = match deal {
+        Deal::Round => return Cut::round(regions, owners),
+        Deal::Blocks => return Cut::blocks(regions, owners),
+        Deal::Listed(path) => path,
+    };
+    let text = text_of(path, "cut line");
+    let list = cut::read(&text).unwrap_or_else(|fault| refuse_fault("cut line", &fault));
+    Cut::from_list(regions, owners, list).unwrap_or_else(|why| refuse(&format!("nllc: {why}")))
+}
+
+/// Writes the answer that owners in threads find, and gives the status.
+fn threads_answer(
+    command: &str,
+    problem: &Problem,
+    cut: Cut,
+    out: &mut impl Write,
+) -> io::Result<i32> {
+    let ground = Ground::of(problem, cut);
+    let owners = threads::solve(&ground);
+    if command == "counts" {
+        return threads::counts(&owners, out).map(|()| 0);
     }
-    .and_then(|status| out.flush().map(|()| status))
+    report(command, problem, &threads::values(&ground, &owners), out)
+}
+
+/// Writes the answer of a command and gives the status.
+fn answer(command: &str, solver: Solver, problem: &Problem) -> io::Result<i32> {
+    let mut out = io::stdout().lock();
+    let status = match (command, solver) {
+        ("read" | "bases" | "problem", _) => report::counts(problem, &mut out).map(|()| 0),
+        (_, Solver::Old) => report(command, problem, &solve::solve(problem), &mut out),
+        (_, Solver::Runs) => report(command, problem, &runs::solve(problem), &mut out),
+        (_, Solver::Turns(owners)) => owners::report(problem, owners, &mut out),
+        (_, Solver::Threads(owners, deal)) => {
+            let cut = cut_of(deal, owners, problem.regions());
+            threads_answer(command, problem, cut, &mut out)
+        }
+    }?;
+    out.flush().map(|()| status)
 }
 
 /// Prints a line of refusal and ends with status 2.
@@ -108,41 +142,35 @@ fn refuse(line: &str) -> ! {
     exit(2)
 }
 
+/// Refuses a text for its fault.
+fn refuse_fault(place: &str, fault: &Fault) -> ! {
+    refuse(&format!("nllc: {place} {}: {}", fault.line, fault.kind))
+}
+
 /// Tells that output failed, and gives the status.
 fn cannot_write() -> i32 {
     let _ = writeln!(io::stderr(), "nllc: cannot write");
     3
 }
 
-/// The command, how many owners there are (where it asks for some), and the file.
-fn asked(words: &[String]) -> Option<(&str, u16, &str)> {
-    match words {
-        [command, path] if COMMANDS.contains(&command.as_str()) => Some((command, 0, path)),
-        [command, count, path] if command == "owners" => {
-            let count = count.parse().ok().filter(|count| (1..=64).contains(count))?;
-            Some((command, count, path))
-        }
-        _ => None,
-    }
-}
-
-fn main() {
-    let mut words: Vec<String> = std::env::args().skip(1).collect();
-    let by_runs = words.first().is_some_and(|word| word == "--runs");
-    words.drain(..by_runs as usize);
-    let (command, owners, path) = asked(&words).unwrap_or_else(|| refuse(USAGE));
+/// The text of a file, which ends with a line feed.
+fn text_of(path: &str, place: &str) -> Vec<u8> {
     let Ok(mut text) = bytes_of(path) else {
         refuse(&format!("nllc: cannot read {path}"));
     };
     if text.len() as u64 > TEXT_LIMIT {
-        refuse("nllc: line 1: limit text");
+        refuse(&format!("nllc: {place} 1: limit text"));
     }
     if text.last() != Some(&b'\n') {
         text.push(b'\n');
     }
-    let status = match problem(command, &text) {
-        Err(fault) => refuse(&format!("nllc: line {}: {}", fault.line, fault.kind)),
-        Ok(problem) => answer(command, by_runs, owners, &problem).unwrap_or_else(|_| cannot_write()),
-    };
-    exit(status)
+    text
+}
+
+fn main() {
+    let words: Vec<String> = std::env::args().skip(1).collect();
+    let asked = words::asked(&words).unwrap_or_else(|| refuse(USAGE));
+    let text = text_of(asked.path, "line");
+    let problem = problem(asked.command, &text).unwrap_or_else(|fault| refuse_fault("line", &fault));
+    exit(answer(asked.command, asked.solver, &problem).unwrap_or_else(|_| cannot_write()))
 }

@@ -31,6 +31,8 @@ pub struct Owner<'g> {
     pub received: Vec<Vec<Growth>>,
     /// For each owner the places in the log of what it's still to be told.
     outboxes: Vec<VecDeque<Range<usize>>>,
+    /// How many growths these are.
+    unsent: u64,
     clock: u64,
     /// How far in the log growths were followed up, and put into the outboxes.
     followed: usize,
@@ -49,8 +51,9 @@ impl<'g> Owner<'g> {
             links: Vec::new(),
             starts: vec![0],
             log: Vec::new(),
-            received: vec![Vec::new(); ground.owners as usize],
-            outboxes: vec![VecDeque::new(); ground.owners as usize],
+            received: vec![Vec::new(); ground.cut.owners as usize],
+            outboxes: vec![VecDeque::new(); ground.cut.owners as usize],
+            unsent: 0,
             clock: 0,
             followed: 0,
             queued: 0,
@@ -72,7 +75,7 @@ impl<'g> Owner<'g> {
     }
 
     fn owns(&self, region: u32) -> bool {
-        self.ground.owner_of(region) == self.me
+        self.ground.cut.owner_of(region) == self.me
     }
 
     /// Adds a link for each own region that constraints fill from a region.
@@ -93,6 +96,11 @@ impl<'g> Owner<'g> {
     /// The value of an own region.
     pub fn value(&self, region: u32) -> &Runs {
         &self.values[self.slots[region as usize] as usize]
+    }
+
+    /// How many growths were received.
+    pub fn received_count(&self) -> usize {
+        self.received.iter().map(Vec::len).sum()
     }
 
     /// Enters the base elements, and grows until nothing is left to do.
@@ -126,10 +134,16 @@ impl<'g> Owner<'g> {
         self.settle();
     }
 
+    /// How many growths the others are still to be told, all together.
+    pub fn unsent(&self) -> u64 {
+        self.unsent
+    }
+
     /// The next growth for another owner.
     pub fn outgoing(&mut self, to: u16) -> Option<Growth> {
         let outbox = &mut self.outboxes[to as usize];
         let places = outbox.front_mut()?;
+        self.unsent -= 1;
         let growth = self.log[places.start];
         places.start += 1;
         if places.start == places.end {
@@ -194,6 +208,7 @@ impl<'g> Owner<'g> {
                 self.queued += 1;
             }
             let mut readers = self.ground.readers[region as usize];
+            self.unsent += u64::from(readers.count_ones()) * (self.queued - first) as u64;
             while readers != 0 {
                 self.outboxes[readers.trailing_zeros() as usize].push_back(first..self.queued);
                 readers &= readers - 1;

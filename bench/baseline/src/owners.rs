@@ -1,5 +1,6 @@
 //! Solving by owners of regions that one thread drives: the partner of `nllc`'s owners.
 
+use crate::cut::Cut;
 use crate::ground::Ground;
 use crate::owner::{Growth, Owner};
 use crate::problem::Problem;
@@ -16,8 +17,8 @@ struct Network<'g> {
 
 impl<'g> Network<'g> {
     fn of(ground: &'g Ground<'g>) -> Network<'g> {
-        let count = ground.owners as usize;
-        let owners = (0..ground.owners).map(|me| Owner::new(ground, me)).collect();
+        let count = ground.cut.owners as usize;
+        let owners = (0..ground.cut.owners).map(|me| Owner::new(ground, me)).collect();
         Network { owners, inboxes: vec![vec![Vec::new(); count]; count], waiting: vec![0; count] }
     }
 
@@ -70,7 +71,7 @@ impl<'g> Network<'g> {
     fn has(&self, ground: &Ground, values: &[Runs]) -> bool {
         let regions = 0..ground.problem.regions();
         regions.zip(values).all(|(region, value)| {
-            self.owners[ground.owner_of(region) as usize].value(region) == value
+            self.owners[ground.cut.owner_of(region) as usize].value(region) == value
         })
     }
 }
@@ -123,7 +124,7 @@ fn lap(since: &mut i64) -> i64 {
 /// words of `owner_program`. The status is 1 where the values differ.
 pub fn report(problem: &Problem, owners: u16, out: &mut impl Write) -> io::Result<i32> {
     let mut since = micros();
-    let ground = Ground::of(problem, owners);
+    let ground = Ground::of(problem, Cut::round(problem.regions(), owners));
     let mut network = Network::of(&ground);
     let make = lap(&mut since);
     network.owners.iter_mut().for_each(Owner::load);
@@ -132,13 +133,12 @@ pub fn report(problem: &Problem, owners: u16, out: &mut impl Write) -> io::Resul
     let turns = lap(&mut since);
     let values = runs::solve(problem);
     let solve = lap(&mut since);
-    let received = |owner: &Owner| owner.received.iter().map(Vec::len).sum::<usize>();
     writeln!(
         out,
         "elements {} received {} digest {} make {make} rounds {rounds} load {load} turns {turns} \
          solve {solve}",
         network.owners.iter().map(|owner| owner.log.len()).sum::<usize>(),
-        network.owners.iter().map(received).sum::<usize>(),
+        network.owners.iter().map(Owner::received_count).sum::<usize>(),
         digest(&network.owners),
     )?;
     Ok(i32::from(!network.has(&ground, &values)))

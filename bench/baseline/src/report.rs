@@ -61,6 +61,16 @@ impl Value for Row {
     }
 }
 
+impl<V: Value> Value for &V {
+    fn has(&self, e: u32) -> bool {
+        (**self).has(e)
+    }
+
+    fn elements(&self) -> impl Iterator<Item = u32> + '_ {
+        (**self).elements()
+    }
+}
+
 impl Value for Runs {
     fn has(&self, e: u32) -> bool {
         Runs::has(self, e)

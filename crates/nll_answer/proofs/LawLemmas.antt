@@ -14,7 +14,7 @@ use Rattle.nll_mir_text.proofs.LawLemmas as mir_laws
 use Rattle.nll_body_problem.specs.BodyProblem.{IsProblemOf, HasTooMany}
 use Rattle.nll_body_problem.specs.declared.error.RuleError.TheVariants as rule
 use Rattle.nll_answer.specs.declared.error.AnswerError.{AnswerError}
-use Rattle.nll_answer.specs.declared.error.AnswerError.TheVariants.{Text, Rule, Memory}
+use Rattle.nll_answer.specs.declared.error.AnswerError.TheVariants.{Text, Rule, Run, Memory}
 use Rattle.nll_answer.specs.Texts.{IsOf, IsTextFault, HasProblem, IsMeaning, IsAnswerError}
 use Rattle.nll_answer.proofs.MeaningLemmas.{same_head, header_of}
 
@@ -94,4 +94,5 @@ pub no_both_lem : (text : List ℕ) (q : Problem) (labels : Labels) (e : AnswerE
 no_both_lem text q labels (Text error) means other h = no_fault text q labels error.line error.kind means h
 no_both_lem text q labels (Rule (rule.Limit kind)) means other h = not_over text q labels h.0 means h.1 h.2.1
 no_both_lem text q labels (Rule rule.Memory) means other h = absurd h.2
+no_both_lem text q labels (Run error) means other h = absurd h
 no_both_lem text q labels Memory means other h = other refl

@@ -13,7 +13,7 @@ use Rattle.nll_facts.specs.FactsText.{facts}
 use Rattle.nll_body.specs.Bodies.{BodyText, labels_of}
 use Rattle.nll_mir_text.specs.MirText.{mir, Means as IsBodyOf}
 use Rattle.nll_answer.specs.declared.error.AnswerError.{AnswerError}
-use Rattle.nll_answer.specs.declared.error.AnswerError.TheVariants.{Text, Rule, Memory}
+use Rattle.nll_answer.specs.declared.error.AnswerError.TheVariants.{Text, Rule, Run, Memory}
 use Rattle.nll_body_problem.specs.BodyProblem.{HasTooMany, IsProblemOf, IsRuleError}
 use Rattle.nll_body_problem.specs.declared.error.RuleError.{RuleError}
 use Rattle.nll_body_problem.specs.declared.error.RuleError.TheVariants as rule
@@ -31,16 +31,19 @@ header_of format text header body cut of = subst (IsHeader format) (same_head of
 pub as_facts : (text : List ℕ) (e : AnswerError) → (IsOf mir text → ⊥) → IsErrorOf facts text e → IsAnswerError text e
 as_facts text (Text error) other h = inr (other, h)
 as_facts text (Rule error) other h = absurd h
+as_facts text (Run error) other h = absurd h
 as_facts text Memory other h = tt
 
 pub as_mir : (text : List ℕ) (e : AnswerError) → IsOf mir text → IsErrorOf mir text e → IsAnswerError text e
 as_mir text (Text error) of h = inl (of, h)
 as_mir text (Rule error) of h = absurd h
+as_mir text (Run error) of h = absurd h
 as_mir text Memory of h = tt
 
 pub as_body : (text : List ℕ) (body : BodyText) (e : AnswerError) → IsBodyOf text body → IsBodyError body e → IsAnswerError text e
 as_body text body (Text error) means h = absurd h
 as_body text body (Rule error) means h = (body, means, h)
+as_body text body (Run error) means h = absurd h
 as_body text body Memory means h = tt
 
 -- whether the kind is want of memory

@@ -1,3 +1,4 @@
 pub mod Report
 pub mod Texts
 pub mod Answer
+pub mod Running

@@ -18,7 +18,7 @@ use Rattle.nll_body_problem.specs.BodyProblem.{IsProblemOf, HasTooMany}
 use Rattle.nll_body_problem.specs.declared.error.RuleError.{RuleError}
 use Rattle.nll_body_problem.specs.declared.error.RuleError.TheVariants as rule
 use Rattle.nll_answer.specs.declared.error.AnswerError.{AnswerError}
-use Rattle.nll_answer.specs.declared.error.AnswerError.TheVariants.{Text, Rule, Memory}
+use Rattle.nll_answer.specs.declared.error.AnswerError.TheVariants.{Text, Rule, Run, Memory}
 
 -- the text's first line is the header of the format
 abbrev pub IsOf : Format → List ℕ → Type 0
@@ -71,6 +71,7 @@ abbrev pub IsErrorOf : Format → List ℕ → AnswerError → Type 0
 IsErrorOf format text (Text error) = IsFault format text error.line error.kind
 IsErrorOf format text Memory = Unit {0}
 IsErrorOf format text (Rule error) = ⊥
+IsErrorOf format text (Run error) = ⊥
 
 -- the error tells the text's fault, that it means a body with too many constraints, or that a
 -- growth of memory was refused
@@ -78,4 +79,5 @@ abbrev pub IsAnswerError : List ℕ → AnswerError → Type 0
 IsAnswerError text (Text error) = IsTextFault text error.line error.kind
 IsAnswerError text (Rule error) =
     (body : BodyText) × IsBodyOf text body × IsBodyError body (Rule error)
+IsAnswerError text (Run error) = ⊥
 IsAnswerError text Memory = Unit {0}

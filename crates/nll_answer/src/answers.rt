@@ -1,17 +1,17 @@
 //! The answer to a text: read, solve, and print.
 
-ghost use Rattle.std.specs.Prelude.{◌≡◌, ◌≤◌, IfErr, IfOk, length};
+ghost use Rattle.std.specs.Prelude.{◌≡◌, ◌<◌, ◌≤◌, All, IfErr, IfOk, length};
 ghost use Rattle.nll_problem.specs.Faults.{AreFaults};
 ghost use Rattle.nll_problem.specs.Problem.{IsSound};
 ghost use Rattle.nll_problem.specs.Solution.{Least};
 ghost use Rattle.nll_answer.specs.Answer.{IsAnswer, IsCheckReport};
 ghost use Rattle.nll_answer.specs.Answer.{IsProblemAnswer, status_of_faults};
-ghost use Rattle.nll_answer.specs.Report.{IsValuesReport};
+ghost use Rattle.nll_answer.specs.Report.{IsValuesReport, faults_report};
 ghost use Rattle.nll_answer.specs.Texts.{IsAnswerError};
 
 use crate::error::AnswerError;
 use crate::faults_report::faults_text;
-use crate::meanings::meaning;
+use crate::meanings::{meaning, read_meaning};
 use crate::values_report::region_lines;
 use nll_core::{Memory, Problem, RegionId, faults, solve};
 use nll_facts::Facts;
@@ -39,6 +39,23 @@ pub fn answer(alloc: Global, command: Command, text: &[u8]) -> Result<(Vec<u8>, 
     ensures err { IfErr result (IsAnswerError text.now) }
 {
     let facts = meaning(alloc, text)?;
+    Ok(answer_of(alloc, command, facts)?)
+}
+
+/// The same of a text that is handed over, which is let go as soon as it is read.
+///
+/// # Errors
+/// As of `answer`.
+pub fn answer_text(
+    alloc: Global,
+    command: Command,
+    text: Vec<u8>,
+) -> Result<(Vec<u8>, u8), AnswerError>
+    ensures ok { IfOk result (λ r. IsAnswer command text.items r.0.items r.1) }
+    ensures status { IfOk result (λ r. r.1 ≤ 1) }
+    ensures err { IfErr result (IsAnswerError text.items) }
+{
+    let facts = read_meaning(alloc, text)?;
     Ok(answer_of(alloc, command, facts)?)
 }
 
@@ -104,6 +121,21 @@ fn check_of(alloc: Global, problem: Problem, labels: &Labels) -> Result<(Vec<u8>
     let faults = faults_of(alloc, &problem);
     drop(problem);
     let faults = faults?;
+    told_faults(alloc, labels, faults)
+}
+
+/// The report of faults, and the status that tells whether there are any.
+pub(crate) fn told_faults(
+    alloc: Global,
+    labels: &Labels,
+    faults: Vec<(RegionId, RegionId)>,
+) -> Result<(Vec<u8>, u8), Memory>
+    requires { All (λ fault. (fault.0 < length labels.now.names)
+        × (fault.1 < length labels.now.names)) faults.items }
+    ensures report { IfOk result (λ r. r.0.items ≡ faults_report labels.now faults.items) }
+    ensures told { IfOk result (λ r. r.1 ≡ status_of_faults faults.items) }
+    ensures status { IfOk result (λ r. r.1 ≤ 1) }
+{
     let report = faults_text(alloc, labels, faults.as_slice());
     let status = status_of_faults(faults.as_slice());
     drop(faults);

@@ -3,6 +3,7 @@
 use nll_body_problem::RuleError;
 use nll_core::Memory;
 use nll_reading::{TextError, TextKind};
+use nll_run::RunError;
 use thiserror::Error;
 
 /// Why a text has no answer.
@@ -14,6 +15,9 @@ pub enum AnswerError {
     /// The body that the text means has no problem.
     #[error(transparent)]
     Rule(RuleError),
+    /// The run of owners was refused.
+    #[error(transparent)]
+    Run(RunError),
     /// A growth of memory was refused.
     #[error("memory was refused")]
     Memory,
@@ -54,6 +58,20 @@ impl From<RuleError> for AnswerError {
         match error {
             RuleError::Limit(_) => AnswerError::Rule(error),
             RuleError::Memory => AnswerError::Memory,
+        }
+    }
+}
+
+impl From<RunError> for AnswerError {
+    ghost use Rattle.std.specs.Prelude.{◌≡◌};
+    ghost use Rattle.nll_answer.specs.Running.{error_of_run};
+
+    ghost from_gives = { λ error told. told ≡ error_of_run error };
+
+    fn from(error: RunError) -> AnswerError {
+        match error {
+            RunError::Memory => AnswerError::Memory,
+            RunError::Thread | RunError::RankFull => AnswerError::Run(error),
         }
     }
 }

@@ -9,11 +9,13 @@ mod error;
 mod faults_report;
 mod laws;
 mod meanings;
+mod run_answers;
 mod values_report;
 
-pub use answers::{Command, answer, answer_of};
+pub use answers::{Command, answer, answer_of, answer_text};
 pub use error::AnswerError;
 pub use faults_report::faults_text;
 pub use laws::{no_text_has_both, one_text_fault, one_text_meaning};
 pub use meanings::{meaning, read_meaning};
+pub use run_answers::answer_run;
 pub use values_report::values_text;

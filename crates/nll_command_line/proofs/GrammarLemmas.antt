@@ -6,7 +6,7 @@ use Rattle.clap.specs.Faults.{is_simple_and_free}
 use Rattle.clap.specs.declared.parser.matches.Found.{Found}
 use Rattle.clap.proofs.WalkLemmas.{first_value-rows}
 use Rattle.clap.proofs.OnLiterals.{clap_on_literals}
-use Rattle.nll_command_line.specs.declared.task.Line.{Line}
+use Rattle.nll_command_line.specs.declared.task.Asked.{Asked}
 use Rattle.nll_command_line.specs.declared.error.LineError.{LineError}
 use Rattle.nll_command_line.specs.declared.error.LineError.TheVariants.{Usage, Memory}
 use Rattle.nll_command_line.specs.declared.task.Task.{Task}
@@ -41,7 +41,7 @@ line_of_found-None name f task named given =
     rw (← named, ← read) refl
 
 -- the answer of a line that the matches have is that line, or want of memory
-pub plain_result : (r : Result Line LineError) (task : Task) (file : Text) {o : Option (Task × Text)} → Some (task, file) ≡ o
+pub plain_result : (r : Result Asked LineError) (task : Task) (file : Text) {o : Option (Task × Text)} → Some (task, file) ≡ o
     → IfOk r (λ l. o ≡ Some (l.task, string_bytes l.file)) → IfErr r (λ e. ((e ≡ Memory) × (o ≢ None)) ⊎ ((e ≡ Usage) × (o ≡ None)))
     → MatchResult r (λ l. (l.task ≡ task) × (string_bytes l.file ≡ file)) (λ e. e ≡ Memory)
 plain_result (Ok l) task file is ok err =

@@ -1,7 +1,11 @@
+pub mod AnswerLemmas
 pub mod FileWordLemmas
 pub mod GrammarLemmas
 pub mod HelpLemmas
 pub mod LineErrorLemmas
 pub mod LineLemmas
+pub mod OptionLemmas
+pub mod PlacingLemmas
 pub mod PlainLineLemmas
 pub mod TaskWordLemmas
+pub mod WordLemmas

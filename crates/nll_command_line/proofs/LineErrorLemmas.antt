@@ -3,7 +3,7 @@ use Rattle.std.proofs.Common.{◌≡◌, ◌≢◌, ◌∙◌, ◌⊎◌, ⊎_el
 use Rattle.clap.specs.Words.{IsAmong, Kinds, Text, fault_of, takes}
 use Rattle.clap.specs.declared.error.kind.ErrorKind.{ErrorKind}
 use Rattle.clap.specs.declared.error.kind.ErrorKind.TheVariants.{DisplayHelp, OutOfMemory}
-use Rattle.nll_command_line.specs.declared.task.Line.{Line}
+use Rattle.nll_command_line.specs.declared.task.Asked.{Asked}
 use Rattle.nll_command_line.specs.declared.error.LineError.{LineError}
 use Rattle.nll_command_line.specs.declared.error.LineError.TheVariants.{Help, Usage, Memory}
 use Rattle.nll_command_line.specs.declared.task.Task.{Task}
@@ -17,7 +17,7 @@ no_plain_line words none task file h =
     let bad : ◌≡◌ {A = Option (Task × Text)} (Some (task, file)) None = sym (line_by_grammar-plain task file words h) ∙ none in cc
 
 -- the error of matches that have no line
-pub matches_without_line : (words : List Text) (r : Result Line LineError) {o : Option (Task × Text)} → fault_of program words ≡ []
+pub matches_without_line : (words : List Text) (r : Result Asked LineError) {o : Option (Task × Text)} → fault_of program words ≡ []
     → line_by_grammar words ≡ o → IfErr r (λ e. ((e ≡ Memory) × (o ≢ None)) ⊎ ((e ≡ Usage) × (o ≡ None))) → IfErr r (IsLineError words)
 matches_without_line words (Ok l) taken read err = tt
 matches_without_line words (Err e) taken read err = elim err [

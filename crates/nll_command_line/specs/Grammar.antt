@@ -14,6 +14,7 @@ use Rattle.nll_command_line.specs.declared.task.Task.{Task}
 use Rattle.nll_command_line.specs.declared.task.Task.TheVariants.{Values, Check}
 use Rattle.nll_command_line.specs.CommandLine.{IsNoPlainLine, name_of, task_named}
 use Rattle.nll_command_line.specs.Help.{help_for}
+use Rattle.nll_command_line.specs.Options.{AreRead, Said}
 
 -- the place of the file among the words of a command
 abbrev pub file_rule : Rule
@@ -65,6 +66,15 @@ IsLineError words (Help text) =
     AsksForHelp words × IsNoPlainLine words × (string_bytes text ≡ help_for words)
 IsLineError words Usage = IsNoPlainLine words × (AsksForHelpAlone words → ⊥)
 IsLineError words Memory = Unit {0}
+
+-- the error tells why the words are no line, with the options among them or without; want of memory
+-- says nothing of them
+abbrev pub IsWordsError : List Text → LineError → Type 0
+IsWordsError words (Help text) = (others : List Text) × (said : Said) × AreRead words others said
+    × IsLineError others (Help text)
+IsWordsError words Usage = (others : List Text) (said : Said) → AreRead words others said
+    → IsLineError others Usage
+IsWordsError words Memory = Unit {0}
 
 -- the error is the help for the words, or want of memory
 abbrev pub IsHelpFor : List Text → LineError → Type 0

@@ -1,4 +1,4 @@
--- The text of help. It is the one that the crate `clap` makes of the two commands.
+-- The text of help. It is the one that the crate `clap` makes of the two commands with their options.
 -- Source: project's choice.
 use Rattle.std.specs.Prelude.{ℕ, List, [], ◌∷◌, ◌++◌, Option, None, Some, codes}
 use Rattle.nll_command_line.specs.declared.task.Task.{Task}
@@ -23,7 +23,8 @@ program_help =
     ++ codes "  0  the values are printed, or check found no fault, or this help\n"
     ++ codes "  1  check found a fault\n"
     ++ codes "  2  the words, the file or its text are refused, and standard error says why\n"
-    ++ codes "  3  memory was refused, or standard output did not take the whole report\n"
+    ++ codes "  3  memory or a thread was refused, or standard output did not take the whole "
+    ++ codes "report\n"
     ++ codes "\n"
     ++ codes "docs/FORMATS.md says how facts texts and MIR texts are written, and how the "
     ++ codes "reports are.\n"
@@ -31,8 +32,10 @@ program_help =
 
 -- how the help of a task begins
 abbrev pub help_begin : Task → List ℕ
-help_begin Values = codes "Prints the values of the regions of FILE\n\nUsage: nllc values <FILE>\n"
-help_begin Check = codes "Checks the universal regions of FILE\n\nUsage: nllc check <FILE>\n"
+help_begin Values = codes "Prints the values of the regions of FILE\n\n"
+    ++ codes "Usage: nllc values [OPTIONS] <FILE>\n"
+help_begin Check = codes "Checks the universal regions of FILE\n\n"
+    ++ codes "Usage: nllc check [OPTIONS] <FILE>\n"
 
 -- the help of a task
 abbrev pub task_help : Task → List ℕ
@@ -42,7 +45,15 @@ task_help task = help_begin task
     ++ codes "  <FILE>  The facts text or MIR text, or /dev/stdin for standard input\n"
     ++ codes "\n"
     ++ codes "Options:\n"
-    ++ codes "  -h, --help  Print help\n"
+    ++ codes "      --owners <N>           Has 1 to 64 owners of regions find the "
+    ++ codes "answer, each in a thread of its own\n"
+    ++ codes "      --deal <round|blocks>  Deals the regions to the owners in "
+    ++ codes "turns, or in blocks of neighbours\n"
+    ++ codes "      --cut <CUT>            Deals the regions to the owners as the "
+    ++ codes "cut file CUT lists\n"
+    ++ codes "      --mail <queue>         The kind of mailboxes through which the "
+    ++ codes "owners tell each other\n"
+    ++ codes "  -h, --help                 Print help\n"
 
 -- the help of a task where there is one, else that of the program
 abbrev pub help_of : Option Task → List ℕ

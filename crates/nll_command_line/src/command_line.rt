@@ -1,18 +1,21 @@
 //! What the words of the command line ask for.
 ghost use Rattle.std.specs.Prelude.{◌≡◌, ◌≢◌, ◌⊎◌, ℕ, List, None, Some, false, map, string_bytes};
-ghost use Rattle.std.specs.Prelude.{IfErr, IfOk, MatchResult, OnErr};
+ghost use Rattle.std.specs.Prelude.{Err, IfErr, IfOk, IsOk, IsOkAnd, MatchResult, OnErr};
+ghost use Rattle.nll_command_line.specs.Options.{AreRead, Said, said_by};
 ghost use Rattle.nll_command_line.specs.declared.task.Task.{Task};
+ghost use Rattle.nll_command_line.specs.Taking.{said_of};
 ghost use Rattle.nll_command_line.specs.CommandLine.{AsksPlainlyForHelp, IsLine, IsPlainLine};
 ghost use Rattle.clap.specs.Words.{app_of, found_of, rows_of, rule_of};
 ghost use Rattle.clap.specs.Words.{new_app, subcommand_rows_of, with_rule, with_subcommand};
 ghost use Rattle.clap.specs.declared.builder.Command.TheViews.{out-Command};
-ghost use Rattle.nll_command_line.specs.Grammar.{IsHelpFor, IsLineError, IsTold};
+ghost use Rattle.nll_command_line.specs.Grammar.{IsHelpFor, IsLineError, IsTold, IsWordsError};
 ghost use Rattle.nll_command_line.specs.Grammar.{bare_program, file_rule, program};
 ghost use Rattle.nll_command_line.specs.Grammar.{line_of_found, line_of_matches};
 
 use crate::error::LineError;
 use crate::help::help_for;
-use crate::task::{CHECK, Line, VALUES, task_of};
+use crate::options::{Options, part_words};
+use crate::task::{Asked, CHECK, Line, VALUES, task_of};
 use clap::error::ErrorKind;
 use clap::{Arg, ArgAction, ArgMatches, Command};
 use std::alloc::{AllocError, Global};
@@ -27,15 +30,65 @@ const FILE: &str = "FILE";
 /// - `Usage`: a word is refused, or one is missing.
 /// - `Memory`: an allocation was refused.
 pub fn line(alloc: Global, words: &[String]) -> Result<Line, LineError>
+    ensures ok { IfOk result (λ l. (others : List (List ℕ))
+        × AreRead (map string_bytes words.now) others (said_by l)
+        × IsLine l.task (string_bytes l.file) others) }
+    ensures plain { (task : Task) (file : List ℕ) (others : List (List ℕ)) (said : Said)
+        → AreRead (map string_bytes words.now) others said → IsPlainLine task file others
+        → MatchResult result (λ l. (l.task ≡ task) × (string_bytes l.file ≡ file)
+        × (said_by l ≡ said)) (λ e. e ≡ LineError.Memory) }
+    ensures help { (others : List (List ℕ)) (said : Said)
+        → AreRead (map string_bytes words.now) others said → AsksPlainlyForHelp others
+        → MatchResult result (λ _. ⊥) (IsHelpFor others) }
+    ensures err { IfErr result (IsWordsError (map string_bytes words.now)) }
+{
+    let mut options = Options::none();
+    let mut others = Vec::new(alloc);
+    if let Err(error) = part_words(words, &mut options, &mut others) {
+        drop(others);
+        return Err(error);
+    }
+    let asked = asked(alloc, others.as_slice());
+    drop(others);
+    with_options(alloc, asked, options)
+}
+
+// What is asked, with what the options give.
+fn with_options(
+    alloc: Global,
+    asked: Result<Asked, LineError>,
+    options: Options<'_>,
+) -> Result<Line, LineError>
+    ensures ok { IfOk result (λ l. IsOkAnd asked (λ a. (l.task ≡ a.task)
+        × (string_bytes l.file ≡ string_bytes a.file) × (said_by l ≡ said_of options.entry))) }
+    ensures err { IfErr result (λ e. (asked ≡ Err e) ⊎ (IsOk asked × (e ≡ LineError.Memory))) }
+{
+    let asked = asked?;
+    let cut = match options.cut {
+        Some(file) => Some(String::from_str(alloc, file)?),
+        None => None,
+    };
+    Ok(Line {
+        task: asked.task,
+        file: asked.file,
+        owners: options.owners,
+        deal: options.deal,
+        cut,
+        mail: options.mail,
+    })
+}
+
+// What words without options ask for.
+fn asked(alloc: Global, words: &[&str]) -> Result<Asked, LineError>
     ensures ok { IfOk result (λ l.
-        IsLine l.task (string_bytes l.file) (map string_bytes words.now)) }
+        IsLine l.task (string_bytes l.file) (map (λ word. word.now) words.now)) }
     ensures plain { (task : Task) (file : List ℕ)
-        → IsPlainLine task file (map string_bytes words.now)
+        → IsPlainLine task file (map (λ word. word.now) words.now)
         → MatchResult result (λ l. (l.task ≡ task) × (string_bytes l.file ≡ file))
         (λ e. e ≡ LineError.Memory) }
-    ensures help { AsksPlainlyForHelp (map string_bytes words.now)
-        → MatchResult result (λ _. ⊥) (IsHelpFor (map string_bytes words.now)) }
-    ensures err { IfErr result (IsLineError (map string_bytes words.now)) }
+    ensures help { AsksPlainlyForHelp (map (λ word. word.now) words.now)
+        → MatchResult result (λ _. ⊥) (IsHelpFor (map (λ word. word.now) words.now)) }
+    ensures err { IfErr result (IsLineError (map (λ word. word.now) words.now)) }
 {
     match grammar(alloc)?.try_get_matches_from(words) {
         Ok(matches) => {
@@ -105,7 +158,7 @@ fn file_word<'a>(alloc: Global) -> Arg<'a>
 }
 
 // The line that the words came to.
-fn line_of(alloc: Global, matches: &ArgMatches<'_>) -> Result<Line, LineError>
+fn line_of(alloc: Global, matches: &ArgMatches<'_>) -> Result<Asked, LineError>
     ensures ok { IfOk result (λ l. line_of_matches (subcommand_rows_of matches.now)
         ≡ Some (l.task, string_bytes l.file)) }
     ensures err { IfErr result (λ e. ((e ≡ LineError.Memory)
@@ -120,7 +173,7 @@ fn line_of(alloc: Global, matches: &ArgMatches<'_>) -> Result<Line, LineError>
 }
 
 // The line of a command and what was found for it.
-fn line_of_command(alloc: Global, name: &str, found: &ArgMatches<'_>) -> Result<Line, LineError>
+fn line_of_command(alloc: Global, name: &str, found: &ArgMatches<'_>) -> Result<Asked, LineError>
     ensures ok { IfOk result (λ l. line_of_found (name.now, rows_of (found_of found.now))
         ≡ Some (l.task, string_bytes l.file)) }
     ensures err { IfErr result (λ e. ((e ≡ LineError.Memory)
@@ -135,12 +188,12 @@ fn line_of_command(alloc: Global, name: &str, found: &ArgMatches<'_>) -> Result<
         return Err(LineError::Usage);
     };
     let file = String::from_str(alloc, file)?;
-    Ok(Line { task, file })
+    Ok(Asked { task, file })
 }
 
 // What the program makes of words for which the parser has an error of this kind.
-fn refusal(alloc: Global, words: &[String], kind: ErrorKind) -> LineError
-    ensures { IsTold (map string_bytes words.now) kind result }
+fn refusal(alloc: Global, words: &[&str], kind: ErrorKind) -> LineError
+    ensures { IsTold (map (λ word. word.now) words.now) kind result }
 {
     match kind {
         ErrorKind::OutOfMemory => LineError::Memory,

@@ -1,6 +1,6 @@
 //! Why words are no command line.
 
-use std::alloc::AllocError;
+use std::alloc::{AllocError, AllocFailed};
 use thiserror::Error;
 
 /// Why a command line is not taken.
@@ -24,6 +24,17 @@ impl From<AllocError> for LineError {
     ghost from_gives = { λ _ error. error ≡ memory };
 
     fn from(_refused: AllocError) -> LineError {
+        LineError::Memory
+    }
+}
+
+impl<T: Drop> From<AllocFailed<T>> for LineError {
+    ghost use Rattle.std.specs.Prelude.{◌≡◌};
+    ghost use Rattle.nll_command_line.specs.declared.error.LineError.TheVariants.{Memory as memory};
+
+    ghost from_gives = { λ _ error. error ≡ memory };
+
+    fn from(_refused: AllocFailed<T>) -> LineError {
         LineError::Memory
     }
 }

@@ -1,5 +1,5 @@
 //! The text of help.
-ghost use Rattle.std.specs.Prelude.{◌≡◌, map, string_bytes};
+ghost use Rattle.std.specs.Prelude.{◌≡◌, map};
 ghost use Rattle.nll_command_line.specs.Help.{help_for, help_of};
 
 use crate::task::{Task, task_of};
@@ -20,7 +20,7 @@ Statuses:
   0  the values are printed, or check found no fault, or this help
   1  check found a fault
   2  the words, the file or its text are refused, and standard error says why
-  3  memory was refused, or standard output did not take the whole report
+  3  memory or a thread was refused, or standard output did not take the whole report
 
 docs/FORMATS.md says how facts texts and MIR texts are written, and how the reports are.
 With /dev/stdin for FILE the text is read from standard input.
@@ -29,34 +29,42 @@ With /dev/stdin for FILE the text is read from standard input.
 const VALUES: &str = "\
 Prints the values of the regions of FILE
 
-Usage: nllc values <FILE>
+Usage: nllc values [OPTIONS] <FILE>
 
 Arguments:
   <FILE>  The facts text or MIR text, or /dev/stdin for standard input
 
 Options:
-  -h, --help  Print help
+      --owners <N>           Has 1 to 64 owners of regions find the answer, each in a thread of its own
+      --deal <round|blocks>  Deals the regions to the owners in turns, or in blocks of neighbours
+      --cut <CUT>            Deals the regions to the owners as the cut file CUT lists
+      --mail <queue>         The kind of mailboxes through which the owners tell each other
+  -h, --help                 Print help
 ";
 
 const CHECK: &str = "\
 Checks the universal regions of FILE
 
-Usage: nllc check <FILE>
+Usage: nllc check [OPTIONS] <FILE>
 
 Arguments:
   <FILE>  The facts text or MIR text, or /dev/stdin for standard input
 
 Options:
-  -h, --help  Print help
+      --owners <N>           Has 1 to 64 owners of regions find the answer, each in a thread of its own
+      --deal <round|blocks>  Deals the regions to the owners in turns, or in blocks of neighbours
+      --cut <CUT>            Deals the regions to the owners as the cut file CUT lists
+      --mail <queue>         The kind of mailboxes through which the owners tell each other
+  -h, --help                 Print help
 ";
 
 /// The help that words ask for: of the command that the first one names, else of the program.
-pub(crate) fn help_for(words: &[String]) -> &'static str
-    ensures { result.now ≡ help_for (map string_bytes words.now) }
+pub(crate) fn help_for(words: &[&str]) -> &'static str
+    ensures { result.now ≡ help_for (map (λ word. word.now) words.now) }
 {
     match words {
         [] => PROGRAM,
-        [word, ..] => help_of(task_of(word.as_str())),
+        [word, ..] => help_of(task_of(word)),
     }
 }
 

@@ -2,6 +2,8 @@
 ghost use Rattle.std.specs.Prelude.{◌≡◌};
 ghost use Rattle.nll_command_line.specs.CommandLine.{task_named};
 
+use crate::options::{Deal, MailKind};
+
 pub(crate) const VALUES: &str = "values";
 
 pub(crate) const CHECK: &str = "check";
@@ -20,6 +22,21 @@ pub enum Task {
 pub struct Line {
     pub task: Task,
     pub file: String,
+    /// How many owners there are, where that is said: 1 to 64.
+    pub owners: Option<u16>,
+    /// How regions are dealt to them, where that is said.
+    pub deal: Option<Deal>,
+    /// The file that says who owns which region; then `deal` says nothing.
+    pub cut: Option<String>,
+    /// What carries what owners tell each other, where that is said.
+    pub mail: Option<MailKind>,
+}
+
+/// What the words ask for that are no options.
+#[derive(Drop)]
+pub(crate) struct Asked {
+    pub(crate) task: Task,
+    pub(crate) file: String,
 }
 
 /// The task that a word names.

@@ -2,7 +2,7 @@
 use super::reading::write_fault;
 use super::rows::{ALONE, Asked, compare_rows, compare_same};
 use super::saying::{count, say, say_bytes, show};
-use nll_report::{AnswerError, Command, answer, answer_of, read_meaning};
+use nll_report::{AnswerError, Command, answer, answer_text};
 use std::alloc::Global;
 use std::process::Abort;
 
@@ -31,20 +31,10 @@ pub fn answer_to(alloc: Global, command: Command, text: &[u8]) -> String {
     answer_told(alloc, answer(alloc, command, text))
 }
 
-// The answer to a command on a text that is handed over, which is let go before it is answered.
-fn answer_of_text(
-    alloc: Global,
-    command: Command,
-    text: Vec<u8>,
-) -> Result<(Vec<u8>, u8), AnswerError> {
-    let facts = read_meaning(alloc, text)?;
-    Ok(answer_of(alloc, command, facts)?)
-}
-
 /// The same as text, where the text that is asked about is handed over.
 pub fn answer_handed(rt: &impl Abort, alloc: Global, command: Command, text: &[u8]) -> String {
     let text = Vec::from_slice(alloc, text).expect(rt, "memory");
-    answer_told(alloc, answer_of_text(alloc, command, text))
+    answer_told(alloc, answer_text(alloc, command, text))
 }
 
 // Whole texts that say the same: blanks, skipped lines and the end of the last line say nothing.

@@ -6,6 +6,8 @@ use super::rows::{ALONE, Asked, compare_row, compare_rows};
 use super::saying::say;
 use nll_worked_texts::{CALLED, DROPPED, MOVED, REBORROW, RETURNED, TWO_BORROWS};
 use std::process::Abort;
+use std::sync::Wait;
+use std::thread::Threads;
 
 // A reference in a variable is used later on one way only.
 const LATER_USE: &str = "nll-mir 1|region 'slot|region 'loan|let _0: int|let _1: int|let _2: int|\
@@ -35,7 +37,12 @@ const DROPPED_MARKED: &str = "nll-mir 1|region 'w|struct W<'x + ?> drop (&'x int
     let _1: W<'w>|blocks 2|block bb0|nop|drop _1 -> bb1|block bb1|return|end|";
 
 // Ends the test unless these are what `values` and `check` do with a text.
-fn compare_body<R: Abort + AllocGlobal>(rt: &R, lines: &str, of_values: &str, of_check: &str) {
+fn compare_body<R: Abort + AllocGlobal + Threads + Wait + Sync>(
+    rt: &R,
+    lines: &str,
+    of_values: &str,
+    of_check: &str,
+) {
     compare_row(rt, Asked::Run("values|sheet"), ALONE, lines, of_values);
     compare_row(rt, Asked::Run("check|sheet"), ALONE, lines, of_check);
 }
@@ -159,7 +166,11 @@ fn write_assignments(out: &mut String, count: u32) {
 }
 
 // Ends the test unless that is what the program says of the faults of such a text.
-fn compare_assignments<R: Abort + AllocGlobal>(rt: &R, count: u32, want: &[u8]) {
+fn compare_assignments<R: Abort + AllocGlobal + Threads + Wait + Sync>(
+    rt: &R,
+    count: u32,
+    want: &[u8],
+) {
     let mut text = String::new(rt.alloc());
     write_assignments(&mut text, count);
     let told = run_on(rt, "check|sheet", text.as_bytes());

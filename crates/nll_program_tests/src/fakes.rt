@@ -76,6 +76,16 @@ const TEXTS: &[(&str, &[u8])] = &[
         b"nll-facts 1\n# One too many.\npoints 1048577\nend\n",
     ),
     ("end", b"nll-facts 1\npoints 1\nreturn 0\n# end\n"),
+    // Cut files. The chain has three regions.
+    ("one", b"nll-cut 1\n0\n0\n0\n"),
+    ("two", b"nll-cut 1\n# 'static\n1\n\n0\n1"),
+    ("stranger", b"nll-cut 1\n0\n16\n0\n"),
+    ("strangers", b"nll-cut 1\n16\n0\n17\n"),
+    ("short", b"nll-cut 1\n0\n1\n"),
+    ("long", b"nll-cut 1\n0\n1\n0\n99\n"),
+    ("none", b"nll-cut 1\n"),
+    ("faulty", b"nll-cut 1\n0\none\n"),
+    ("wide", b"nll-cut 1\n65536\n"),
 ];
 
 /// The texts of the table above; the text `large` wants memory.

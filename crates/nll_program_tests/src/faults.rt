@@ -2,6 +2,8 @@
 use super::rows::{Around, Asked, compare_within};
 use nll_report::Command;
 use std::process::Abort;
+use std::sync::Wait;
+use std::thread::Threads;
 
 // A fault is an end that a universal region holds without being known to outlive its region.
 const A_FAULT: &str = "
@@ -72,7 +74,7 @@ const THREE: Around<'static> = (
 );
 
 // Ends the test unless these are the reports of the texts' faults.
-fn compare_faults<R: Abort + AllocGlobal>(rt: &R, rows: &str) {
+fn compare_faults<R: Abort + AllocGlobal + Threads + Wait + Sync>(rt: &R, rows: &str) {
     compare_within(rt, Asked::Answer(Command::Check), THREE, rows);
 }
 

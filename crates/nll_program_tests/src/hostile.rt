@@ -6,6 +6,8 @@ use super::saying::{count, say, show};
 use nll_reading::TextError;
 use std::alloc::Global;
 use std::process::Abort;
+use std::sync::Wait;
+use std::thread::Threads;
 
 // A text of each form of line, with a remark that has a letter of two bytes.
 const TEXT: &[u8] = b"nll-facts 1
@@ -228,7 +230,11 @@ fn write_changes(rt: &impl Abort, alloc: Global, out: &mut String, place: usize)
 
 // Ends the test unless that is told of the changes at the places from the first to before the
 // second.
-fn compare_changes<R: Abort + AllocGlobal>(rt: &R, (first, end): (usize, usize), want: &str) {
+fn compare_changes<R: Abort + AllocGlobal + Threads + Wait + Sync>(
+    rt: &R,
+    (first, end): (usize, usize),
+    want: &str,
+) {
     let mut told = String::new(rt.alloc());
     for place in first..end {
         write_changes(rt, rt.alloc(), &mut told, place);

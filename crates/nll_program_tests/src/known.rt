@@ -9,6 +9,8 @@ ghost use Rattle.nll_program_tests.specs.Known.{bytes_of, is_elsewhere, is_sheet
 use crate::page::Page;
 use nll_report::{Sink, Texts, Unread, Unwritten, drive};
 use std::alloc::Global;
+use std::sync::Wait;
+use std::thread::Threads;
 
 /// One text at one path.
 #[derive(Drop)]
@@ -50,7 +52,7 @@ impl Sink for Page {
 }
 
 /// Runs the program on a sheet and two pages.
-pub fn on_pages<R: AllocGlobal>(
+pub fn on_pages<R: AllocGlobal + Threads + Wait + Sync>(
     rt: &R,
     words: &[String],
     sheet: &Sheet<'_>,

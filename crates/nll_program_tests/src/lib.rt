@@ -35,6 +35,8 @@ mod meanings;
 #[cfg(test)]
 mod messages;
 #[cfg(test)]
+mod owners;
+#[cfg(test)]
 mod program;
 #[cfg(test)]
 mod reading;

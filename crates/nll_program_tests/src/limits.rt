@@ -6,6 +6,8 @@ use nll_reading::MAX_TEXT;
 use nll_report::Command;
 use std::alloc::Global;
 use std::process::Abort;
+use std::sync::Wait;
+use std::thread::Threads;
 
 /// Writes words so often.
 pub fn repeat(out: &mut String, times: u32, words: &str) {
@@ -32,7 +34,7 @@ fn compare_answer(rt: &impl Abort, alloc: Global, says: &str, text: String, want
 
 // The same of a text of one point that declares so many regions by these words, and then has
 // further lines.
-fn compare_declaring<R: Abort + AllocGlobal>(
+fn compare_declaring<R: Abort + AllocGlobal + Threads + Wait + Sync>(
     rt: &R,
     (words, times): (&str, u32),
     lines: &str,
@@ -65,7 +67,11 @@ fn refuses_declarations_past_the_limits(rt: HostRuntime) {
 }
 
 // What is answered to a text of so many blanks.
-fn compare_blanks<R: Abort + AllocGlobal>(rt: &R, bytes: usize, want: &[u8]) {
+fn compare_blanks<R: Abort + AllocGlobal + Threads + Wait + Sync>(
+    rt: &R,
+    bytes: usize,
+    want: &[u8],
+) {
     let text = Vec::from_elem(rt.alloc(), b' ', bytes).expect(rt, "memory");
     let told = answer_to(rt.alloc(), Command::Check, text.as_slice());
     drop(text);

@@ -3,7 +3,7 @@ use super::comparing::compare;
 use super::saying::{count, print, say, say_bytes, show};
 use nll_core::{BuildError, Kind};
 use nll_reading::{TextError, TextKind};
-use nll_report::{AnswerError, LineError, Refusal, RuleError, USAGE, Unread};
+use nll_report::{AnswerError, LineError, Refusal, RuleError, RunError, USAGE, Unread};
 use std::alloc::{AllocError, AllocFailed, Global};
 use std::fmt::Display;
 use std::process::Abort;
@@ -87,6 +87,36 @@ fn prints_refusals_without_a_line(rt: HostRuntime) {
     compare_refusal(&rt, AnswerError::Rule(RuleError::Memory), memory);
     let limit = AnswerError::Rule(RuleError::Limit(Kind::Constraints));
     compare_refusal(&rt, limit, b"2, nllc: limit constraints");
+}
+
+// Ends the test unless that is the status and the line of a refusal, as it is displayed and as it is
+// printed.
+fn compare_line<R: Abort + AllocGlobal>(rt: &R, refusal: &Refusal, want: &[u8]) {
+    let mut line = Vec::new(rt.alloc());
+    let is_printed = refusal.print(&mut line).is_ok();
+    let mut out = String::new(rt.alloc());
+    count(&mut out, u64::from(refusal.status()));
+    say(&mut out, ", ");
+    print(&mut out, refusal);
+    say(&mut out, ", ");
+    say_bytes(&mut out, line.as_slice());
+    show(&mut out, &is_printed);
+    compare(rt, "a refusal", out, want);
+}
+
+// Refusals of cuts and of runs.
+#[test]
+fn prints_refusals_of_owners(rt: HostRuntime) {
+    let refusal = Refusal::CutText(65_538, TextKind::Syntax);
+    let want = b"2, nllc: cut line 65538: syntax, nllc: cut line 65538: syntax\ntrue";
+    compare_line(&rt, &refusal, want);
+    let want = b"2, nllc: cut: length, nllc: cut: length\ntrue";
+    compare_line(&rt, &Refusal::CutLength, want);
+    let want = b"2, nllc: cut: no such owner at 0, nllc: cut: no such owner at 0\ntrue";
+    compare_line(&rt, &Refusal::NoSuchOwner(0), want);
+    compare_refusal(&rt, AnswerError::Run(RunError::Thread), b"3, nllc: thread");
+    compare_refusal(&rt, AnswerError::Run(RunError::RankFull), b"3, nllc: rank");
+    compare_refusal(&rt, AnswerError::Run(RunError::Memory), b"3, nllc: memory");
 }
 
 // Ends the test unless that is displayed.

@@ -8,6 +8,8 @@ use super::saying::{count, print, say, say_bytes};
 use nll_report::{Disk, Texts, Unread, drive};
 use std::alloc::Global;
 use std::process::Abort;
+use std::sync::Wait;
+use std::thread::Threads;
 
 // The status, what stands on standard output and what stands on standard error.
 fn streams_told(alloc: Global, status: u8, out: &[u8], err: &[u8]) -> String {
@@ -37,7 +39,7 @@ fn held_by(stream: &Faulty, (_, calls_before): FaultAt) -> &[u8] {
 
 /// What the program does with words, which stand between bars, and the texts of the shelf, where
 /// its streams have these faults.
-pub fn run<R: Abort + AllocGlobal>(
+pub fn run<R: Abort + AllocGlobal + Threads + Wait + Sync>(
     rt: &R,
     words: &str,
     of_out: FaultAt,
@@ -57,7 +59,11 @@ pub fn run<R: Abort + AllocGlobal>(
 }
 
 /// `help` where the program answers words with status 0 and a text that ends so on standard output.
-pub fn help_told<R: Abort + AllocGlobal>(rt: &R, words: &str, end: &str) -> String {
+pub fn help_told<R: Abort + AllocGlobal + Threads + Wait + Sync>(
+    rt: &R,
+    words: &str,
+    end: &str,
+) -> String {
     let told = run(rt, words, NEVER, NEVER);
     let is_help = told.starts_with("0>") && told.ends_with(end);
     if is_help {
@@ -69,7 +75,11 @@ pub fn help_told<R: Abort + AllocGlobal>(rt: &R, words: &str, end: &str) -> Stri
 }
 
 /// What the program does with words over a text at the path `sheet`, and streams of 1,024 bytes.
-pub fn run_on<R: Abort + AllocGlobal>(rt: &R, words: &str, text: &[u8]) -> String {
+pub fn run_on<R: Abort + AllocGlobal + Threads + Wait + Sync>(
+    rt: &R,
+    words: &str,
+    text: &[u8],
+) -> String {
     let words = words_of(rt, rt.alloc(), words);
     let sheet = Sheet {
         alloc: rt.alloc(),
@@ -109,7 +119,6 @@ const NO_LINES: &str = "
  ~ usage
 values
 replay|chain|--schedule|s
-values|chain|--owners|2
 values|a|b
 ";
 
@@ -142,12 +151,20 @@ const SHEET_CHECK: &str = "1>fault 'a must outlive 'static|>";
 const LEAF_CHECK: &str = "2>>nllc: cannot read leaf|";
 
 // Ends the test unless the program answers the words with help that ends so.
-fn compare_help<R: Abort + AllocGlobal>(rt: &R, end: &'static str, rows: &str) {
+fn compare_help<R: Abort + AllocGlobal + Threads + Wait + Sync>(
+    rt: &R,
+    end: &'static str,
+    rows: &str,
+) {
     compare_same(rt, Asked::Help(end), ALONE, "help", rows);
 }
 
 // Ends the test unless that is what the program does with these words over the sheet.
-fn compare_on_sheet<R: Abort + AllocGlobal>(rt: &R, words: &'static str, want: &str) {
+fn compare_on_sheet<R: Abort + AllocGlobal + Threads + Wait + Sync>(
+    rt: &R,
+    words: &'static str,
+    want: &str,
+) {
     compare_row(rt, Asked::Run(words), ALONE, SHEET, want);
 }
 
@@ -185,7 +202,7 @@ check|large ~ 3>>
 ";
 
 // Words that are answered, where standard output has a fault after so many calls and fewer.
-fn compare_out<R: Abort + AllocGlobal>(rt: &R, fault: Fault, last: u32) {
+fn compare_out<R: Abort + AllocGlobal + Threads + Wait + Sync>(rt: &R, fault: Fault, last: u32) {
     for calls_before in 0..=last {
         let asked = Asked::Program((fault, calls_before), NEVER);
         compare_same(rt, asked, ALONE, "3>>nllc: cannot write|", PRINTED);
@@ -193,7 +210,7 @@ fn compare_out<R: Abort + AllocGlobal>(rt: &R, fault: Fault, last: u32) {
 }
 
 // Words that are refused, where standard error has a fault after at most two calls.
-fn compare_err<R: Abort + AllocGlobal>(rt: &R, fault: Fault) {
+fn compare_err<R: Abort + AllocGlobal + Threads + Wait + Sync>(rt: &R, fault: Fault) {
     for calls_before in 0..3 {
         let asked = Asked::Program(NEVER, (fault, calls_before));
         compare_rows(rt, asked, REFUSED);

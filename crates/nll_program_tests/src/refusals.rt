@@ -1,6 +1,8 @@
 //! Texts that are refused: the line and the kind.
 use super::rows::{Asked, compare_rows, compare_within};
 use std::process::Abort;
+use std::sync::Wait;
+use std::thread::Threads;
 
 // Whole texts with the line of the fault and its kind.
 const TEXTS: &str = "
@@ -175,7 +177,11 @@ nll-facts 1 ~ line 6: Syntax
 ";
 
 // Tries lines behind lines that are fine, each as the last one and with a further line.
-fn compare_behind<R: Abort + AllocGlobal>(rt: &R, before: &str, faulty: &str) {
+fn compare_behind<R: Abort + AllocGlobal + Threads + Wait + Sync>(
+    rt: &R,
+    before: &str,
+    faulty: &str,
+) {
     compare_within(rt, Asked::Said, (before, ""), faulty);
     compare_within(rt, Asked::Said, (before, "\r|end|"), faulty);
 }

@@ -7,6 +7,8 @@ use super::reading::said;
 use super::words::line_told;
 use nll_report::Command;
 use std::process::Abort;
+use std::sync::Wait;
+use std::thread::Threads;
 
 /// What is asked of a text.
 #[derive(Clone, Copy)]
@@ -54,7 +56,11 @@ fn put_meant(rt: &impl Abort, out: &mut Vec<u8>, row: &str) {
 }
 
 // The bytes that some of a row stands for, and what stands around it.
-fn bytes_of<R: Abort + AllocGlobal>(rt: &R, (front, back): Around<'_>, row: &str) -> Vec<u8> {
+fn bytes_of<R: Abort + AllocGlobal + Threads + Wait + Sync>(
+    rt: &R,
+    (front, back): Around<'_>,
+    row: &str,
+) -> Vec<u8> {
     let mut out = Vec::new(rt.alloc());
     put_meant(rt, &mut out, front);
     put_meant(rt, &mut out, row);
@@ -63,7 +69,12 @@ fn bytes_of<R: Abort + AllocGlobal>(rt: &R, (front, back): Around<'_>, row: &str
 }
 
 /// What is told of words, or of a text.
-pub fn told<R: Abort + AllocGlobal>(rt: &R, asked: Asked, words: &str, text: &[u8]) -> String {
+pub fn told<R: Abort + AllocGlobal + Threads + Wait + Sync>(
+    rt: &R,
+    asked: Asked,
+    words: &str,
+    text: &[u8],
+) -> String {
     match asked {
         Asked::Said => said(rt, rt.alloc(), text),
         Asked::Answer(command) => answer_to(rt.alloc(), command, text),
@@ -76,7 +87,7 @@ pub fn told<R: Abort + AllocGlobal>(rt: &R, asked: Asked, words: &str, text: &[u
 }
 
 /// Ends the test unless that is told of a text, both as in a row.
-pub fn compare_row<R: Abort + AllocGlobal>(
+pub fn compare_row<R: Abort + AllocGlobal + Threads + Wait + Sync>(
     rt: &R,
     asked: Asked,
     around: Around<'_>,
@@ -96,7 +107,7 @@ fn says_something(row: &str) -> bool {
 }
 
 // The same of each row of a table, or of each text of it what is the same.
-fn compare_each<R: Abort + AllocGlobal>(
+fn compare_each<R: Abort + AllocGlobal + Threads + Wait + Sync>(
     rt: &R,
     asked: Asked,
     around: Around<'_>,
@@ -112,12 +123,16 @@ fn compare_each<R: Abort + AllocGlobal>(
 }
 
 /// Ends the test unless of each text of a table that is told which its row says.
-pub fn compare_rows<R: Abort + AllocGlobal>(rt: &R, asked: Asked, rows: &str) {
+pub fn compare_rows<R: Abort + AllocGlobal + Threads + Wait + Sync>(
+    rt: &R,
+    asked: Asked,
+    rows: &str,
+) {
     compare_each(rt, asked, ALONE, None, rows);
 }
 
 /// The same, where something stands around each text.
-pub fn compare_within<R: Abort + AllocGlobal>(
+pub fn compare_within<R: Abort + AllocGlobal + Threads + Wait + Sync>(
     rt: &R,
     asked: Asked,
     around: Around<'_>,
@@ -127,7 +142,7 @@ pub fn compare_within<R: Abort + AllocGlobal>(
 }
 
 /// The same, where the same is told of each text.
-pub fn compare_same<R: Abort + AllocGlobal>(
+pub fn compare_same<R: Abort + AllocGlobal + Threads + Wait + Sync>(
     rt: &R,
     asked: Asked,
     around: Around<'_>,

@@ -2,6 +2,8 @@
 use super::rows::{Around, Asked, compare_same, compare_within};
 use nll_report::Command;
 use std::process::Abort;
+use std::sync::Wait;
+use std::thread::Threads;
 
 // No region but 'static: it holds every point and its end.
 const STATIC: &str = "
@@ -106,12 +108,12 @@ points 1|universal 'a|return 0|constraint 'static 'a 0 ~ \
 const TEXT: Around<'static> = ("nll-facts 1|", "|end|");
 
 // Ends the test unless these are the reports of the texts' values.
-fn compare_values<R: Abort + AllocGlobal>(rt: &R, rows: &str) {
+fn compare_values<R: Abort + AllocGlobal + Threads + Wait + Sync>(rt: &R, rows: &str) {
     compare_within(rt, Asked::Answer(Command::Values), TEXT, rows);
 }
 
 // The same, and unless the texts have no fault.
-fn compare_without_fault<R: Abort + AllocGlobal>(rt: &R, rows: &str) {
+fn compare_without_fault<R: Abort + AllocGlobal + Threads + Wait + Sync>(rt: &R, rows: &str) {
     compare_values(rt, rows);
     compare_same(rt, Asked::Answer(Command::Check), TEXT, "ok|", rows);
 }

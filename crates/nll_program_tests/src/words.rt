@@ -2,17 +2,36 @@
 use super::comparing::compare;
 use super::fakes::words_of;
 use super::rows::{ALONE, Asked, compare_rows, compare_same};
-use super::saying::{say, show};
+use super::saying::{count, say, show};
 use clap::{Arg, ArgAction, Command};
 use nll_report::{Line, LineError, line};
 use std::alloc::Global;
 use std::process::Abort;
+use std::sync::Wait;
+use std::thread::Threads;
 
 // Writes a task and its file.
 fn write_line(out: &mut String, line: &Line) {
     show(out, &line.task);
     say(out, " ");
     say(out, line.file.as_str());
+    if let Some(owners) = line.owners {
+        say(out, ", ");
+        count(out, u64::from(owners));
+        say(out, " owners");
+    }
+    if let Some(deal) = &line.deal {
+        say(out, ", ");
+        show(out, deal);
+    }
+    if let Some(cut) = &line.cut {
+        say(out, ", cut ");
+        say(out, cut.as_str());
+    }
+    if let Some(mail) = &line.mail {
+        say(out, ", ");
+        show(out, mail);
+    }
 }
 
 /// The task and the file that words between bars ask for, the help, or why they are refused.
@@ -48,6 +67,23 @@ values|a=b c ~ Values a=b c
 values|ä.facts ~ Values ä.facts
 ";
 
+// Options before the file and behind it, in two words or one.
+const OPTIONS: &str = "
+values|a|--owners|2 ~ Values a, 2 owners
+values|--owners=2|a ~ Values a, 2 owners
+check|--owners|64|a ~ Check a, 64 owners
+values|a|--owners|1|-- ~ Values a, 1 owners
+values|a|--deal|round ~ Values a, Round
+values|--deal=blocks|a|--owners=3 ~ Values a, 3 owners, Blocks
+values|a|--cut|c ~ Values a, cut c
+values|--cut=-c|a|--owners|2 ~ Values a, 2 owners, cut -c
+values|--cut=|a ~ Values a, cut\x20
+values|a|--mail|queue ~ Values a, Queue
+values|--owners|2|--|--owners ~ Values --owners, 2 owners
+values|--cut|values|values ~ Values values, cut values
+values|a|--mail=queue|--deal|blocks|--owners=7 ~ Values a, 7 owners, Blocks, Queue
+";
+
 // Whatever is not of that form, options that there are not, and help behind a word that is refused.
 const REFUSED: &str = "
  ~ usage
@@ -77,11 +113,28 @@ values|a|-V
 values|--versio|a
 --owners|2|values|a
 -x|values|a
-values|a|--owners|2
-values|--owners=2|a
-values|a|--deal|round
-values|a|--cut|c
+values|a|--owners|0
+values|a|--owners|65
+values|a|--owners|01
+values|a|--owners|+2
+values|a|--owners|1000000000
+values|a|--owners=
+values|a|--owners
+values|--owners|a
+values|a|--owners|2|--owners|2
+values|a|--deal|row
+values|a|--deal
+values|a|--deal|round|--cut|c
+values|a|--cut|c|--cut|c
+values|a|--cut|-c
+values|a|--cut
 values|a|--mail|ring
+values|a|--own|2
+values|a|--owner|2
+values|a|-owners|2
+values|--owners|--help
+values|a|--|--owners|2
+--owners=2|values|a
 values|a|--schedule|s
 values|-a
 values|-1
@@ -108,7 +161,7 @@ Statuses:
   0  the values are printed, or check found no fault, or this help
   1  check found a fault
   2  the words, the file or its text are refused, and standard error says why
-  3  memory was refused, or standard output did not take the whole report
+  3  memory or a thread was refused, or standard output did not take the whole report
 
 docs/FORMATS.md says how facts texts and MIR texts are written, and how the reports are.
 With /dev/stdin for FILE the text is read from standard input.
@@ -116,24 +169,32 @@ With /dev/stdin for FILE the text is read from standard input.
 
 const VALUES_HELP: &str = "Prints the values of the regions of FILE
 
-Usage: nllc values <FILE>
+Usage: nllc values [OPTIONS] <FILE>
 
 Arguments:
   <FILE>  The facts text or MIR text, or /dev/stdin for standard input
 
 Options:
-  -h, --help  Print help
+      --owners <N>           Has 1 to 64 owners of regions find the answer, each in a thread of its own
+      --deal <round|blocks>  Deals the regions to the owners in turns, or in blocks of neighbours
+      --cut <CUT>            Deals the regions to the owners as the cut file CUT lists
+      --mail <queue>         The kind of mailboxes through which the owners tell each other
+  -h, --help                 Print help
 ";
 
 const CHECK_HELP: &str = "Checks the universal regions of FILE
 
-Usage: nllc check <FILE>
+Usage: nllc check [OPTIONS] <FILE>
 
 Arguments:
   <FILE>  The facts text or MIR text, or /dev/stdin for standard input
 
 Options:
-  -h, --help  Print help
+      --owners <N>           Has 1 to 64 owners of regions find the answer, each in a thread of its own
+      --deal <round|blocks>  Deals the regions to the owners in turns, or in blocks of neighbours
+      --cut <CUT>            Deals the regions to the owners as the cut file CUT lists
+      --mail <queue>         The kind of mailboxes through which the owners tell each other
+  -h, --help                 Print help
 ";
 
 // Words that ask for help of the program, or of a command where they stand behind it.
@@ -149,6 +210,8 @@ values|--help
 values|-h
 values|a|--help
 values|--help|a|b
+values|--owners|2|--help
+values|a|--cut=c|-h|--owners|0
 ";
 
 const ASK_CHECK_HELP: &str = "
@@ -156,7 +219,7 @@ check|-h
 ";
 
 // Ends the test unless that is told of each of the words.
-fn compare_words<R: Abort + AllocGlobal>(rt: &R, same: &str, rows: &str) {
+fn compare_words<R: Abort + AllocGlobal + Threads + Wait + Sync>(rt: &R, same: &str, rows: &str) {
     compare_same(rt, Asked::Line, ALONE, same, rows);
 }
 
@@ -165,6 +228,7 @@ fn compare_words<R: Abort + AllocGlobal>(rt: &R, same: &str, rows: &str) {
 #[test]
 fn reads_words(rt: HostRuntime) {
     compare_rows(&rt, Asked::Line, TAKEN);
+    compare_rows(&rt, Asked::Line, OPTIONS);
     compare_words(&rt, "usage", REFUSED);
     compare_words(&rt, HELP, ASK_HELP);
     compare_words(&rt, VALUES_HELP, ASK_VALUES_HELP);
@@ -178,19 +242,49 @@ Statuses:
   0  the values are printed, or check found no fault, or this help
   1  check found a fault
   2  the words, the file or its text are refused, and standard error says why
-  3  memory was refused, or standard output did not take the whole report
+  3  memory or a thread was refused, or standard output did not take the whole report
 
 docs/FORMATS.md says how facts texts and MIR texts are written, and how the reports are.
 With /dev/stdin for FILE the text is read from standard input.";
 
-// A command with its file, for `clap`.
+// An option with its value, for `clap`.
+fn option<'a>(alloc: Global, name: &'a str, value: &'a str, about: &'a str) -> Arg<'a> {
+    Arg::new(alloc, name)
+        .long(name)
+        .value_name(value)
+        .help(about)
+        .action(ArgAction::Set)
+}
+
+const OWNERS_ABOUT: &str =
+    "Has 1 to 64 owners of regions find the answer, each in a thread of its own";
+
+const DEAL_ABOUT: &str = "Deals the regions to the owners in turns, or in blocks of neighbours";
+
+const CUT_ABOUT: &str = "Deals the regions to the owners as the cut file CUT lists";
+
+const MAIL_ABOUT: &str = "The kind of mailboxes through which the owners tell each other";
+
+// A command with its options, for `clap`.
+fn with_options<'a>(rt: &impl Abort, alloc: Global, command: Command<'a>) -> Command<'a> {
+    let owners = option(alloc, "owners", "N", OWNERS_ABOUT);
+    let deal = option(alloc, "deal", "round|blocks", DEAL_ABOUT);
+    let cut = option(alloc, "cut", "CUT", CUT_ABOUT);
+    let mail = option(alloc, "mail", "queue", MAIL_ABOUT);
+    let command = command.arg(owners).expect(rt, "memory");
+    let command = command.arg(deal).expect(rt, "memory");
+    let command = command.arg(cut).expect(rt, "memory");
+    command.arg(mail).expect(rt, "memory")
+}
+
+// A command with its file and its options, for `clap`.
 fn command<'a>(rt: &impl Abort, alloc: Global, name: &'a str, about: &'a str) -> Command<'a> {
     let file = Arg::new(alloc, "FILE")
         .help("The facts text or MIR text, or /dev/stdin for standard input")
         .action(ArgAction::Set)
         .required(true);
     let command = Command::new(alloc, name).about(about);
-    command.arg(file).expect(rt, "memory")
+    with_options(rt, alloc, command.arg(file).expect(rt, "memory"))
 }
 
 // The program without its commands, for `clap`.

@@ -1,3 +1,5 @@
+pub mod LineLemmas
+pub mod OwnerLemmas
 pub mod ReadingLemmas
 pub mod RunLemmas
 pub mod SinkLemmas

@@ -1,5 +1,6 @@
 -- What the program tells where it gives no report.
-use Rattle.std.proofs.Common.{◌≡◌, ◌⊎◌, ℕ, List, [], ◌∷◌, ◌++◌, Option, length, take, ⊎_elim, ap, sym, subst, arith}
+use Rattle.std.proofs.Common.{◌≡◌, ◌⊎◌, ◌∙◌, ℕ, List, [], ◌∷◌, ◌++◌, Option, None, Some, length, take, inl, inr, ⊎_elim, refl, ap, sym, subst, arith}
+use Rattle.std.proofs.lemmas.Bool.{true≢false}
 use Rattle.std.proofs.lemmas.List.{length-append}
 use Rattle.std.specs.Io.KnownBytes.{Appends}
 use Rattle.nll_reading.specs.declared.error.TextKind.{TextKind}
@@ -10,15 +11,20 @@ use Rattle.nll_answer.specs.declared.error.AnswerError.{AnswerError}
 use Rattle.nll_answer.specs.declared.error.AnswerError.TheVariants as answer
 use Rattle.nll_report.specs.Refusal.{refusal_at, refusal_of}
 use Rattle.nll_report.specs.declared.messages.Refusal.{Refusal}
-use Rattle.nll_report.specs.declared.messages.Refusal.TheVariants.{Usage, CannotRead, Text, Limit, Memory, CannotWrite}
-use Rattle.nll_command_line.specs.CommandLine.{AsksPlainlyForHelp, IsLine, IsNoPlainLine}
+use Rattle.nll_report.specs.declared.messages.Refusal.TheVariants.{Usage, CannotRead, Text, Limit, CutText, CutLength, NoSuchOwner, Thread, Rank, Memory, CannotWrite}
+use Rattle.nll_command_line.specs.CommandLine.{AsksPlainlyForHelp, IsNoPlainLine}
 use Rattle.nll_command_line.specs.declared.task.Task.{Task}
-use Rattle.nll_report.specs.Run.{Holds, Lacks, Words, IsBegun, IsFileFault, IsFileRefused, IsRefused, IsRun}
+use Rattle.nll_command_line.specs.Options.{ArePlaced, Given, Said, behind, no_words, unread}
+use Rattle.nll_command_line.specs.declared.options.Deal.{Deal}
+use Rattle.nll_report.specs.Owners.{IsCutFileRefused, IsCutRefused, count_of, deal_of}
+use Rattle.nll_report.specs.Run.{Words, AreRefused, IsAsked, IsBegun, IsFileFault, IsFileRefused, IsLineRefused, IsRefused, IsRun, IsTaskRefused}
+use Rattle.nll_report.specs.Texts.{Holds, Lacks}
+use Rattle.nll_report.proofs.OwnerLemmas.{is_wanting}
 use Rattle.nll_report.specs.Sink.{IsCut, MayRefuse}
 
 -- no words at all are no plain line
-no_words : IsNoPlainLine []
-no_words task file line = ⊎_elim
+no_plain : IsNoPlainLine []
+no_plain task file line = ⊎_elim
     (λ plain. let none : 0 ≡ 2 = ap length plain.0 in absurd (omega (arith, none)))
     (⊎_elim
     (λ plain. let none : 0 ≡ 3 = ap length plain in absurd (omega (arith, none)))
@@ -31,11 +37,21 @@ no_help h =
     let long : 0 ≡ length (h.front ++ h.word ∷ h.rest) = ap length h.are in
     absurd (omega (arith, long, length-append h.front (h.word ∷ h.rest)))
 
+nothing_else : (given : List Given) (others words : Words) → ArePlaced given others words → words ≡ [] → others ≡ []
+nothing_else _ _ _ no_words e = refl
+nothing_else _ _ _ (unread first rest begins) e = cc
+nothing_else _ _ _ (behind given first others rest plain h) e = cc
+
+no_line : AreRefused []
+no_line others said read =
+    let none = nothing_else read.given others [] read.placed refl in
+    (subst IsNoPlainLine (sym none) no_plain, λ h. no_help (subst AsksPlainlyForHelp none h))
+
 -- words that are lost, or want of memory, are refused as no words are
 pub lost_words : (holds : Holds) (lacks : Lacks) (refusal : Refusal) → (refusal ≡ Usage) ⊎ (refusal ≡ Memory)
     → IsRefused holds lacks [] refusal
 lost_words holds lacks refusal = ⊎_elim
-    (λ is. subst (IsRefused holds lacks []) (sym is) (no_words, no_help))
+    (λ is. subst (IsRefused holds lacks []) (sym is) no_line)
     (λ is. subst (IsRefused holds lacks []) (sym is) tt)
 
 -- bytes of a run of which a sink took some only
@@ -52,15 +68,45 @@ begun_by holds words status room old new bytes slice written run is begun refuse
     cut_slice : IsCut room old new slice
     cut_slice = record { count = written; begun = begun; refused = refused }
 
--- the refusal of a line's file
-pub line_told : (holds : Holds) (lacks : Lacks) (words : Words) (task : Task) (file : List ℕ) (refusal : Refusal)
-    → IsLine task file words → (AsksPlainlyForHelp words → ⊥) → IsFileRefused holds lacks file refusal → IsRefused holds lacks words refusal
-line_told holds lacks words task file Usage is other h = absurd h
-line_told holds lacks words task file (CannotRead path) is other h = record { task = task; file = file; line = is; other = other; refused = h }
-line_told holds lacks words task file (Text line kind) is other h = record { task = task; file = file; line = is; other = other; refused = h }
-line_told holds lacks words task file (Limit counted) is other h = record { task = task; file = file; line = is; other = other; refused = h }
-line_told holds lacks words task file Memory is other h = tt
-line_told holds lacks words task file CannotWrite is other h = absurd h
+-- owners at work refuse no words, and nothing of standard output
+module _ (holds : Holds) (lacks : Lacks) (file : List ℕ) (count : ℕ) (how : Deal) (refusal : Refusal) where
+  unwanted : (regions : ℕ) (path : Option (List ℕ)) → (refusal ≡ Usage) ⊎ (refusal ≡ CannotWrite) → IsCutRefused holds lacks regions count path refusal → ⊥
+  unwanted regions None is h = ⊎_elim
+      (λ usage. true≢false (sym (ap is_wanting (sym usage ∙ h))))
+      (λ write. true≢false (sym (ap is_wanting (sym write ∙ h))))
+      is
+  unwanted regions (Some path) is h = ⊎_elim
+      (λ usage.
+      let at : IsCutFileRefused holds lacks regions count path Usage = subst (λ r. IsCutFileRefused holds lacks regions count path r) usage h in
+      true≢false (sym (ap is_wanting at.2)))
+      (λ write.
+      let at : IsCutFileRefused holds lacks regions count path CannotWrite = subst (λ r. IsCutFileRefused holds lacks regions count path r) write h in
+      true≢false (sym (ap is_wanting at.2)))
+      is
+
+-- the refusal of what a line asks for
+module _ (holds : Holds) (lacks : Lacks) (words : Words) (task : Task) (file : List ℕ) (said : Said) (asked : IsAsked words task file said) where
+  line_refused : (refusal : Refusal) → IsTaskRefused holds lacks file said refusal → IsLineRefused holds lacks words refusal
+  line_refused refusal h = record { task = task; file = file; said = said; asked = asked; refused = h }
+
+  pub line_told : (refusal : Refusal) → IsTaskRefused holds lacks file said refusal → IsRefused holds lacks words refusal
+  line_told Usage h = absurd (⊎_elim
+      (λ none. none)
+      (λ owners. unwanted holds lacks file (count_of said.owners) (deal_of said.deal) Usage owners.1.problem.regions said.cut (inl refl) owners.1.refused)
+      h)
+  line_told (CannotRead other) h = line_refused (CannotRead other) h
+  line_told (Text line kind) h = line_refused (Text line kind) h
+  line_told (Limit counted) h = line_refused (Limit counted) h
+  line_told (CutText line kind) h = line_refused (CutText line kind) h
+  line_told CutLength h = line_refused CutLength h
+  line_told (NoSuchOwner index) h = line_refused (NoSuchOwner index) h
+  line_told Thread h = line_refused Thread h
+  line_told Rank h = line_refused Rank h
+  line_told Memory h = tt
+  line_told CannotWrite h = absurd (⊎_elim
+      (λ none. none)
+      (λ owners. unwanted holds lacks file (count_of said.owners) (deal_of said.deal) CannotWrite owners.1.problem.regions said.cut (inr refl) owners.1.refused)
+      h)
 
 -- ---- a text that has no answer
 
@@ -87,6 +133,7 @@ module _ (holds : Holds) (lacks : Lacks) (file text : List ℕ) (held : holds fi
   error_told (answer.Text error) h = fault_told error.line error.kind h
   error_told (answer.Rule (rule.Limit counted)) h = record { text = text; held = held; over = h }
   error_told (answer.Rule rule.Memory) h = tt
+  error_told (answer.Run error) h = absurd h
   error_told answer.Memory h = tt
 
 -- the same, of a text by its path and its bytes

@@ -1,4 +1,6 @@
+pub mod Texts
 pub mod Disk
-pub mod Refusal
 pub mod Sink
+pub mod Refusal
+pub mod Owners
 pub mod Run

@@ -1,6 +1,6 @@
 -- Why the program gives no report: its status, its line, and how it follows from a text's fault.
 -- Source: this project's own.
-use Rattle.std.specs.Prelude.{ℕ, List, [], ◌∷◌, ◌++◌, codes, string_bytes}
+use Rattle.std.specs.Prelude.{◌≡◌, ℕ, List, [], ◌∷◌, ◌++◌, codes, string_bytes}
 use Rattle.std.specs.Fmt.{decimal}
 use Rattle.nll_problem.specs.declared.error.Kind.{Kind}
 use Rattle.nll_problem.specs.declared.error.Kind.TheVariants as limit
@@ -11,7 +11,12 @@ use Rattle.nll_answer.specs.declared.error.AnswerError.{AnswerError}
 use Rattle.nll_answer.specs.declared.error.AnswerError.TheVariants as answer
 use Rattle.nll_report.specs.declared.messages.Refusal.{Refusal}
 use Rattle.nll_report.specs.declared.messages.Refusal.TheVariants.{Usage, CannotRead, Text}
-use Rattle.nll_report.specs.declared.messages.Refusal.TheVariants.{Limit, Memory, CannotWrite}
+use Rattle.nll_report.specs.declared.messages.Refusal.TheVariants.{Limit, CutText, CutLength}
+use Rattle.nll_report.specs.declared.messages.Refusal.TheVariants.{NoSuchOwner, Thread, Rank}
+use Rattle.nll_report.specs.declared.messages.Refusal.TheVariants.{Memory, CannotWrite}
+use Rattle.nll_cut.specs.declared.error.CutError.{CutError}
+use Rattle.nll_cut.specs.declared.error.CutError.TheVariants as cut
+use Rattle.nll_run.specs.declared.error.RunError.TheVariants as run
 use Rattle.nll_body_problem.specs.declared.error.RuleError.TheVariants as rule
 
 -- 2 for what was handed to the program, 3 for what it lacked
@@ -20,6 +25,11 @@ status_of Usage = 2
 status_of (CannotRead path) = 2
 status_of (Text line kind) = 2
 status_of (Limit counted) = 2
+status_of (CutText line kind) = 2
+status_of CutLength = 2
+status_of (NoSuchOwner index) = 2
+status_of Thread = 3
+status_of Rank = 3
 status_of Memory = 3
 status_of CannotWrite = 3
 
@@ -37,7 +47,23 @@ abbrev pub refusal_of : AnswerError → Refusal
 refusal_of (answer.Text error) = refusal_of_text error
 refusal_of (answer.Rule (rule.Limit counted)) = Limit counted
 refusal_of (answer.Rule rule.Memory) = Memory
+refusal_of (answer.Run run.Thread) = Thread
+refusal_of (answer.Run run.RankFull) = Rank
+refusal_of (answer.Run run.Memory) = Memory
 refusal_of answer.Memory = Memory
+
+-- the refusal of a cut file for a fault at this line
+abbrev pub cut_refusal_at : ℕ → TextKind → Refusal
+cut_refusal_at line kind.Memory = Memory
+cut_refusal_at line other = CutText line other
+
+-- the refusal follows from why a list is no cut; that the number of owners is none is refused
+-- among the words
+abbrev pub IsCutRefusal : CutError → Refusal → Type 0
+IsCutRefusal cut.Owners refusal = ⊥
+IsCutRefusal cut.Length refusal = refusal ≡ CutLength
+IsCutRefusal (cut.NoSuchOwner index) refusal = refusal ≡ NoSuchOwner index
+IsCutRefusal cut.Memory refusal = refusal ≡ Memory
 
 -- a limit is printed with the word of what it counts
 abbrev pub limit_text : Kind → List ℕ
@@ -71,6 +97,12 @@ refusal_text Usage = codes "usage: nllc values|check|replay FILE [--owners N] "
 refusal_text (CannotRead path) = codes "nllc: cannot read " ++ string_bytes path
 refusal_text (Text line kind) = codes "nllc: line " ++ decimal line ++ codes ": " ++ kind_text kind
 refusal_text (Limit counted) = codes "nllc: " ++ limit_text counted
+refusal_text (CutText line kind) =
+    codes "nllc: cut line " ++ decimal line ++ codes ": " ++ kind_text kind
+refusal_text CutLength = codes "nllc: cut: length"
+refusal_text (NoSuchOwner index) = codes "nllc: cut: no such owner at " ++ decimal index
+refusal_text Thread = codes "nllc: thread"
+refusal_text Rank = codes "nllc: rank"
 refusal_text Memory = codes "nllc: memory"
 refusal_text CannotWrite = codes "nllc: cannot write"
 

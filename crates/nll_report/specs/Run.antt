@@ -7,7 +7,9 @@ use Rattle.nll_answer.specs.declared.answers.Command.{Command}
 use Rattle.nll_answer.specs.declared.answers.Command.TheVariants as command
 use Rattle.nll_report.specs.declared.messages.Refusal.{Refusal}
 use Rattle.nll_report.specs.declared.messages.Refusal.TheVariants.{Usage, CannotRead, Text}
-use Rattle.nll_report.specs.declared.messages.Refusal.TheVariants.{Limit, Memory, CannotWrite}
+use Rattle.nll_report.specs.declared.messages.Refusal.TheVariants.{Limit, CutText, CutLength}
+use Rattle.nll_report.specs.declared.messages.Refusal.TheVariants.{NoSuchOwner, Thread, Rank}
+use Rattle.nll_report.specs.declared.messages.Refusal.TheVariants.{Memory, CannotWrite}
 use Rattle.nll_problem.specs.declared.error.Kind.{Kind}
 use Rattle.nll_body_problem.specs.declared.error.RuleError.TheVariants as rule
 use Rattle.nll_answer.specs.declared.error.AnswerError.TheVariants as answer
@@ -16,31 +18,18 @@ use Rattle.nll_command_line.specs.declared.task.Task.TheVariants.{Values, Check}
 use Rattle.nll_answer.specs.Answer.{IsAnswer}
 use Rattle.nll_answer.specs.Texts.{IsTextFault, IsAnswerError}
 use Rattle.nll_command_line.specs.CommandLine.{AsksPlainlyForHelp, IsLine, IsNoPlainLine}
+use Rattle.nll_command_line.specs.Options.{AreRead, Said}
 use Rattle.nll_command_line.specs.Help.{help_for}
 use Rattle.nll_command_line.specs.declared.error.LineError.{LineError}
 use Rattle.nll_command_line.specs.declared.error.LineError.TheVariants as line
 use Rattle.nll_command_line.specs.Grammar.{AsksForHelp}
+use Rattle.nll_report.specs.Owners.{AsksForOwners, IsOwnersRefused, count_of, deal_of}
 use Rattle.nll_report.specs.Sink.{IsCut}
-
--- which bytes may be held at a path
-abbrev pub Holds : Type 1
-Holds = List ℕ → List ℕ → Type 0
-
--- at which paths there may be no text
-abbrev pub Lacks : Type 1
-Lacks = List ℕ → Type 0
+use Rattle.nll_report.specs.Texts.{Holds, Lacks}
 
 -- the words of a command line
 abbrev pub Words : Type 0
 Words = List (List ℕ)
-
--- any bytes may be held at any path
-abbrev pub holds_anything : Holds
-holds_anything path text = Unit {0}
-
--- at any path there may be no text
-abbrev pub lacks_anything : Lacks
-lacks_anything path = Unit {0}
 
 -- what a task asks of a text
 abbrev pub command_of : Task → Command
@@ -54,20 +43,32 @@ pub record IsFileAnswer (holds : Holds) (task : Task) (file report : List ℕ) (
   pub held : holds file text
   pub answer : IsAnswer (command_of task) text report status
 
+-- The words are a line of this task and file, with options among them that give this, and do not
+-- plainly ask for help.
+pub record IsAsked (words : Words) (task : Task) (file : List ℕ) (said : Said) : Type 0 where
+  pub others : Words
+  pub read : AreRead words others said
+  pub line : IsLine task file others
+  pub other : AsksPlainlyForHelp others → ⊥
+
 -- The words are a line and do not plainly ask for help, and the report and the status answer its
--- task on its file.
+-- task on its file, with owners as without.
 pub record IsReport (holds : Holds) (words : Words) (report : List ℕ) (status : ℕ) : Type 0 where
   pub task : Task
   pub file : List ℕ
-  pub line : IsLine task file words
-  pub other : AsksPlainlyForHelp words → ⊥
+  pub said : Said
+  pub asked : IsAsked words task file said
   pub answer : IsFileAnswer holds task file report status
 
--- The words ask for help, and are no plain line; the bytes are the help for them, with status 0.
+-- The words, but for options among them, are no plain line and ask for help, which the bytes are,
+-- with status 0.
 pub record IsHelp (words : Words) (bytes : List ℕ) (status : ℕ) : Type 0 where
-  pub asked : AsksForHelp words
-  pub other : IsNoPlainLine words
-  pub is : bytes ≡ help_for words
+  pub others : Words
+  pub said : Said
+  pub read : AreRead words others said
+  pub plain : IsNoPlainLine others
+  pub asked : AsksForHelp others
+  pub is : bytes ≡ help_for others
   pub told : status ≡ 0
 
 -- the bytes and the status are a report and its status, or those of help
@@ -107,25 +108,51 @@ IsFileRefused holds lacks file Usage = ⊥
 IsFileRefused holds lacks file (CannotRead path) = (string_bytes path ≡ file) × lacks file
 IsFileRefused holds lacks file (Text line kind) = IsFileFault holds file line kind
 IsFileRefused holds lacks file (Limit counted) = IsFileLimit holds file counted
+IsFileRefused holds lacks file (CutText line kind) = ⊥
+IsFileRefused holds lacks file CutLength = ⊥
+IsFileRefused holds lacks file (NoSuchOwner index) = ⊥
+IsFileRefused holds lacks file Thread = ⊥
+IsFileRefused holds lacks file Rank = ⊥
 IsFileRefused holds lacks file Memory = Unit {0}
 IsFileRefused holds lacks file CannotWrite = ⊥
 
--- The words are a line and do not plainly ask for help, and the refusal tells the truth of its
--- file.
+-- the refusal tells the truth of a text of the file; or owners are asked for, and it tells the
+-- truth of the cut file or of the owners at work
+abbrev pub IsTaskRefused : Holds → Lacks → List ℕ → Said → Refusal → Type 0
+IsTaskRefused holds lacks file said refusal =
+    IsFileRefused holds lacks file refusal
+    ⊎ (AsksForOwners said.owners said.cut × IsOwnersRefused holds lacks file
+    (count_of said.owners) (deal_of said.deal) said.cut refusal)
+
+-- The words are a line and do not plainly ask for help, and the refusal tells the truth of what it
+-- asks for.
 pub record IsLineRefused (holds : Holds) (lacks : Lacks) (words : Words) (refusal : Refusal)
     : Type 0 where
   pub task : Task
   pub file : List ℕ
-  pub line : IsLine task file words
-  pub other : AsksPlainlyForHelp words → ⊥
-  pub refused : IsFileRefused holds lacks file refusal
+  pub said : Said
+  pub asked : IsAsked words task file said
+  pub refused : IsTaskRefused holds lacks file said refusal
+
+-- however the words are read, with options among them or without, the others are no plain line and
+-- do not plainly ask for help
+abbrev pub AreRefused : Words → Type 0
+AreRefused words = (others : Words) (said : Said) → AreRead words others said
+    → IsNoPlainLine others × (AsksPlainlyForHelp others → ⊥)
 
 -- the refusal tells the truth of the words and the texts; want of memory says nothing of them
 abbrev pub IsRefused : Holds → Lacks → Words → Refusal → Type 0
-IsRefused holds lacks words Usage = IsNoPlainLine words × (AsksPlainlyForHelp words → ⊥)
+IsRefused holds lacks words Usage = AreRefused words
 IsRefused holds lacks words (CannotRead path) = IsLineRefused holds lacks words (CannotRead path)
 IsRefused holds lacks words (Text line kind) = IsLineRefused holds lacks words (Text line kind)
 IsRefused holds lacks words (Limit counted) = IsLineRefused holds lacks words (Limit counted)
+IsRefused holds lacks words (CutText line kind) =
+    IsLineRefused holds lacks words (CutText line kind)
+IsRefused holds lacks words CutLength = IsLineRefused holds lacks words CutLength
+IsRefused holds lacks words (NoSuchOwner index) =
+    IsLineRefused holds lacks words (NoSuchOwner index)
+IsRefused holds lacks words Thread = IsLineRefused holds lacks words Thread
+IsRefused holds lacks words Rank = IsLineRefused holds lacks words Rank
 IsRefused holds lacks words Memory = Unit {0}
 IsRefused holds lacks words CannotWrite = ⊥
 

@@ -2,7 +2,7 @@
 ghost use Rattle.std.specs.Prelude.{◌≡◌, ◌≢◌, Err, IfErr, IfOk, IfSome, Ok, take};
 ghost use Rattle.std.specs.IoError.{error_kind};
 ghost use Rattle.nll_report.specs.Disk.{read_limit};
-ghost use Rattle.nll_report.specs.Run.{holds_anything, lacks_anything};
+ghost use Rattle.nll_report.specs.Texts.{holds_anything, lacks_anything};
 
 use crate::error::Unread;
 use crate::program::Texts;

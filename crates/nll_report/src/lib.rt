@@ -1,13 +1,16 @@
 //! The program over a text's answer: its files, its streams, its refusals and its status.
 //!
-//! Read `program` first (what is done with the words), then `sink`, `writing`, `messages`, `disk`
-//! and `words`. The words are read in `nll_command_line`, and a text is answered in `nll_answer`.
+//! Read `program` first (what is done with the words), then `owners`, `reading`, `sink`, `writing`,
+//! `messages`, `disk` and `words`. The words are read in `nll_command_line`, and a text is answered
+//! in `nll_answer`.
 #![tactic(auto)]
 
 mod disk;
 mod error;
 mod messages;
+mod owners;
 mod program;
+mod reading;
 mod sink;
 mod words;
 mod writing;
@@ -16,11 +19,12 @@ pub use disk::Disk;
 pub use error::{Unread, Unwritten};
 pub use messages::{Refusal, USAGE};
 pub use nll_answer::{
-    AnswerError, Command, answer, answer_of, faults_text, meaning, no_text_has_both,
-    one_text_fault, one_text_meaning, read_meaning, values_text,
+    AnswerError, Command, answer, answer_of, answer_run, answer_text, faults_text, meaning,
+    no_text_has_both, one_text_fault, one_text_meaning, read_meaning, values_text,
 };
 pub use nll_body_problem::RuleError;
-pub use nll_command_line::{Line, LineError, Task, line};
+pub use nll_command_line::{Deal, Line, LineError, MailKind, Task, line};
+pub use nll_run::RunError;
 pub use program::{Texts, drive, run_in_process};
 pub use sink::Sink;
 pub use writing::put;

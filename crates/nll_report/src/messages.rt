@@ -3,7 +3,8 @@ ghost use Rattle.std.specs.Prelude.{◌≡◌, OnErr, OnOk, Some};
 ghost use Rattle.std.specs.Io.KnownBytes.{Appends};
 ghost use Rattle.nll_report.specs.Refusal.{kind_text, limit_text, refusal_line, refusal_of};
 ghost use Rattle.nll_report.specs.Refusal.{refusal_of_text, refusal_text, status_of};
-ghost use Rattle.nll_report.specs.declared.messages.Refusal.TheVariants.{CannotRead, Limit};
+ghost use Rattle.nll_report.specs.declared.messages.Refusal.TheVariants.{CannotRead, CutText};
+ghost use Rattle.nll_report.specs.declared.messages.Refusal.TheVariants.{Limit, NoSuchOwner};
 ghost use Rattle.nll_report.specs.declared.messages.Refusal.TheVariants.{Memory, Text};
 ghost use Rattle.nll_report.specs.Sink.{IsCut};
 
@@ -14,6 +15,7 @@ use nll_answer::AnswerError;
 use nll_body_problem::RuleError;
 use nll_core::Kind;
 use nll_reading::{TextError, TextKind};
+use nll_run::RunError;
 use std::alloc::AllocError;
 use std::error::Error;
 use std::fmt;
@@ -34,6 +36,16 @@ pub enum Refusal {
     Text(u64, TextKind),
     /// The body that the text means has more of these than the limit.
     Limit(Kind),
+    /// The text of the cut file is faulty at this line.
+    CutText(u64, TextKind),
+    /// The list of the cut file doesn't have an owner for each region.
+    CutLength,
+    /// The entry of the list at this index, counted from 0, is the first that names no owner.
+    NoSuchOwner(u32),
+    /// A thread couldn't be started.
+    Thread,
+    /// The clock of an owner is at its end.
+    Rank,
     /// An allocation was refused.
     Memory,
     /// Standard output took less than the whole report.
@@ -47,7 +59,9 @@ impl Refusal {
     {
         match self {
             Refusal::Usage | Refusal::CannotRead(_) | Refusal::Text(_, _) => 2,
-            Refusal::Limit(_) => 2,
+            Refusal::Limit(_) | Refusal::CutText(_, _) => 2,
+            Refusal::CutLength | Refusal::NoSuchOwner(_) => 2,
+            Refusal::Thread | Refusal::Rank => 3,
             Refusal::Memory | Refusal::CannotWrite => 3,
         }
     }
@@ -67,6 +81,11 @@ impl Refusal {
             Refusal::CannotRead(path) => print_unread(to, path),
             Refusal::Text(line, kind) => print_fault(to, *line, *kind),
             Refusal::Limit(kind) => print_limit(to, *kind),
+            Refusal::CutText(line, kind) => print_cut_fault(to, *line, *kind),
+            Refusal::CutLength => put_pieces(to, &["nllc: cut: length", "\n"]),
+            Refusal::NoSuchOwner(index) => print_stranger(to, *index),
+            Refusal::Thread => put_pieces(to, &["nllc: thread", "\n"]),
+            Refusal::Rank => put_pieces(to, &["nllc: rank", "\n"]),
             Refusal::Memory => put_pieces(to, &["nllc: memory", "\n"]),
             Refusal::CannotWrite => put_pieces(to, &["nllc: cannot write", "\n"]),
         }
@@ -105,6 +124,30 @@ fn print_limit<S: Sink>(to: &mut S, kind: Kind) -> Result<(), Unwritten>
     put_pieces(to, &["nllc: ", limit_text(kind), "\n"])
 }
 
+// Puts the line of a cut file's fault.
+fn print_cut_fault<S: Sink>(to: &mut S, line: u64, kind: TextKind) -> Result<(), Unwritten>
+    ensures all { OnOk result
+        (Appends (S.contents to.old) (S.contents to.new) (refusal_line (CutText line kind))) }
+    ensures cut { OnErr result (IsCut (S.room to.old) (S.contents to.old) (S.contents to.new)
+        (refusal_line (CutText line kind))) }
+{
+    let mut digits = Buffer::new();
+    let line = digits.format(line);
+    put_pieces(to, &["nllc: cut line ", line, ": ", kind_text(kind), "\n"])
+}
+
+// Puts the line of a list that names no owner at this index.
+fn print_stranger<S: Sink>(to: &mut S, index: u32) -> Result<(), Unwritten>
+    ensures all { OnOk result
+        (Appends (S.contents to.old) (S.contents to.new) (refusal_line (NoSuchOwner index))) }
+    ensures cut { OnErr result (IsCut (S.room to.old) (S.contents to.old) (S.contents to.new)
+        (refusal_line (NoSuchOwner index))) }
+{
+    let mut digits = Buffer::new();
+    let index = digits.format(index);
+    put_pieces(to, &["nllc: cut: no such owner at ", index, "\n"])
+}
+
 impl From<AllocError> for Refusal {
     ghost from_gives = { λ _ refusal. refusal ≡ Memory };
 
@@ -132,6 +175,9 @@ impl From<AnswerError> for Refusal {
             AnswerError::Text(error) => Refusal::from(error),
             AnswerError::Rule(RuleError::Limit(kind)) => Refusal::Limit(kind),
             AnswerError::Rule(RuleError::Memory) => Refusal::Memory,
+            AnswerError::Run(RunError::Thread) => Refusal::Thread,
+            AnswerError::Run(RunError::RankFull) => Refusal::Rank,
+            AnswerError::Run(RunError::Memory) => Refusal::Memory,
             AnswerError::Memory => Refusal::Memory,
         }
     }
@@ -146,6 +192,13 @@ impl fmt::Display for Refusal {
             Refusal::CannotRead(path) => write!(f, "nllc: cannot read {path}"),
             Refusal::Text(line, kind) => write!(f, "nllc: line {line}: {}", kind_text(*kind)),
             Refusal::Limit(kind) => write!(f, "nllc: {}", limit_text(*kind)),
+            Refusal::CutText(line, kind) => {
+                write!(f, "nllc: cut line {line}: {}", kind_text(*kind))
+            }
+            Refusal::CutLength => f.write_str("nllc: cut: length"),
+            Refusal::NoSuchOwner(index) => write!(f, "nllc: cut: no such owner at {index}"),
+            Refusal::Thread => f.write_str("nllc: thread"),
+            Refusal::Rank => f.write_str("nllc: rank"),
             Refusal::Memory => f.write_str("nllc: memory"),
             Refusal::CannotWrite => f.write_str("nllc: cannot write"),
         }

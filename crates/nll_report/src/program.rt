@@ -1,25 +1,30 @@
 //! The whole program, over whatever holds its files and takes its lines.
-ghost use Rattle.std.specs.Prelude.{◌≡◌, ◌⊎◌, ◌<◌, ◌≤◌, ℕ, List, map, string_bytes};
-ghost use Rattle.std.specs.Prelude.{IfErr, IfOk, MatchResult};
+ghost use Rattle.std.specs.Prelude.{◌≡◌, ◌⊎◌, ◌<◌, ◌≤◌, ℕ, List, map};
+ghost use Rattle.std.specs.Prelude.{IfErr, IfOk, IfSome, MatchResult, string_bytes};
 ghost use Rattle.std.specs.Io.KnownBytes.{Appends};
-ghost use Rattle.nll_answer.specs.Answer.{IsAnswer};
-ghost use Rattle.nll_answer.specs.Texts.{IsAnswerError};
+ghost use Rattle.nll_command_line.specs.Options.{said_by};
+ghost use Rattle.nll_problem.specs.Limits.{most_owners};
 ghost use Rattle.nll_report.specs.declared.messages.Refusal.{Refusal};
 ghost use Rattle.nll_report.specs.Refusal.{refusal_line, status_of};
 ghost use Rattle.nll_report.specs.Run.{IsBegun, IsFileAnswer, IsFileRefused, IsPrinted};
 ghost use Rattle.nll_report.specs.Run.{IsHelpOf, IsRefusalOf, IsRefused, IsRun, command_of};
-ghost use Rattle.nll_report.specs.Run.{Words, holds_anything, lacks_anything};
+ghost use Rattle.nll_report.specs.Run.{IsTaskRefused, Words};
 ghost use Rattle.nll_report.specs.Sink.{IsCut, IsPut};
+ghost use Rattle.nll_report.specs.Texts.{holds_anything, lacks_anything};
 
 use crate::disk::Disk;
 use crate::error::Unread;
 use crate::messages::Refusal;
+use crate::owners::{answered_by_owners, owners_asked};
+use crate::reading::without_text;
 use crate::sink::Sink;
 use crate::words::words_of;
-use nll_answer::{AnswerError, Command, answer_of, read_meaning};
+use nll_answer::{Command, answer_text};
 use nll_command_line::{Line, LineError, Task, line};
 use std::alloc::Global;
 use std::rt::{Env, Files};
+use std::sync::Wait;
+use std::thread::Threads;
 
 /// The texts that the program can read, by their paths.
 pub trait Texts {
@@ -41,7 +46,7 @@ pub trait Texts {
 /// Status 0 or 1: the report or the help is on `out`, and nothing is on `err`. Status 2: nothing is
 /// on `out`, and one line is on `err`. Status 3: the same, save that with `nllc: cannot write` some
 /// of the report may be on `out`. What `err` does not take of its line is lost.
-pub fn drive<R: AllocGlobal, T: Texts, O: Sink, E: Sink>(
+pub fn drive<R: AllocGlobal + Threads + Wait + Sync, T: Texts, O: Sink, E: Sink>(
     rt: &R,
     words: &[String],
     texts: &T,
@@ -67,7 +72,7 @@ pub fn drive<R: AllocGlobal, T: Texts, O: Sink, E: Sink>(
         × IsPut (E.room err.old) (E.contents err.old) (E.contents err.new)
         (refusal_line refusal) }
 {
-    match report(rt.alloc(), words, texts) {
+    match report(rt, words, texts) {
         Ok((bytes, status)) => match out.put(bytes.as_slice()) {
             Ok(()) => status,
             Err(_) => tell(&Refusal::CannotWrite, err),
@@ -83,7 +88,7 @@ pub fn drive<R: AllocGlobal, T: Texts, O: Sink, E: Sink>(
 /// No contract knows which words a process has, what its files hold, and what its own standard
 /// streams hold or take. So where `out` and `err` are those, the clauses say the status alone, and
 /// which of the two streams is left as it is.
-pub fn run_in_process<R: Env + Files + AllocGlobal, O: Sink, E: Sink>(
+pub fn run_in_process<R: Env + Files + AllocGlobal + Threads + Wait + Sync, O: Sink, E: Sink>(
     rt: &R,
     out: &mut O,
     err: &mut E,
@@ -111,15 +116,19 @@ pub fn run_in_process<R: Env + Files + AllocGlobal, O: Sink, E: Sink>(
 }
 
 // What goes to standard output, and the status.
-fn report<T: Texts>(alloc: Global, words: &[String], texts: &T) -> Result<(Vec<u8>, u8), Refusal>
+fn report<R: AllocGlobal + Threads + Wait + Sync, T: Texts>(
+    rt: &R,
+    words: &[String],
+    texts: &T,
+) -> Result<(Vec<u8>, u8), Refusal>
     ensures ok { IfOk result (λ r.
         IsRun (T.holds texts.now) (map string_bytes words.now) r.0.items r.1) }
     ensures status { IfOk result (λ r. r.1 ≤ 1) }
     ensures err { IfErr result
         (IsRefused (T.holds texts.now) (T.lacks texts.now) (map string_bytes words.now)) }
 {
-    match line(alloc, words) {
-        Ok(line) => answered(alloc, line, texts),
+    match line(rt.alloc(), words) {
+        Ok(line) => answered(rt, line, texts),
         Err(error) => without_line(error),
     }
 }
@@ -135,43 +144,54 @@ fn without_line(error: LineError) -> Result<(Vec<u8>, u8), Refusal>
     }
 }
 
-// What the text of the line's file comes to.
-fn answered<T: Texts>(alloc: Global, line: Line, texts: &T) -> Result<(Vec<u8>, u8), Refusal>
+// What the text of the line's file comes to, with owners where they are asked for.
+fn answered<R: AllocGlobal + Threads + Wait + Sync, T: Texts>(
+    rt: &R,
+    line: Line,
+    texts: &T,
+) -> Result<(Vec<u8>, u8), Refusal>
+    requires { IfSome line.owners (λ n. (0 < n) × (n ≤ most_owners)) }
     ensures ok { IfOk result (λ r.
         IsFileAnswer (T.holds texts.now) line.task (string_bytes line.file) r.0.items r.1) }
     ensures status { IfOk result (λ r. r.1 ≤ 1) }
-    ensures err { IfErr result
-        (IsFileRefused (T.holds texts.now) (T.lacks texts.now) (string_bytes line.file)) }
+    ensures err { IfErr result (IsTaskRefused (T.holds texts.now) (T.lacks texts.now)
+        (string_bytes line.file) (said_by line)) }
 {
-    let Line { task, file } = line;
+    let Line {
+        task,
+        file,
+        owners,
+        deal,
+        cut,
+        mail: _,
+    } = line;
+    match owners_asked(owners, deal, cut) {
+        Some(owners) => answered_by_owners(rt, task, file, owners, texts),
+        None => answered_by_one(rt.alloc(), task, file, texts),
+    }
+}
+
+// The answer to a task on the text of its file, found by one thread.
+fn answered_by_one<T: Texts>(
+    alloc: Global,
+    task: Task,
+    file: String,
+    texts: &T,
+) -> Result<(Vec<u8>, u8), Refusal>
+    ensures ok { IfOk result (λ r.
+        IsFileAnswer (T.holds texts.now) task (string_bytes file) r.0.items r.1) }
+    ensures status { IfOk result (λ r. r.1 ≤ 1) }
+    ensures err { IfErr result
+        (IsFileRefused (T.holds texts.now) (T.lacks texts.now) (string_bytes file)) }
+{
     match texts.get(file.as_str()) {
         Ok(text) => Ok(answer_text(alloc, command_of(task), text)?),
         Err(unread) => Err(without_text(unread, file)),
     }
 }
 
-// The answer to a text, which is let go as soon as it is read.
-fn answer_text(alloc: Global, command: Command, text: Vec<u8>) -> Result<(Vec<u8>, u8), AnswerError>
-    ensures ok { IfOk result (λ r. IsAnswer command text.items r.0.items r.1) }
-    ensures status { IfOk result (λ r. r.1 ≤ 1) }
-    ensures err { IfErr result (IsAnswerError text.items) }
-{
-    let facts = read_meaning(alloc, text)?;
-    Ok(answer_of(alloc, command, facts)?)
-}
-
-// Why a text is not given, told of its file.
-fn without_text(unread: Unread, file: String) -> Refusal
-    ensures cannot { unread ≡ Unread.Cannot → result ≡ Refusal.CannotRead file }
-    ensures memory { unread ≡ Unread.Memory → result ≡ Refusal.Memory }
-{
-    match unread {
-        Unread::Cannot => Refusal::CannotRead(file),
-        Unread::Memory => Refusal::Memory,
-    }
-}
-
-fn command_of(task: Task) -> Command
+/// What a task asks of a text.
+pub(crate) fn command_of(task: Task) -> Command
     ensures { result ≡ command_of task }
 {
     match task {

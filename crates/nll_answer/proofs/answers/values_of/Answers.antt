@@ -1,4 +1,3 @@
-use Rattle.std.proofs.Common.{sym}
 use Rattle.std.proofs.lemmas.Result.{IfOk-weaker}
 use Rattle.nll_answer.proofs.ReportLemmas.{lines_report, report_carries}
 use Rattle.nll_answer.proofs.answers.values_of.Goals as goal

@@ -1,44 +1,30 @@
-use Rattle.std.proofs.Common.{◌≡◌, ◌∙◌, true, map, string_bytes, sym, ap, subst}
-use Rattle.std.proofs.lemmas.Result.{IfOk-weaker}
-use Rattle.clap.specs.Words.{HasKind, fault_of, is_simple, is_simple_and_free, kind_of, subcommand_of, subcommand_rows_of, takes}
-use Rattle.clap.specs.declared.error.kind.ErrorKind.TheVariants.{OutOfMemory}
-use Rattle.nll_command_line.specs.Grammar.{IsTold, line_of_matches, program}
-use Rattle.nll_command_line.proofs.GrammarLemmas.{is_simple-program, is_simple_and_free-program, plain_result}
-use Rattle.nll_command_line.proofs.HelpLemmas.{help_given, help_is_not_taken}
-use Rattle.nll_command_line.proofs.LineErrorLemmas.{matches_without_line, memory_told, words_without_matches}
-use Rattle.nll_command_line.proofs.LineLemmas.{line_is}
-use Rattle.nll_command_line.proofs.PlainLineLemmas.{line_by_grammar-plain, takes-plain}
+use Rattle.std.proofs.Common.{◌≡◌, ◌∙◌, List, ℕ, MatchResult, ap, map, sym, subst}
+use Rattle.nll_command_line.specs.CommandLine.{AsksPlainlyForHelp, IsPlainLine}
+use Rattle.nll_command_line.specs.Grammar.{IsHelpFor}
+use Rattle.nll_command_line.proofs.AnswerLemmas.{line_ok, line_plain, line_help, line_err, unread_words}
 use Rattle.nll_command_line.proofs.command_line.line.Goals as goal
 
-pub returns-in-Ok : goal.returns-in-Ok
-returns-in-Ok c =
-    let texts = map string_bytes c.args.words.now in
-    let app_is = c.in_ok-grammar.ensures in
-    let read : subcommand_rows_of c.in-Ok.matches ≡ subcommand_of program texts =
-    (c.in-Ok.ensures.matches (ap is_simple app_is ∙ is_simple-program)).1 ∙ ap (λ a. subcommand_of a texts) app_is in
-    let none = ap (λ a. fault_of a texts) (sym app_is) ∙ c.in-Ok.ensures.kinds (ap is_simple_and_free app_is ∙ is_simple_and_free-program) in
-    record {
-      ok = IfOk-weaker c.line_of-line.result _ _ (λ l h. line_is texts _ _ none (sym (ap line_of_matches read) ∙ h)) c.line_of-line.ensures.ok;
-      plain = λ task file h.
-          plain_result c.line_of-line.result task file (sym (line_by_grammar-plain task file _ h) ∙ ap line_of_matches (sym read)) c.line_of-line.ensures.ok c.line_of-line.ensures.err;
-      help = λ h. absurd (help_is_not_taken texts none h);
-      err = matches_without_line texts c.line_of-line.result none (ap line_of_matches (sym read)) c.line_of-line.ensures.err;
-    }
+pub returns-clause-ok : goal.returns-clause-ok
+returns-clause-ok c =
+    line_ok _ _ _ c.in_default.ensures.ok c.in_default.ensures.just c.with_options.result c.asked-asked.result c.with_options.ensures.ok c.with_options.ensures.err
+    (rw c.as_slice.ensures.value at c.asked-asked.ensures.ok)
 
-pub returns-in-Err : goal.returns-in-Err
-returns-in-Err c =
-    let texts = map string_bytes c.args.words.now in
-    let app_is = c.in_ok-grammar.ensures in
-    let kinds = c.in-Err.ensures.kinds (ap is_simple_and_free app_is ∙ is_simple_and_free-program) in
-    let passes : takes program texts ≡ true → kind_of c.in-Err.error ≡ OutOfMemory =
-    λ h. c.in-Err.ensures.passes (ap (λ a. takes a texts) app_is ∙ h) in
-    let told = subst (λ k. IsTold texts k c.refusal-refusal.result) c.kind.ensures c.refusal-refusal.ensures in
-    let refused = words_without_matches texts c.refusal-refusal.result (kind_of c.in-Err.error)
-    (subst (λ a. HasKind (fault_of a texts) c.in-Err.error) app_is kinds) passes told in
-    record {
-      ok = tt;
-      plain = λ task file h.
-          memory_told texts c.refusal-refusal.result (subst (λ k. IsTold texts k c.refusal-refusal.result) (passes (takes-plain task file texts h)) told);
-      help = λ h. help_given texts c.refusal-refusal.result h refused;
-      err = refused;
-    }
+pub returns-in-Err-clause-err : goal.returns-in-Err-clause-err
+returns-in-Err-clause-err c = unread_words _ c.in-Err.error c.in-Err.ensures.err
+
+pub returns-clause-plain : goal.returns-clause-plain
+returns-clause-plain c = λ task file others said read plain.
+    line_plain _ _ _ c.in_default.ensures.ok c.in_default.ensures.just c.with_options.result c.asked-asked.result c.with_options.ensures.ok c.with_options.ensures.err task file others said read
+    (λ same. c.asked-asked.ensures.plain task file (rw c.as_slice.ensures.value (subst (IsPlainLine task file) same plain)))
+
+pub returns-clause-help : goal.returns-clause-help
+returns-clause-help c = λ others said read asks.
+    line_help _ _ _ c.in_default.ensures.ok c.in_default.ensures.just c.with_options.result c.asked-asked.result c.with_options.ensures.ok c.with_options.ensures.err others said read
+    (λ same.
+    let is : map (λ word. word.now) c.as_slice.result.now ≡ others = ap (map (λ word. word.now)) c.as_slice.ensures.value ∙ sym same in
+    subst (λ (ws : List (List ℕ)). MatchResult c.asked-asked.result (λ _. ⊥) (IsHelpFor ws)) is (c.asked-asked.ensures.help (subst AsksPlainlyForHelp (sym is) asks)))
+
+pub returns-clause-err : goal.returns-clause-err
+returns-clause-err c =
+    line_err _ _ _ c.in_default.ensures.ok c.in_default.ensures.just c.with_options.result c.asked-asked.result c.with_options.ensures.ok c.with_options.ensures.err
+    (rw c.as_slice.ensures.value at c.asked-asked.ensures.err)

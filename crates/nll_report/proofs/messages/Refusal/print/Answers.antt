@@ -22,3 +22,27 @@ returns-in-CannotWrite-clause-all g c =
 pub returns-in-CannotWrite-clause-cut : goal.returns-in-CannotWrite-clause-cut
 returns-in-CannotWrite-clause-cut g c =
     cut_as c.put_pieces-in-CannotWrite.result _ _ _ _ _ (ap refusal_line c.in-CannotWrite.is) c.put_pieces-in-CannotWrite.ensures.cut
+
+pub returns-in-CutLength-clause-all : goal.returns-in-CutLength-clause-all
+returns-in-CutLength-clause-all g c =
+    put_as c.put_pieces-in-CutLength.result _ _ _ _ (ap refusal_line c.in-CutLength.is) c.put_pieces-in-CutLength.ensures.all
+
+pub returns-in-CutLength-clause-cut : goal.returns-in-CutLength-clause-cut
+returns-in-CutLength-clause-cut g c =
+    cut_as c.put_pieces-in-CutLength.result _ _ _ _ _ (ap refusal_line c.in-CutLength.is) c.put_pieces-in-CutLength.ensures.cut
+
+pub returns-in-Thread-clause-all : goal.returns-in-Thread-clause-all
+returns-in-Thread-clause-all g c =
+    put_as c.put_pieces-in-Thread.result _ _ _ _ (ap refusal_line c.in-Thread.is) c.put_pieces-in-Thread.ensures.all
+
+pub returns-in-Thread-clause-cut : goal.returns-in-Thread-clause-cut
+returns-in-Thread-clause-cut g c =
+    cut_as c.put_pieces-in-Thread.result _ _ _ _ _ (ap refusal_line c.in-Thread.is) c.put_pieces-in-Thread.ensures.cut
+
+pub returns-in-Rank-clause-all : goal.returns-in-Rank-clause-all
+returns-in-Rank-clause-all g c =
+    put_as c.put_pieces-in-Rank.result _ _ _ _ (ap refusal_line c.in-Rank.is) c.put_pieces-in-Rank.ensures.all
+
+pub returns-in-Rank-clause-cut : goal.returns-in-Rank-clause-cut
+returns-in-Rank-clause-cut g c =
+    cut_as c.put_pieces-in-Rank.result _ _ _ _ _ (ap refusal_line c.in-Rank.is) c.put_pieces-in-Rank.ensures.cut

@@ -1,0 +1,163 @@
+//! The answer to a problem by owners at work in threads.
+
+ghost use Rattle.std.specs.Prelude.{◌≡◌, ◌≤◌, ◌↔◌, ℕ, Err, IfErr, IfOk, length};
+ghost use Rattle.nll_problem.specs.Faults.{AreFaults};
+ghost use Rattle.nll_problem.specs.Problem.{IsSound};
+ghost use Rattle.nll_problem.specs.Solution.{Least};
+ghost use Rattle.nll_core.specs.Values.{IsHeld, IsShaped};
+ghost use Rattle.nll_run.specs.Outcome.{HasFullClock};
+ghost use Rattle.nll_run.specs.declared.error.RunError.TheVariants.{RankFull};
+ghost use Rattle.nll_answer.specs.Answer.{IsCheckReport, IsProblemAnswer};
+ghost use Rattle.nll_answer.specs.Report.{IsValuesReport};
+ghost use Rattle.nll_answer.specs.Running.{IsRunError};
+
+use crate::answers::{Command, told_faults};
+use crate::error::AnswerError;
+use crate::values_report::values_text;
+use nll_core::{Memory, Problem, RegionId, Values, faults};
+use nll_cut::Cut;
+use nll_facts::Facts;
+use nll_ledger::Ledger;
+use nll_mail::Mail;
+use nll_reading::Labels;
+use nll_run::{Outcome, RunError, run};
+use nll_worker::Gate;
+use std::alloc::Global;
+use std::sync::Wait;
+use std::thread::Threads;
+
+/// The answer to a command on a problem and its labels, found by the owners of a cut, each in a
+/// thread of its own. The logs and the mailboxes are let go before the report is made.
+///
+/// # Errors
+/// - `Run`: a thread couldn't be started, or the clock of an owner is at its end.
+/// - `Memory`.
+pub fn answer_run<M: Mail, L: Ledger, G: Gate, R: Threads + Wait + Sync>(
+    rt: &R,
+    alloc: Global,
+    command: Command,
+    facts: &Facts,
+    cut: &Cut,
+    mail: &M,
+    ledger: &L,
+    gate: &G,
+) -> Result<(Vec<u8>, u8), AnswerError>
+    requires named { length facts.now.labels.names ≡ facts.now.problem.regions }
+    requires cut { length cut.now.list ≡ facts.now.problem.regions }
+    ensures ok { IfOk result (λ r.
+        IsProblemAnswer command facts.now.problem facts.now.labels r.0.items r.1) }
+    ensures status { IfOk result (λ r. r.1 ≤ 1) }
+    ensures err { IfErr result (IsRunError facts.now.problem cut.now) }
+{
+    match run_values::<M, L, G, R>(rt, alloc, &facts.problem, cut, mail, ledger, gate) {
+        Ok(values) => Ok(told(alloc, command, &facts.problem, &facts.labels, values)?),
+        Err(error) => Err(AnswerError::from(error)),
+    }
+}
+
+// The values that the owners find.
+fn run_values<M: Mail, L: Ledger, G: Gate, R: Threads + Wait + Sync>(
+    rt: &R,
+    alloc: Global,
+    problem: &Problem,
+    cut: &Cut,
+    mail: &M,
+    ledger: &L,
+    gate: &G,
+) -> Result<Values, RunError>
+    requires { length cut.now.list ≡ problem.now.regions }
+    ensures shaped { IfOk result (IsShaped problem.now) }
+    ensures least { IfOk result (λ values. (r e : ℕ) → IsHeld values r e ↔ Least problem.now r e) }
+    ensures full { result ≡ Err RankFull → HasFullClock problem.now cut.now }
+{
+    match run::<M, L, G, R>(rt, alloc, problem, cut, mail, ledger, gate) {
+        Ok(outcome) => {
+            let Outcome {
+                values,
+                grown,
+                posts,
+            } = outcome;
+            drop(grown);
+            drop(posts);
+            Ok(values)
+        }
+        Err(error) => Err(error),
+    }
+}
+
+// The report and the status that a command asks of the least values.
+fn told(
+    alloc: Global,
+    command: Command,
+    problem: &Problem,
+    labels: &Labels,
+    values: Values,
+) -> Result<(Vec<u8>, u8), Memory>
+    requires shaped { IsShaped problem.now values }
+    requires least { (r e : ℕ) → IsHeld values r e ↔ Least problem.now r e }
+    requires named { length labels.now.names ≡ problem.now.regions }
+    ensures ok { IfOk result (λ r.
+        IsProblemAnswer command problem.now labels.now r.0.items r.1) }
+    ensures status { IfOk result (λ r. r.1 ≤ 1) }
+{
+    match command {
+        Command::Values => told_values(alloc, problem, labels, values),
+        Command::Check => told_check(alloc, problem, labels, values),
+    }
+}
+
+// The report of the least values, and the status.
+fn told_values(
+    alloc: Global,
+    problem: &Problem,
+    labels: &Labels,
+    values: Values,
+) -> Result<(Vec<u8>, u8), Memory>
+    requires shaped { IsShaped problem.now values }
+    requires least { (r e : ℕ) → IsHeld values r e ↔ Least problem.now r e }
+    requires named { length labels.now.names ≡ problem.now.regions }
+    ensures ok { IfOk result (λ r.
+        IsValuesReport problem.now labels.now (Least problem.now) r.0.items × (r.1 ≡ 0)) }
+    ensures status { IfOk result (λ r. r.1 ≤ 1) }
+{
+    let report = values_text(alloc, problem, labels, &values);
+    drop(values);
+    let report = report?;
+    Ok((report, 0))
+}
+
+// The report of the faults of the least values, and the status.
+fn told_check(
+    alloc: Global,
+    problem: &Problem,
+    labels: &Labels,
+    values: Values,
+) -> Result<(Vec<u8>, u8), Memory>
+    requires shaped { IsShaped problem.now values }
+    requires least { (r e : ℕ) → IsHeld values r e ↔ Least problem.now r e }
+    requires named { length labels.now.names ≡ problem.now.regions }
+    ensures ok { IfOk result (λ r. IsCheckReport problem.now labels.now r.0.items r.1) }
+    ensures status { IfOk result (λ r. r.1 ≤ 1) }
+{
+    let found = found_faults(alloc, problem, values)?;
+    told_faults(alloc, labels, found)
+}
+
+// The faults of the least values.
+fn found_faults(
+    alloc: Global,
+    problem: &Problem,
+    values: Values,
+) -> Result<Vec<(RegionId, RegionId)>, Memory>
+    requires shaped { IsShaped problem.now values }
+    requires least { (r e : ℕ) → IsHeld values r e ↔ Least problem.now r e }
+    ensures exact { IfOk result (λ found.
+        AreFaults problem.now (Least problem.now) found.items) }
+    ensures sound { IsSound problem.now }
+{
+    // No effect at run time. The proof reads from this call that the problem is sound.
+    let _ = problem.universals();
+    let found = faults(alloc, problem, &values);
+    drop(values);
+    found
+}

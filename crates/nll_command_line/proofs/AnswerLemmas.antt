@@ -1,0 +1,77 @@
+-- What is answered to words of which the options are taken out.
+use Rattle.std.proofs.Common.{◌≡◌, ◌⊎◌, ⊎_elim, ◌∙◌, ℕ, List, Result, Ok, Err, IfErr, IfOk, IsOk, IsOkAnd, MatchResult, string_bytes, sym, subst}
+use Rattle.nll_command_line.specs.declared.task.Asked.{Asked}
+use Rattle.nll_command_line.specs.declared.task.Line.{Line}
+use Rattle.nll_command_line.specs.declared.task.Task.{Task}
+use Rattle.nll_command_line.specs.declared.error.LineError.{LineError}
+use Rattle.nll_command_line.specs.declared.error.LineError.TheVariants.{Help, Usage, Memory}
+use Rattle.nll_command_line.specs.CommandLine.{IsLine}
+use Rattle.nll_command_line.specs.Grammar.{IsHelpFor, IsLineError, IsWordsError}
+use Rattle.nll_command_line.specs.Options.{AreRead, Said, said_by}
+use Rattle.nll_command_line.specs.Taking.{AreReadJust, AreUnreadable}
+
+abbrev Text : Type 0
+Text = List ℕ
+
+-- the line has what is asked and what the options give
+abbrev pub IsLineOf : Said → Line → Asked → Type 0
+IsLineOf said l a = (l.task ≡ a.task) × (string_bytes l.file ≡ string_bytes a.file) × (said_by l ≡ said)
+
+module _ (said : Said) (words others : List Text) (read : AreRead words others said) (just : AreReadJust words others said) (r : Result Line LineError) (a : Result Asked LineError)
+    (of : IfOk r (λ l. IsOkAnd a (IsLineOf said l))) (err : IfErr r (λ e. (a ≡ Err e) ⊎ (IsOk a × (e ≡ Memory)))) where
+  pub line_ok : IfOk a (λ x. IsLine x.task (string_bytes x.file) others) → IfOk r (λ l. (os : List Text) × AreRead words os (said_by l) × IsLine l.task (string_bytes l.file) os)
+  line_ok line = go r a of line
+    where
+      go : (r : Result Line LineError) (a : Result Asked LineError) → IfOk r (λ l. IsOkAnd a (IsLineOf said l)) → IfOk a (λ x. IsLine x.task (string_bytes x.file) others)
+          → IfOk r (λ l. (os : List Text) × AreRead words os (said_by l) × IsLine l.task (string_bytes l.file) os)
+      go (Ok l) (Ok x) of line = (others, subst (AreRead words others) (sym of.2) read, rw (of.0, of.1) line)
+      go (Ok l) (Err e) of line = absurd of
+      go (Err e) a of line = tt
+
+  pub line_plain : (task : Task) (file : Text) (os : List Text) (s : Said) → AreRead words os s
+      → (os ≡ others → MatchResult a (λ l. (l.task ≡ task) × (string_bytes l.file ≡ file)) (λ e. e ≡ Memory))
+      → MatchResult r (λ l. (l.task ≡ task) × (string_bytes l.file ≡ file) × (said_by l ≡ s)) (λ e. e ≡ Memory)
+  line_plain task file os s h m = let same = just os s h in go r a of err (m same.0) same.1
+    where
+      go : (r : Result Line LineError) (a : Result Asked LineError) → IfOk r (λ l. IsOkAnd a (IsLineOf said l)) → IfErr r (λ e. (a ≡ Err e) ⊎ (IsOk a × (e ≡ Memory)))
+          → MatchResult a (λ l. (l.task ≡ task) × (string_bytes l.file ≡ file)) (λ e. e ≡ Memory) → s ≡ said
+          → MatchResult r (λ l. (l.task ≡ task) × (string_bytes l.file ≡ file) × (said_by l ≡ s)) (λ e. e ≡ Memory)
+      go (Ok l) (Ok x) of err m is = (of.0 ∙ m.0, of.1 ∙ m.1, of.2 ∙ sym is)
+      go (Ok l) (Err e) of err m is = absurd of
+      go (Err e) a of err m is = ⊎_elim
+          (λ same. subst (λ (x : Result Asked LineError). MatchResult x (λ l. (l.task ≡ task) × (string_bytes l.file ≡ file)) (λ e. e ≡ Memory)) same m)
+          (λ h. h.1)
+          err
+
+  pub line_help : (os : List Text) (s : Said) → AreRead words os s → (os ≡ others → MatchResult a (λ _. ⊥) (IsHelpFor os)) → MatchResult r (λ _. ⊥) (IsHelpFor os)
+  line_help os s h m = go r a of err (m (just os s h).0)
+    where
+      go : (r : Result Line LineError) (a : Result Asked LineError) → IfOk r (λ l. IsOkAnd a (IsLineOf said l)) → IfErr r (λ e. (a ≡ Err e) ⊎ (IsOk a × (e ≡ Memory)))
+          → MatchResult a (λ _. ⊥) (IsHelpFor os) → MatchResult r (λ _. ⊥) (IsHelpFor os)
+      go (Ok l) (Ok x) of err m = m
+      go (Ok l) (Err e) of err m = absurd of
+      go (Err e) a of err m = ⊎_elim
+          (λ same. subst (λ (x : Result Asked LineError). MatchResult x (λ _. ⊥) (IsHelpFor os)) same m)
+          (λ h. subst (IsHelpFor os) (sym h.1) tt)
+          err
+
+  pub line_err : IfErr a (IsLineError others) → IfErr r (IsWordsError words)
+  line_err m = go r a err m
+    where
+      told : (e : LineError) → IsLineError others e → IsWordsError words e
+      told (Help text) h = (others, said, read, h)
+      told Usage h = λ os s there. subst (λ (ws : List Text). IsLineError ws Usage) (sym (just os s there).0) h
+      told Memory h = tt
+
+      go : (r : Result Line LineError) (a : Result Asked LineError) → IfErr r (λ e. (a ≡ Err e) ⊎ (IsOk a × (e ≡ Memory))) → IfErr a (IsLineError others) → IfErr r (IsWordsError words)
+      go (Ok l) a err m = tt
+      go (Err e) a err m = ⊎_elim
+          (λ same. told e (subst (λ (x : Result Asked LineError). IfErr x (IsLineError others)) same m))
+          (λ h. subst (IsWordsError words) (sym h.1) tt)
+          err
+
+-- of words that can't be read
+pub unread_words : (words : List Text) (e : LineError) → (e ≡ Memory) ⊎ ((e ≡ Usage) × AreUnreadable words) → IsWordsError words e
+unread_words words e = ⊎_elim
+    (λ memory. subst (IsWordsError words) (sym memory) tt)
+    (λ h. subst (IsWordsError words) (sym h.0) (λ others said read. absurd (h.1 others said read)))

@@ -1,0 +1,157 @@
+-- What options say: one more of them, one that is there already, and that it is pinned.
+use Rattle.std.proofs.Common.{◌≡◌, ◌∙◌, ℕ, ◌<◌, ◌≤◌, true, false, List, [], ◌∷◌, ◌++◌, Option, Some, None, is_some, arith, refl, sym, ap, true≢false}
+use Rattle.std.specs.List.{filter_map}
+use Rattle.std.specs.Option.{option_to_list}
+use Rattle.std.specs.Fmt.{decimal}
+use Rattle.std.proofs.lemmas.Fmt.{decimal_injective}
+use Rattle.std.proofs.lemmas.List.{append-nil}
+use Rattle.std.proofs.lemmas.List.Elements.{filter_map-append}
+use Rattle.nll_command_line.specs.Options.{Given, owners, deal, cut, mail, IsLawful, Said, Says, key_of, value_of, owners_in, deal_in, cut_in, mail_in}
+use Rattle.nll_command_line.specs.Taking.{IsUnfit}
+use Rattle.nll_command_line.specs.declared.options.Deal.{Deal}
+use Rattle.nll_command_line.specs.declared.options.Deal.TheVariants.{Round, Blocks}
+use Rattle.nll_command_line.specs.declared.options.MailKind.{MailKind}
+use Rattle.nll_command_line.specs.declared.options.MailKind.TheVariants.{Queue}
+use Rattle.nll_command_line.specs.declared.options.Key.TheVariants as key
+
+pub none_of : {X : Type 0} (o : Option X) → is_some o ≡ false → o ≡ None
+none_of None h = refl
+none_of (Some x) h = absurd (true≢false h)
+
+pub some_of : {X : Type 0} (o : Option X) → is_some o ≡ true → (x : X) × (o ≡ Some x)
+some_of None h = absurd (true≢false (sym h))
+some_of (Some x) h = (x, refl)
+
+-- ---- one more option
+
+-- an option of another kind gives nothing
+same : {Y : Type 0} (h : Given → Option Y) (given : List Given) (g : Given) (ys : List Y) → h g ≡ None → filter_map h given ≡ ys → filter_map h (given ++ g ∷ []) ≡ ys
+same {Y = Y} h given g ys nothing e =
+    filter_map-append h given (g ∷ []) ∙ (ap (λ xs. filter_map h given ++ xs) one ∙ (append-nil (filter_map h given) ∙ e))
+  where
+    one : filter_map h (g ∷ []) ≡ []
+    one = rw nothing refl
+
+-- one of the kind gives its value
+more : {Y : Type 0} (h : Given → Option Y) (given : List Given) (g : Given) (y : Y) (o : Option Y) → h g ≡ Some y → o ≡ None → filter_map h given ≡ option_to_list o → filter_map h (given ++ g ∷ []) ≡ y ∷ []
+more h given g y o gives empty e =
+    let before : filter_map h given ≡ [] = e ∙ ap option_to_list empty in
+    let last : filter_map h (g ∷ []) ≡ y ∷ [] = rw gives refl in
+    filter_map-append h given (g ∷ []) ∙ (ap (λ xs. xs ++ filter_map h (g ∷ [])) before ∙ last)
+
+-- two options of one kind give two values
+two : {Y : Type 0} (h : Given → Option Y) (given : List Given) (g : Given) (later : List Given) (y z : Y) (o all : Option Y) → h g ≡ Some z → o ≡ Some y → filter_map h given ≡ option_to_list o → filter_map h (given ++ g ∷ later) ≡ option_to_list all → ⊥
+two {Y = Y} h given g later y z o all gives there e f = at_most all (sym two_values ∙ f)
+  where
+    two_values : filter_map h (given ++ g ∷ later) ≡ y ∷ z ∷ filter_map h later
+    two_values =
+        let before : filter_map h given ≡ y ∷ [] = e ∙ ap option_to_list there in
+        let last : filter_map h (g ∷ later) ≡ z ∷ filter_map h later = rw gives refl in
+        filter_map-append h given (g ∷ later) ∙ (ap (λ xs. xs ++ filter_map h (g ∷ later)) before ∙ ap (λ xs. y ∷ xs) last)
+
+    at_most : (o : Option Y) → y ∷ z ∷ filter_map h later ≡ option_to_list o → ⊥
+    at_most None e = cc
+    at_most (Some x) e = cc
+
+module _ (given : List Given) (said : Said) (s : Says given said) where
+  pub more_owners : (n : ℕ) → said.owners ≡ None → Says (given ++ owners n ∷ []) (record said { owners = Some n })
+  more_owners n empty = record {
+    owners = more owners_in given (owners n) n said.owners refl empty s.owners;
+    deal = same deal_in given (owners n) _ refl s.deal;
+    cut = same cut_in given (owners n) _ refl s.cut;
+    mail = same mail_in given (owners n) _ refl s.mail;
+  }
+
+  pub more_deal : (how : Deal) → said.deal ≡ None → Says (given ++ deal how ∷ []) (record said { deal = Some how })
+  more_deal how empty = record {
+    owners = same owners_in given (deal how) _ refl s.owners;
+    deal = more deal_in given (deal how) how said.deal refl empty s.deal;
+    cut = same cut_in given (deal how) _ refl s.cut;
+    mail = same mail_in given (deal how) _ refl s.mail;
+  }
+
+  pub more_cut : (file : List ℕ) → said.cut ≡ None → Says (given ++ cut file ∷ []) (record said { cut = Some file })
+  more_cut file empty = record {
+    owners = same owners_in given (cut file) _ refl s.owners;
+    deal = same deal_in given (cut file) _ refl s.deal;
+    cut = more cut_in given (cut file) file said.cut refl empty s.cut;
+    mail = same mail_in given (cut file) _ refl s.mail;
+  }
+
+  pub more_mail : (kind : MailKind) → said.mail ≡ None → Says (given ++ mail kind ∷ []) (record said { mail = Some kind })
+  more_mail kind empty = record {
+    owners = same owners_in given (mail kind) _ refl s.owners;
+    deal = same deal_in given (mail kind) _ refl s.deal;
+    cut = same cut_in given (mail kind) _ refl s.cut;
+    mail = more mail_in given (mail kind) kind said.mail refl empty s.mail;
+  }
+
+  -- ---- an option that is there already, or of a value that is none
+
+  pub no_more_owners : (value : List ℕ) → ((n : ℕ) → value ≡ decimal n → 0 < n → n ≤ 64 → (m : ℕ) × (said.owners ≡ Some m)) → IsUnfit given key.Owners value
+  no_more_owners value there (owners n) later all is_key is_value lawful says =
+      let m = there n (sym is_value) lawful.0 lawful.1 in two owners_in given (owners n) later m.0 n said.owners all.owners refl m.1 s.owners says.owners
+  no_more_owners value there (deal how) later all is_key is_value lawful says = cc
+  no_more_owners value there (cut file) later all is_key is_value lawful says = cc
+  no_more_owners value there (mail kind) later all is_key is_value lawful says = cc
+
+  pub no_more_deal : (value : List ℕ) → ((how : Deal) → value ≡ value_of (deal how) → (d : Deal) × (said.deal ≡ Some d)) → IsUnfit given key.Deal value
+  no_more_deal value there (owners n) later all is_key is_value lawful says = cc
+  no_more_deal value there (deal how) later all is_key is_value lawful says =
+      let m = there how (sym is_value) in two deal_in given (deal how) later m.0 how said.deal all.deal refl m.1 s.deal says.deal
+  no_more_deal value there (cut file) later all is_key is_value lawful says = cc
+  no_more_deal value there (mail kind) later all is_key is_value lawful says = cc
+
+  pub no_more_cut : (value file : List ℕ) → said.cut ≡ Some file → IsUnfit given key.Cut value
+  no_more_cut value there is (owners n) later all is_key is_value lawful says = cc
+  no_more_cut value there is (deal how) later all is_key is_value lawful says = cc
+  no_more_cut value there is (cut file) later all is_key is_value lawful says = two cut_in given (cut file) later there file said.cut all.cut refl is s.cut says.cut
+  no_more_cut value there is (mail kind) later all is_key is_value lawful says = cc
+
+  pub no_more_mail : (value : List ℕ) → ((kind : MailKind) → value ≡ value_of (mail kind) → (k : MailKind) × (said.mail ≡ Some k)) → IsUnfit given key.Mail value
+  no_more_mail value there (owners n) later all is_key is_value lawful says = cc
+  no_more_mail value there (deal how) later all is_key is_value lawful says = cc
+  no_more_mail value there (cut file) later all is_key is_value lawful says = cc
+  no_more_mail value there (mail kind) later all is_key is_value lawful says =
+      let m = there kind (sym is_value) in two mail_in given (mail kind) later m.0 kind said.mail all.mail refl m.1 s.mail says.mail
+
+-- ---- what is pinned
+
+-- an option is pinned by its word and its value
+pub same_option : (g h : Given) → IsLawful g → IsLawful h → key_of g ≡ key_of h → value_of g ≡ value_of h → g ≡ h
+same_option (owners m) (owners n) a b k v = ap owners (decimal_injective m n (omega (arith, a.1)) (omega (arith, b.1)) v)
+same_option (deal Round) (deal Round) a b k v = refl
+same_option (deal Round) (deal Blocks) a b k v = cc
+same_option (deal Blocks) (deal Round) a b k v = cc
+same_option (deal Blocks) (deal Blocks) a b k v = refl
+same_option (cut file) (cut other) a b k v = ap cut v
+same_option (mail Queue) (mail Queue) a b k v = refl
+same_option (owners m) (deal how) a b k v = cc
+same_option (owners m) (cut file) a b k v = cc
+same_option (owners m) (mail kind) a b k v = cc
+same_option (deal how) (owners n) a b k v = cc
+same_option (deal how) (cut file) a b k v = cc
+same_option (deal how) (mail kind) a b k v = cc
+same_option (cut file) (owners n) a b k v = cc
+same_option (cut file) (deal how) a b k v = cc
+same_option (cut file) (mail kind) a b k v = cc
+same_option (mail kind) (owners n) a b k v = cc
+same_option (mail kind) (deal how) a b k v = cc
+same_option (mail kind) (cut file) a b k v = cc
+
+one_list : {X : Type 0} (o p : Option X) → option_to_list o ≡ option_to_list p → o ≡ p
+one_list None None e = refl
+one_list None (Some y) e = cc
+one_list (Some x) None e = cc
+one_list (Some x) (Some y) e = cc
+
+abbrev said_with : Option ℕ → Option Deal → Option (List ℕ) → Option MailKind → Said
+said_with o d c m = record { owners = o; deal = d; cut = c; mail = m }
+
+-- what options give is pinned
+pub same_said : (given : List Given) (a b : Said) → Says given a → Says given b → a ≡ b
+same_said given a b s t =
+    ap (λ o. said_with o a.deal a.cut a.mail) (one_list a.owners b.owners (sym s.owners ∙ t.owners))
+    ∙ (ap (λ d. said_with b.owners d a.cut a.mail) (one_list a.deal b.deal (sym s.deal ∙ t.deal))
+    ∙ (ap (λ c. said_with b.owners b.deal c a.mail) (one_list a.cut b.cut (sym s.cut ∙ t.cut))
+    ∙ ap (λ m. said_with b.owners b.deal b.cut m) (one_list a.mail b.mail (sym s.mail ∙ t.mail))))

@@ -1,0 +1,300 @@
+//! The options among the words behind a command.
+ghost use Rattle.std.specs.Prelude.{◌≡◌, ◌≢◌, ◌⊎◌, ◌++◌, ◌∷◌, [], ℕ, List, map, string_bytes};
+ghost use Rattle.std.specs.Prelude.{MatchOption, OnOk, IfOk, IfErr, None, false};
+ghost use Rattle.nll_command_line.specs.CommandLine as lines;
+ghost use Rattle.nll_command_line.specs.CommandLine.{begins_as_option};
+ghost use Rattle.nll_command_line.specs.Options.{AreRead, Given, HasOptions, IsLawful, key_of};
+ghost use Rattle.nll_command_line.specs.Options.{value_of, word_of};
+ghost use Rattle.nll_command_line.specs.Taking.{AreReadJust, AreUnreadable, HasJust, HasNone};
+ghost use Rattle.nll_command_line.specs.Taking.{IsKind, IsUnfit, IsUnfitBefore, SaysBy, said_of};
+
+use crate::error::LineError;
+use nll_text::number_of;
+
+/// How regions are dealt to owners.
+#[derive(Clone, Copy, Debug, PartialEq, Eq)]
+pub enum Deal {
+    /// In turns.
+    Round,
+    /// In blocks of neighbours.
+    Blocks,
+}
+
+/// What carries what owners tell each other.
+#[derive(Clone, Copy, Debug, PartialEq, Eq)]
+pub enum MailKind {
+    /// Queues without a bound.
+    Queue,
+}
+
+/// An option.
+#[derive(Clone, Copy)]
+pub(crate) enum Key {
+    Owners,
+    Deal,
+    Cut,
+    Mail,
+}
+
+/// What the options give.
+#[derive(Clone, Copy)]
+pub(crate) struct Options<'a> {
+    pub(crate) owners: Option<u16>,
+    pub(crate) deal: Option<Deal>,
+    pub(crate) cut: Option<&'a str>,
+    pub(crate) mail: Option<MailKind>,
+}
+
+/// What a word is.
+#[derive(Clone, Copy)]
+pub(crate) enum Kind<'a> {
+    /// The word of an option.
+    Alone(Key),
+    /// That of an option and its value.
+    Joined(Key, &'a str),
+    /// It does not begin as an option.
+    Plain,
+    /// It begins as one, and is none of them.
+    Last,
+}
+
+impl<'a> Options<'a> {
+    /// No option.
+    pub(crate) fn none() -> Options<'a>
+        ensures { SaysBy [] result }
+    {
+        Options {
+            owners: None,
+            deal: None,
+            cut: None,
+            mail: None,
+        }
+    }
+
+    // Takes an option and its value in.
+    fn give(&mut self, key: Key, value: &'a str) -> Result<(), LineError>
+        ensures ok { OnOk result ((given : List Given) → SaysBy given self.old
+            → (g : Given) × (key_of g ≡ key) × (value_of g ≡ value.now) × IsLawful g
+            × SaysBy (given ++ g ∷ []) self.new) }
+        ensures err { IfErr result (λ e. (e ≡ LineError.Usage)
+            × ((given : List Given) → SaysBy given self.old → IsUnfit given key value.now)) }
+    {
+        match key {
+            Key::Owners => self.give_owners(value),
+            Key::Deal => self.give_deal(value),
+            Key::Cut => self.give_cut(value),
+            Key::Mail => self.give_mail(value),
+        }
+    }
+
+    fn give_owners(&mut self, value: &str) -> Result<(), LineError>
+        ensures ok { OnOk result ((given : List Given) → SaysBy given self.old
+            → (g : Given) × (key_of g ≡ Key.Owners) × (value_of g ≡ value.now) × IsLawful g
+            × SaysBy (given ++ g ∷ []) self.new) }
+        ensures err { IfErr result (λ e. (e ≡ LineError.Usage)
+            × ((given : List Given) → SaysBy given self.old
+            → IsUnfit given Key.Owners value.now)) }
+    {
+        let Some(number) = number_of(value.as_bytes()) else {
+            return Err(LineError::Usage);
+        };
+        if number == 0 || number > 64 || self.owners.is_some() {
+            return Err(LineError::Usage);
+        }
+        self.owners = Some(number as u16);
+        Ok(())
+    }
+
+    fn give_deal(&mut self, value: &str) -> Result<(), LineError>
+        ensures ok { OnOk result ((given : List Given) → SaysBy given self.old
+            → (g : Given) × (key_of g ≡ Key.Deal) × (value_of g ≡ value.now) × IsLawful g
+            × SaysBy (given ++ g ∷ []) self.new) }
+        ensures err { IfErr result (λ e. (e ≡ LineError.Usage)
+            × ((given : List Given) → SaysBy given self.old
+            → IsUnfit given Key.Deal value.now)) }
+    {
+        let deal = match value {
+            "round" => Deal::Round,
+            "blocks" => Deal::Blocks,
+            _ => return Err(LineError::Usage),
+        };
+        if self.deal.is_some() {
+            return Err(LineError::Usage);
+        }
+        self.deal = Some(deal);
+        Ok(())
+    }
+
+    fn give_cut(&mut self, value: &'a str) -> Result<(), LineError>
+        ensures ok { OnOk result ((given : List Given) → SaysBy given self.old
+            → (g : Given) × (key_of g ≡ Key.Cut) × (value_of g ≡ value.now) × IsLawful g
+            × SaysBy (given ++ g ∷ []) self.new) }
+        ensures err { IfErr result (λ e. (e ≡ LineError.Usage)
+            × ((given : List Given) → SaysBy given self.old
+            → IsUnfit given Key.Cut value.now)) }
+    {
+        if self.cut.is_some() {
+            return Err(LineError::Usage);
+        }
+        self.cut = Some(value);
+        Ok(())
+    }
+
+    fn give_mail(&mut self, value: &str) -> Result<(), LineError>
+        ensures ok { OnOk result ((given : List Given) → SaysBy given self.old
+            → (g : Given) × (key_of g ≡ Key.Mail) × (value_of g ≡ value.now) × IsLawful g
+            × SaysBy (given ++ g ∷ []) self.new) }
+        ensures err { IfErr result (λ e. (e ≡ LineError.Usage)
+            × ((given : List Given) → SaysBy given self.old
+            → IsUnfit given Key.Mail value.now)) }
+    {
+        let mail = match value {
+            "queue" => MailKind::Queue,
+            _ => return Err(LineError::Usage),
+        };
+        if self.mail.is_some() {
+            return Err(LineError::Usage);
+        }
+        self.mail = Some(mail);
+        Ok(())
+    }
+}
+
+fn begins_as_option(word: &str) -> bool
+    ensures { result ≡ lines.begins_as_option word.now }
+{
+    let bytes = word.as_bytes();
+    bytes.len() > 1 && bytes[0] == b'-'
+}
+
+// The option whose word this is.
+fn key_named(word: &str) -> Option<Key>
+    ensures { MatchOption result ((k : Key) → word.now ≢ word_of k) (λ k. word.now ≡ word_of k) }
+{
+    match word {
+        "--owners" => Some(Key::Owners),
+        "--deal" => Some(Key::Deal),
+        "--cut" => Some(Key::Cut),
+        "--mail" => Some(Key::Mail),
+        _ => None,
+    }
+}
+
+// What a word is.
+fn kind_of(word: &str) -> Kind<'_>
+    ensures { IsKind word.now result }
+{
+    if !begins_as_option(word) {
+        return Kind::Plain;
+    }
+    if let Some(key) = key_named(word) {
+        return Kind::Alone(key);
+    }
+    let Some((front, value)) = word.split_once('=') else {
+        return Kind::Last;
+    };
+    match key_named(front) {
+        Some(key) => Kind::Joined(key, value),
+        None => Kind::Last,
+    }
+}
+
+/// Takes the options out of the words behind the first, unless that begins as an option; the others
+/// are put into an empty list.
+pub(crate) fn part_words<'a>(
+    words: &'a [String],
+    options: &mut Options<'a>,
+    others: &mut Vec<&'a str>,
+) -> Result<(), LineError>
+    requires none { SaysBy [] options.old }
+    requires empty { others.old.items ≡ [] }
+    ensures ok { OnOk result (AreRead (map string_bytes words.now)
+        (map (λ word. word.now) others.new.items) (said_of options.new)) }
+    ensures just { OnOk result (AreReadJust (map string_bytes words.now)
+        (map (λ word. word.now) others.new.items) (said_of options.new)) }
+    ensures err { IfErr result (λ e. (e ≡ LineError.Memory)
+        ⊎ ((e ≡ LineError.Usage) × AreUnreadable (map string_bytes words.now))) }
+{
+    let Some((first, rest)) = words.split_first() else {
+        return Ok(());
+    };
+    if begins_as_option(first.as_str()) {
+        return push_all(words, others);
+    }
+    others.push(first.as_str())?;
+    take_options(rest, options, others)?;
+    if options.deal.is_some() && options.cut.is_some() {
+        return Err(LineError::Usage);
+    }
+    Ok(())
+}
+
+// Takes the options out of the words behind a command; the others are put behind those that are
+// there.
+fn take_options<'a>(
+    words: &'a [String],
+    options: &mut Options<'a>,
+    others: &mut Vec<&'a str>,
+) -> Result<(), LineError>
+    requires { SaysBy [] options.old }
+    ensures ok { OnOk result ((given : List Given) × (more : List (List ℕ))
+        × HasOptions given more (map string_bytes words.now)
+        × HasJust given more (map string_bytes words.now) × SaysBy given options.new
+        × (map (λ word. word.now) others.new.items
+        ≡ map (λ word. word.now) others.old.items ++ more)) }
+    ensures err { IfErr result (λ e. (e ≡ LineError.Memory)
+        ⊎ ((e ≡ LineError.Usage) × HasNone (map string_bytes words.now))) }
+{
+    let mut left = words;
+    while let Some((word, behind)) = left.split_first() {
+        left = match kind_of(word.as_str()) {
+            Kind::Alone(key) => give_next(key, behind, options)?,
+            Kind::Joined(key, value) => {
+                options.give(key, value)?;
+                behind
+            }
+            Kind::Plain => {
+                others.push(word.as_str())?;
+                behind
+            }
+            Kind::Last => return push_all(left, others),
+        };
+    }
+    Ok(())
+}
+
+// Takes in an option whose value is the next word, and gives the words behind it.
+fn give_next<'a>(
+    key: Key,
+    words: &'a [String],
+    options: &mut Options<'a>,
+) -> Result<&'a [String], LineError>
+    ensures ok { IfOk result (λ behind. (given : List Given) → SaysBy given options.old
+        → (g : Given) × (key_of g ≡ key) × (begins_as_option (value_of g) ≡ false) × IsLawful g
+        × (map string_bytes words.entry.now ≡ value_of g ∷ map string_bytes behind.now)
+        × SaysBy (given ++ g ∷ []) options.new) }
+    ensures err { IfErr result (λ e. (e ≡ LineError.Usage)
+        × ((given : List Given) → SaysBy given options.old
+        → IsUnfitBefore given key (map string_bytes words.entry.now))) }
+{
+    let Some((value, behind)) = words.split_first() else {
+        return Err(LineError::Usage);
+    };
+    if begins_as_option(value.as_str()) {
+        return Err(LineError::Usage);
+    }
+    options.give(key, value.as_str())?;
+    Ok(behind)
+}
+
+// Puts words behind those that are there.
+fn push_all<'a>(words: &'a [String], others: &mut Vec<&'a str>) -> Result<(), LineError>
+    ensures ok { OnOk result (map (λ word. word.now) others.new.items
+        ≡ map (λ word. word.now) others.old.items ++ map string_bytes words.now) }
+    ensures err { IfErr result (λ e. e ≡ LineError.Memory) }
+{
+    for word in words {
+        others.push(word.as_str())?;
+    }
+    Ok(())
+}

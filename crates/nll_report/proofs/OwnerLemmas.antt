@@ -1,0 +1,264 @@
+-- Which cut is asked for, and what is told where there is none.
+use Rattle.std.proofs.Common.{◌≡◌, ◌≢◌, ◌⊎◌, ℕ, ◌<◌, ◌≤◌, Bool, true, false, not, eqb, leb, ltb, List, Option, None, Some, Result, Ok, Err, IfOk, IfErr, IfSome, length, inl, inr, ⊎_elim, refl, sym, ap, ◌∙◌, subst}
+use Rattle.std.specs.Prelude.{IsErrAnd, nat_le, if◌then◌else◌}
+use Rattle.std.specs.List.{position}
+use Rattle.std.proofs.lemmas.Bool.{true≢false, eqb-true, lt-ltb, le-leb, and_from}
+use Rattle.std.proofs.lemmas.Option.{none-some}
+use Rattle.nll_problem.specs.Limits.{most_owners}
+use Rattle.nll_problem.specs.Problem.{Problem}
+use Rattle.nll_reading.specs.Labels.{Labels}
+use Rattle.nll_reading.specs.Text.{IsFault, IsRefusal}
+use Rattle.nll_reading.specs.declared.error.TextError.{TextError}
+use Rattle.nll_reading.specs.declared.error.TextKind.{TextKind}
+use Rattle.nll_reading.specs.declared.error.TextKind.TheVariants as kind
+use Rattle.nll_cut.specs.Partition.{Answers, Cut, cut_of, list_error, may_be_count, owners_error, stranger_error}
+use Rattle.nll_cut.specs.declared.error.CutError.{CutError}
+use Rattle.nll_cut.specs.declared.error.CutError.TheVariants as due
+use Rattle.nll_cut_text.specs.CutText.{Means, cut}
+use Rattle.nll_run.specs.declared.error.RunError.TheVariants as run
+use Rattle.nll_answer.specs.Answer.{IsProblemAnswer}
+use Rattle.nll_answer.specs.Running.{IsRunError}
+use Rattle.nll_answer.specs.declared.answers.Command.{Command}
+use Rattle.nll_answer.specs.declared.error.AnswerError.{AnswerError}
+use Rattle.nll_answer.specs.declared.error.AnswerError.TheVariants as answer
+use Rattle.nll_command_line.specs.Options.{Said}
+use Rattle.nll_command_line.specs.declared.options.Deal.{Deal}
+use Rattle.nll_command_line.specs.declared.task.Task.{Task}
+use Rattle.nll_report.specs.Owners.{AsksForOwners, IsAskedCut, IsCutFileRefused, IsCutRefused, IsCutTextRefused, IsFileMeaning, IsOwnersRefused, IsWorkRefused, count_of, deal_of}
+use Rattle.nll_report.specs.Run.{IsFileAnswer, IsFileRefused, IsTaskRefused, command_of}
+use Rattle.nll_report.specs.Refusal.{IsCutRefusal, cut_refusal_at, refusal_of}
+use Rattle.nll_report.specs.Texts.{Holds, Lacks}
+use Rattle.nll_report.specs.declared.messages.Refusal.{Refusal}
+use Rattle.nll_report.specs.declared.messages.Refusal.TheVariants.{Usage, CannotRead, Text, Limit, CutText, CutLength, NoSuchOwner, Thread, Rank, Memory, CannotWrite}
+
+-- ---- so many owners as there may be
+
+pub may_be : (count : ℕ) → 0 < count → count ≤ most_owners → may_be_count count ≡ true
+may_be count some few = and_from (ltb 0 count) (leb count most_owners) (lt-ltb 0 count some) (le-leb count most_owners few)
+
+-- whether the number of owners is the error
+abbrev is_owners : Option CutError → Bool
+is_owners None = false
+is_owners (Some due.Owners) = true
+is_owners (Some due.Length) = false
+is_owners (Some (due.NoSuchOwner index)) = false
+is_owners (Some due.Memory) = false
+
+abbrev told_owners : {T : Type 0} → Result T CutError → Bool
+told_owners (Ok value) = false
+told_owners (Err error) = is_owners (Some error)
+
+no_owners : {T : Type 0} (e : Option CutError) (r : Result T CutError) → is_owners e ≡ false → Answers e r → told_owners r ≡ false
+no_owners e (Ok value) other h = refl
+no_owners e (Err due.Owners) other h = absurd (⊎_elim
+    (λ is. true≢false (sym (ap is_owners is) ∙ other))
+    (λ is. true≢false (ap (λ x. is_owners (Some x)) is.1))
+    h)
+no_owners e (Err due.Length) other h = refl
+no_owners e (Err (due.NoSuchOwner index)) other h = refl
+no_owners e (Err due.Memory) other h = refl
+
+not_owners : {T : Type 0} (e : Option CutError) (r : Result T CutError) → is_owners e ≡ false → Answers e r → r ≢ Err due.Owners
+not_owners e r other h = λ is. true≢false (sym (ap told_owners is) ∙ no_owners e r other h)
+
+by_deal : (count : ℕ) → may_be_count count ≡ true → owners_error count ≡ None
+by_deal count may = ap (λ b. if b then None else Some due.Owners) may
+
+-- a deal among so many owners is never refused for their number
+pub dealt_not_owners : {T : Type 0} (count : ℕ) (r : Result T CutError) → may_be_count count ≡ true → Answers (owners_error count) r → r ≢ Err due.Owners
+dealt_not_owners count r may h = not_owners (owners_error count) r (ap is_owners (by_deal count may)) h
+
+by_list : (regions count : ℕ) (list : List ℕ) → may_be_count count ≡ true
+    → list_error regions count list ≡ (if not (eqb (length list) regions) then Some due.Length else stranger_error (position (nat_le count) list))
+by_list regions count list may =
+    ap (λ b. if not b then Some due.Owners else if not (eqb (length list) regions) then Some due.Length else stranger_error (position (nat_le count) list)) may
+
+stranger_other : (found : Option ℕ) → is_owners (stranger_error found) ≡ false
+stranger_other None = refl
+stranger_other (Some index) = refl
+
+entries_other : (same : Bool) (found : Option ℕ) → is_owners (if not same then Some due.Length else stranger_error found) ≡ false
+entries_other true found = stranger_other found
+entries_other false found = refl
+
+-- nor is a list
+pub listed_not_owners : {T : Type 0} (regions count : ℕ) (list : List ℕ) (r : Result T CutError) → may_be_count count ≡ true
+    → Answers (list_error regions count list) r → r ≢ Err due.Owners
+listed_not_owners regions count list r may h =
+    not_owners (list_error regions count list) r
+    (ap is_owners (by_list regions count list may) ∙ entries_other (eqb (length list) regions) (position (nat_le count) list)) h
+
+size_by : (same : Bool) (found : Option ℕ) → (if not same then Some due.Length else stranger_error found) ≡ None → same ≡ true
+size_by true found e = refl
+size_by false found e = absurd (none-some due.Length (sym e))
+
+-- a list that is taken has an owner for each region
+pub listed_ok : (regions count : ℕ) (list : List ℕ) (r : Result Cut CutError) → may_be_count count ≡ true → Answers (list_error regions count list) r
+    → IfOk r (λ c. c ≡ cut_of count list) → IfOk r (λ c. (c ≡ cut_of count list) × (length c.list ≡ regions))
+listed_ok regions count list (Ok c) may none is = (
+  is,
+  ap (λ (x : Cut). length x.list) is ∙ eqb-true (length list) regions (size_by (eqb (length list) regions) (position (nat_le count) list) (sym (by_list regions count list may) ∙ none)),
+)
+listed_ok regions count list (Err e) may none is = tt
+
+-- ---- what is made of a cut, and of why there is none
+
+module _ {T : Type 0} (made : Result T CutError) (r : Result T Refusal) (ok : IfOk made (λ value. r ≡ Ok value)) (err : IfErr made (λ e. IsErrAnd r (IsCutRefusal e))) where
+  pub taken_ok : (P : T → Type 0) → IfOk made P → IfOk r P
+  taken_ok P h = at made r ok err h
+    where
+      at : (made : Result T CutError) (r : Result T Refusal) → IfOk made (λ value. r ≡ Ok value) → IfErr made (λ e. IsErrAnd r (IsCutRefusal e)) → IfOk made P → IfOk r P
+      at (Ok value) r ok err h = subst (λ x. IfOk x P) (sym ok) h
+      at (Err e) (Ok value) ok err h = absurd err
+      at (Err e) (Err f) ok err h = tt
+
+  pub dealt_refused : (count : ℕ) → may_be_count count ≡ true → Answers (owners_error count) made → IfErr r (λ e. e ≡ Memory)
+  dealt_refused count may h = at made r ok err h
+    where
+      at : (made : Result T CutError) (r : Result T Refusal) → IfOk made (λ value. r ≡ Ok value) → IfErr made (λ e. IsErrAnd r (IsCutRefusal e))
+          → Answers (owners_error count) made → IfErr r (λ e. e ≡ Memory)
+      at (Ok value) r ok err h = subst (λ x. IfErr x (λ e. e ≡ Memory)) (sym ok) tt
+      at (Err e) (Ok value) ok err h = absurd err
+      at (Err e) (Err f) ok err h = ⊎_elim
+          (λ is. absurd (none-some e (sym (by_deal count may) ∙ is)))
+          (λ is. subst (λ x. IsCutRefusal x f) is.1 err)
+          h
+
+  pub listed_refused : (e : Option CutError) → Answers e made → IfErr r (λ f. (f ≡ Memory) ⊎ ((why : CutError) × (e ≡ Some why) × IsCutRefusal why f))
+  listed_refused e h = at made r ok err h
+    where
+      at : (made : Result T CutError) (r : Result T Refusal) → IfOk made (λ value. r ≡ Ok value) → IfErr made (λ e. IsErrAnd r (IsCutRefusal e))
+          → Answers e made → IfErr r (λ f. (f ≡ Memory) ⊎ ((why : CutError) × (e ≡ Some why) × IsCutRefusal why f))
+      at (Ok value) r ok err h = subst (λ x. IfErr x (λ f. (f ≡ Memory) ⊎ ((why : CutError) × (e ≡ Some why) × IsCutRefusal why f))) (sym ok) tt
+      at (Err why) (Ok value) ok err h = absurd err
+      at (Err why) (Err f) ok err h = ⊎_elim
+          (λ is. inr (why, is, err))
+          (λ is. inl (subst (λ x. IsCutRefusal x f) is.1 err))
+          h
+
+-- ---- the text of a cut file
+
+module _ (regions count : ℕ) (text : List ℕ) where
+  -- its list is no cut
+  pub list_told : (list : List ℕ) (e : Refusal) → Means text list
+      → (e ≡ Memory) ⊎ ((why : CutError) × (list_error regions count list ≡ Some why) × IsCutRefusal why e) → IsCutTextRefused regions count text e
+  list_told list e means = ⊎_elim
+      (λ is. subst (IsCutTextRefused regions count text) (sym is) refl)
+      (λ h. by_error h.0 h.1 h.2)
+    where
+      by_error : (why : CutError) → list_error regions count list ≡ Some why → IsCutRefusal why e → IsCutTextRefused regions count text e
+      by_error due.Owners is h = absurd h
+      by_error due.Length is h = subst (IsCutTextRefused regions count text) (sym h) (record { list = list; means = means; due = is })
+      by_error (due.NoSuchOwner index) is h = subst (IsCutTextRefused regions count text) (sym h) (record { list = list; means = means; due = is })
+      by_error due.Memory is h = subst (IsCutTextRefused regions count text) (sym h) refl
+
+  abbrev is_memory : TextKind → Bool
+  is_memory kind.Memory = true
+  is_memory other = false
+
+  -- it has a fault
+  module _ (error : TextError) (refusal : IsRefusal (IsFault cut text) error) where
+    fault : (error.kind ≡ kind.Memory → ⊥) → IsFault cut text error.line error.kind
+    fault other = ⊎_elim (λ wanting. absurd (other (ap (λ (e : TextError). e.kind) wanting))) (λ found. found) refusal
+
+    of_kind : (k : TextKind) → is_memory k ≡ false → error.kind ≡ k → IsFault cut text error.line k
+    of_kind k other is = subst (IsFault cut text error.line) is (fault (λ memory. true≢false (ap is_memory (sym memory ∙ is) ∙ other)))
+
+    told_in : (k : TextKind) → error.kind ≡ k → IsCutTextRefused regions count text (cut_refusal_at error.line k)
+    told_in kind.NotUtf8 is = of_kind kind.NotUtf8 refl is
+    told_in kind.Header is = of_kind kind.Header refl is
+    told_in kind.Syntax is = of_kind kind.Syntax refl is
+    told_in kind.Unknown is = of_kind kind.Unknown refl is
+    told_in kind.Duplicate is = of_kind kind.Duplicate refl is
+    told_in kind.Range is = of_kind kind.Range refl is
+    told_in kind.Shape is = of_kind kind.Shape refl is
+    told_in kind.TypeSize is = of_kind kind.TypeSize refl is
+    told_in (kind.Limit counted) is = of_kind (kind.Limit counted) refl is
+    told_in kind.End is = of_kind kind.End refl is
+    told_in kind.Memory is = refl
+
+    pub cut_text_told : (e : Refusal) → e ≡ cut_refusal_at error.line error.kind → IsCutTextRefused regions count text e
+    cut_text_told e is = subst (IsCutTextRefused regions count text) (sym is) (told_in error.kind refl)
+
+-- ---- the file of a cut
+
+abbrev pub is_wanting : Refusal → Bool
+is_wanting Memory = true
+is_wanting other = false
+
+-- a refusal of its text is one of the file
+pub cut_file_told : (holds : Holds) (lacks : Lacks) (regions count : ℕ) (path text : List ℕ) (e : Refusal) → holds path text
+    → IsCutTextRefused regions count text e → IsCutFileRefused holds lacks regions count path e
+cut_file_told holds lacks regions count path text Usage held h = (text, held, h)
+cut_file_told holds lacks regions count path text (CannotRead other) held h = absurd (true≢false (sym (ap is_wanting h)))
+cut_file_told holds lacks regions count path text (Text line k) held h = (text, held, h)
+cut_file_told holds lacks regions count path text (Limit counted) held h = (text, held, h)
+cut_file_told holds lacks regions count path text (CutText line k) held h = (text, held, h)
+cut_file_told holds lacks regions count path text CutLength held h = (text, held, h)
+cut_file_told holds lacks regions count path text (NoSuchOwner index) held h = (text, held, h)
+cut_file_told holds lacks regions count path text Thread held h = (text, held, h)
+cut_file_told holds lacks regions count path text Rank held h = (text, held, h)
+cut_file_told holds lacks regions count path text Memory held h = tt
+cut_file_told holds lacks regions count path text CannotWrite held h = (text, held, h)
+
+-- ---- owners at work
+
+no_rank : (holds : Holds) (lacks : Lacks) (regions count : ℕ) (path : Option (List ℕ)) → IsCutRefused holds lacks regions count path Rank → ⊥
+no_rank holds lacks regions count None h = true≢false (sym (ap is_wanting h))
+no_rank holds lacks regions count (Some path) h = true≢false (sym (ap is_wanting h.2))
+
+-- why there is no cut is why there is no report
+pub cut_told : (holds : Holds) (lacks : Lacks) (q : Problem) (count : ℕ) (how : Deal) (path : Option (List ℕ)) (e : Refusal)
+    → IsCutRefused holds lacks q.regions count path e → IsWorkRefused holds lacks q count how path e
+cut_told holds lacks q count how path Usage h = h
+cut_told holds lacks q count how path (CannotRead other) h = h
+cut_told holds lacks q count how path (Text line k) h = h
+cut_told holds lacks q count how path (Limit counted) h = h
+cut_told holds lacks q count how path (CutText line k) h = h
+cut_told holds lacks q count how path CutLength h = h
+cut_told holds lacks q count how path (NoSuchOwner index) h = h
+cut_told holds lacks q count how path Thread h = tt
+cut_told holds lacks q count how path Rank h = absurd (no_rank holds lacks q.regions count path h)
+cut_told holds lacks q count how path Memory h = tt
+cut_told holds lacks q count how path CannotWrite h = h
+
+-- and so is why a run is refused
+pub run_told : (holds : Holds) (lacks : Lacks) (q : Problem) (count : ℕ) (how : Deal) (path : Option (List ℕ)) (c : Cut) (e : AnswerError)
+    → IsAskedCut holds q.regions count how path c → IsRunError q c e → IsWorkRefused holds lacks q count how path (refusal_of e)
+run_told holds lacks q count how path c (answer.Text error) asked h = absurd h
+run_told holds lacks q count how path c (answer.Rule error) asked h = absurd h
+run_told holds lacks q count how path c (answer.Run run.Thread) asked h = tt
+run_told holds lacks q count how path c (answer.Run run.RankFull) asked h = (c, asked, h)
+run_told holds lacks q count how path c (answer.Run run.Memory) asked h = absurd h
+run_told holds lacks q count how path c answer.Memory asked h = tt
+
+-- ---- what a line asks for
+
+pub may_be_asked : (count : Option ℕ) (n : ℕ) → IfSome count (λ n. (0 < n) × (n ≤ most_owners)) → n ≡ count_of count → may_be_count n ≡ true
+may_be_asked None n lawful is = ap may_be_count is
+may_be_asked (Some count) n lawful is = ap may_be_count is ∙ may_be count lawful.0 lawful.1
+
+pub owners_told : (holds : Holds) (lacks : Lacks) (file : List ℕ) (said : Said) (n : ℕ) (deal : Deal) (path : Option (List ℕ)) (e : Refusal)
+    → n ≡ count_of said.owners → deal ≡ deal_of said.deal → path ≡ said.cut → AsksForOwners said.owners said.cut
+    → IsFileRefused holds lacks file e ⊎ IsOwnersRefused holds lacks file n deal path e → IsTaskRefused holds lacks file said e
+owners_told holds lacks file said n deal path e is_count is_deal is_path asks = ⊎_elim
+    inl
+    (λ h. inr (
+      asks,
+      subst (λ m. IsOwnersRefused holds lacks file m (deal_of said.deal) said.cut e) is_count
+          (subst (λ d. IsOwnersRefused holds lacks file n d said.cut e) is_deal
+          (subst (λ p. IsOwnersRefused holds lacks file n deal p e) is_path h)),
+    ))
+
+pub file_answer : (holds : Holds) (task : Task) (file : List ℕ) (command : Command) (q : Problem) (labels : Labels) (report : List ℕ) (status : ℕ) → command ≡ command_of task
+    → IsFileMeaning holds file q labels → IsProblemAnswer command q labels report status → IsFileAnswer holds task file report status
+file_answer holds task file command q labels report status is means h = record {
+  text = means.text;
+  held = means.held;
+  answer = record {
+    problem = q;
+    labels = labels;
+    meaning = means.meaning;
+    answer = subst (λ k. IsProblemAnswer k q labels report status) is h;
+  };
+}

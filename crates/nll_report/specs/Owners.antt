@@ -1,0 +1,120 @@
+-- The owners that a line asks for, the cut of the regions among them, and why there is none.
+-- Source: project's choice.
+use Rattle.std.specs.Prelude.{◌≡◌, ℕ, ◌/◌, ◌%◌, List, Option, None, Some, string_bytes}
+use Rattle.nll_problem.specs.Problem.{Problem}
+use Rattle.nll_reading.specs.Labels.{Labels}
+use Rattle.nll_reading.specs.Text.{IsFault}
+use Rattle.nll_cut.specs.Partition.{Cut, Deals, IsBlockSize, cut_of, list_error}
+use Rattle.nll_cut.specs.declared.error.CutError.{CutError}
+use Rattle.nll_cut.specs.declared.error.CutError.TheVariants as due
+use Rattle.nll_cut_text.specs.CutText.{cut, Means}
+use Rattle.nll_run.specs.Outcome.{HasFullClock}
+use Rattle.nll_answer.specs.Texts.{IsMeaning}
+use Rattle.nll_command_line.specs.declared.options.Deal.{Deal}
+use Rattle.nll_command_line.specs.declared.options.Deal.TheVariants.{Round, Blocks}
+use Rattle.nll_report.specs.Texts.{Holds, Lacks}
+use Rattle.nll_report.specs.declared.messages.Refusal.{Refusal}
+use Rattle.nll_report.specs.declared.messages.Refusal.TheVariants.{CannotRead, CutText}
+use Rattle.nll_report.specs.declared.messages.Refusal.TheVariants.{CutLength, NoSuchOwner}
+use Rattle.nll_report.specs.declared.messages.Refusal.TheVariants.{Thread, Rank, Memory}
+
+-- owners are asked for where their number is given, or a cut file
+abbrev pub AsksForOwners : Option ℕ → Option (List ℕ) → Type 0
+AsksForOwners None None = ⊥
+AsksForOwners None (Some path) = Unit {0}
+AsksForOwners (Some count) path = Unit {0}
+
+-- there is one owner where no number is given
+abbrev pub count_of : Option ℕ → ℕ
+count_of None = 1
+count_of (Some count) = count
+
+-- regions are dealt in turns where nothing else is said
+abbrev pub deal_of : Option Deal → Deal
+deal_of None = Round
+deal_of (Some how) = how
+
+-- ---- the cut
+
+-- the text lists the owners of the cut
+abbrev pub IsTextCut : List ℕ → ℕ → Cut → Type 0
+IsTextCut text count c = (list : List ℕ) × Means text list × (c ≡ cut_of count list)
+
+-- a text of the cut file lists the owners of the cut
+abbrev pub IsListedCut : Holds → List ℕ → ℕ → Cut → Type 0
+IsListedCut holds path count c = (text : List ℕ) × holds path text × IsTextCut text count c
+
+-- so many regions are dealt in turns, or in blocks of neighbours
+abbrev pub IsDealtCut : ℕ → ℕ → Deal → Cut → Type 0
+IsDealtCut regions count Round c = Deals regions count (λ r. r % count) c
+IsDealtCut regions count Blocks c =
+    (size : ℕ) × IsBlockSize regions count size × Deals regions count (λ r. r / size) c
+
+-- the cut is the one of the cut file; where there is none, the regions are dealt
+abbrev pub IsAskedCut : Holds → ℕ → ℕ → Deal → Option (List ℕ) → Cut → Type 0
+IsAskedCut holds regions count how (Some path) c = IsListedCut holds path count c
+IsAskedCut holds regions count how None c = IsDealtCut regions count how c
+
+-- ---- why there is no cut
+
+-- The text lists owners, and this is why its list is no cut of so many regions among so many
+-- owners.
+pub record IsNoCut (regions count : ℕ) (text : List ℕ) (why : CutError) : Type 0 where
+  pub list : List ℕ
+  pub means : Means text list
+  pub due : list_error regions count list ≡ Some why
+
+-- the refusal tells the text's fault or why its list is no cut, or that memory was refused
+abbrev pub IsCutTextRefused : ℕ → ℕ → List ℕ → Refusal → Type 0
+IsCutTextRefused regions count text (CutText line kind) = IsFault cut text line kind
+IsCutTextRefused regions count text CutLength = IsNoCut regions count text due.Length
+IsCutTextRefused regions count text (NoSuchOwner index) =
+    IsNoCut regions count text (due.NoSuchOwner index)
+IsCutTextRefused regions count text other = other ≡ Memory
+
+-- the refusal tells the truth of a text of the cut file, or that there is none
+abbrev pub IsCutFileRefused : Holds → Lacks → ℕ → ℕ → List ℕ → Refusal → Type 0
+IsCutFileRefused holds lacks regions count path (CannotRead other) =
+    (string_bytes other ≡ path) × lacks path
+IsCutFileRefused holds lacks regions count path Memory = Unit {0}
+IsCutFileRefused holds lacks regions count path other =
+    (text : List ℕ) × holds path text × IsCutTextRefused regions count text other
+
+-- the refusal tells why there is no cut; where there is no cut file, memory was refused
+abbrev pub IsCutRefused : Holds → Lacks → ℕ → ℕ → Option (List ℕ) → Refusal → Type 0
+IsCutRefused holds lacks regions count (Some path) refusal =
+    IsCutFileRefused holds lacks regions count path refusal
+IsCutRefused holds lacks regions count None refusal = refusal ≡ Memory
+
+-- ---- why owners give no report
+
+-- a cut that is asked for has an owner whose clock is at its end
+abbrev pub IsRankFull : Holds → Problem → ℕ → Deal → Option (List ℕ) → Type 0
+IsRankFull holds q count how path =
+    (c : Cut) × IsAskedCut holds q.regions count how path c × HasFullClock q c
+
+-- the refusal tells the truth of the cut or of the owners at work; that a thread couldn't be
+-- started, or that memory was refused, says nothing of the texts
+abbrev pub IsWorkRefused : Holds → Lacks → Problem → ℕ → Deal → Option (List ℕ) → Refusal
+    → Type 0
+IsWorkRefused holds lacks q count how path Thread = Unit {0}
+IsWorkRefused holds lacks q count how path Rank = IsRankFull holds q count how path
+IsWorkRefused holds lacks q count how path Memory = Unit {0}
+IsWorkRefused holds lacks q count how path other =
+    IsCutRefused holds lacks q.regions count path other
+
+-- A text of the file means a problem.
+pub record IsFileMeaning (holds : Holds) (file : List ℕ) (problem : Problem) (labels : Labels)
+    : Type 0 where
+  pub text : List ℕ
+  pub held : holds file text
+  pub meaning : IsMeaning text problem labels
+
+-- A text of the file means a problem, and the refusal tells the truth of the cut of its regions or
+-- of the owners at work on it. So the file is dealt with wholly before the cut file.
+pub record IsOwnersRefused (holds : Holds) (lacks : Lacks) (file : List ℕ) (count : ℕ) (how : Deal)
+    (path : Option (List ℕ)) (refusal : Refusal) : Type 0 where
+  pub problem : Problem
+  pub labels : Labels
+  pub meaning : IsFileMeaning holds file problem labels
+  pub refused : IsWorkRefused holds lacks problem count how path refusal

@@ -1,0 +1,19 @@
+-- Which texts may be held at which paths.
+-- Source: project's choice.
+use Rattle.std.specs.Prelude.{ℕ, List}
+
+-- which bytes may be held at a path
+abbrev pub Holds : Type 1
+Holds = List ℕ → List ℕ → Type 0
+
+-- at which paths there may be no text
+abbrev pub Lacks : Type 1
+Lacks = List ℕ → Type 0
+
+-- any bytes may be held at any path
+abbrev pub holds_anything : Holds
+holds_anything path text = Unit {0}
+
+-- at any path there may be no text
+abbrev pub lacks_anything : Lacks
+lacks_anything path = Unit {0}

@@ -1,0 +1,243 @@
+//! The report that owners at work in threads find, and the cut of the regions among them.
+ghost use Rattle.std.specs.Prelude.{◌≡◌, ◌≢◌, ◌⊎◌, ◌≤◌, true, length, option_map, string_bytes};
+ghost use Rattle.std.specs.Prelude.{Err, IfErr, IfOk, IsErrAnd, MatchOption, None, Ok, Some};
+ghost use Rattle.nll_cut.specs.Partition.{cut_of, list_error, may_be_count};
+ghost use Rattle.nll_cut.specs.declared.error.CutError.{CutError};
+ghost use Rattle.nll_answer.specs.Answer.{IsProblemAnswer};
+ghost use Rattle.nll_answer.specs.Running.{IsRunError};
+ghost use Rattle.nll_report.specs.Owners.{AsksForOwners, IsAskedCut, IsCutFileRefused};
+ghost use Rattle.nll_report.specs.Owners.{IsCutRefused, IsCutTextRefused, IsDealtCut};
+ghost use Rattle.nll_report.specs.Owners.{IsListedCut, IsOwnersRefused, IsTextCut};
+ghost use Rattle.nll_report.specs.Owners.{IsWorkRefused, count_of, deal_of};
+ghost use Rattle.nll_report.specs.Refusal.{IsCutRefusal, cut_refusal_at};
+ghost use Rattle.nll_report.specs.Run.{IsFileAnswer, IsFileRefused};
+
+use crate::messages::Refusal;
+use crate::program::{Texts, command_of};
+use crate::reading::{facts_of, without_text};
+use nll_answer::{AnswerError, Command, answer_run};
+use nll_command_line::{Deal, Task};
+use nll_cut::{Cut, CutError};
+use nll_cut_text::read_cut;
+use nll_facts::Facts;
+use nll_ledger::LockLedger;
+use nll_mail::QueueMail;
+use nll_reading::{TextError, TextKind};
+use nll_worker::NoGate;
+use std::alloc::Global;
+use std::sync::Wait;
+use std::thread::Threads;
+
+/// The owners that a line asks for.
+#[derive(Drop)]
+pub(crate) struct Owners {
+    /// How many.
+    pub(crate) count: u16,
+    /// How the regions are dealt to them where there is no cut file.
+    pub(crate) deal: Deal,
+    /// The path of the cut file.
+    pub(crate) cut: Option<String>,
+}
+
+/// The owners that options ask for: none where neither their number is given nor a cut file, else 1
+/// and in turns where nothing is said.
+pub(crate) fn owners_asked(
+    owners: Option<u16>,
+    deal: Option<Deal>,
+    cut: Option<String>,
+) -> Option<Owners>
+    ensures { MatchOption result ((owners ≡ None) × (cut ≡ None))
+        (λ o. AsksForOwners owners (option_map string_bytes cut)
+        × (o.count ≡ count_of owners) × (o.deal ≡ deal_of deal) × (o.cut ≡ cut)) }
+{
+    if owners.is_none() && cut.is_none() {
+        return None;
+    }
+    Some(Owners {
+        count: owners.unwrap_or(1),
+        deal: deal.unwrap_or(Deal::Round),
+        cut,
+    })
+}
+
+/// The answer to a task on the text of its file, found by owners at work in threads. The file is
+/// dealt with wholly before the cut file is opened.
+pub(crate) fn answered_by_owners<R: AllocGlobal + Threads + Wait + Sync, T: Texts>(
+    rt: &R,
+    task: Task,
+    file: String,
+    owners: Owners,
+    texts: &T,
+) -> Result<(Vec<u8>, u8), Refusal>
+    requires { may_be_count owners.count ≡ true }
+    ensures ok { IfOk result (λ r.
+        IsFileAnswer (T.holds texts.now) task (string_bytes file) r.0.items r.1) }
+    ensures status { IfOk result (λ r. r.1 ≤ 1) }
+    ensures err { IfErr result (λ e.
+        IsFileRefused (T.holds texts.now) (T.lacks texts.now) (string_bytes file) e
+        ⊎ IsOwnersRefused (T.holds texts.now) (T.lacks texts.now) (string_bytes file)
+        owners.count owners.deal (option_map string_bytes owners.cut) e) }
+{
+    let facts = facts_of(rt.alloc(), file, texts)?;
+    let told = told_by_owners(rt, command_of(task), &facts, owners, texts);
+    drop(facts);
+    told
+}
+
+// The answer to a command on a problem and its labels.
+fn told_by_owners<R: AllocGlobal + Threads + Wait + Sync, T: Texts>(
+    rt: &R,
+    command: Command,
+    facts: &Facts,
+    owners: Owners,
+    texts: &T,
+) -> Result<(Vec<u8>, u8), Refusal>
+    requires named { length facts.now.labels.names ≡ facts.now.problem.regions }
+    requires lawful { may_be_count owners.count ≡ true }
+    ensures ok { IfOk result (λ r.
+        IsProblemAnswer command facts.now.problem facts.now.labels r.0.items r.1) }
+    ensures status { IfOk result (λ r. r.1 ≤ 1) }
+    ensures err { IfErr result (IsWorkRefused (T.holds texts.now) (T.lacks texts.now)
+        facts.now.problem owners.count owners.deal (option_map string_bytes owners.cut)) }
+{
+    let cut = asked_cut(rt.alloc(), facts.problem.regions(), owners, texts)?;
+    let told = told_by_cut(rt, command, facts, &cut);
+    drop(cut);
+    Ok(told?)
+}
+
+// The answer to a command on a problem and its labels, by the owners of a cut.
+fn told_by_cut<R: AllocGlobal + Threads + Wait + Sync>(
+    rt: &R,
+    command: Command,
+    facts: &Facts,
+    cut: &Cut,
+) -> Result<(Vec<u8>, u8), AnswerError>
+    requires named { length facts.now.labels.names ≡ facts.now.problem.regions }
+    requires cut { length cut.now.list ≡ facts.now.problem.regions }
+    ensures ok { IfOk result (λ r.
+        IsProblemAnswer command facts.now.problem facts.now.labels r.0.items r.1) }
+    ensures status { IfOk result (λ r. r.1 ≤ 1) }
+    ensures err { IfErr result (IsRunError facts.now.problem cut.now) }
+{
+    let mail = QueueMail::new(rt);
+    let ledger = LockLedger::new(rt);
+    answer_run(rt, rt.alloc(), command, facts, cut, &mail, &ledger, &NoGate)
+}
+
+// The cut that is asked for, of so many regions.
+fn asked_cut<T: Texts>(
+    alloc: Global,
+    regions: u32,
+    owners: Owners,
+    texts: &T,
+) -> Result<Cut, Refusal>
+    requires { may_be_count owners.count ≡ true }
+    ensures regions { IfOk result (λ cut. length cut.list ≡ regions) }
+    ensures asked { IfOk result (IsAskedCut (T.holds texts.now) regions owners.count owners.deal
+        (option_map string_bytes owners.cut)) }
+    ensures err { IfErr result (IsCutRefused (T.holds texts.now) (T.lacks texts.now)
+        regions owners.count (option_map string_bytes owners.cut)) }
+{
+    let Owners { count, deal, cut } = owners;
+    match cut {
+        Some(path) => listed_cut(alloc, regions, count, path, texts),
+        None => dealt_cut(alloc, regions, count, deal),
+    }
+}
+
+// The cut by which so many regions are dealt.
+fn dealt_cut(alloc: Global, regions: u32, count: u16, deal: Deal) -> Result<Cut, Refusal>
+    requires { may_be_count count ≡ true }
+    ensures regions { IfOk result (λ cut. length cut.list ≡ regions) }
+    ensures dealt { IfOk result (IsDealtCut regions count deal) }
+    ensures err { IfErr result (λ e. e ≡ Refusal.Memory) }
+{
+    match deal {
+        Deal::Round => taken(Cut::round(alloc, regions, count)),
+        Deal::Blocks => taken(Cut::blocks(alloc, regions, count)),
+    }
+}
+
+// The cut that a file lists.
+fn listed_cut<T: Texts>(
+    alloc: Global,
+    regions: u32,
+    count: u16,
+    path: String,
+    texts: &T,
+) -> Result<Cut, Refusal>
+    requires { may_be_count count ≡ true }
+    ensures regions { IfOk result (λ cut. length cut.list ≡ regions) }
+    ensures listed { IfOk result (IsListedCut (T.holds texts.now) (string_bytes path) count) }
+    ensures err { IfErr result (IsCutFileRefused (T.holds texts.now) (T.lacks texts.now)
+        regions count (string_bytes path)) }
+{
+    match texts.get(path.as_str()) {
+        Ok(text) => cut_of_text(alloc, regions, count, text),
+        Err(unread) => Err(without_text(unread, path)),
+    }
+}
+
+// The cut that a text lists. The text is let go as soon as it is read.
+fn cut_of_text(alloc: Global, regions: u32, count: u16, text: Vec<u8>) -> Result<Cut, Refusal>
+    requires { may_be_count count ≡ true }
+    ensures regions { IfOk result (λ cut. length cut.list ≡ regions) }
+    ensures listed { IfOk result (IsTextCut text.items count) }
+    ensures err { IfErr result (IsCutTextRefused regions count text.items) }
+{
+    let list = read_cut(alloc, text.as_slice());
+    drop(text);
+    match list {
+        Ok(list) => cut_of_list(alloc, regions, count, list),
+        Err(error) => Err(refusal_of_cut_text(error)),
+    }
+}
+
+// The cut of a list.
+fn cut_of_list(alloc: Global, regions: u32, count: u16, list: Vec<u16>) -> Result<Cut, Refusal>
+    requires { may_be_count count ≡ true }
+    ensures ok { IfOk result (λ cut. (cut ≡ cut_of count list.items)
+        × (length cut.list ≡ regions)) }
+    ensures err { IfErr result (λ e. (e ≡ Refusal.Memory) ⊎ ((why : CutError)
+        × (list_error regions count list.items ≡ Some why) × IsCutRefusal why e)) }
+{
+    let cut = Cut::from_list(alloc, regions, count, list.as_slice());
+    drop(list);
+    taken(cut)
+}
+
+// The cut, or the refusal for which there is none.
+fn taken(cut: Result<Cut, CutError>) -> Result<Cut, Refusal>
+    requires { cut ≢ Err CutError.Owners }
+    ensures ok { IfOk cut (λ value. result ≡ Ok value) }
+    ensures err { IfErr cut (λ error. IsErrAnd result (IsCutRefusal error)) }
+{
+    match cut {
+        Ok(cut) => Ok(cut),
+        Err(error) => Err(refusal_of_cut(error)),
+    }
+}
+
+// The refusal of a cut.
+fn refusal_of_cut(error: CutError) -> Refusal
+    requires { error ≢ CutError.Owners }
+    ensures { IsCutRefusal error result }
+{
+    match error {
+        CutError::Owners => unreachable!(),
+        CutError::Length => Refusal::CutLength,
+        CutError::NoSuchOwner(index) => Refusal::NoSuchOwner(index),
+        CutError::Memory => Refusal::Memory,
+    }
+}
+
+// The refusal of the text of a cut file.
+fn refusal_of_cut_text(error: TextError) -> Refusal
+    ensures { result ≡ cut_refusal_at error.line error.kind }
+{
+    match error.kind {
+        TextKind::Memory => Refusal::Memory,
+        kind => Refusal::CutText(error.line, kind),
+    }
+}
