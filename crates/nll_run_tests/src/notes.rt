@@ -14,8 +14,9 @@ struct Page {
     // Whether it owed, and whether it posted or cleared, in the turn that it's in.
     has_owed: AtomicBool,
     has_acted: AtomicBool,
-    // How often it posted in a turn in which it hadn't owed, or owed where it had posted or cleared.
-    late: AtomicU64,
+    // How often a turn began that hadn't the next number, it posted or cleared in a turn in which it
+    // hadn't owed, or owed where it had posted or cleared.
+    wrong: AtomicU64,
 }
 
 impl Page {
@@ -28,21 +29,22 @@ impl Page {
             cleared: AtomicU64::new(0),
             has_owed: AtomicBool::new(false),
             has_acted: AtomicBool::new(false),
-            late: AtomicU64::new(0),
+            wrong: AtomicU64::new(0),
         }
     }
 
-    // Notes that a turn begins.
-    fn begin(&self) {
-        self.turns.fetch_add(1, Ordering::SeqCst);
+    // Notes that a turn of this number begins.
+    fn begin(&self, turn: u64) {
+        let before = self.turns.fetch_add(1, Ordering::SeqCst);
+        self.judge(turn == before.wrapping_add(1));
         self.has_owed.store(false, Ordering::SeqCst);
         self.has_acted.store(false, Ordering::SeqCst);
     }
 
-    // Notes a step that came too late, where it did.
-    fn judge(&self, is_late: bool) {
-        if is_late {
-            self.late.fetch_add(1, Ordering::SeqCst);
+    // Counts what isn't right.
+    fn judge(&self, is_right: bool) {
+        if !is_right {
+            self.wrong.fetch_add(1, Ordering::SeqCst);
         }
     }
 
@@ -52,16 +54,17 @@ impl Page {
             Step::Owe(amount) => {
                 self.owed.fetch_add(amount, Ordering::SeqCst);
                 self.has_owed.store(true, Ordering::SeqCst);
-                self.judge(self.has_acted.load(Ordering::SeqCst));
+                self.judge(!self.has_acted.load(Ordering::SeqCst));
             }
             Step::Post => {
                 self.posts.fetch_add(1, Ordering::SeqCst);
                 self.has_acted.store(true, Ordering::SeqCst);
-                self.judge(!self.has_owed.load(Ordering::SeqCst));
+                self.judge(self.has_owed.load(Ordering::SeqCst));
             }
             Step::Clear(amount) => {
                 self.cleared.fetch_add(amount, Ordering::SeqCst);
                 self.has_acted.store(true, Ordering::SeqCst);
+                self.judge(self.has_owed.load(Ordering::SeqCst));
             }
         }
     }
@@ -72,8 +75,8 @@ impl Page {
         let owed = self.owed.load(Ordering::SeqCst);
         let posts = self.posts.load(Ordering::SeqCst);
         let cleared = self.cleared.load(Ordering::SeqCst);
-        let late = self.late.load(Ordering::SeqCst);
-        write!(out, "{turns} {owed} {posts} {cleared} {late}|")
+        let wrong = self.wrong.load(Ordering::SeqCst);
+        write!(out, "{turns} {owed} {posts} {cleared} {wrong}|")
     }
 }
 
@@ -94,7 +97,8 @@ impl Notes {
     }
 
     /// For each of the two: its turns, what it owed beside its load, its posts, what it cleared, and
-    /// how often it owed too late: where it had posted or cleared in that turn.
+    /// how often it was wrong: began a turn by a number that wasn't the next, posted or cleared in a
+    /// turn in which it hadn't owed, or owed where it had posted or cleared.
     pub fn written(&self, alloc: Global) -> Result<String, AllocError> {
         let mut out = String::new(alloc);
         let first = self.first.write(&mut out);
@@ -104,10 +108,10 @@ impl Notes {
 }
 
 impl Gate for Notes {
-    fn enter(&self, owner: usize, _: u64) {
+    fn enter(&self, owner: usize, turn: u64) {
         match owner {
-            0 => self.first.begin(),
-            1 => self.second.begin(),
+            0 => self.first.begin(turn),
+            1 => self.second.begin(turn),
             _ => {}
         }
     }

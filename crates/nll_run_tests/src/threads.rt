@@ -2,7 +2,7 @@
 use super::failure::Failure;
 use super::meeting::Meeting;
 use super::notes::Notes;
-use super::problems::{BY_TURNS, Deal};
+use super::problems::{BY_TURNS, Deal, REACHED, Written};
 use super::telling::{compare, told};
 use super::watching::Watched;
 use nll_ledger::LockLedger;
@@ -12,9 +12,17 @@ use nll_worker::NoGate;
 // What a run of the two owners of `BY_TURNS` comes to.
 const WANT: &str = "0: 0 1 2|1: 0 1|2: 0 1|2: 0 5 1 2|2: 0-1 2 1-0 2";
 
-// What each does: it takes a turn for its load and one for each growth that it receives, owes and
-// posts the two growths that the other reads, clears one for each turn, and never owes too late.
-const STEPS: &str = "3 2 2 3 0|3 2 2 3 0|";
+// Problems whose regions are dealt in turns to two owners, what their runs come to, and what each
+// owner does: it takes a turn for its load and one for each growth that it receives, owes and posts
+// the growths that the other reads, clears one for each turn, and does nothing wrong.
+const STEPS: &[(Written, &str, &str)] = &[
+    (BY_TURNS, WANT, "3 2 2 3 0|3 2 2 3 0|"),
+    (
+        REACHED,
+        "0: 0 1 2 3|1: 1 2|2: 1 2|2: 0 6 1 2|2: 1-0 2",
+        "3 0 0 3 0|1 2 2 1 0|",
+    ),
+];
 
 // The two owners are at work side by side: each begins its turns 1 and 2 only where the other has.
 #[test]
@@ -44,22 +52,25 @@ fn two_owners_post(rt: HostRuntime) {
     assert!(rt; meeting.met(1), "the owners don't post side by side");
 }
 
-// In each turn an owner owes before it posts and clears.
+// The turns of an owner have the numbers 1, 2 and so on, and in each of them it owes before it posts
+// and clears.
 #[test]
 fn owe_first(rt: HostRuntime) {
-    let notes = Notes::new();
-    let queues = QueueMail::new(rt);
-    let mail = Watched {
-        inner: &queues,
-        watch: &notes,
-    };
-    let locks = LockLedger::new(rt);
-    let ledger = Watched {
-        inner: &locks,
-        watch: &notes,
-    };
-    let deal = Deal::Round(2);
-    let told = told(&rt, rt.alloc(), BY_TURNS, deal, &mail, &ledger, &notes);
-    compare(&rt, told, WANT);
-    compare(&rt, notes.written(rt.alloc()).map_err(Failure::from), STEPS);
+    for (written, want, steps) in STEPS {
+        let notes = Notes::new();
+        let queues = QueueMail::new(rt);
+        let mail = Watched {
+            inner: &queues,
+            watch: &notes,
+        };
+        let locks = LockLedger::new(rt);
+        let ledger = Watched {
+            inner: &locks,
+            watch: &notes,
+        };
+        let deal = Deal::Round(2);
+        let told = told(&rt, rt.alloc(), *written, deal, &mail, &ledger, &notes);
+        compare(&rt, told, want);
+        compare(&rt, notes.written(rt.alloc()).map_err(Failure::from), steps);
+    }
 }
