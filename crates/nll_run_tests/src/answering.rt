@@ -1,0 +1,54 @@
+//! An answer that two owners find who meet.
+use super::meeting::Meeting;
+use nll_answer::{Command, answer_run, meaning};
+use nll_cut::Cut;
+use nll_ledger::LockLedger;
+use nll_mail::QueueMail;
+
+// Two regions that reach each other, as in `BY_TURNS`.
+const TEXT: &[u8] = b"nll-facts 1
+points 2
+region '1
+region '2
+next 0 1
+base '1 0
+base '2 1
+constraint '2 '1 0
+constraint '1 '2 0
+end
+";
+
+const REPORT: &[u8] = b"'static: 0 1 end('static)
+'1: 0 1
+'2: 0 1
+";
+
+// The two owners of an answer are at work side by side: each begins its turns 1 and 2 only where the
+// other has.
+#[test]
+fn two_owners_meet_for_an_answer(rt: HostRuntime) {
+    let facts = meaning(rt.alloc(), TEXT).expect(&rt, "the text is right");
+    let cut = Cut::round(rt.alloc(), facts.problem.regions(), 2).expect(&rt, "two owners");
+    let meeting = Meeting::new();
+    let mail = QueueMail::new(rt);
+    let ledger = LockLedger::new(rt);
+    let asked = Command::Values;
+    let answer = answer_run(
+        &rt,
+        rt.alloc(),
+        asked,
+        &facts,
+        &cut,
+        &mail,
+        &ledger,
+        &meeting,
+    );
+    drop(cut);
+    drop(facts);
+    let (report, status) = answer.expect(&rt, "the owners answer");
+    assert!(rt;
+        status == 0 && report.as_slice() == REPORT,
+        "another report"
+    );
+    assert!(rt; meeting.met(2), "the owners don't meet");
+}
