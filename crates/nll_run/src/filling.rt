@@ -9,6 +9,7 @@ ghost use Rattle.nll_owner.specs.Logs.{IsTold};
 
 use nll_core::Values;
 use nll_mail::Growth;
+use nll_owner::run_at;
 use nll_problem::Problem;
 use nll_sets::Memory;
 use std::alloc::Global;
@@ -33,15 +34,18 @@ pub fn values_of(alloc: Global, problem: &Problem, grown: &[Vec<Growth>]) -> Res
     Ok(values)
 }
 
-// Enters the growths of one log.
+// Enters the growths of one log, a run of elements at a time.
 fn enter_log(values: &mut Values, log: &[Growth]) -> Result<(), Memory>
     requires range { (g : Growth) → Contains log.now g → (g.region < length values.old)
         × (g.element < length (set_of values.old g.region)) }
     ensures gains { OnOk result (Gains (IsTold log.now) values.old values.new) }
     ensures all { OnOk result ((r e : ℕ) → IsTold log.now r e → IsHeld values.new r e) }
 {
-    for growth in log {
-        values.insert(growth.region, growth.element)?;
+    let mut place = 0;
+    while place < log.len() {
+        let (region, run, end) = run_at(log, place);
+        values.insert_run(region, run)?;
+        place = end;
     }
     Ok(())
 }

@@ -1,23 +1,22 @@
-use Rattle.std.proofs.Common.{◌<◌, length, sym, subst, arith}
-use Rattle.nll_run.proofs.FillingLemmas.{entered, all_entered, stands_held}
+use Rattle.std.proofs.Common.{arith}
+use Rattle.nll_owner.proofs.LogRunLemmas.{run_proper}
+use Rattle.nll_run.proofs.FillingLemmas.{entered, all_entered, run_in_range, stands_held}
 use Rattle.nll_run.proofs.filling.enter_log.Goals as goal
 
-pub insert-requires-clause-region : goal.insert-requires-clause-region
-insert-requires-clause-region c =
-    let r = c.requires.range c.growth-item.result (c.loop-growth.growth-index, c.loop-growth-test.true, sym c.growth-item.is) in
-    omega (arith, r.0, c.loop-growth.invariant.gains.width)
+pub insert_run-requires : goal.insert_run-requires
+insert_run-requires c =
+    let run = c.run_at-region.ensures in
+    let proper = run_proper _ _ _ _ _ run in
+    let last = run_in_range c.args.log.now _ _ c.loop-place.invariant.gains c.requires.range _ _ _ _ run _ (proper, omega arith) in
+    record { region = last.0; proper = proper; below = last.1 }
 
-pub loop-growth-preserved : goal.loop-growth-preserved
-loop-growth-preserved c =
-    let x = c.growth-item.result in
-    let r = c.requires.range x (c.loop-growth.growth-index, c.loop-growth-test.true, sym c.growth-item.is) in
-    let g = c.loop-growth.invariant.gains in
-    let a : x.region < length c.loop-growth.values = omega (arith, r.0, g.width) in
-    let b = subst (λ n. x.element < n) (sym (g.widths x.region)) r.1 in
+pub loop-place-preserved : goal.loop-place-preserved
+loop-place-preserved c =
+    let run = c.run_at-region.ensures in
     record {
-      gains = entered c.args.log.now c.args.values.now c.loop-growth.values c.insert.new.self c.loop-growth.growth-index x c.loop-growth-test.true (sym c.growth-item.is) g a b c.in_ok-insert.ensures.ok;
-      all = all_entered c.args.log.now c.args.values.now c.loop-growth.values c.insert.new.self c.loop-growth.growth-index x c.loop-growth-test.true (sym c.growth-item.is) g a b c.in_ok-insert.ensures.ok c.loop-growth.invariant.all;
+      gains = entered c.args.log.now _ _ _ _ _ _ _ run c.loop-place.invariant.gains c.in_ok-insert_run.ensures.gains;
+      all = all_entered c.args.log.now _ _ _ _ _ _ _ run c.loop-place.invariant.gains c.in_ok-insert_run.ensures.gains c.in_ok-insert_run.ensures.covers c.loop-place.invariant.all;
     }
 
 pub returns-clause-all : goal.returns-clause-all
-returns-clause-all c = stands_held c.args.log.now c.loop-growth.values (λ k g l at. c.loop-growth.invariant.all k g (omega (arith, l, c.loop-growth-test.false)) at)
+returns-clause-all c = stands_held c.args.log.now c.loop-place.values (λ k g l at. c.loop-place.invariant.all k g (omega (arith, l, c.loop-place-test.false)) at)

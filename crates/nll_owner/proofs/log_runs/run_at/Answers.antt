@@ -1,6 +1,6 @@
 use Rattle.std.proofs.Common.{arith}
-use Rattle.nll_owner.proofs.FollowingLemmas.{run_first, run_more}
-use Rattle.nll_owner.proofs.following.run_at.Goals as goal
+use Rattle.nll_owner.proofs.LogRunLemmas.{run_first, run_more}
+use Rattle.nll_owner.proofs.log_runs.run_at.Goals as goal
 
 pub loop-end-init : goal.loop-end-init
 loop-end-init c = run_first c.args.log.now c.args.place c.element.inside.0 c.index-log-place.result c.index-log-place-2.result c.requires (omega (arith, c.element.view_is))
