@@ -1,6 +1,6 @@
 //! Words, texts and writers for the tests.
 ghost use Rattle.std.specs.Prelude.{◌≡◌, IfOk};
-ghost use Rattle.nll_report.specs.Run.{holds_anything, lacks_anything};
+ghost use Rattle.nll_report.specs.Texts.{holds_anything, lacks_anything};
 
 use nll_report::{Texts, Unread};
 use std::alloc::Global;
