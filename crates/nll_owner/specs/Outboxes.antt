@@ -1,5 +1,5 @@
--- What an owner keeps to tell the others: for each of them the places in its log of what that one is
--- still to be told.
+-- What an owner keeps to tell the others: for each of them the places in its log of what that one
+-- is still to be told.
 -- Source: project's choice. Private contracts alone cite this file.
 use Rattle.std.specs.Prelude.{◌≡◌, ℕ, ◌-◌, ◌<◌, ◌≤◌, Bool, true, List, [], ◌++◌, length, map, take}
 use Rattle.std.specs.Prelude.{drop, Some, slice_get, slice_index_or, false}

@@ -25,8 +25,13 @@ fn write_region(out: &mut String, owner: &Owner, region: RegionId) -> Result<(),
     out.push('|')
 }
 
-// Writes the value of each region, as its owner has it.
-fn write_values(out: &mut String, owners: &[Owner], cut: &Cut, regions: u32) -> Result<(), Failure>
+/// Writes the value of each region, as its owner has it.
+pub fn write_values(
+    out: &mut String,
+    owners: &[Owner],
+    cut: &Cut,
+    regions: u32,
+) -> Result<(), Failure>
     requires { length cut.now.list ≡ regions }
 {
     for number in 0..regions {
@@ -39,8 +44,8 @@ fn write_values(out: &mut String, owners: &[Owner], cut: &Cut, regions: u32) -> 
     Ok(())
 }
 
-// Writes how many growths each owner has grown, given and received.
-fn write_counts(out: &mut String, owners: &[Owner]) -> Result<(), AllocError> {
+/// Writes how many growths each owner has grown, given and received.
+pub fn write_counts(out: &mut String, owners: &[Owner]) -> Result<(), AllocError> {
     for owner in owners {
         let counts = owner.counts();
         write!(
@@ -99,6 +104,64 @@ fn driven_round<M: Mail>(
     let cut = Cut::round(alloc, problem.regions(), owners)?;
     let told = driven_over(alloc, mail, problem, &cut, turns);
     drop(cut);
+    told
+}
+
+// Writes the logs of owners: the region and the element of each growth.
+fn write_logs(out: &mut String, owners: &[Owner]) -> Result<(), AllocError> {
+    for owner in owners {
+        for growth in owner.log() {
+            write!(out, "{} {}|", growth.region.0, growth.element.0)?;
+        }
+        out.push(' ')?;
+    }
+    Ok(())
+}
+
+// The logs of the owners of a cut once they are driven.
+fn logs_over<M: Mail>(
+    alloc: Global,
+    mail: &M,
+    problem: &Problem,
+    cut: &Cut,
+    turns: &[Turn],
+) -> Result<String, Failure>
+    requires { length cut.now.list ≡ problem.now.regions }
+{
+    let mut out = String::new(alloc);
+    let settled = drive_by_turns(alloc, mail, problem, cut, turns)?;
+    let written = write_logs(&mut out, &settled.owners);
+    drop(settled);
+    written?;
+    Ok(out)
+}
+
+// The same, where the regions of a problem are dealt in turns.
+fn logs_round<M: Mail>(
+    alloc: Global,
+    mail: &M,
+    problem: &Problem,
+    owners: u16,
+    turns: &[Turn],
+) -> Result<String, Failure> {
+    let cut = Cut::round(alloc, problem.regions(), owners)?;
+    let told = logs_over(alloc, mail, problem, &cut, turns);
+    drop(cut);
+    told
+}
+
+/// The logs of the owners of a problem once they are driven, where the regions are dealt to them in
+/// turns: the region and the element of each growth.
+pub fn logs_of<M: Mail>(
+    alloc: Global,
+    mail: &M,
+    written: Written,
+    owners: u16,
+    turns: &[Turn],
+) -> Result<String, Failure> {
+    let problem = problem_of(alloc, written)?;
+    let told = logs_round(alloc, mail, &problem, owners, turns);
+    drop(problem);
     told
 }
 

@@ -9,6 +9,8 @@ mod driving;
 #[cfg(test)]
 mod failure;
 #[cfg(test)]
+mod lent;
+#[cfg(test)]
 mod memory;
 #[cfg(test)]
 mod problems;

@@ -37,6 +37,14 @@ pub const FILLED_HOLE: Written = Written {
     constraints: &[(1, 3, 1), (2, 1, 0)],
 };
 
+/// A region gets what two others hold.
+pub const TWO_SOURCES: Written = Written {
+    points: 3,
+    variables: 3,
+    bases: &[(1, 0), (1, 1), (2, 2)],
+    constraints: &[(3, 1, 0), (3, 2, 2)],
+};
+
 // Puts the facts of a written problem into a builder.
 fn enter(builder: &mut ProblemBuilder, written: Written) -> Result<(), BuildError> {
     for _ in 0..written.variables {

@@ -1,7 +1,7 @@
 //! Owners that are driven by all orders of turns that are named here come to the same values.
-use super::driving::{answers_of, driven};
+use super::driving::{answers_of, driven, logs_of};
 use super::failure::Failure;
-use super::problems::{BY_TURNS, FILLED_HOLE, REACHED, Written};
+use super::problems::{BY_TURNS, FILLED_HOLE, REACHED, TWO_SOURCES, Written};
 use nll_driver::Stop;
 use nll_driver::Turn::{self, Load, Post, Take};
 use nll_mail::QueueMail;
@@ -83,11 +83,11 @@ const THREE_BACK: &[Turn] = &[
 // No turns but the whole rounds that the driver ends with.
 const NONE: &[Turn] = &[];
 
-// Problems, how many owners there are, what they have in the end (the value of each region, and
-// what each owner has grown, given and received), and orders of turns that come to it.
-type Row = (Written, u16, &'static str, &'static [&'static [Turn]]);
+/// Problems, how many owners there are, what they have in the end (the value of each region, and
+/// what each owner has grown, given and received), and orders of turns that come to it.
+pub type Row = (Written, u16, &'static str, &'static [&'static [Turn]]);
 
-const ROWS: &[Row] = &[
+pub const ROWS: &[Row] = &[
     (REACHED, 1, "0: 0 1 2 3|1: 1 2|2: 1 2|8 0 0|", &[&[Load(0)]]),
     (
         REACHED,
@@ -180,6 +180,51 @@ const TAKEN: &[Taken] = &[
     ),
 ];
 
+// A driver takes the turns that it is given, each once and in this order: turns of three owners, and
+// the logs then (the region and the element of each growth).
+type Logged = (&'static [Turn], &'static str);
+
+const LOGGED: &[Logged] = &[
+    (
+        &[
+            Load(0),
+            Load(1),
+            Load(2),
+            Post(1, 0),
+            Post(2, 0),
+            Take(1, 0),
+            Take(2, 0),
+            Take(1, 0),
+        ],
+        "0 0|0 1|0 2|0 3|3 0|3 2|3 1| 1 0|1 1| 2 2| ",
+    ),
+    (
+        &[
+            Load(0),
+            Load(1),
+            Load(2),
+            Post(1, 0),
+            Post(2, 0),
+            Take(1, 0),
+            Take(1, 0),
+            Take(2, 0),
+        ],
+        "0 0|0 1|0 2|0 3|3 0|3 1|3 2| 1 0|1 1| 2 2| ",
+    ),
+    (
+        &[
+            Load(0),
+            Load(2),
+            Post(2, 0),
+            Take(2, 0),
+            Load(1),
+            Post(1, 0),
+            Take(1, 0),
+        ],
+        "0 0|0 1|0 2|0 3|3 2|3 0|3 1| 1 0|1 1| 2 2| ",
+    ),
+];
+
 // Turns that name no owner of two, or one owner twice.
 const WRONG: &[Turn] = &[
     Load(2),
@@ -191,8 +236,8 @@ const WRONG: &[Turn] = &[
     Take(1, 1),
 ];
 
-// Compares what was told.
-fn compare(rt: &impl Abort, told: Result<String, Failure>, want: &str) {
+/// Compares what was told.
+pub fn compare(rt: &impl Abort, told: Result<String, Failure>, want: &str) {
     match told {
         Ok(text) => assert!(rt; text.as_str() == want, "{text} for {want}"),
         Err(failure) => assert!(rt; false, "{failure:?} for {want}"),
@@ -213,6 +258,14 @@ fn driven_owners_come_to_the_least_values(rt: HostRuntime) {
 fn named_turns_are_taken_in_their_order(rt: HostRuntime) {
     for (written, owners, turns, want) in TAKEN {
         let told = answers_of(rt.alloc(), &QueueMail::new(rt), *written, *owners, turns);
+        compare(&rt, told, want);
+    }
+}
+
+#[test]
+fn a_driver_takes_its_turns_in_their_order(rt: HostRuntime) {
+    for (turns, want) in LOGGED {
+        let told = logs_of(rt.alloc(), &QueueMail::new(rt), TWO_SOURCES, 3, turns);
         compare(&rt, told, want);
     }
 }

@@ -1,0 +1,149 @@
+//! Owners on lent tables come to what owners with tables of their own come to.
+ghost use Rattle.std.specs.Prelude.{◌≡◌, length};
+ghost use Rattle.nll_owner.specs.Tables.{AreTables};
+
+use super::driving::{write_counts, write_values};
+use super::failure::Failure;
+use super::problems::{Written, problem_of};
+use super::turns::{ROWS, compare};
+use nll_core::Problem;
+use nll_cut::Cut;
+use nll_mail::Growth;
+use nll_owner::{Owner, OwnerError, Tables};
+use std::alloc::Global;
+
+// The owners of a cut, on lent tables.
+fn owners_on<'q>(
+    alloc: Global,
+    problem: &'q Problem,
+    cut: &'q Cut,
+    tables: &'q Tables,
+) -> Result<Vec<Owner<'q>>, Failure>
+    requires cut { length cut.now.list ≡ problem.now.regions }
+    requires tables { AreTables problem.now cut.now tables.now }
+{
+    let mut owners = Vec::new(alloc);
+    for me in 0..cut.owners() {
+        owners.push(Owner::on(alloc, problem, cut, tables, me)?)?;
+    }
+    Ok(owners)
+}
+
+// Loads the owner of a number.
+fn load(owners: &mut Vec<Owner<'_>>, number: u16) -> Result<(), OwnerError> {
+    match owners.get_mut(number as usize) {
+        Some(owner) if !owner.is_loaded() => owner.load(),
+        _ => Err(OwnerError::Broken),
+    }
+}
+
+// Hands a growth to the owner of a number. One that can't take it counts as broken.
+fn give(owners: &mut Vec<Owner<'_>>, from: u16, to: u16, growth: Growth) -> Result<(), OwnerError> {
+    match owners.get_mut(to as usize) {
+        Some(owner) if owner.is_loaded() && owner.passes(from, &growth) => {
+            owner.receive(from, growth)
+        }
+        _ => Err(OwnerError::Broken),
+    }
+}
+
+// Hands one growth of an owner to another. Answers whether there was one.
+fn hand(owners: &mut Vec<Owner<'_>>, from: u16, to: u16) -> Result<bool, OwnerError> {
+    let Some(owner) = owners.get_mut(from as usize) else {
+        return Err(OwnerError::Broken);
+    };
+    let Some(growth) = owner.outgoing(to) else {
+        return Ok(false);
+    };
+    give(owners, from, to, growth)?;
+    Ok(true)
+}
+
+// Hands one growth of an owner to each other. Answers whether there was one.
+fn hand_each(owners: &mut Vec<Owner<'_>>, from: u16, count: u16) -> Result<bool, OwnerError> {
+    let mut moved = false;
+    for to in 0..count {
+        let came = hand(owners, from, to)?;
+        moved |= came;
+    }
+    Ok(moved)
+}
+
+// Hands one growth of each owner to each other. Answers whether there was one.
+fn round(owners: &mut Vec<Owner<'_>>, count: u16) -> Result<bool, OwnerError> {
+    let mut moved = false;
+    for from in 0..count {
+        let came = hand_each(owners, from, count)?;
+        moved |= came;
+    }
+    Ok(moved)
+}
+
+// Loads the owners.
+fn load_all(owners: &mut Vec<Owner<'_>>, count: u16) -> Result<(), OwnerError> {
+    for number in 0..count {
+        load(owners, number)?;
+    }
+    Ok(())
+}
+
+// Loads the owners, and hands over growths until none is left.
+fn exchange(owners: &mut Vec<Owner<'_>>, count: u16) -> Result<(), OwnerError> {
+    load_all(owners, count)?;
+    for _ in 0..100 {
+        if !round(owners, count)? {
+            return Ok(());
+        }
+    }
+    Ok(())
+}
+
+// What owners on lent tables have once no growth is left, and how many growths there were.
+fn told_on(alloc: Global, problem: &Problem, cut: &Cut, tables: &Tables) -> Result<String, Failure>
+    requires cut { length cut.now.list ≡ problem.now.regions }
+    requires tables { AreTables problem.now cut.now tables.now }
+{
+    let mut out = String::new(alloc);
+    let mut owners = owners_on(alloc, problem, cut, tables)?;
+    let ended = exchange(&mut owners, cut.owners());
+    let values = write_values(&mut out, &owners, cut, problem.regions());
+    let counts = write_counts(&mut out, &owners);
+    drop(owners);
+    ended?;
+    values?;
+    counts?;
+    Ok(out)
+}
+
+// The same, where the tables are made once.
+fn told_over(alloc: Global, problem: &Problem, cut: &Cut) -> Result<String, Failure>
+    requires { length cut.now.list ≡ problem.now.regions }
+{
+    let tables = Tables::of(alloc, problem, cut)?;
+    let told = told_on(alloc, problem, cut, &tables);
+    drop(tables);
+    told
+}
+
+// The same, where the regions of a problem are dealt in turns.
+fn told_round(alloc: Global, problem: &Problem, owners: u16) -> Result<String, Failure> {
+    let cut = Cut::round(alloc, problem.regions(), owners)?;
+    let told = told_over(alloc, problem, &cut);
+    drop(cut);
+    told
+}
+
+// The same of a written problem.
+fn told(alloc: Global, written: Written, owners: u16) -> Result<String, Failure> {
+    let problem = problem_of(alloc, written)?;
+    let told = told_round(alloc, &problem, owners);
+    drop(problem);
+    told
+}
+
+#[test]
+fn owners_on_lent_tables_come_to_the_least_values(rt: HostRuntime) {
+    for (written, owners, want, _) in ROWS {
+        compare(&rt, told(rt.alloc(), *written, *owners), want);
+    }
+}
