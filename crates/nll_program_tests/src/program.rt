@@ -138,7 +138,7 @@ values|--help
 check|-h
 ";
 
-const COMMAND_HELP_END: &str = "-h, --help  Print help\n>";
+const COMMAND_HELP_END: &str = "-h, --help                 Print help\n>";
 
 // A text whose problem has a fault.
 const SHEET: &str = "nll-facts 1|points 2|universal 'a|return 1|constraint 'a 'static 1|end|";
