@@ -11,6 +11,7 @@ use crate::lock_rule::{
     Finds, Grabs, Known, Lock, LockPass, Lowers, NOTHING_OWED, Quiets, Raises, Returns, Sets, State,
 };
 use crossbeam_queue::protocol::{Lesson, Outcome};
+use crossbeam_utils::Backoff;
 use std::sync::Wait;
 
 /// What a look at the state found.
@@ -31,10 +32,12 @@ fn grab<R: Wait>(rt: &R, lock: &Lock, pass: &mut LockPass) -> State
     ensures holds { view pass.new ≡ holding (view pass.old) result }
     ensures bounds { (2 ^ 61 < result.balance) × (result.balance < 2 ^ 63) }
 {
+    let backoff = Backoff::new();
     for _ in rt.forever() {
         if let Some(state) = lock.pop_as::<Grabs, R>(rt, pass) {
             return state;
         }
+        backoff.snooze();
     }
     unreachable!()
 }

@@ -26,12 +26,12 @@ use std::sync::Wait;
 /// Ledgers under a lock.
 ///
 /// # Threads
-/// Each call of a share is a hold of the lock, and waits while another thread holds it. That a
-/// share gets the lock, or gets it in its turn, is not promised.
+/// Each call of a share is a hold of the lock, and waits while another thread holds it, at last by
+/// leaving the processor. That a share gets the lock, or gets it in its turn, is not promised.
 ///
 /// # Cost
-/// A call of a share takes as long as its hold; `open` and `gather` take a step for each owner
-/// (neither is proved).
+/// A call of a share takes as long as its hold, and owing nothing takes none; `open` and `gather`
+/// take a step for each owner (neither is proved).
 #[derive(Clone, Copy)]
 pub struct LockLedger<R> {
     /// By which the shares wait.
@@ -194,6 +194,9 @@ impl<R: Wait + Copy + Send + Sync> Ledger for LockLedger<R> {
     }
 
     fn owe(book: &LockBook<R>, share: &mut LockShare, amount: u64) {
+        if amount == 0 {
+            return;
+        }
         raise(&book.rt, &book.lock, &mut share.pass, amount);
         share.account.owed += amount;
     }
