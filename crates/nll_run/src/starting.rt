@@ -1,11 +1,11 @@
 //! The workers of a run are started and joined, over a book that the run keeps.
 
-ghost use Rattle.std.specs.Prelude.{◌≡◌, ◌≢◌, [], length, Err, IfOk, vec_capacity};
+ghost use Rattle.std.specs.Prelude.{◌≡◌, ◌≢◌, [], cond, length, Err, IfOk, vec_capacity};
 ghost use Rattle.std.specs.VecDeque.{deque_len};
 ghost use Rattle.nll_owner.specs.Tables.{AreTables};
 ghost use Rattle.nll_worker.specs.Starting.{AllOf, Each};
 ghost use Rattle.nll_worker.specs.Finishing.{IsGiven, IsEnded};
-ghost use Rattle.nll_run.specs.declared.error.RunError.TheVariants.{RankFull};
+ghost use Rattle.nll_run.specs.declared.error.RunError.TheVariants.{Memory, RankFull, Thread};
 
 use crate::error::RunError;
 use nll_cut::Cut;
@@ -53,16 +53,16 @@ pub fn start_all<M: Mail, L: Ledger, G: Gate, R: Threads + Wait + Sync>(
     );
     let result = match finished {
         Some(finished) => Ok(finished),
-        None => Err(start_error(&refused)),
+        None => Err(start_error(refused.load(Ordering::SeqCst))),
     };
     (book, result)
 }
 
-// Why not all workers were joined.
-fn start_error(refused: &AtomicBool) -> RunError
-    ensures { result ≢ RankFull }
+// Why not all workers were joined: a start was refused, or else memory.
+fn start_error(was_refused: bool) -> RunError
+    ensures { result ≡ cond was_refused Thread Memory }
 {
-    if refused.load(Ordering::SeqCst) {
+    if was_refused {
         RunError::Thread
     } else {
         RunError::Memory
