@@ -24,6 +24,7 @@ use Rattle.nll_worker.specs.declared.ending.Ending.TheVariants.{Quiet, Stopped, 
 use Rattle.nll_worker.specs.declared.ending.Ending.TheVariants as endings
 use Rattle.nll_worker.proofs.RunLemmas.{concludes, not_stray}
 use Rattle.nll_run.specs.Settling.{ArePostsOf, InRows, sent_by, got_by, IsCalm, error_of}
+use Rattle.nll_run.specs.declared.error.RunError.{RunError}
 use Rattle.nll_run.specs.declared.error.RunError.TheVariants as errors
 use Rattle.nll_run.proofs.PlaceLemmas.{place, within, read_place, map_place, map_from, map_size, mapped, contains_place, contained}
 
@@ -302,3 +303,38 @@ module _ {D M S R C P L B H E : Type 0} (m : Mail.Ghosts M S R C P) (b : Ledger.
           least = λ r e. ((λ h. (law.2 r e).0 ((logged r e).0 h)), λ h. (logged r e).1 ((law.2 r e).1 h));
           logged = λ r e. law.2 r e;
         }
+
+-- ---- the error of the lowest owner that had one
+
+pub calm_or : (e : Ending) (error : RunError) → IsCalm e → error_of e ≡ Some error → ⊥
+calm_or Quiet error calm is = cc
+calm_or Stopped error calm is = cc
+calm_or Stray error calm is = cc
+calm_or endings.Memory error calm is = calm
+calm_or endings.NoOwner error calm is = calm
+calm_or endings.RankFull error calm is = calm
+calm_or endings.Unstarted error calm is = calm
+
+module _ {D : Type 0} (ending : D → Ending) (ds : List D) where
+  abbrev pub IsLowest : ℕ → RunError → Type 0
+  IsLowest k error = (d : D) × (slice_get ds k ≡ Some d) × (error_of (ending d) ≡ Some error)
+      × ((j : ℕ) (b : D) → j < k → slice_get ds j ≡ Some b → IsCalm (ending b))
+
+  pub one_lowest : (k l : ℕ) (x y : RunError) → IsLowest k x → IsLowest l y → x ≡ y
+  one_lowest k l x y a b = ⊎_elim
+      (λ (h : k < l). absurd (calm_or (ending a.0) x (b.3 k a.0 h a.1) a.2))
+      (λ (h : l ≤ k). ⊎_elim
+      (λ (low : l < k). absurd (calm_or (ending b.0) y (a.3 l b.0 low b.1) b.2))
+      (λ (high : k ≤ l).
+      let same : k ≡ l = omega (arith, h, high) in
+      let one : a.0 ≡ b.0 = same_get a.0 b.0 (subst (λ i. slice_get ds i ≡ Some a.0) same a.1) b.1 in
+      let error : error_of (ending b.0) ≡ Some x = subst (λ d. error_of (ending d) ≡ Some x) one a.2 in
+      same_error (error_of (ending b.0)) error b.2)
+      (cases_lt l k))
+      (cases_lt k l)
+    where
+      same_get : {o : _} (d e : D) → o ≡ Some d → o ≡ Some e → d ≡ e
+      same_get d e p q = cc
+
+      same_error : (o : _) → o ≡ Some x → o ≡ Some y → x ≡ y
+      same_error o p q = cc

@@ -9,6 +9,7 @@ ghost use Rattle.nll_owner.specs.Logs.{IsCutOf, log_of};
 ghost use Rattle.nll_owner.specs.Tables.{AreTables};
 ghost use Rattle.nll_worker.specs.Finishing.{IsFresh, Leaves, WasMade, FinishedAs};
 ghost use Rattle.nll_run.specs.Outcome.{IsOutcome, HasFullClock};
+ghost use Rattle.nll_run.specs.Settling.{IsCalm, error_of};
 ghost use Rattle.nll_run.specs.Table.{AreNewEnds, IsTable};
 ghost use Rattle.nll_run.specs.declared.error.RunError.TheVariants.{RankFull};
 
@@ -160,6 +161,10 @@ fn conclude<M: Mail, L: Ledger>(
     ensures ok { IfOk result (λ o. IsOutcome M.Mail problem.now cut.now o.values
         (map (λ list. list.items) o.grown.items) o.posts.items) }
     ensures full { result ≡ Err RankFull → HasFullClock problem.now cut.now }
+    ensures first { (k : ℕ) (d : _) (error : RunError) → slice_get finished.items k ≡ Some d
+        → error_of d.ending ≡ Some error
+        → ((j : ℕ) (b : _) → j < k → slice_get finished.items j ≡ Some b → IsCalm b.ending)
+        → result ≡ Err error }
 {
     if let Some(error) = first_error::<M, L>(&finished) {
         return Err(error);

@@ -1,10 +1,10 @@
-use Rattle.std.proofs.Common.{◌≡◌, ◌<◌, ℕ, List, length, map, slice_get, Some, Contains, sym, subst, ap, ◌∙◌, arith}
+use Rattle.std.proofs.Common.{◌≡◌, ◌<◌, ℕ, List, Err, length, map, slice_get, Some, Contains, sym, subst, ap, ◌∙◌, arith}
 use Rattle.std.specs.List.{sum_by}
 use Rattle.nll_run.specs.Outcome.{IsOutcome}
 use Rattle.nll_run.specs.Settling.{ArePostsOf, InRows, sent_by, got_by}
 use Rattle.nll_run.proofs.PlaceLemmas.{map_from, within}
 use Rattle.nll_run.specs.declared.error.RunError.TheVariants.{RankFull}
-use Rattle.nll_run.proofs.ConcludingLemmas.{full_clock, full_ending, in_range, says_least}
+use Rattle.nll_run.proofs.ConcludingLemmas.{calm_or, full_clock, full_ending, in_range, one_lowest, says_least}
 use Rattle.nll_run.proofs.coordinator.conclude.Goals as goal
 
 pub gather-requires-clause-each : goal.gather-requires-clause-each
@@ -58,3 +58,26 @@ returns-in-Some-clause-full g c = λ e.
     let at = subst (λ xs. slice_get xs x.0 ≡ Some x.1) c.deref.ensures.value x.2 in
     let l : x.0 < c.args.cut.now.owners = (let w = within c.args.finished.items x.0 x.1 at in omega (arith, w, c.requires.count)) in
     full_clock c.args.problem.now c.args.cut.now x.0 _ _ _ _ x.1.ending _ l (full_ending x.1.ending (x.3 ∙ ap Some is)) (c.requires.finishes x.0 x.1 at)
+
+pub returns-in-Some-clause-first : goal.returns-in-Some-clause-first
+returns-in-Some-clause-first g c = λ k d error at is below.
+    let x = c.in-Some.ensures.first in
+    ap Err (one_lowest (λ b. b.ending) c.args.finished.items x.0 k c.in-Some.error error
+    (x.1, subst (λ xs. slice_get xs x.0 ≡ Some x.1) c.deref.ensures.value x.2, x.3, λ j b low e. x.4 j b low (subst (λ xs. slice_get xs j ≡ Some b) (sym c.deref.ensures.value) e))
+    (d, at, is, below))
+
+pub returns-in_err-lefts-clause-first : goal.returns-in_err-lefts-clause-first
+returns-in_err-lefts-clause-first g c = λ k d error at is below.
+    absurd (calm_or d.ending error (c.in_default.ensures.none k d (subst (λ xs. slice_get xs k ≡ Some d) (sym c.deref.ensures.value) at)) is)
+
+pub returns-in_err-settle_all-clause-first : goal.returns-in_err-settle_all-clause-first
+returns-in_err-settle_all-clause-first g c = λ k d error at is below.
+    absurd (calm_or d.ending error (c.in_default.ensures.none k d (subst (λ xs. slice_get xs k ≡ Some d) (sym c.deref.ensures.value) at)) is)
+
+pub returns-in_err-values-clause-first : goal.returns-in_err-values-clause-first
+returns-in_err-values-clause-first g c = λ k d error at is below.
+    absurd (calm_or d.ending error (c.in_default.ensures.none k d (subst (λ xs. slice_get xs k ≡ Some d) (sym c.deref.ensures.value) at)) is)
+
+pub returns-clause-first : goal.returns-clause-first
+returns-clause-first g c = λ k d error at is below.
+    absurd (calm_or d.ending error (c.in_default.ensures.none k d (subst (λ xs. slice_get xs k ≡ Some d) (sym c.deref.ensures.value) at)) is)
