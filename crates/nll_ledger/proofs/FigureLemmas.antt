@@ -108,6 +108,7 @@ module _ (a : ℕ) (b : Bool) (id : ℕ) (v : Figures) (views : List Figures) (k
           sound = all;
           quiet = λ q. absurd (omega arith);
           set_by = λ z. let y = kept.set_by z in omega arith;
+          sets = λ z. kept.sets (omega arith);
           found = λ z. kept.found (omega arith);
         },
       )
@@ -134,6 +135,7 @@ module _ (a : ℕ) (b : Bool) (id : ℕ) (v : Figures) (views : List Figures) (k
           sound = all;
           quiet = λ q. absurd (omega arith);
           set_by = λ z. let y = kept.set_by z in omega arith;
+          sets = λ z. kept.sets (omega arith);
           found = λ z. kept.found (omega arith);
         },
       )
@@ -154,6 +156,7 @@ module _ (a : ℕ) (b : Bool) (id : ℕ) (v : Figures) (views : List Figures) (k
         sound = sound_set views id w kept.sound (record { owed = old.owed; cleared = old.cleared; quiets = omega arith; calls = old.calls; finds = old.finds });
         quiet = λ q. null;
         set_by = λ z. let y = kept.set_by z in omega arith;
+        sets = λ z. kept.sets (omega arith);
         found = λ z. kept.found (omega arith);
       }
 
@@ -174,6 +177,7 @@ module _ (a : ℕ) (b : Bool) (id : ℕ) (v : Figures) (views : List Figures) (k
         sound = sound_set views id w kept.sound (record { owed = old.owed; cleared = old.cleared; quiets = old.quiets; calls = omega (arith, part); finds = omega (arith, part) });
         quiet = λ q. kept.quiet (omega arith);
         set_by = λ z. omega arith;
+        sets = λ z. refl;
         found = λ z. refl;
       }
 
@@ -193,6 +197,7 @@ module _ (a : ℕ) (b : Bool) (id : ℕ) (v : Figures) (views : List Figures) (k
         sound = sound_set views id w kept.sound (record { owed = old.owed; cleared = old.cleared; quiets = old.quiets; calls = old.calls; finds = omega (arith, part) });
         quiet = λ q. kept.quiet (omega arith);
         set_by = λ z. let y = kept.set_by z in omega arith;
+        sets = λ z. kept.sets (omega arith);
         found = λ z. set;
       }
 
@@ -221,6 +226,7 @@ module _ (a : ℕ) (b : Bool) (id : ℕ) (v : Figures) (views : List Figures) (k
         sound = sound_snoc vs fresh (sound_set views id w kept.sound (record { owed = omega (arith, part, few); cleared = omega (arith, cleared); quiets = omega (arith, quiets); calls = omega (arith, calls); finds = omega (arith, finds) })) (record { owed = omega arith; cleared = omega arith; quiets = omega arith; calls = omega arith; finds = omega arith });
         quiet = λ q. kept.quiet (omega arith);
         set_by = λ z. let y = kept.set_by z in omega arith;
+        sets = λ z. kept.sets (omega arith);
         found = λ z. kept.found (omega arith);
       }
 
@@ -248,6 +254,7 @@ module _ (a : ℕ) (b : Bool) (id : ℕ) (v : Figures) (views : List Figures) (k
         sound = sound_set vs other z (sound_set views id t kept.sound (record { owed = omega arith; cleared = omega arith; quiets = omega arith; calls = omega arith; finds = omega arith })) (record { owed = omega arith; cleared = omega arith; quiets = omega arith; calls = omega arith; finds = omega arith });
         quiet = λ y. kept.quiet (omega arith);
         set_by = λ y. let x = kept.set_by y in omega arith;
+        sets = λ y. kept.sets (omega arith);
         found = λ y. kept.found (omega arith);
       }
 

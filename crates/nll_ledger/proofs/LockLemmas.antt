@@ -138,6 +138,7 @@ begins = record {
     sound = (record { owed = omega arith; cleared = omega arith; quiets = omega arith; calls = omega arith; finds = omega arith }, tt);
     quiet = λ q. refl;
     set_by = λ z. cc;
+    sets = λ z. absurd (omega (arith, z));
     found = λ z. absurd (omega (arith, z));
   };
 }

@@ -1,16 +1,13 @@
--- Shares of a book under a lock, and what is left of them.
+-- What is left of the shares of a book, and their figures added up.
 use Rattle.std.proofs.Common.{◌≡◌, ℕ, zero, suc, ◌+◌, ◌-◌, ◌*◌, ◌^◌, ◌<◌, ◌≤◌, ◌==◌, Bool, true, false, not, cond, List, [], ◌∷◌, ◌++◌, length, slice_get, Some, refl, sym, ap, ◌∙◌, subst, ◌⊎◌, inl, inr, ⊎_elim, arith, length-append, append_assoc}
 use Rattle.std.specs.List.{sum_by}
 use Rattle.std.proofs.lemmas.Bool.{eqb-true, eq-eqb}
 use Rattle.std.proofs.lemmas.List.Sums.{sum_by-cons}
 use Rattle.std.proofs.lemmas.Option.{slice_get_within}
-use Rattle.crossbeam_queue.specs.Passes.{view, IsPassOf}
 use Rattle.nll_ledger.specs.Amounts.{total_bound}
 use Rattle.nll_ledger.specs.Figures.{bit, together}
-use Rattle.nll_ledger.specs.Shares.{parts_of, owed_by, cleared_by, has_called, is_quiet, number_of, IsLeftOf, Adding}
+use Rattle.nll_ledger.specs.Shares.{Kind, parts_of, Adding}
 use Rattle.nll_ledger.specs.declared.figures.Figures.{Figures}
-use Rattle.nll_ledger.specs.declared.lock_book.LockBook.{LockBook}
-use Rattle.nll_ledger.specs.declared.lock_book.LockLeft.{LockLeft}
 use Rattle.nll_problem.specs.Limits.{most_owners}
 
 -- ---- lists
@@ -23,9 +20,12 @@ sum_push f (y ∷ ys) x = omega (arith, sum_push f ys x, sum_by-cons f y (ys ++ 
 pub split_more : {X : Type 0} (rest more all now : List X) (x : X) → now ≡ rest ++ x ∷ [] → now ++ more ≡ all → rest ++ x ∷ more ≡ all
 split_more rest more all now x popped split = sym (append_assoc rest (x ∷ []) more) ∙ (ap (λ l. l ++ more) (sym popped) ∙ split)
 
-pub at_split : {X : Type 0} (rest more : List X) (x : X) → slice_get (rest ++ x ∷ more) (length rest) ≡ Some x
+at_split : {X : Type 0} (rest more : List X) (x : X) → slice_get (rest ++ x ∷ more) (length rest) ≡ Some x
 at_split [] more x = refl
 at_split (y ∷ ys) more x = at_split ys more x
+
+pub at_rest : {X : Type 0} (all rest more : List X) (x : X) → rest ++ x ∷ more ≡ all → slice_get all (length rest) ≡ Some x
+at_rest all rest more x split = subst (λ xs. slice_get xs (length rest) ≡ Some x) split (at_split rest more x)
 
 pub split_size : {X : Type 0} (rest more : List X) (x : X) → length (rest ++ x ∷ more) ≡ length rest + 1 + length more
 split_size [] more x = omega arith
@@ -46,7 +46,7 @@ each_pushed {X} P xs ys x pushed before here k y at = ⊎_elim
 
 -- ---- parts
 
-pub parts_one : (owners number : ℕ) → number + 1 < owners → parts_of owners number ≡ 1
+parts_one : (owners number : ℕ) → number + 1 < owners → parts_of owners number ≡ 1
 parts_one owners number less = go (number + 1 == owners) refl
   where
     go : (t : Bool) → (number + 1 == owners) ≡ t → cond t (most_owners + 1 - owners) 1 ≡ 1
@@ -56,68 +56,56 @@ parts_one owners number less = go (number + 1 == owners) refl
 pub parts_last : (owners number : ℕ) → number + 1 ≡ owners → parts_of owners number ≡ most_owners + 1 - owners
 parts_last owners number last = ap (λ t. cond t (most_owners + 1 - owners) 1) (eq-eqb (number + 1) owners last)
 
--- ---- a share that stands between others in a list of all that have left
+-- the parts of the share of this number, where there are so many owners
+pub next_part : (owners number parts : ℕ) → parts ≡ parts_of owners number → number + 1 < owners → parts ≡ 1
+next_part owners number parts is less = is ∙ parts_one owners number less
 
-module _ {R : Type 0} (book : LockBook R) (all rest more : List LockLeft) (l : LockLeft) (split : rest ++ l ∷ more ≡ all)
-    (each : (k : ℕ) (x : LockLeft) → slice_get all k ≡ Some x → IsLeftOf book x × (number_of x ≡ k)) where
-  left_at : IsLeftOf book l × (number_of l ≡ length rest)
-  left_at = each (length rest) l (subst (λ xs. slice_get xs (length rest) ≡ Some l) split (at_split rest more l))
-
-  pub left_pass : IsPassOf book.lock l.pass
-  left_pass = left_at.0.0
-
-  parts_are : (view l.pass).figures.parts ≡ parts_of book.owners (length rest)
-  parts_are = left_at.0.1 ∙ ap (parts_of book.owners) left_at.1
-
-  pub next_part : length rest + 1 < book.owners → (view l.pass).figures.parts ≡ 1
-  next_part less = parts_are ∙ parts_one book.owners (length rest) less
-
-  pub last_parts : length rest + 1 ≡ book.owners → (view l.pass).figures.parts + length rest ≡ most_owners
-  last_parts last = let p = parts_are ∙ parts_last book.owners (length rest) last in omega (arith, p, last, book.few.1)
+pub last_parts : (owners number parts : ℕ) → parts ≡ parts_of owners number → number + 1 ≡ owners → owners ≤ most_owners → parts + number ≡ most_owners
+last_parts owners number parts is last few = let p = is ∙ parts_last owners number last in omega (arith, p, last, few)
 
 -- ---- shares that have left are added up
 
-module _ (last : LockLeft) (rest lefts : List LockLeft) (all : lefts ≡ rest ++ last ∷ []) where
-  pub adding_first : (view last.pass).figures.parts + length rest ≡ most_owners → Adding (view last.pass).figures rest lefts
-  adding_first parts = record {
+module _ {L : Type 0} (kind : Kind L) where
+  pub adding_first : (last : L) (rest lefts : List L) → lefts ≡ rest ++ last ∷ [] → (kind.view last).parts + length rest ≡ most_owners → Adding kind (kind.view last) rest lefts
+  adding_first last rest lefts all parts = record {
     parts = parts;
-    owed = (let v = ap (λ (y : Figures). y.owed) last.knows in let a = ap (sum_by owed_by) all in omega (arith, v, a, sum_push owed_by rest last));
-    cleared = (let v = ap (λ (y : Figures). y.cleared) last.knows in let a = ap (sum_by cleared_by) all in omega (arith, v, a, sum_push cleared_by rest last));
+    owed = (let v = ap (λ (y : Figures). y.owed) (kind.knows last) in let a = ap (sum_by kind.owed) all in omega (arith, v, a, sum_push kind.owed rest last));
+    cleared = (let v = ap (λ (y : Figures). y.cleared) (kind.knows last) in let a = ap (sum_by kind.cleared) all in omega (arith, v, a, sum_push kind.cleared rest last));
     quiets = λ quiet.
         let is = quiet (length rest) last (subst (λ xs. slice_get xs (length rest) ≡ Some last) (sym all) (at_split rest [] last)) in
-        ap (λ (y : Figures). y.quiets) last.knows ∙ ap (λ t. cond t (view last.pass).figures.parts 0) is;
-    calls = (let v = ap (λ (y : Figures). y.calls) last.knows in let a = ap (sum_by (λ left. bit (has_called left))) all in omega (arith, v, a, sum_push (λ left. bit (has_called left)) rest last));
-    finds = (let v = ap (λ (y : Figures). y.finds) last.knows in let a = ap (sum_by (λ left. bit (not (is_quiet left)))) all in omega (arith, v, a, sum_push (λ left. bit (not (is_quiet left))) rest last));
+        ap (λ (y : Figures). y.quiets) (kind.knows last) ∙ ap (λ t. cond t (kind.view last).parts 0) is;
+    calls = (let v = ap (λ (y : Figures). y.calls) (kind.knows last) in let a = ap (sum_by (λ left. bit (kind.called left))) all in omega (arith, v, a, sum_push (λ left. bit (kind.called left)) rest last));
+    finds = (let v = ap (λ (y : Figures). y.finds) (kind.knows last) in let a = ap (sum_by (λ left. bit (not (kind.quiet left)))) all in omega (arith, v, a, sum_push (λ left. bit (not (kind.quiet left))) rest last));
   }
 
-pub adding_more : (so_far : Figures) (l : LockLeft) (coming more lefts : List LockLeft) → coming ++ l ∷ more ≡ lefts → (view l.pass).figures.parts ≡ 1 → Adding so_far (coming ++ l ∷ []) lefts → Adding (together so_far (view l.pass).figures) coming lefts
-adding_more so_far l coming more lefts split one h = record {
-  parts = omega (arith, h.parts, one, length-append coming (l ∷ []));
-  owed = (let v = ap (λ (y : Figures). y.owed) l.knows in omega (arith, v, h.owed, sum_push owed_by coming l));
-  cleared = (let v = ap (λ (y : Figures). y.cleared) l.knows in omega (arith, v, h.cleared, sum_push cleared_by coming l));
-  quiets = λ quiet.
-      let is = quiet (length coming) l (subst (λ xs. slice_get xs (length coming) ≡ Some l) split (at_split coming more l)) in
-      let v = ap (λ (y : Figures). y.quiets) l.knows ∙ ap (λ t. cond t (view l.pass).figures.parts 0) is in
-      omega (arith, v, h.quiets quiet);
-  calls = (let v = ap (λ (y : Figures). y.calls) l.knows in omega (arith, v, h.calls, sum_push (λ left. bit (has_called left)) coming l));
-  finds = (let v = ap (λ (y : Figures). y.finds) l.knows in omega (arith, v, h.finds, sum_push (λ left. bit (not (is_quiet left))) coming l));
-}
+  pub adding_more : (so_far : Figures) (l : L) (coming more lefts : List L) → coming ++ l ∷ more ≡ lefts → (kind.view l).parts ≡ 1 → Adding kind so_far (coming ++ l ∷ []) lefts → Adding kind (together so_far (kind.view l)) coming lefts
+  adding_more so_far l coming more lefts split one h = record {
+    parts = omega (arith, h.parts, one, length-append coming (l ∷ []));
+    owed = (let v = ap (λ (y : Figures). y.owed) (kind.knows l) in omega (arith, v, h.owed, sum_push kind.owed coming l));
+    cleared = (let v = ap (λ (y : Figures). y.cleared) (kind.knows l) in omega (arith, v, h.cleared, sum_push kind.cleared coming l));
+    quiets = λ quiet.
+        let is = quiet (length coming) l (subst (λ xs. slice_get xs (length coming) ≡ Some l) split (at_split coming more l)) in
+        let v = ap (λ (y : Figures). y.quiets) (kind.knows l) ∙ ap (λ t. cond t (kind.view l).parts 0) is in
+        omega (arith, v, h.quiets quiet);
+    calls = (let v = ap (λ (y : Figures). y.calls) (kind.knows l) in omega (arith, v, h.calls, sum_push (λ left. bit (kind.called left)) coming l));
+    finds = (let v = ap (λ (y : Figures). y.finds) (kind.knows l) in omega (arith, v, h.finds, sum_push (λ left. bit (not (kind.quiet left))) coming l));
+  }
 
--- the totals fit
-pub owed_small : (xs : List LockLeft) → sum_by owed_by xs ≤ length xs * total_bound
-owed_small [] = omega arith
-owed_small (x ∷ xs) = (let a = owed_small xs in let b = x.few.0 in omega (arith, a, b, sum_by-cons owed_by x xs))
+  -- the totals fit
+  owed_small : (xs : List L) → sum_by kind.owed xs ≤ length xs * total_bound
+  owed_small [] = omega arith
+  owed_small (x ∷ xs) = (let a = owed_small xs in let b = (kind.few x).0 in omega (arith, a, b, sum_by-cons kind.owed x xs))
 
-pub cleared_small : (xs : List LockLeft) → sum_by cleared_by xs ≤ length xs * total_bound
-cleared_small [] = omega arith
-cleared_small (x ∷ xs) = (let a = cleared_small xs in let b = x.few.1 in omega (arith, a, b, sum_by-cons cleared_by x xs))
+  cleared_small : (xs : List L) → sum_by kind.cleared xs ≤ length xs * total_bound
+  cleared_small [] = omega arith
+  cleared_small (x ∷ xs) = (let a = cleared_small xs in let b = (kind.few x).1 in omega (arith, a, b, sum_by-cons kind.cleared x xs))
 
-pub adding_fits : (so_far : Figures) (l : LockLeft) (coming lefts : List LockLeft) → Adding so_far (coming ++ l ∷ []) lefts → length lefts ≤ most_owners
-    → (so_far.owed + l.account.owed < 2 ^ 64) × (so_far.cleared + l.account.cleared < 2 ^ 64)
-adding_fits so_far l coming lefts h few = (
-  omega (arith, h.owed, sum_push owed_by coming l, owed_small lefts, few),
-  omega (arith, h.cleared, sum_push cleared_by coming l, cleared_small lefts, few),
-)
+  pub adding_fits : (so_far : Figures) (l : L) (coming lefts : List L) → Adding kind so_far (coming ++ l ∷ []) lefts → length lefts ≤ most_owners
+      → (so_far.owed + kind.owed l < 2 ^ 64) × (so_far.cleared + kind.cleared l < 2 ^ 64)
+  adding_fits so_far l coming lefts h few = (
+    omega (arith, h.owed, sum_push kind.owed coming l, owed_small lefts, few),
+    omega (arith, h.cleared, sum_push kind.cleared coming l, cleared_small lefts, few),
+  )
 
 -- what one adds, all together have
 sum_at : {X : Type 0} (f : X → ℕ) (xs : List X) (k : ℕ) (x : X) → slice_get xs k ≡ Some x → f x ≤ sum_by f xs
@@ -136,11 +124,10 @@ bit_at_place {X} f (x ∷ xs) h = go (f x) refl (λ more. bit_at_place f xs more
         let r = later (let a = ap bit is in omega (arith, h, a, sum_by-cons (λ y. bit (f y)) x xs)) in
         (suc r.0, r.1, r.2, r.3)
 
--- where one didn't leave on quiet, one knows that the flag is set
-pub some_found : (xs : List LockLeft) (k : ℕ) (l : LockLeft) → slice_get xs k ≡ Some l → is_quiet l ≡ false → 0 < sum_by (λ left. bit (not (is_quiet left))) xs
-some_found xs k l at h =
-    let a = sum_at (λ left. bit (not (is_quiet left))) xs k l at in let b = ap (λ t. bit (not t)) h in omega (arith, a, b)
-
--- where some called, one is found that did
-pub some_called : (xs : List LockLeft) → 0 < sum_by (λ left. bit (has_called left)) xs → (k : ℕ) × (l : LockLeft) × (slice_get xs k ≡ Some l) × (has_called l ≡ true)
-some_called xs h = bit_at_place has_called xs h
+-- where all are added up, and one didn't leave on quiet, one had called `stop`
+pub some_called : {L : Type 0} (kind : Kind L) (all : Figures) (lefts : List L) → Adding kind all [] lefts → (0 < all.finds → 0 < all.calls) → (k : ℕ) (l : L) → slice_get lefts k ≡ Some l → kind.quiet l ≡ false
+    → (j : ℕ) × (m : L) × (slice_get lefts j ≡ Some m) × (kind.called m ≡ true)
+some_called kind all lefts adding set k l at stopped =
+    let a = sum_at (λ left. bit (not (kind.quiet left))) lefts k l at in let b = ap (λ t. bit (not t)) stopped in
+    let found : 0 < all.finds = omega (arith, adding.finds, a, b) in
+    bit_at_place kind.called lefts (let c = set found in omega (arith, adding.calls, c))

@@ -1,10 +1,10 @@
-//! Rows of calls on the ledger under a lock, through the bound of all ledgers.
+//! Rows of calls on ledgers of both kinds, through the bound of all ledgers.
 
 ghost use Rattle.std.specs.Prelude.{◌≡◌};
 
 use super::many_owners::all_leave;
 use super::two_owners::{Way, leave_both, open_two, owe_and_stay, stop_and_look};
-use nll_ledger::{Ledger, LockLedger, Totals};
+use nll_ledger::{Ledger, LockLedger, Totals, WordLedger};
 use nll_sets::Memory;
 use std::alloc::Global;
 use std::test::Fail;
@@ -29,15 +29,15 @@ fn told_on_quiet<L: Ledger>(
 // was owed is what was cleared: 1, 1 and 3.
 #[test]
 fn both_leave_on_quiet(rt: HostRuntime) -> Result<(), Fail> {
-    let told = told_on_quiet(rt.alloc(), &LockLedger::new(rt))?;
+    let by_lock = told_on_quiet(rt.alloc(), &LockLedger::new(rt))?;
+    let by_words = told_on_quiet(rt.alloc(), &WordLedger)?;
     let totals = Totals {
         owed: 5,
         cleared: 5,
     };
-    assert_eq!(rt;
-        told,
-        (Way::Open, Some((Way::Quiet, Way::Quiet, Some(totals))))
-    );
+    let want = (Way::Open, Some((Way::Quiet, Way::Quiet, Some(totals))));
+    assert_eq!(rt; by_lock, want);
+    assert_eq!(rt; by_words, want);
     Ok(())
 }
 
@@ -60,11 +60,11 @@ fn told_on_stop<L: Ledger>(
 // too.
 #[test]
 fn all_stop(rt: HostRuntime) -> Result<(), Fail> {
-    let told = told_on_stop(rt.alloc(), &LockLedger::new(rt))?;
-    assert_eq!(rt;
-        told,
-        (Way::Open, Some((false, true, Way::Stopped, Way::Stopped)))
-    );
+    let by_lock = told_on_stop(rt.alloc(), &LockLedger::new(rt))?;
+    let by_words = told_on_stop(rt.alloc(), &WordLedger)?;
+    let want = (Way::Open, Some((false, true, Way::Stopped, Way::Stopped)));
+    assert_eq!(rt; by_lock, want);
+    assert_eq!(rt; by_words, want);
     Ok(())
 }
 
@@ -84,35 +84,42 @@ fn told_on_late_stop<L: Ledger>(
 // The flag is looked at before the balance.
 #[test]
 fn flag_goes_before_the_balance(rt: HostRuntime) -> Result<(), Fail> {
-    let told = told_on_late_stop(rt.alloc(), &LockLedger::new(rt))?;
+    let by_lock = told_on_late_stop(rt.alloc(), &LockLedger::new(rt))?;
+    let by_words = told_on_late_stop(rt.alloc(), &WordLedger)?;
     let totals = Totals {
         owed: 2,
         cleared: 2,
     };
-    assert_eq!(rt; told, (Way::Stopped, Way::Stopped, Some(totals)));
+    let want = (Way::Stopped, Way::Stopped, Some(totals));
+    assert_eq!(rt; by_lock, want);
+    assert_eq!(rt; by_words, want);
     Ok(())
 }
 
 // As many owners as there may be clear their loads and leave on quiet.
 #[test]
 fn sixty_four_owners_leave(rt: HostRuntime) -> Result<(), Fail> {
-    let told = all_leave(rt.alloc(), &LockLedger::new(rt), 64)?;
+    let by_lock = all_leave(rt.alloc(), &LockLedger::new(rt), 64)?;
+    let by_words = all_leave(rt.alloc(), &WordLedger, 64)?;
     let totals = Totals {
         owed: 64,
         cleared: 64,
     };
-    assert_eq!(rt; told, Some(totals));
+    assert_eq!(rt; by_lock, Some(totals));
+    assert_eq!(rt; by_words, Some(totals));
     Ok(())
 }
 
 // So does a single one.
 #[test]
 fn one_owner_leaves(rt: HostRuntime) -> Result<(), Fail> {
-    let told = all_leave(rt.alloc(), &LockLedger::new(rt), 1)?;
+    let by_lock = all_leave(rt.alloc(), &LockLedger::new(rt), 1)?;
+    let by_words = all_leave(rt.alloc(), &WordLedger, 1)?;
     let totals = Totals {
         owed: 1,
         cleared: 1,
     };
-    assert_eq!(rt; told, Some(totals));
+    assert_eq!(rt; by_lock, Some(totals));
+    assert_eq!(rt; by_words, Some(totals));
     Ok(())
 }

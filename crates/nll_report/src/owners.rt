@@ -20,7 +20,7 @@ use nll_command_line::{Deal, Task};
 use nll_cut::{Cut, CutError};
 use nll_cut_text::read_cut;
 use nll_facts::Facts;
-use nll_ledger::LockLedger;
+use nll_ledger::WordLedger;
 use nll_mail::QueueMail;
 use nll_reading::{TextError, TextKind};
 use nll_worker::NoGate;
@@ -121,8 +121,16 @@ fn told_by_cut<R: AllocGlobal + Threads + Wait + Sync>(
     ensures err { IfErr result (IsRunError facts.now.problem cut.now) }
 {
     let mail = QueueMail::new(rt);
-    let ledger = LockLedger::new(rt);
-    answer_run(rt, rt.alloc(), command, facts, cut, &mail, &ledger, &NoGate)
+    answer_run(
+        rt,
+        rt.alloc(),
+        command,
+        facts,
+        cut,
+        &mail,
+        &WordLedger,
+        &NoGate,
+    )
 }
 
 // The cut that is asked for, of so many regions.

@@ -2,7 +2,7 @@
 use super::meeting::Meeting;
 use nll_answer::{Command, answer_run, meaning};
 use nll_cut::Cut;
-use nll_ledger::LockLedger;
+use nll_ledger::WordLedger;
 use nll_mail::QueueMail;
 
 // Two regions that reach each other, as in `BY_TURNS`.
@@ -31,7 +31,6 @@ fn two_owners_meet_for_an_answer(rt: HostRuntime) {
     let cut = Cut::round(rt.alloc(), facts.problem.regions(), 2).expect(&rt, "two owners");
     let meeting = Meeting::new();
     let mail = QueueMail::new(rt);
-    let ledger = LockLedger::new(rt);
     let asked = Command::Values;
     let answer = answer_run(
         &rt,
@@ -40,7 +39,7 @@ fn two_owners_meet_for_an_answer(rt: HostRuntime) {
         &facts,
         &cut,
         &mail,
-        &ledger,
+        &WordLedger,
         &meeting,
     );
     drop(cut);

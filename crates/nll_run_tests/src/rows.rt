@@ -1,7 +1,7 @@
 //! Runs of worked problems come to values and counts that were found by hand.
 use super::problems::{BY_TURNS, Deal, FILLED_HOLE, ONE_POINT, REACHED, Written};
 use super::telling::{compare, told};
-use nll_ledger::LockLedger;
+use nll_ledger::{LockLedger, WordLedger};
 use nll_mail::QueueMail;
 use nll_worker::NoGate;
 
@@ -100,18 +100,23 @@ const ROWS: &[Row] = &[
     (ONE_POINT, Deal::Round(64), "0: 0 1|64: 0 2|4032:"),
 ];
 
+// What the runs come to, with either kind of ledger.
 #[test]
 fn runs_come_to_the_least_values(rt: HostRuntime) {
+    let mail = QueueMail::new(rt);
+    let locks = LockLedger::new(rt);
     for (written, deal, want) in ROWS {
-        let told = told(
+        let by_words = told(
             &rt,
             rt.alloc(),
             *written,
             *deal,
-            &QueueMail::new(rt),
-            &LockLedger::new(rt),
+            &mail,
+            &WordLedger,
             &NoGate,
         );
-        compare(&rt, told, want);
+        compare(&rt, by_words, want);
+        let by_locks = told(&rt, rt.alloc(), *written, *deal, &mail, &locks, &NoGate);
+        compare(&rt, by_locks, want);
     }
 }

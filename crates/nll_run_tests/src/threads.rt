@@ -5,7 +5,7 @@ use super::notes::Notes;
 use super::problems::{BY_TURNS, Deal, REACHED, Written};
 use super::telling::{compare, told};
 use super::watching::Watched;
-use nll_ledger::LockLedger;
+use nll_ledger::WordLedger;
 use nll_mail::QueueMail;
 use nll_worker::NoGate;
 
@@ -29,9 +29,16 @@ const STEPS: &[(Written, &str, &str)] = &[
 fn two_owners_meet(rt: HostRuntime) {
     let meeting = Meeting::new();
     let mail = QueueMail::new(rt);
-    let ledger = LockLedger::new(rt);
     let deal = Deal::Round(2);
-    let told = told(&rt, rt.alloc(), BY_TURNS, deal, &mail, &ledger, &meeting);
+    let told = told(
+        &rt,
+        rt.alloc(),
+        BY_TURNS,
+        deal,
+        &mail,
+        &WordLedger,
+        &meeting,
+    );
     compare(&rt, told, WANT);
     assert!(rt; meeting.met(2), "the owners don't meet");
 }
@@ -45,9 +52,8 @@ fn two_owners_post(rt: HostRuntime) {
         inner: &queues,
         watch: &meeting,
     };
-    let ledger = LockLedger::new(rt);
     let deal = Deal::Round(2);
-    let told = told(&rt, rt.alloc(), BY_TURNS, deal, &mail, &ledger, &NoGate);
+    let told = told(&rt, rt.alloc(), BY_TURNS, deal, &mail, &WordLedger, &NoGate);
     compare(&rt, told, WANT);
     assert!(rt; meeting.met(1), "the owners don't post side by side");
 }
@@ -63,9 +69,8 @@ fn owe_first(rt: HostRuntime) {
             inner: &queues,
             watch: &notes,
         };
-        let locks = LockLedger::new(rt);
         let ledger = Watched {
-            inner: &locks,
+            inner: &WordLedger,
             watch: &notes,
         };
         let deal = Deal::Round(2);

@@ -1,23 +1,26 @@
 use Rattle.std.proofs.Common.{◌≡◌, ◌+◌, ◌∷◌, [], List, length, vec_len, sym, ap, ◌∙◌, subst, arith, rules}
 use Rattle.crossbeam_queue.specs.Passes.{view}
-use Rattle.nll_ledger.specs.Shares.{Adding}
+use Rattle.nll_ledger.specs.LockShares.{lock_kind}
+use Rattle.nll_ledger.specs.Shares.{Adding, parts_of}
 use Rattle.nll_ledger.specs.declared.figures.Figures.{Figures}
 use Rattle.nll_ledger.specs.declared.lock_book.LockLeft.{LockLeft}
 use Rattle.nll_ledger.specs.declared.lock_rule.Known.{Known}
 use Rattle.nll_ledger.proofs.LockLemmas.{joins, concludes}
-use Rattle.nll_ledger.proofs.ShareLemmas.{split_more, split_size, left_pass, next_part, last_parts, adding_first, adding_more, adding_fits, some_found, some_called}
+use Rattle.nll_ledger.proofs.ShareLemmas.{at_rest, split_more, split_size, next_part, last_parts, adding_first, adding_more, adding_fits, some_called}
 use Rattle.nll_ledger.proofs.lock_ledger.add_up.Goals as goal
 
 pub loop-left-init : goal.loop-left-init
 loop-left-init g c =
     let all = c.args.lefts.items in let rest = c.pop.new.self.items in let last = c.in-Some.last in let popped = c.in-Some.ensures.items in
+    let owners = c.args.book.now.owners in
     let size : length rest + 1 ≡ vec_len c.args.lefts = (let p = ap length popped in let q = split_size rest [] last in omega (arith, p, q)) in
+    let own = c.requires.each (length rest) last (at_rest all rest [] last (sym popped)) in
     record {
-      pass = left_pass c.args.book.now all rest [] last (sym popped) c.requires.each;
+      pass = own.0.0;
       free = last.free;
       split = (last ∷ [], sym popped);
       some = omega (arith, size);
-      adding = adding_first last rest all popped (last_parts c.args.book.now all rest [] last (sym popped) c.requires.each (size ∙ c.requires.count));
+      adding = adding_first lock_kind last rest all popped (last_parts owners (length rest) (view last.pass).figures.parts (own.0.1 ∙ ap (parts_of owners) own.1) (size ∙ c.requires.count) c.args.book.now.few.1);
       owed = sym (ap (λ (y : Figures). y.owed) last.knows);
       cleared = sym (ap (λ (y : Figures). y.cleared) last.knows);
     }
@@ -25,20 +28,20 @@ loop-left-init g c =
 pub overflow_add-owed : goal.overflow_add-owed
 overflow_add-owed g c =
     let inv = c.loop-left.invariant in let rest = c.pop-in-loop-left.new.self.items in let left = c.in-Some-pop.left in
-    let adding = subst (λ (xs : List LockLeft). Adding (view c.loop-left.pass).figures xs c.args.lefts.items) c.in-Some-pop.ensures.items inv.adding in
-    omega (arith, inv.owed, (adding_fits (view c.loop-left.pass).figures left rest c.args.lefts.items adding (omega (arith, c.requires.count, c.args.book.now.few.1))).0)
+    let adding = subst (λ (xs : List LockLeft). Adding lock_kind (view c.loop-left.pass).figures xs c.args.lefts.items) c.in-Some-pop.ensures.items inv.adding in
+    omega (arith, inv.owed, (adding_fits lock_kind (view c.loop-left.pass).figures left rest c.args.lefts.items adding (omega (arith, c.requires.count, c.args.book.now.few.1))).0)
 
 pub overflow_add-cleared : goal.overflow_add-cleared
 overflow_add-cleared g c =
     let inv = c.loop-left.invariant in let rest = c.pop-in-loop-left.new.self.items in let left = c.in-Some-pop.left in
-    let adding = subst (λ (xs : List LockLeft). Adding (view c.loop-left.pass).figures xs c.args.lefts.items) c.in-Some-pop.ensures.items inv.adding in
-    omega (arith, inv.cleared, (adding_fits (view c.loop-left.pass).figures left rest c.args.lefts.items adding (omega (arith, c.requires.count, c.args.book.now.few.1))).1)
+    let adding = subst (λ (xs : List LockLeft). Adding lock_kind (view c.loop-left.pass).figures xs c.args.lefts.items) c.in-Some-pop.ensures.items inv.adding in
+    omega (arith, inv.cleared, (adding_fits lock_kind (view c.loop-left.pass).figures left rest c.args.lefts.items adding (omega (arith, c.requires.count, c.args.book.now.few.1))).1)
 
 pub absorb-requires-clause-queue : goal.absorb-requires-clause-queue
 absorb-requires-clause-queue g c =
     let inv = c.loop-left.invariant in let all = c.args.lefts.items in let rest = c.pop-in-loop-left.new.self.items in let left = c.in-Some-pop.left in
     let split = split_more rest inv.split.0 all c.loop-left.lefts.items left c.in-Some-pop.ensures.items inv.split.1 in
-    (inv.pass, left_pass c.args.book.now all rest inv.split.0 left split c.requires.each)
+    (inv.pass, (c.requires.each (length rest) left (at_rest all rest inv.split.0 left split)).0.0)
 
 pub absorb-requires-clause-rule : goal.absorb-requires-clause-rule
 absorb-requires-clause-rule g c =
@@ -47,16 +50,18 @@ absorb-requires-clause-rule g c =
 pub loop-left-preserved : goal.loop-left-preserved
 loop-left-preserved g c =
     let inv = c.loop-left.invariant in let all = c.args.lefts.items in let rest = c.pop-in-loop-left.new.self.items in let left = c.in-Some-pop.left in let popped = c.in-Some-pop.ensures.items in
+    let owners = c.args.book.now.owners in
     let split = split_more rest inv.split.0 all c.loop-left.lefts.items left popped inv.split.1 in
     let size : vec_len c.loop-left.lefts ≡ length rest + 1 = (let p = ap length popped in let q = split_size rest [] left in omega (arith, p, q)) in
-    let part = next_part c.args.book.now all rest inv.split.0 left split c.requires.each (omega (arith, size, inv.some, c.requires.count)) in
-    let adding = subst (λ (xs : List LockLeft). Adding (view c.loop-left.pass).figures xs all) popped inv.adding in
+    let own = c.requires.each (length rest) left (at_rest all rest inv.split.0 left split) in
+    let part = next_part owners (length rest) (view left.pass).figures.parts (own.0.1 ∙ ap (parts_of owners) own.1) (omega (arith, size, inv.some, c.requires.count)) in
+    let adding = subst (λ (xs : List LockLeft). Adding lock_kind (view c.loop-left.pass).figures xs all) popped inv.adding in
     let queue = c.absorb.ensures.queue in let now = ap (λ (y : Known). y.figures) c.absorb.ensures.rule in record {
       pass = (queue.0 ∙ inv.pass.0, queue.2 ∙ inv.pass.1);
       free = ap (λ (y : Known). y.holds) c.absorb.ensures.rule;
       split = (left ∷ inv.split.0, split);
-      some = omega (arith, size, inv.some);
-      adding = subst (λ (y : Figures). Adding y rest all) (sym now) (adding_more (view c.loop-left.pass).figures left rest inv.split.0 all split part adding);
+      some = omega (arith, size);
+      adding = subst (λ (y : Figures). Adding lock_kind y rest all) (sym now) (adding_more lock_kind (view c.loop-left.pass).figures left rest inv.split.0 all split part adding);
       owed = (let a = ap (λ (y : Figures). y.owed) now in let b = ap (λ (y : Figures). y.owed) left.knows in omega (arith, a, b, inv.owed));
       cleared = (let a = ap (λ (y : Figures). y.cleared) now in let b = ap (λ (y : Figures). y.cleared) left.knows in omega (arith, a, b, inv.cleared));
     }
@@ -67,8 +72,8 @@ learn_as-requires-clause-rule g c =
     concludes c.loop-left.pass.id (view c.loop-left.pass) (omega (arith, c.loop-left.invariant.adding.parts, none))
 
 pub returns-clause-stopped : goal.returns-clause-stopped
-returns-clause-stopped g c = λ place left at stopped.
+returns-clause-stopped g c =
     let all = c.args.lefts.items in
     let none : c.loop-left.lefts.items ≡ [] = search rules in
-    let adding = subst (λ (xs : List LockLeft). Adding (view c.loop-left.pass).figures xs all) none c.loop-left.invariant.adding in
-    some_called all (omega (arith, adding.calls, c.learn_as.ensures.rule.1.1 (omega (arith, adding.finds, some_found all place left at stopped))))
+    let adding = subst (λ (xs : List LockLeft). Adding lock_kind (view c.loop-left.pass).figures xs all) none c.loop-left.invariant.adding in
+    some_called lock_kind (view c.loop-left.pass).figures all adding c.learn_as.ensures.rule.1.1

@@ -1,7 +1,8 @@
 use Rattle.std.proofs.Common.{◌≡◌, ◌+◌, [], ◌∷◌, length, length-append, sym, ap, ◌∙◌, subst, arith, rules}
 use Rattle.crossbeam_queue.specs.Passes.{view, IsPassOf}
 use Rattle.crossbeam_queue.specs.Passes.{Pass}
-use Rattle.nll_ledger.specs.Shares.{parts_of, IsNew}
+use Rattle.nll_ledger.specs.LockShares.{IsNew}
+use Rattle.nll_ledger.specs.Shares.{parts_of}
 use Rattle.nll_ledger.specs.declared.figures.Figures.{Figures}
 use Rattle.nll_ledger.specs.declared.lock_rule.Known.{Known}
 use Rattle.nll_ledger.specs.declared.lock_rule.State.{State}
