@@ -1,8 +1,8 @@
 -- An owner as contracts see it: its log, what it received, and what it gave out.
 -- Source: project's choice. The code keeps sets of elements as well; they say no more than the
 -- lists do.
-use Rattle.std.specs.Prelude.{◌≡◌, ◌⊎◌, ℕ, ◌+◌, ◌*◌, ◌<◌, ◌≤◌, Bool, true, false, List, [], ◌∷◌}
-use Rattle.std.specs.Prelude.{◌++◌, length, Contains, slice_index_or, slice_set, replicate}
+use Rattle.std.specs.Prelude.{◌≡◌, ◌⊎◌, ℕ, ◌+◌, ◌*◌, ◌^◌, ◌<◌, ◌≤◌, Bool, true, false, List, []}
+use Rattle.std.specs.Prelude.{◌∷◌, ◌++◌, length, Contains, slice_index_or, slice_set, replicate}
 use Rattle.nll_problem.specs.Graph.{element_count}
 use Rattle.nll_problem.specs.Problem.{Problem, IsBase, IsSound as IsSoundProblem}
 use Rattle.nll_cut.specs.Partition.{Cut, owner_of, reads}
@@ -83,6 +83,12 @@ pub record IsSound (o : Owner) : Type 0 where
   -- no rank is above its clock
   pub own_ranks : (g : Growth) → Contains o.log g → g.rank ≤ o.clock
   pub heard_ranks : (j : ℕ) (g : Growth) → Contains (received_from o j) g → g.rank ≤ o.clock
+  -- no rank that it received is 2^61 or above, and its clock is not above the highest that it
+  -- received and the number of its own growths together
+  pub early : (j : ℕ) (g : Growth) → Contains (received_from o j) g → g.rank < 2 ^ 61
+  pub paced :
+      (n : ℕ) → ((j : ℕ) (g : Growth) → Contains (received_from o j) g → g.rank ≤ n)
+      → o.clock ≤ n + length o.log
   -- its clock is the rank of a growth, and each rank of its own comes next after that of another
   pub top : (o.clock ≡ 0) ⊎ ((h : Growth) × IsNoted o h × (h.rank ≡ o.clock))
   pub steps :
@@ -93,11 +99,12 @@ pub record IsSound (o : Owner) : Type 0 where
   pub given : (j : ℕ) → given_to o j ≤ length (part_for o j)
 
 -- Owner i may be told the growth by owner j: it is of a region of j that i reads, and of an element
--- of the problem.
+-- of the problem, and its rank is below 2^61, as the ranks of all growths of a run are.
 pub record Passes (q : Problem) (c : Cut) (i j : ℕ) (g : Growth) : Type 0 where
   pub sender : owner_of c g.region ≡ j
   pub read : reads q c i g.region ≡ true
   pub element : g.element < element_count q.graph
+  pub rank : g.rank < 2 ^ 61
 
 -- it was loaded, or a call of it was refused
 abbrev pub IsReady : Owner → Type 0

@@ -1,7 +1,7 @@
 //! What an owner knows: its values and copies, its log, and what it received.
 
 ghost use Rattle.std.specs.Prelude.{◌≡◌, ◌⊎◌, ◌↔◌, ℕ, ◌+◌, ◌<◌, ◌≤◌, ◌^◌, true, false, max, []};
-ghost use Rattle.std.specs.Prelude.{Some, Err, Contains, length, take, slice_get, slice_set};
+ghost use Rattle.std.specs.Prelude.{Some, Contains, length, take, slice_get, slice_set};
 ghost use Rattle.std.specs.Prelude.{IsTrue, map};
 ghost use Rattle.std.specs.Prelude.{replicate, IfOk, OnOk, OnErr, IfSome, IfNone};
 ghost use Rattle.std.specs.Prelude.{min, ◌-◌, ◌++◌, vec_len, vec_capacity};
@@ -18,9 +18,7 @@ ghost use Rattle.nll_owner.specs.Owner.{first_owner};
 ghost use Rattle.nll_owner.specs.Keeping.{Grows, HasBeside, growths, IsSlot};
 ghost use Rattle.nll_owner.specs.Keeping.{held_regions, holds_region};
 ghost use Rattle.nll_owner.specs.Outboxes.{AreQueued, AreAllQueued, TellsAs};
-ghost use Rattle.nll_owner.specs.declared.error.OwnerError.TheVariants.{RankFull, Broken};
 
-use crate::error::OwnerError;
 use crate::outboxes::Outboxes;
 use crate::slots::{Slot, Slots};
 use nll_core::Values;
@@ -31,8 +29,8 @@ use nll_sets::{Element, Memory, Run, RunSet};
 use std::alloc::Global;
 use std::marker::Model;
 
-/// The greatest rank.
-pub const MAX_RANK: u64 = 1 << 62;
+// The ranks of the growths of a run are below it.
+const END_OF_RANKS: u64 = 1 << 61;
 
 /// The values and copies of an owner, its log, and what it received. Contracts see it as the owner.
 ///
@@ -107,7 +105,7 @@ impl<'q> Knowledge<'q> {
     }
 
     /// Grows an own region by the elements of runs, which are called for.
-    pub fn grow_runs(&mut self, region: RegionId, found: &[Run]) -> Result<(), OwnerError>
+    pub fn grow_runs(&mut self, region: RegionId, found: &[Run]) -> Result<(), Memory>
         requires sound { IsSound self.old }
         requires own { owner_of self.old.cut region ≡ self.old.me }
         requires region { region < self.old.problem.regions }
@@ -116,8 +114,6 @@ impl<'q> Knowledge<'q> {
         requires called { (x : ℕ) → IsInRuns found.now x → IsCalled self.old region x }
         ensures grows { Grows self.old self.new }
         ensures covers { OnOk result ((x : ℕ) → IsInRuns found.now x → Has self.new region x) }
-        ensures full { result ≡ Err RankFull → 2 ^ 62 ≤ self.new.clock }
-        ensures whole { result ≡ Err Broken → ⊥ }
     {
         for run in found {
             self.grow_run(region, *run)?;
@@ -126,7 +122,7 @@ impl<'q> Knowledge<'q> {
     }
 
     /// Grows an own region by the elements of a run, which are called for, where they are new.
-    pub fn grow_run(&mut self, region: RegionId, run: Run) -> Result<(), OwnerError>
+    pub fn grow_run(&mut self, region: RegionId, run: Run) -> Result<(), Memory>
         requires sound { IsSound self.old }
         requires own { owner_of self.old.cut region ≡ self.old.me }
         requires region { region < self.old.problem.regions }
@@ -135,8 +131,6 @@ impl<'q> Knowledge<'q> {
         requires called { (x : ℕ) → IsWithin run x → IsCalled self.old region x }
         ensures grows { Grows self.old self.new }
         ensures covers { OnOk result ((x : ℕ) → IsWithin run x → Has self.new region x) }
-        ensures full { result ≡ Err RankFull → 2 ^ 62 ≤ self.new.clock }
-        ensures whole { result ≡ Err Broken → ⊥ }
     {
         if run.last < run.first {
             return Ok(());
@@ -144,9 +138,8 @@ impl<'q> Knowledge<'q> {
         let slot = self.slot(region);
         let mut next = run.first;
         while let Some(gap) = self.values.set(slot).gap_from(next, run.last) {
-            let ranked = front_with_ranks(gap, self.clock)?;
-            self.grow_gap(region, slot, ranked)?;
-            next = ranked.last + 1;
+            self.grow_gap(region, slot, gap)?;
+            next = gap.last + 1;
         }
         Ok(())
     }
@@ -159,7 +152,6 @@ impl<'q> Knowledge<'q> {
         requires elements { gap.last < element_count self.old.problem.graph }
         requires called { (x : ℕ) → IsWithin gap x → IsCalled self.old region x }
         requires lacks { (x : ℕ) → IsWithin gap x → Has self.old region x → ⊥ }
-        requires ranks { self.old.clock + (gap.last + 1 - gap.first) ≤ 2 ^ 62 }
         ensures grows { Grows self.old self.new }
         ensures covers { OnOk result ((x : ℕ) → IsWithin gap x → Has self.new region x) }
     {
@@ -173,7 +165,7 @@ impl<'q> Knowledge<'q> {
     }
 
     /// Puts a growth into the copy of its region and at the end of what was received.
-    pub fn enter_received(&mut self, from: u16, growth: Growth) -> Result<(), OwnerError>
+    pub fn enter_received(&mut self, from: u16, growth: Growth) -> Result<(), Memory>
         requires { Passes self.old.problem self.old.cut self.old.me from growth }
         ensures ok { OnOk result (self.new ≡ record self.old {
           received = with_growth self.old.received from growth;
@@ -181,8 +173,6 @@ impl<'q> Knowledge<'q> {
         }) }
         ensures has { OnOk result (HasBeside growth self.old self.new) }
         ensures err { OnErr result (self.new ≡ self.old) }
-        ensures full { result ≡ Err RankFull → ⊥ }
-        ensures whole { result ≡ Err Broken → ⊥ }
         ensures sound { IsSound self.new }
     {
         let clock = self.clock.max(growth.rank);
@@ -238,8 +228,11 @@ impl<'q> Knowledge<'q> {
         let Growth {
             region,
             element,
-            ..
+            rank,
         } = *growth;
+        if rank >= END_OF_RANKS {
+            return false;
+        }
         if element.0 >= self.problem.points() + self.problem.universals() {
             return false;
         }
@@ -329,27 +322,6 @@ impl<'q> Knowledge<'q> {
         }
         &self.received[from as usize]
     }
-}
-
-// Of a run the first elements for which there are ranks behind a clock.
-fn front_with_ranks(run: Run, clock: u64) -> Result<Run, OwnerError>
-    requires { run.first ≤ run.last }
-    ensures first { IfOk result (λ front. front.first ≡ run.first) }
-    ensures proper { IfOk result (λ front. front.first ≤ front.last) }
-    ensures within { IfOk result (λ front. front.last ≤ run.last) }
-    ensures ranks { IfOk result (λ front. clock + (front.last + 1 - front.first) ≤ 2 ^ 62) }
-    ensures full { result ≡ Err RankFull → 2 ^ 62 ≤ clock }
-    ensures whole { result ≡ Err Broken → ⊥ }
-{
-    if clock >= MAX_RANK {
-        return Err(OwnerError::RankFull);
-    }
-    let room = MAX_RANK - clock - 1;
-    let more = room.min((run.last - run.first) as u64);
-    Ok(Run {
-        first: run.first,
-        last: run.first + more as u32,
-    })
 }
 
 // Puts the growths of a region by so many elements at the end of a log, which has room for them.

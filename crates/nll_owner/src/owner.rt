@@ -1,10 +1,12 @@
 //! An owner of regions.
 
 ghost use Rattle.std.specs.Prelude.{◌≡◌, ◌⊎◌, ◌↔◌, ◌+◌, ◌<◌, ◌≤◌, ◌^◌, true, false, max, Some, Err};
-ghost use Rattle.std.specs.Prelude.{length, slice_get, slice_set, IsTrue, IfOk, OnOk, OnErr};
+ghost use Rattle.std.specs.Prelude.{length, slice_get, slice_set, Contains, IsTrue, IfOk, OnOk, OnErr};
 ghost use Rattle.std.specs.Prelude.{IfSome, IfNone, min, ◌-◌};
 ghost use Rattle.std.specs.List.{sum, sum_by};
 ghost use Rattle.nll_problem.specs.Graph.{element_count};
+ghost use Rattle.nll_problem.specs.Limits.{most_rank};
+ghost use Rattle.nll_mail.specs.declared.growth.Growth.{Growth};
 ghost use Rattle.nll_owner.specs.Logs.{IsPrefix};
 ghost use Rattle.nll_owner.specs.Owner.{IsSound, IsDone, IsReady, Has, Passes, part_for, given_to};
 ghost use Rattle.nll_owner.specs.Owner.{received_from, with_growth, first_owner};
@@ -13,7 +15,7 @@ ghost use Rattle.nll_owner.specs.Tables.{AreTables};
 ghost use Rattle.nll_owner.specs.Keeping.{Grows, IsClosed};
 ghost use Rattle.nll_owner.specs.Following.{IsFollowing, Nothing, OfRun};
 ghost use Rattle.nll_owner.specs.Outboxes.{AreQueued, AreAllQueued};
-ghost use Rattle.nll_owner.specs.declared.error.OwnerError.TheVariants.{RankFull, Broken};
+ghost use Rattle.nll_owner.specs.declared.error.OwnerError.TheVariants.{Broken};
 
 use crate::error::OwnerError;
 use crate::following::{Following, run_of};
@@ -149,7 +151,7 @@ impl<'q> Owner<'q> {
     ///
     /// # Errors
     /// - `Broken`: an earlier call was refused; nothing has changed.
-    /// - `Memory`, `RankFull`: the log has perhaps grown.
+    /// - `Memory`: the log has perhaps grown.
     pub fn load(&mut self) -> Result<(), OwnerError>
         requires { self.old.broken ≡ false → self.old.loaded ≡ false }
         ensures begins { IsPrefix self.old.log self.new.log }
@@ -165,7 +167,6 @@ impl<'q> Owner<'q> {
         ensures err { OnErr result (self.new.broken ≡ true) }
         ensures broken { (result ≡ Err Broken) ↔ (self.old.broken ≡ true) }
         ensures unchanged { self.old.broken ≡ true → self.new ≡ self.old }
-        ensures full { result ≡ Err RankFull → 2 ^ 62 ≤ self.new.clock }
         ensures sound { IsSound self.new }
     {
         if self.knowledge.broken {
@@ -186,7 +187,7 @@ impl<'q> Owner<'q> {
     ///
     /// # Errors
     /// - `Broken`: an earlier call was refused; nothing has changed.
-    /// - `Memory`, `RankFull`: the growth has perhaps been received, and the log has perhaps grown.
+    /// - `Memory`: the growth has perhaps been received, and the log has perhaps grown.
     pub fn receive(&mut self, from: u16, growth: Growth) -> Result<(), OwnerError>
         requires ready { IsReady self.old }
         requires passes { Passes self.old.problem self.old.cut self.old.me from growth }
@@ -206,7 +207,6 @@ impl<'q> Owner<'q> {
         ensures err { OnErr result (self.new.broken ≡ true) }
         ensures broken { (result ≡ Err Broken) ↔ (self.old.broken ≡ true) }
         ensures unchanged { self.old.broken ≡ true → self.new ≡ self.old }
-        ensures full { result ≡ Err RankFull → 2 ^ 62 ≤ self.new.clock }
         ensures sound { IsSound self.new }
     {
         if self.knowledge.broken {
@@ -333,6 +333,7 @@ impl<'q> Owner<'q> {
     pub fn log(&self) -> &[Growth]
         ensures log { result.now ≡ self.now.log }
         ensures short { length result.now < 2 ^ 37 }
+        ensures ranks { (g : Growth) → Contains result.now g → g.rank ≤ most_rank }
         ensures sound { IsSound self.now }
     {
         self.knowledge.entries()
@@ -398,7 +399,6 @@ fn load_all(
     ensures following { OnOk result (IsFollowing Nothing knowledge.new following.new) }
     ensures queued { OnOk result (AreAllQueued knowledge.new outboxes.new) }
     ensures done { OnOk result (IsDone knowledge.new) }
-    ensures full { result ≡ Err RankFull → 2 ^ 62 ≤ knowledge.new.clock }
     ensures whole { result ≡ Err Broken → ⊥ }
 {
     load_and_settle(knowledge, following, &tables.steps)?;
@@ -411,15 +411,13 @@ fn load_and_settle(
     knowledge: &mut Knowledge,
     following: &mut Following,
     steps: &Steps,
-) -> Result<(), OwnerError>
+) -> Result<(), Memory>
     requires sound { IsSound knowledge.old }
     requires steps { steps.now ≡ knowledge.old.problem.graph }
     requires following { IsFollowing Nothing knowledge.old following.old }
     ensures grows { Grows knowledge.old knowledge.new }
     ensures following { OnOk result (IsFollowing Nothing knowledge.new following.new) }
     ensures done { OnOk result (IsDone knowledge.new) }
-    ensures full { result ≡ Err RankFull → 2 ^ 62 ≤ knowledge.new.clock }
-    ensures whole { result ≡ Err Broken → ⊥ }
 {
     knowledge.enter_bases()?;
     following.settle(knowledge, steps)?;
@@ -454,7 +452,6 @@ fn receive_all(
     ensures following { OnOk result (IsFollowing Nothing knowledge.new following.new) }
     ensures queued { OnOk result (AreAllQueued knowledge.new outboxes.new) }
     ensures done { OnOk result (IsDone knowledge.new) }
-    ensures full { result ≡ Err RankFull → 2 ^ 62 ≤ knowledge.new.clock }
     ensures whole { result ≡ Err Broken → ⊥ }
     ensures sound { IsSound knowledge.new }
 {
@@ -470,7 +467,7 @@ fn receive_and_settle(
     steps: &Steps,
     from: u16,
     growth: Growth,
-) -> Result<(), OwnerError>
+) -> Result<(), Memory>
     requires sound { IsSound knowledge.old }
     requires steps { steps.now ≡ knowledge.old.problem.graph }
     requires loaded { knowledge.old.loaded ≡ true }
@@ -488,8 +485,6 @@ fn receive_and_settle(
         ⊎ (knowledge.new.received ≡ with_growth knowledge.old.received from growth) }
     ensures following { OnOk result (IsFollowing Nothing knowledge.new following.new) }
     ensures done { OnOk result (IsDone knowledge.new) }
-    ensures full { result ≡ Err RankFull → 2 ^ 62 ≤ knowledge.new.clock }
-    ensures whole { result ≡ Err Broken → ⊥ }
     ensures sound { IsSound knowledge.new }
 {
     let Growth {
@@ -508,7 +503,7 @@ fn pursue(
     steps: &Steps,
     region: RegionId,
     element: Element,
-) -> Result<(), OwnerError>
+) -> Result<(), Memory>
     requires sound { IsSound knowledge.old }
     requires steps { steps.now ≡ knowledge.old.problem.graph }
     requires region { region < knowledge.old.problem.regions }
@@ -518,8 +513,6 @@ fn pursue(
     ensures grows { Grows knowledge.old knowledge.new }
     ensures following { OnOk result (IsFollowing Nothing knowledge.new following.new) }
     ensures closed { OnOk result (IsClosed knowledge.new) }
-    ensures full { result ≡ Err RankFull → 2 ^ 62 ≤ knowledge.new.clock }
-    ensures whole { result ≡ Err Broken → ⊥ }
 {
     following.follow(knowledge, steps, region, run_of(element))?;
     following.settle(knowledge, steps)?;

@@ -1,15 +1,14 @@
 //! The values that logs say.
 
-ghost use Rattle.std.specs.Prelude.{◌≡◌, ℕ, ◌<◌, ◌↔◌, List, length, map, Contains, OnOk, IfOk};
+ghost use Rattle.std.specs.Prelude.{ℕ, ◌<◌, ◌↔◌, List, map, Contains, IfOk};
 ghost use Rattle.nll_problem.specs.Graph.{element_count};
-ghost use Rattle.nll_core.specs.Growing.{Gains};
-ghost use Rattle.nll_core.specs.Values.{set_of, IsHeld, IsShaped};
+ghost use Rattle.nll_core.specs.Values.{IsHeld, IsShaped};
 ghost use Rattle.nll_mail.specs.declared.growth.Growth.{Growth};
 ghost use Rattle.nll_owner.specs.Logs.{IsTold};
 
 use nll_core::Values;
 use nll_mail::Growth;
-use nll_owner::run_at;
+use nll_owner::enter_log;
 use nll_problem::Problem;
 use nll_sets::Memory;
 use std::alloc::Global;
@@ -32,20 +31,4 @@ pub fn values_of(alloc: Global, problem: &Problem, grown: &[Vec<Growth>]) -> Res
         enter_log(&mut values, log)?;
     }
     Ok(values)
-}
-
-// Enters the growths of one log, a run of elements at a time.
-fn enter_log(values: &mut Values, log: &[Growth]) -> Result<(), Memory>
-    requires range { (g : Growth) → Contains log.now g → (g.region < length values.old)
-        × (g.element < length (set_of values.old g.region)) }
-    ensures gains { OnOk result (Gains (IsTold log.now) values.old values.new) }
-    ensures all { OnOk result ((r e : ℕ) → IsTold log.now r e → IsHeld values.new r e) }
-{
-    let mut place = 0;
-    while place < log.len() {
-        let (region, run, end) = run_at(log, place);
-        values.insert_run(region, run)?;
-        place = end;
-    }
-    Ok(())
 }

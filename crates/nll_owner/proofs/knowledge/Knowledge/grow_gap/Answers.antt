@@ -1,6 +1,6 @@
 use Rattle.std.proofs.Common.{◌≡◌, ◌+◌, ◌-◌, ◌++◌, ap, ◌∙◌, arith}
 use Rattle.nll_owner.specs.Keeping.{growths}
-use Rattle.nll_owner.proofs.OwnerLemmas.{run_kept, run_grows, run_has}
+use Rattle.nll_owner.proofs.OwnerLemmas.{run_kept, run_grows, run_has, clock_low}
 use Rattle.nll_owner.proofs.knowledge.Knowledge.grow_gap.Goals as goal
 use Rattle.nll_owner.proofs.knowledge.Knowledge.grow_gap.Goals.{After-push_growths}
 
@@ -33,3 +33,9 @@ overflow_add-count c =
     let elements = rw (← c.self.view_is) at c.requires.elements in
     let graph = c.self.invariant.sound.problem.graph in
     omega (arith, elements, graph.point_limit, graph.universal_limit)
+
+pub push_growths-requires-clause-ranks : goal.push_growths-requires-clause-ranks
+push_growths-requires-clause-ranks c = (let low = clock_low _ c.self.invariant.sound in let elements = rw (← c.self.view_is) at c.requires.elements in let graph = c.self.invariant.sound.problem.graph in omega (arith, low, elements, graph.point_limit, graph.universal_limit))
+
+pub overflow_add-self : goal.overflow_add-self
+overflow_add-self c = (let low = clock_low _ c.self.invariant.sound in let elements = rw (← c.self.view_is) at c.requires.elements in let graph = c.self.invariant.sound.problem.graph in omega (arith, low, elements, graph.point_limit, graph.universal_limit))

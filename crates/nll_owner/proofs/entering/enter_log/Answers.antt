@@ -1,7 +1,7 @@
 use Rattle.std.proofs.Common.{arith}
 use Rattle.nll_owner.proofs.LogRunLemmas.{run_proper}
-use Rattle.nll_run.proofs.FillingLemmas.{entered, all_entered, run_in_range, stands_held}
-use Rattle.nll_run.proofs.filling.enter_log.Goals as goal
+use Rattle.nll_owner.proofs.EnteringLemmas.{entered, all_entered, run_in_range, stands_held}
+use Rattle.nll_owner.proofs.entering.enter_log.Goals as goal
 
 pub insert_run-requires : goal.insert_run-requires
 insert_run-requires c =
