@@ -1,7 +1,9 @@
 -- What the turns of a network change, and what they leave.
-use Rattle.std.proofs.Common.{◌≡◌, ◌≢◌, ⊎_elim, ℕ, zero, suc, ◌+◌, ◌<◌, ◌≤◌, Bool, true, false, ◌||◌, if◌then◌else◌, List, [], ◌∷◌, ◌++◌, length, set, take, get_or, slice_get, Some, Contains, refl, sym, ap, ◌∙◌, subst, arith}
+use Rattle.std.proofs.Common.{◌≡◌, ◌≢◌, ⊎_elim, ℕ, zero, suc, ◌+◌, ◌<◌, ◌≤◌, Bool, true, false, ◌||◌, if◌then◌else◌, List, [], ◌∷◌, ◌++◌, length, set, take, get_or, slice_get, Some, Contains, refl, sym, ap, ◌∙◌, subst, arith, append_assoc}
 use Rattle.std.specs.List.{sum_by}
 use Rattle.std.proofs.lemmas.Bool.{cases_eq, false≢true}
+use Rattle.std.proofs.lemmas.List.{get_or-set_same, get_or-set_other, length-set}
+use Rattle.nll_owner.proofs.OwnerLemmas.{get_at}
 use Rattle.std.proofs.lemmas.Option.{slice_get-get_or, slice_get_within, get_or_from_slice_get}
 use Rattle.std.proofs.lemmas.List.Elements.{Contains-append_left, Contains-push}
 use Rattle.std.proofs.lemmas.List.Sums.{sum_by-set}
@@ -17,6 +19,8 @@ use Rattle.nll_driver.specs.Network.{Channel, Network, GivesAll, AreInStep, AreG
 use Rattle.nll_owner.specs.Delivery.{IsPair}
 use Rattle.nll_driver.specs.Turns.{Moves}
 use Rattle.nll_driver.proofs.NetworkLemmas.{contains_map}
+use Rattle.nll_driver.proofs.RankLemmas.{take_in, in_step_low}
+use Rattle.nll_owner.specs.Logs.{IsPrefix}
 
 -- ---- one owner and one channel change
 
@@ -124,18 +128,10 @@ found_in xs k x at = (k, slice_get_within xs k x at, get_or_from_slice_get xs k 
 
 -- ---- what is taken
 
-take_in : {X : Type 0} (n : ℕ) (xs : List X) (y : X) → Contains (take n xs) y → Contains xs y
-take_in zero xs y h = absurd (let l = h.1 in omega arith)
-take_in (suc n) [] y h = absurd (let l = h.1 in omega arith)
-take_in (suc n) (x ∷ xs) y h = ⊎_elim
-    (λ (same : x ≡ y). subst (Contains (x ∷ xs)) same (contains_head x xs))
-    (λ (w : Contains (take n xs) y). contains_tail x xs y (take_in n xs y w))
-    (contains_cases x (take n xs) y h)
-
 -- what is received of what was sent is a growth of the sender's part, and so the receiver may be told
 pub taken_passes : (q : Problem) (c : Cut) (owners : List Owner) (channels : List Channel) → AreInStep q c owners channels
-    → (x : Channel) (o : Owner) (g : Growth) (rest : List Growth) → Contains channels x → slice_get owners x.to ≡ Some o → x.sent ≡ (x.received ++ g ∷ []) ++ rest → Passes o.problem o.cut o.me x.from g
-taken_passes q c owners channels s x o g rest inside at is =
+    → ((x : Channel) → Contains channels x → IsPrefix x.received x.sent) → (x : Channel) (o : Owner) (g : Growth) (rest : List Growth) → Contains channels x → slice_get owners x.to ≡ Some o → x.sent ≡ (x.received ++ g ∷ []) ++ rest → Passes o.problem o.cut o.me x.from g
+taken_passes q c owners channels s fronts x o g rest inside at is =
     let pair : IsPair c.owners (ends_of x) = (s.all_pairs.each (ends_of x)).0 (contains_map ends_of channels x inside) in
     let p : Owner = get_or owners x.from o in
     let from_at : slice_get owners x.from ≡ Some p = slice_get-get_or owners x.from o (let l = pair.0 in omega (arith, l, s.are_owners.count)) in
@@ -151,7 +147,28 @@ taken_passes q c owners channels s x o g rest inside at is =
       read = subst (λ j. reads o.problem o.cut j g.region ≡ true) (sym receiver.me)
           (subst (λ d. reads o.problem d x.to g.region ≡ true) same_cut (subst (λ r. reads r p.cut x.to g.region ≡ true) same_problem found.1));
       element = subst (λ r. g.element < element_count r.graph) same_problem (sender.sound.elements g found.0);
+      rank = in_step_low q c owners channels s fronts x.from p g pair.0 from_at found.0;
     }
+
+-- the list with another element at a place has that element
+pub set_contains : {X : Type 0} (xs : List X) (k : ℕ) (y : X) → k < length xs → Contains (set xs k y) y
+set_contains xs k y within = (k, omega (arith, within, length-set xs k y), get_or-set_same xs k y y within)
+
+-- where what was received through each channel is a beginning of what was sent after a growth was
+-- taken out of one, it was so before
+pub fronts_before : (channels : List Channel) (k : ℕ) (x y : Channel) (g : Growth) → k < length channels → slice_get channels k ≡ Some x → y ≡ record x { received = x.received ++ g ∷ [] }
+    → ((z : Channel) → Contains (set channels k y) z → IsPrefix z.received z.sent) → (z : Channel) → Contains channels z → IsPrefix z.received z.sent
+fronts_before channels k x y g within at is fronts z h = ⊎_elim
+    (λ (here : h.0 ≡ k).
+    let same : z ≡ x = some_is z x (sym (subst (λ i. slice_get channels i ≡ Some z) here (get_at channels h.0 z h.1 h.2)) ∙ at) in
+    let front = fronts y (set_contains channels k y within) in
+    let whole : x.sent ≡ (x.received ++ g ∷ []) ++ front.0 = subst (λ (w : Channel). w.sent ≡ w.received ++ front.0) is front.1 in
+    subst (λ (w : Channel). IsPrefix w.received w.sent) (sym same) (g ∷ front.0, whole ∙ append_assoc x.received (g ∷ []) front.0))
+    (λ (other : h.0 ≢ k). fronts z (h.0, omega (arith, h.1, length-set channels k y), get_or-set_other channels k h.0 y z other ∙ h.2))
+    (cases_eq h.0 k)
+  where
+    some_is : (v w : Channel) → Some v ≡ Some w → v ≡ w
+    some_is v w e = cc
 
 -- an owner of which no call was refused is as it was before, but for what it has grown and heard
 pub unbroken : (o n : Owner) → n ≡ record o { log = n.log; received = n.received; clock = n.clock; broken = n.broken } → o.broken ≡ false → n.broken ≡ false → n ≡ record o { log = n.log; received = n.received; clock = n.clock }

@@ -12,7 +12,7 @@ ghost use Rattle.nll_driver.specs.declared.stop.Stop.TheVariants.{Wrong};
 ghost use Rattle.nll_driver.specs.declared.turn.Turn.TheVariants.{Load, Post, Take};
 
 use crate::channel::Channel;
-use crate::settling::settle_all;
+use crate::settling::{end_all, settle_all};
 use crate::starting::{channels_of, owners_of};
 use crate::steps::{load, post_all};
 use crate::stop::Stop;
@@ -241,9 +241,9 @@ impl<'q, M: Mail> Network<'q, M> {
             return Ok(false);
         };
         if !self.owners[at].passes(from, &growth) {
-            // Never: what a mailbox gives is of the sender's part for its receiver. The proof reads
-            // that from the mailbox where it is ended.
-            drop(self.channels.swap_remove(place).end());
+            // Never: what a mailbox gives is of the sender's part for its receiver, and no rank is
+            // that high. The proof reads that from all mailboxes where they are ended.
+            end_all(&mut self.channels);
             unreachable!()
         }
         self.refused = true;

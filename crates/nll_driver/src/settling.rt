@@ -1,8 +1,9 @@
 //! Mailboxes that are settled.
 
-ghost use Rattle.std.specs.Prelude.{◌≡◌, [], IfErr, OnOk};
+ghost use Rattle.std.specs.Prelude.{◌≡◌, [], Contains, IfErr, OnOk};
 ghost use Rattle.nll_driver.specs.Network.{SaysOf, SayOfAll};
 ghost use Rattle.nll_driver.specs.Turns.{Unfinished};
+ghost use Rattle.nll_owner.specs.Logs.{IsPrefix};
 
 use crate::channel::Channel;
 use crate::stop::Stop;
@@ -30,4 +31,13 @@ pub fn settle_all<M: Mail>(
         }
     }
     Ok(())
+}
+
+/// Ends the channels. What was received through each is a beginning of what was sent.
+pub fn end_all<M: Mail>(channels: &mut Vec<Channel<M>>)
+    ensures { (x : _) → Contains channels.old.items x → IsPrefix x.received x.sent }
+{
+    while let Some(channel) = channels.pop() {
+        drop(channel.end());
+    }
 }

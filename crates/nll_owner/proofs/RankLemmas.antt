@@ -3,8 +3,7 @@ use Rattle.std.proofs.Common.{◌≡◌, ◌≢◌, ◌⊎◌, ⊎_elim, ℕ, ze
 use Rattle.std.proofs.lemmas.Bool.{cases_lt}
 use Rattle.std.proofs.lemmas.List.{get_or_past}
 use Rattle.std.proofs.lemmas.List.Elements.{Contains-append_left, Contains-append_right}
-use Rattle.nll_problem.specs.Problem.{Problem}
-use Rattle.nll_cut.specs.Partition.{Cut}
+use Rattle.nll_cut.proofs.ReadLemmas.{reads_tells}
 use Rattle.nll_mail.specs.declared.growth.Growth.{Growth}
 use Rattle.nll_owner.specs.Owner.{Owner, IsSound, IsNoted, received_from}
 use Rattle.nll_owner.proofs.LogLemmas.{contains_tail, contains_head, contains_cases}
@@ -89,8 +88,8 @@ module _ (logs : ℕ → List Growth) where
 
 -- Owners of one problem that received only what stands in each other's logs have no rank of 2^61 or
 -- above.
-module _ (n : ℕ) (owner : ℕ → Owner) (few : n ≤ 64) (sound : (i : ℕ) → i < n → IsSound (owner i)) (owners : (i : ℕ) → i < n → (owner i).cut.owners ≡ n)
-    (heard : (i j : ℕ) (g : Growth) → i < n → j < n → Contains (received_from (owner i) j) g → Contains (owner j).log g) where
+module _ (n : ℕ) (owner : ℕ → Owner) (few : n ≤ 64) (sound : (i : ℕ) → i < n → IsSound (owner i)) (owners : (i : ℕ) → i < n → (owner i).cut.owners ≡ n) (numbers : (i : ℕ) → i < n → (owner i).me ≡ i)
+    (heard : (i j : ℕ) (g : Growth) → i < n → j < n → i ≢ j → Contains (received_from (owner i) j) g → Contains (owner j).log g) where
   abbrev logs : ℕ → List Growth
   logs i = (owner i).log
 
@@ -104,9 +103,16 @@ module _ (n : ℕ) (owner : ℕ → Owner) (few : n ≤ 64) (sound : (i : ℕ) �
       (λ (own : Contains (logs i) s.0). (i, s.0, low, own, s.2))
       (λ (told : (j : ℕ) × Contains (received_from (owner i) j) s.0).
       let inside : told.0 < n = omega (arith, received_in (owner i) (sound i low) told.0 s.0 told.1, owners i low) in
-      (told.0, s.0, inside, heard i told.0 s.0 low inside told.1, s.2))
+      (told.0, s.0, inside, heard i told.0 s.0 low inside (other told.0 s.0 told.1) told.1, s.2))
       s.1
     where
+      -- what it received is of another owner
+      other : (j : ℕ) (h : Growth) → Contains (received_from (owner i) j) h → i ≢ j
+      other j h at same =
+          let told = (sound i low).heard j h at in
+          let read = (reads_tells (owner i).problem (owner i).cut (owner i).me h.region).0 told.1 in
+          read.0 (told.0 ∙ (sym same ∙ sym (numbers i low)))
+
       received_in : (o : Owner) → IsSound o → (j : ℕ) (h : Growth) → Contains (received_from o j) h → j < o.cut.owners
       received_in o s j h at = ⊎_elim
           (λ inside. inside)

@@ -1,4 +1,4 @@
-use Rattle.std.proofs.Common.{◌≡◌, ◌<◌, List, ◌++◌, [], ◌∷◌, true, false, rules, length, slice_get, Some, Err, refl, sym, ap, ◌∙◌, subst, arith}
+use Rattle.std.proofs.Common.{◌≡◌, ◌<◌, Contains, set, List, ◌++◌, [], ◌∷◌, true, false, rules, length, slice_get, Some, Err, refl, sym, ap, ◌∙◌, subst, arith}
 use Rattle.std.proofs.lemmas.Bool.{false≢true}
 use Rattle.std.proofs.lemmas.List.{get_or-set_same}
 use Rattle.std.proofs.lemmas.Option.{slice_get_read, slice_get_within, get_or_from_slice_get}
@@ -8,7 +8,8 @@ use Rattle.nll_owner.specs.Owner.{Owner, Passes}
 use Rattle.nll_driver.specs.Network.{Channel, AreInStep, Hears, IsOwner, ends_of}
 use Rattle.nll_driver.proofs.NetworkLemmas.{heard_step, set_there}
 use Rattle.nll_driver.proofs.PostingLemmas.{hears_one}
-use Rattle.nll_driver.proofs.MovingLemmas.{found_in, taken_passes, unbroken}
+use Rattle.nll_driver.proofs.MovingLemmas.{found_in, taken_passes, unbroken, set_contains, fronts_before}
+use Rattle.nll_owner.specs.Logs.{IsPrefix}
 use Rattle.nll_driver.proofs.TurnLemmas.{some_same, to_within, carried, take_moves, take_takes}
 use Rattle.nll_driver.proofs.network.Network.take_at.Goals as goal
 use Rattle.nll_driver.proofs.network.Network.take_at.Goals.{After-to-at, In-Some, After-index_mut-2, In_ok-receive}
@@ -73,13 +74,16 @@ pub unreachable-requires : goal.unreachable-requires
 unreachable-requires g c =
     let d = (goal.at.unreachable-requires g c).In-Some in
     let taken : c.take.new.self ≡ record c.index_mut.result.now { received = c.index_mut.result.now.received ++ c.in-Some.growth ∷ [] } = c.in-Some.ensures.some in
-    let removed : c.swap_remove.result ≡ c.take.new.self = c.swap_remove.ensures.value ∙ get_or-set_same c.self.inside.channels.items c.args.place c.take.new.self c.swap_remove.result (within g (goal.at.unreachable-requires g c).After-to-at) in
-    let rest : List Growth = g.M.Mail.post_rest c.end.result in
-    let is : c.index_mut.result.now.sent ≡ (c.index_mut.result.now.received ++ c.in-Some.growth ∷ []) ++ rest = subst (λ (x : Channel). x.sent ≡ x.received ++ rest) (removed ∙ taken) c.end.ensures.rest in
+    let inside : c.args.place < length c.self.inside.channels.items = within g (goal.at.unreachable-requires g c).After-to-at in
+    let ended : (z : Channel) → Contains (set c.self.inside.channels.items c.args.place c.take.new.self) z → IsPrefix z.received z.sent = c.end_all.ensures in
+    let here = ended c.take.new.self (set_contains c.self.inside.channels.items c.args.place c.take.new.self inside) in
+    let rest : List Growth = here.0 in
+    let is : c.index_mut.result.now.sent ≡ (c.index_mut.result.now.received ++ c.in-Some.growth ∷ []) ++ rest = subst (λ (x : Channel). x.sent ≡ x.received ++ rest) taken here.1 in
+    let fronts = fronts_before c.self.inside.channels.items c.args.place c.index_mut.result.now c.take.new.self c.in-Some.growth inside (at_channel g d) taken ended in
     let t = (goal.at.unreachable-requires g c).After-to-at in
     let at : slice_get c.self.inside.owners.items c.to-at.result ≡ Some c.index-4.result.now = slice_get_read c.self.inside.owners.items (length c.self.inside.owners.items) c.to-at.result c.index-4.result.now refl (to_in g t) c.index-4.ensures in
     let told : Passes c.index-4.result.now.problem c.index-4.result.now.cut c.index-4.result.now.me c.index_mut.result.now.from c.in-Some.growth =
-    taken_passes _ _ _ _ (in_step g t) c.index_mut.result.now c.index-4.result.now c.in-Some.growth rest (found_in c.self.inside.channels.items c.args.place c.index_mut.result.now (at_channel g d)) (rw (to_is g d) at at) is in
+    taken_passes _ _ _ _ (in_step g t) fronts c.index_mut.result.now c.index-4.result.now c.in-Some.growth rest (found_in c.self.inside.channels.items c.args.place c.index_mut.result.now (at_channel g d)) (rw (to_is g d) at at) is in
     let refuted : Passes c.index-4.result.now.problem c.index-4.result.now.cut c.index-4.result.now.me c.from-from.result c.in-Some.growth → ⊥ = search rules in
     refuted (rw (from_is g d) told)
 
