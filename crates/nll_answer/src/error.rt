@@ -71,7 +71,7 @@ impl From<RunError> for AnswerError {
     fn from(error: RunError) -> AnswerError {
         match error {
             RunError::Memory => AnswerError::Memory,
-            RunError::Thread | RunError::RankFull => AnswerError::Run(error),
+            RunError::Thread => AnswerError::Run(error),
         }
     }
 }

@@ -1,12 +1,10 @@
 //! The answer to a problem by owners at work in threads.
 
-ghost use Rattle.std.specs.Prelude.{◌≡◌, ◌≤◌, ◌↔◌, ℕ, Err, IfErr, IfOk, length};
+ghost use Rattle.std.specs.Prelude.{◌≡◌, ◌≤◌, ◌↔◌, ℕ, IfErr, IfOk, length};
 ghost use Rattle.nll_problem.specs.Faults.{AreFaults};
 ghost use Rattle.nll_problem.specs.Problem.{IsSound};
 ghost use Rattle.nll_problem.specs.Solution.{Least};
 ghost use Rattle.nll_core.specs.Values.{IsHeld, IsShaped};
-ghost use Rattle.nll_run.specs.Outcome.{HasFullClock};
-ghost use Rattle.nll_run.specs.declared.error.RunError.TheVariants.{RankFull};
 ghost use Rattle.nll_answer.specs.Answer.{IsCheckReport, IsProblemAnswer};
 ghost use Rattle.nll_answer.specs.Report.{IsValuesReport};
 ghost use Rattle.nll_answer.specs.Running.{IsRunError};
@@ -30,7 +28,7 @@ use std::thread::Threads;
 /// thread of its own. The logs and the mailboxes are let go before the report is made.
 ///
 /// # Errors
-/// - `Run`: a thread couldn't be started, or the clock of an owner is at its end.
+/// - `Run`: a thread couldn't be started.
 /// - `Memory`.
 pub fn answer_run<M: Mail, L: Ledger, G: Gate, R: Threads + Wait + Sync>(
     rt: &R,
@@ -47,7 +45,7 @@ pub fn answer_run<M: Mail, L: Ledger, G: Gate, R: Threads + Wait + Sync>(
     ensures ok { IfOk result (λ r.
         IsProblemAnswer command facts.now.problem facts.now.labels r.0.items r.1) }
     ensures status { IfOk result (λ r. r.1 ≤ 1) }
-    ensures err { IfErr result (IsRunError facts.now.problem cut.now) }
+    ensures err { IfErr result IsRunError }
 {
     match run_values::<M, L, G, R>(rt, alloc, &facts.problem, cut, mail, ledger, gate) {
         Ok(values) => Ok(told(alloc, command, &facts.problem, &facts.labels, values)?),
@@ -68,7 +66,6 @@ fn run_values<M: Mail, L: Ledger, G: Gate, R: Threads + Wait + Sync>(
     requires { length cut.now.list ≡ problem.now.regions }
     ensures shaped { IfOk result (IsShaped problem.now) }
     ensures least { IfOk result (λ values. (r e : ℕ) → IsHeld values r e ↔ Least problem.now r e) }
-    ensures full { result ≡ Err RankFull → HasFullClock problem.now cut.now }
 {
     match run::<M, L, G, R>(rt, alloc, problem, cut, mail, ledger, gate) {
         Ok(outcome) => {

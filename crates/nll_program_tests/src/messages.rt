@@ -115,7 +115,6 @@ fn prints_refusals_of_owners(rt: HostRuntime) {
     let want = b"2, nllc: cut: no such owner at 0, nllc: cut: no such owner at 0\ntrue";
     compare_line(&rt, &Refusal::NoSuchOwner(0), want);
     compare_refusal(&rt, AnswerError::Run(RunError::Thread), b"3, nllc: thread");
-    compare_refusal(&rt, AnswerError::Run(RunError::RankFull), b"3, nllc: rank");
     compare_refusal(&rt, AnswerError::Run(RunError::Memory), b"3, nllc: memory");
 }
 

@@ -29,7 +29,7 @@ use Rattle.nll_report.specs.Run.{IsFileAnswer, IsFileRefused, IsTaskRefused, com
 use Rattle.nll_report.specs.Refusal.{IsCutRefusal, cut_refusal_at, refusal_of}
 use Rattle.nll_report.specs.Texts.{Holds, Lacks}
 use Rattle.nll_report.specs.declared.messages.Refusal.{Refusal}
-use Rattle.nll_report.specs.declared.messages.Refusal.TheVariants.{Usage, CannotRead, Text, Limit, CutText, CutLength, NoSuchOwner, Thread, Rank, Memory, CannotWrite}
+use Rattle.nll_report.specs.declared.messages.Refusal.TheVariants.{Usage, CannotRead, Text, Limit, CutText, CutLength, NoSuchOwner, Thread, Memory, CannotWrite}
 
 -- ---- so many owners as there may be
 
@@ -197,15 +197,10 @@ cut_file_told holds lacks regions count path text (CutText line k) held h = (tex
 cut_file_told holds lacks regions count path text CutLength held h = (text, held, h)
 cut_file_told holds lacks regions count path text (NoSuchOwner index) held h = (text, held, h)
 cut_file_told holds lacks regions count path text Thread held h = (text, held, h)
-cut_file_told holds lacks regions count path text Rank held h = (text, held, h)
 cut_file_told holds lacks regions count path text Memory held h = tt
 cut_file_told holds lacks regions count path text CannotWrite held h = (text, held, h)
 
 -- ---- owners at work
-
-no_rank : (holds : Holds) (lacks : Lacks) (regions count : ℕ) (path : Option (List ℕ)) → IsCutRefused holds lacks regions count path Rank → ⊥
-no_rank holds lacks regions count None h = true≢false (sym (ap is_wanting h))
-no_rank holds lacks regions count (Some path) h = true≢false (sym (ap is_wanting h.2))
 
 -- why there is no cut is why there is no report
 pub cut_told : (holds : Holds) (lacks : Lacks) (q : Problem) (count : ℕ) (how : Deal) (path : Option (List ℕ)) (e : Refusal)
@@ -218,19 +213,17 @@ cut_told holds lacks q count how path (CutText line k) h = h
 cut_told holds lacks q count how path CutLength h = h
 cut_told holds lacks q count how path (NoSuchOwner index) h = h
 cut_told holds lacks q count how path Thread h = tt
-cut_told holds lacks q count how path Rank h = absurd (no_rank holds lacks q.regions count path h)
 cut_told holds lacks q count how path Memory h = tt
 cut_told holds lacks q count how path CannotWrite h = h
 
 -- and so is why a run is refused
-pub run_told : (holds : Holds) (lacks : Lacks) (q : Problem) (count : ℕ) (how : Deal) (path : Option (List ℕ)) (c : Cut) (e : AnswerError)
-    → IsAskedCut holds q.regions count how path c → IsRunError q c e → IsWorkRefused holds lacks q count how path (refusal_of e)
-run_told holds lacks q count how path c (answer.Text error) asked h = absurd h
-run_told holds lacks q count how path c (answer.Rule error) asked h = absurd h
-run_told holds lacks q count how path c (answer.Run run.Thread) asked h = tt
-run_told holds lacks q count how path c (answer.Run run.RankFull) asked h = (c, asked, h)
-run_told holds lacks q count how path c (answer.Run run.Memory) asked h = absurd h
-run_told holds lacks q count how path c answer.Memory asked h = tt
+pub run_told : (holds : Holds) (lacks : Lacks) (q : Problem) (count : ℕ) (how : Deal) (path : Option (List ℕ)) (e : AnswerError)
+    → IsRunError e → IsWorkRefused holds lacks q count how path (refusal_of e)
+run_told holds lacks q count how path (answer.Text error) h = absurd h
+run_told holds lacks q count how path (answer.Rule error) h = absurd h
+run_told holds lacks q count how path (answer.Run run.Thread) h = tt
+run_told holds lacks q count how path (answer.Run run.Memory) h = absurd h
+run_told holds lacks q count how path answer.Memory h = tt
 
 -- ---- what a line asks for
 

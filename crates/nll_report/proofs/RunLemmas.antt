@@ -11,7 +11,7 @@ use Rattle.nll_answer.specs.declared.error.AnswerError.{AnswerError}
 use Rattle.nll_answer.specs.declared.error.AnswerError.TheVariants as answer
 use Rattle.nll_report.specs.Refusal.{refusal_at, refusal_of}
 use Rattle.nll_report.specs.declared.messages.Refusal.{Refusal}
-use Rattle.nll_report.specs.declared.messages.Refusal.TheVariants.{Usage, CannotRead, Text, Limit, CutText, CutLength, NoSuchOwner, Thread, Rank, Memory, CannotWrite}
+use Rattle.nll_report.specs.declared.messages.Refusal.TheVariants.{Usage, CannotRead, Text, Limit, CutText, CutLength, NoSuchOwner, Thread, Memory, CannotWrite}
 use Rattle.nll_command_line.specs.CommandLine.{AsksPlainlyForHelp, IsNoPlainLine}
 use Rattle.nll_command_line.specs.declared.task.Task.{Task}
 use Rattle.nll_command_line.specs.Options.{ArePlaced, Given, Said, behind, no_words, unread}
@@ -101,7 +101,6 @@ module _ (holds : Holds) (lacks : Lacks) (words : Words) (task : Task) (file : L
   line_told CutLength h = line_refused CutLength h
   line_told (NoSuchOwner index) h = line_refused (NoSuchOwner index) h
   line_told Thread h = line_refused Thread h
-  line_told Rank h = line_refused Rank h
   line_told Memory h = tt
   line_told CannotWrite h = absurd (⊎_elim
       (λ none. none)

@@ -8,7 +8,6 @@ use Rattle.nll_cut.specs.Partition.{Cut, Deals, IsBlockSize, cut_of, list_error}
 use Rattle.nll_cut.specs.declared.error.CutError.{CutError}
 use Rattle.nll_cut.specs.declared.error.CutError.TheVariants as due
 use Rattle.nll_cut_text.specs.CutText.{cut, Means}
-use Rattle.nll_run.specs.Outcome.{HasFullClock}
 use Rattle.nll_answer.specs.Texts.{IsMeaning}
 use Rattle.nll_command_line.specs.declared.options.Deal.{Deal}
 use Rattle.nll_command_line.specs.declared.options.Deal.TheVariants.{Round, Blocks}
@@ -16,7 +15,7 @@ use Rattle.nll_report.specs.Texts.{Holds, Lacks}
 use Rattle.nll_report.specs.declared.messages.Refusal.{Refusal}
 use Rattle.nll_report.specs.declared.messages.Refusal.TheVariants.{CannotRead, CutText}
 use Rattle.nll_report.specs.declared.messages.Refusal.TheVariants.{CutLength, NoSuchOwner}
-use Rattle.nll_report.specs.declared.messages.Refusal.TheVariants.{Thread, Rank, Memory}
+use Rattle.nll_report.specs.declared.messages.Refusal.TheVariants.{Thread, Memory}
 
 -- owners are asked for where their number is given, or a cut file
 abbrev pub AsksForOwners : Option ℕ → Option (List ℕ) → Type 0
@@ -88,17 +87,11 @@ IsCutRefused holds lacks regions count None refusal = refusal ≡ Memory
 
 -- ---- why owners give no report
 
--- a cut that is asked for has an owner whose clock is at its end
-abbrev pub IsRankFull : Holds → Problem → ℕ → Deal → Option (List ℕ) → Type 0
-IsRankFull holds q count how path =
-    (c : Cut) × IsAskedCut holds q.regions count how path c × HasFullClock q c
-
 -- the refusal tells the truth of the cut or of the owners at work; that a thread couldn't be
 -- started, or that memory was refused, says nothing of the texts
 abbrev pub IsWorkRefused : Holds → Lacks → Problem → ℕ → Deal → Option (List ℕ) → Refusal
     → Type 0
 IsWorkRefused holds lacks q count how path Thread = Unit {0}
-IsWorkRefused holds lacks q count how path Rank = IsRankFull holds q count how path
 IsWorkRefused holds lacks q count how path Memory = Unit {0}
 IsWorkRefused holds lacks q count how path other =
     IsCutRefused holds lacks q.regions count path other

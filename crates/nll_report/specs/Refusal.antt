@@ -12,7 +12,7 @@ use Rattle.nll_answer.specs.declared.error.AnswerError.TheVariants as answer
 use Rattle.nll_report.specs.declared.messages.Refusal.{Refusal}
 use Rattle.nll_report.specs.declared.messages.Refusal.TheVariants.{Usage, CannotRead, Text}
 use Rattle.nll_report.specs.declared.messages.Refusal.TheVariants.{Limit, CutText, CutLength}
-use Rattle.nll_report.specs.declared.messages.Refusal.TheVariants.{NoSuchOwner, Thread, Rank}
+use Rattle.nll_report.specs.declared.messages.Refusal.TheVariants.{NoSuchOwner, Thread}
 use Rattle.nll_report.specs.declared.messages.Refusal.TheVariants.{Memory, CannotWrite}
 use Rattle.nll_cut.specs.declared.error.CutError.{CutError}
 use Rattle.nll_cut.specs.declared.error.CutError.TheVariants as cut
@@ -29,7 +29,6 @@ status_of (CutText line kind) = 2
 status_of CutLength = 2
 status_of (NoSuchOwner index) = 2
 status_of Thread = 3
-status_of Rank = 3
 status_of Memory = 3
 status_of CannotWrite = 3
 
@@ -48,7 +47,6 @@ refusal_of (answer.Text error) = refusal_of_text error
 refusal_of (answer.Rule (rule.Limit counted)) = Limit counted
 refusal_of (answer.Rule rule.Memory) = Memory
 refusal_of (answer.Run run.Thread) = Thread
-refusal_of (answer.Run run.RankFull) = Rank
 refusal_of (answer.Run run.Memory) = Memory
 refusal_of answer.Memory = Memory
 
@@ -102,7 +100,6 @@ refusal_text (CutText line kind) =
 refusal_text CutLength = codes "nllc: cut: length"
 refusal_text (NoSuchOwner index) = codes "nllc: cut: no such owner at " ++ decimal index
 refusal_text Thread = codes "nllc: thread"
-refusal_text Rank = codes "nllc: rank"
 refusal_text Memory = codes "nllc: memory"
 refusal_text CannotWrite = codes "nllc: cannot write"
 

@@ -8,7 +8,7 @@ use Rattle.nll_answer.specs.declared.answers.Command.TheVariants as command
 use Rattle.nll_report.specs.declared.messages.Refusal.{Refusal}
 use Rattle.nll_report.specs.declared.messages.Refusal.TheVariants.{Usage, CannotRead, Text}
 use Rattle.nll_report.specs.declared.messages.Refusal.TheVariants.{Limit, CutText, CutLength}
-use Rattle.nll_report.specs.declared.messages.Refusal.TheVariants.{NoSuchOwner, Thread, Rank}
+use Rattle.nll_report.specs.declared.messages.Refusal.TheVariants.{NoSuchOwner, Thread}
 use Rattle.nll_report.specs.declared.messages.Refusal.TheVariants.{Memory, CannotWrite}
 use Rattle.nll_problem.specs.declared.error.Kind.{Kind}
 use Rattle.nll_body_problem.specs.declared.error.RuleError.TheVariants as rule
@@ -112,7 +112,6 @@ IsFileRefused holds lacks file (CutText line kind) = ⊥
 IsFileRefused holds lacks file CutLength = ⊥
 IsFileRefused holds lacks file (NoSuchOwner index) = ⊥
 IsFileRefused holds lacks file Thread = ⊥
-IsFileRefused holds lacks file Rank = ⊥
 IsFileRefused holds lacks file Memory = Unit {0}
 IsFileRefused holds lacks file CannotWrite = ⊥
 
@@ -152,7 +151,6 @@ IsRefused holds lacks words CutLength = IsLineRefused holds lacks words CutLengt
 IsRefused holds lacks words (NoSuchOwner index) =
     IsLineRefused holds lacks words (NoSuchOwner index)
 IsRefused holds lacks words Thread = IsLineRefused holds lacks words Thread
-IsRefused holds lacks words Rank = IsLineRefused holds lacks words Rank
 IsRefused holds lacks words Memory = Unit {0}
 IsRefused holds lacks words CannotWrite = ⊥
 

@@ -44,8 +44,6 @@ pub enum Refusal {
     NoSuchOwner(u32),
     /// A thread couldn't be started.
     Thread,
-    /// The clock of an owner is at its end.
-    Rank,
     /// An allocation was refused.
     Memory,
     /// Standard output took less than the whole report.
@@ -61,7 +59,7 @@ impl Refusal {
             Refusal::Usage | Refusal::CannotRead(_) | Refusal::Text(_, _) => 2,
             Refusal::Limit(_) | Refusal::CutText(_, _) => 2,
             Refusal::CutLength | Refusal::NoSuchOwner(_) => 2,
-            Refusal::Thread | Refusal::Rank => 3,
+            Refusal::Thread => 3,
             Refusal::Memory | Refusal::CannotWrite => 3,
         }
     }
@@ -85,7 +83,6 @@ impl Refusal {
             Refusal::CutLength => put_pieces(to, &["nllc: cut: length", "\n"]),
             Refusal::NoSuchOwner(index) => print_stranger(to, *index),
             Refusal::Thread => put_pieces(to, &["nllc: thread", "\n"]),
-            Refusal::Rank => put_pieces(to, &["nllc: rank", "\n"]),
             Refusal::Memory => put_pieces(to, &["nllc: memory", "\n"]),
             Refusal::CannotWrite => put_pieces(to, &["nllc: cannot write", "\n"]),
         }
@@ -176,7 +173,6 @@ impl From<AnswerError> for Refusal {
             AnswerError::Rule(RuleError::Limit(kind)) => Refusal::Limit(kind),
             AnswerError::Rule(RuleError::Memory) => Refusal::Memory,
             AnswerError::Run(RunError::Thread) => Refusal::Thread,
-            AnswerError::Run(RunError::RankFull) => Refusal::Rank,
             AnswerError::Run(RunError::Memory) => Refusal::Memory,
             AnswerError::Memory => Refusal::Memory,
         }
@@ -198,7 +194,6 @@ impl fmt::Display for Refusal {
             Refusal::CutLength => f.write_str("nllc: cut: length"),
             Refusal::NoSuchOwner(index) => write!(f, "nllc: cut: no such owner at {index}"),
             Refusal::Thread => f.write_str("nllc: thread"),
-            Refusal::Rank => f.write_str("nllc: rank"),
             Refusal::Memory => f.write_str("nllc: memory"),
             Refusal::CannotWrite => f.write_str("nllc: cannot write"),
         }

@@ -118,7 +118,7 @@ fn told_by_cut<R: AllocGlobal + Threads + Wait + Sync>(
     ensures ok { IfOk result (λ r.
         IsProblemAnswer command facts.now.problem facts.now.labels r.0.items r.1) }
     ensures status { IfOk result (λ r. r.1 ≤ 1) }
-    ensures err { IfErr result (IsRunError facts.now.problem cut.now) }
+    ensures err { IfErr result IsRunError }
 {
     let mail = QueueMail::new(rt);
     answer_run(

@@ -17,7 +17,7 @@ use Rattle.nll_worker.specs.Finishing.{Finishes}
 use Rattle.nll_mail.specs.declared.mail.Mail as Mail
 use Rattle.nll_ledger.specs.declared.ledger.Ledger as Ledger
 use Rattle.nll_owner.specs.Delivery.{IsPair, IsPairBefore}
-use Rattle.nll_run.specs.Outcome.{IsOutcome, HasFullClock}
+use Rattle.nll_run.specs.Outcome.{IsOutcome}
 use Rattle.nll_worker.specs.Finishing.{Leaves, WasMade, FinishedAs, IsError}
 use Rattle.nll_worker.specs.declared.ending.Ending.{Ending}
 use Rattle.nll_worker.specs.declared.ending.Ending.TheVariants.{Quiet, Stopped, Stray}
@@ -73,7 +73,6 @@ no_error_cases endings.Quiet t = inl refl
 no_error_cases endings.Stopped t = inr (inl refl)
 no_error_cases endings.Stray t = inr (inr refl)
 no_error_cases endings.Memory t = absurd t
-no_error_cases endings.RankFull t = absurd t
 no_error_cases endings.Unstarted t = absurd t
 no_error_cases endings.NoOwner t = absurd t
 
@@ -82,7 +81,6 @@ made endings.Quiet t = tt
 made endings.Stopped t = tt
 made endings.Stray t = tt
 made endings.Memory t = absurd t
-made endings.RankFull t = absurd t
 made endings.Unstarted t = absurd t
 made endings.NoOwner t = absurd t
 
@@ -92,26 +90,8 @@ error_bad endings.Quiet t e = absurd e
 error_bad endings.Stopped t e = absurd e
 error_bad endings.Stray t e = refl
 error_bad endings.Memory t e = absurd t
-error_bad endings.RankFull t e = absurd t
 error_bad endings.Unstarted t e = absurd t
 error_bad endings.NoOwner t e = absurd t
-
--- the error on ranks is of no other ending
-pub full_ending : (w : Ending) → error_of w ≡ Some errors.RankFull → w ≡ endings.RankFull
-full_ending endings.RankFull e = refl
-full_ending endings.Memory e = absurd (cc e)
-full_ending endings.NoOwner e = absurd (cc e)
-full_ending endings.Unstarted e = absurd (cc e)
-full_ending endings.Quiet e = absurd (cc e)
-full_ending endings.Stopped e = absurd (cc e)
-full_ending endings.Stray e = absurd (cc e)
-
--- a worker that ended since its clock was at its end had an owner with such a clock
-pub full_clock : (q : Problem) (c : Cut) (k : ℕ) (sent got : ℕ → List Growth) (owed cleared : ℕ) (ending : Ending) (log : List Growth)
-    → k < c.owners → ending ≡ endings.RankFull → (WasMade ending → FinishedAs q c k sent got owed cleared ending log) → HasFullClock q c
-full_clock q c k sent got owed cleared ending log l is f =
-    let x = f (subst WasMade (sym is) tt) in
-    (k, x.0, l, record { problem = x.2.problem; cut = x.2.cut; me = x.2.me }, x.2.sound, x.2.full is)
 
 module _ {D M S R C P L B H E : Type 0} (m : Mail.Ghosts M S R C P) (b : Ledger.Ghosts L B H E) (book : B)
     (log : D → List Growth) (left : D → E) (closed : D → List C) (kept : D → List R) (why_of : D → Ending) (q : Problem) (c : Cut) (cut : IsCutOf q c) (ds : List D) (count : length ds ≡ c.owners)
@@ -312,7 +292,6 @@ calm_or Stopped error calm is = cc
 calm_or Stray error calm is = cc
 calm_or endings.Memory error calm is = calm
 calm_or endings.NoOwner error calm is = calm
-calm_or endings.RankFull error calm is = calm
 calm_or endings.Unstarted error calm is = calm
 
 module _ {D : Type 0} (ending : D → Ending) (ds : List D) where

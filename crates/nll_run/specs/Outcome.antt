@@ -1,6 +1,6 @@
 -- What a run answers.
 -- Source: project's choice, after RFC 2094, "Solving constraints".
-use Rattle.std.specs.Prelude.{◌≡◌, ◌↔◌, ◌≤◌, ◌<◌, ◌^◌, ℕ, Bool, List, [], map, Contains, AllPairs}
+use Rattle.std.specs.Prelude.{◌≡◌, ◌↔◌, ℕ, Bool, List, [], map, Contains, AllPairs}
 use Rattle.nll_problem.specs.Problem.{Problem}
 use Rattle.nll_problem.specs.Solution.{Least}
 use Rattle.nll_core.specs.Values.{IsHeld, IsShaped}
@@ -8,9 +8,7 @@ use Rattle.nll_cut.specs.Partition.{Cut}
 use Rattle.nll_mail.specs.declared.growth.Growth.{Growth}
 use Rattle.nll_mail.specs.declared.mail.Mail as Mail
 use Rattle.nll_owner.specs.Logs.{AreSound, log_of, part}
-use Rattle.nll_owner.specs.Owner.{Owner, IsSound}
 use Rattle.nll_owner.specs.Delivery.{AreDelivered, IsPairBefore, SayLeast}
-use Rattle.nll_worker.specs.Finishing.{IsOwnerOf}
 
 -- Each owner received from each other just the growths of the regions that it reads, once each and
 -- in the order in which they grew, and none was left in a mailbox. The values are the least.
@@ -27,8 +25,3 @@ pub record IsOutcome {M S R C P : Type 0} (mail : Mail.Ghosts M S R C P) (q : Pr
   pub shaped : IsShaped q values
   pub least : (r e : ℕ) → IsHeld values r e ↔ Least q r e
   pub logged : SayLeast q c grown
-
--- one of the cut's owners has a clock that is at its end
-abbrev pub HasFullClock : Problem → Cut → Type 0
-HasFullClock q c =
-    (i : ℕ) × (o : Owner) × (i < c.owners) × IsOwnerOf q c i o × IsSound o × (2 ^ 62 ≤ o.clock)

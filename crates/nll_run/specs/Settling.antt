@@ -83,6 +83,5 @@ IsCalm _ = ⊥
 abbrev pub error_of : Ending → Option RunError
 error_of endings.Memory = Some errors.Memory
 error_of endings.NoOwner = Some errors.Memory
-error_of endings.RankFull = Some errors.RankFull
 error_of endings.Unstarted = Some errors.Thread
 error_of _ = None

@@ -8,10 +8,9 @@ ghost use Rattle.nll_problem.specs.Problem.{IsSound};
 ghost use Rattle.nll_owner.specs.Logs.{IsCutOf, log_of};
 ghost use Rattle.nll_owner.specs.Tables.{AreTables};
 ghost use Rattle.nll_worker.specs.Finishing.{IsFresh, Leaves, WasMade, FinishedAs};
-ghost use Rattle.nll_run.specs.Outcome.{IsOutcome, HasFullClock};
+ghost use Rattle.nll_run.specs.Outcome.{IsOutcome};
 ghost use Rattle.nll_run.specs.Settling.{IsCalm, error_of};
 ghost use Rattle.nll_run.specs.Table.{AreNewEnds, IsTable};
-ghost use Rattle.nll_run.specs.declared.error.RunError.TheVariants.{RankFull};
 
 use crate::error::RunError;
 use crate::filling::values_of;
@@ -41,7 +40,6 @@ use std::thread::{PromisedHandle, Threads};
 /// All threads are joined and all senders closed, and what was lent is as it was.
 /// - `Thread`: a thread couldn't be started.
 /// - `Memory`.
-/// - `RankFull`: the clock of an owner is at its end.
 ///
 /// # Cost
 /// The work of the owners, and for each growth that is received some two holds of the ledger, a
@@ -58,7 +56,6 @@ pub fn run<M: Mail, L: Ledger, G: Gate, R: Threads + Wait + Sync>(
     requires { length cut.now.list ≡ problem.now.regions }
     ensures ok { IfOk result (λ o. IsOutcome M.Mail problem.now cut.now o.values
         (map (λ list. list.items) o.grown.items) o.posts.items) }
-    ensures full { result ≡ Err RankFull → HasFullClock problem.now cut.now }
 {
     let tables = Tables::of(alloc, problem, cut)?;
     let outcome = run_on::<M, L, G, R>(rt, alloc, problem, cut, &tables, mail, ledger, gate);
@@ -81,7 +78,6 @@ fn run_on<M: Mail, L: Ledger, G: Gate, R: Threads + Wait + Sync>(
     requires tables { AreTables problem.now cut.now tables.now }
     ensures ok { IfOk result (λ o. IsOutcome M.Mail problem.now cut.now o.values
         (map (λ list. list.items) o.grown.items) o.posts.items) }
-    ensures full { result ≡ Err RankFull → HasFullClock problem.now cut.now }
 {
     // No effect at run time. The proof reads from this call that the problem is sound.
     let _regions = problem.regions();
@@ -160,7 +156,6 @@ fn conclude<M: Mail, L: Ledger>(
         d.ending d.log.items }
     ensures ok { IfOk result (λ o. IsOutcome M.Mail problem.now cut.now o.values
         (map (λ list. list.items) o.grown.items) o.posts.items) }
-    ensures full { result ≡ Err RankFull → HasFullClock problem.now cut.now }
     ensures first { (k : ℕ) (d : _) (error : RunError) → slice_get finished.items k ≡ Some d
         → error_of d.ending ≡ Some error
         → ((j : ℕ) (b : _) → j < k → slice_get finished.items j ≡ Some b → IsCalm b.ending)

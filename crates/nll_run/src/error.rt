@@ -14,9 +14,6 @@ pub enum RunError {
     /// A growth of memory was refused.
     #[error("out of memory")]
     Memory,
-    /// The clock of an owner is at its end.
-    #[error("no rank is left")]
-    RankFull,
 }
 
 impl From<AllocError> for RunError {

@@ -32,7 +32,6 @@ pub fn first_error<M: Mail, L: Ledger>(finished: &[Finished<M, L>]) -> Option<Ru
         match done.ending {
             Ending::Memory => return Some(RunError::Memory),
             Ending::NoOwner => return Some(RunError::Memory),
-            Ending::RankFull => return Some(RunError::RankFull),
             Ending::Unstarted => return Some(RunError::Thread),
             Ending::Stray => {}
             Ending::Stopped => {}

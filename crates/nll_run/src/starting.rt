@@ -1,11 +1,11 @@
 //! The workers of a run are started and joined, over a book that the run keeps.
 
-ghost use Rattle.std.specs.Prelude.{◌≡◌, ◌≢◌, [], cond, length, Err, IfOk, vec_capacity};
+ghost use Rattle.std.specs.Prelude.{◌≡◌, [], cond, length, IfOk, vec_capacity};
 ghost use Rattle.std.specs.VecDeque.{deque_len};
 ghost use Rattle.nll_owner.specs.Tables.{AreTables};
 ghost use Rattle.nll_worker.specs.Starting.{AllOf, Each};
 ghost use Rattle.nll_worker.specs.Finishing.{IsGiven, IsEnded};
-ghost use Rattle.nll_run.specs.declared.error.RunError.TheVariants.{Memory, RankFull, Thread};
+ghost use Rattle.nll_run.specs.declared.error.RunError.TheVariants.{Memory, Thread};
 
 use crate::error::RunError;
 use nll_cut::Cut;
@@ -45,7 +45,6 @@ pub fn start_all<M: Mail, L: Ledger, G: Gate, R: Threads + Wait + Sync>(
     ensures each { IfOk result.1 (λ all. Each workers.items all.items (λ w back. IsEnded
         L.Ledger M.Mail problem.now cut.now book w.me w.outbox.senders.items w.receivers.items
         back.log.items back.left back.closed.items back.receivers.items back.ending)) }
-    ensures full { result.1 ≢ Err RankFull }
 {
     let refused = AtomicBool::new(false);
     let finished = run_all::<M, L, G, R>(

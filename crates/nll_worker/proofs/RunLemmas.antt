@@ -1,5 +1,5 @@
 -- What follows from what the workers give back.
-use Rattle.std.proofs.Common.{◌≡◌, ◌≢◌, ◌↔◌, ℕ, ◌<◌, List, [], ◌++◌, length, Contains, refl, sym, ap, ◌∙◌, subst, inl, inr, ⊎_elim}
+use Rattle.std.proofs.Common.{◌≡◌, ◌≢◌, ◌↔◌, ℕ, ◌^◌, ◌<◌, ◌≤◌, List, [], ◌++◌, length, Contains, refl, sym, ap, ◌∙◌, subst, inl, inr, ⊎_elim}
 use Rattle.std.proofs.lemmas.Bool.{cases_eq}
 use Rattle.std.proofs.lemmas.List.Elements.{Contains-append_left}
 use Rattle.nll_problem.specs.Graph.{element_count}
@@ -14,6 +14,7 @@ use Rattle.nll_owner.specs.Logs.{IsWellFormed, part, IsTold, IsToldBefore, list_
 use Rattle.nll_owner.specs.Owner.{Owner, Passes, list_in, received_from, part_for}
 use Rattle.nll_owner.proofs.LogLemmas.{filter_from, list_own, list_other}
 use Rattle.nll_owner.proofs.LawLemmas.{least_exact}
+use Rattle.nll_owner.proofs.RankLemmas.{ranks_low}
 use Rattle.nll_worker.specs.Sums.{sum_to}
 use Rattle.nll_worker.specs.Finishing.{Finishes}
 use Rattle.nll_worker.specs.declared.ending.Ending.{Ending}
@@ -26,17 +27,30 @@ module _ (q : Problem) (c : Cut) (owner : ℕ → Owner) (sent got rest : ℕ �
   part_is : (i j : ℕ) → i < c.owners → part_for (owner i) j ≡ part q c j (owner i).log
   part_is i j l = ap (λ x. part x (owner i).cut j (owner i).log) (ends i l).problem ∙ ap (λ x. part q x j (owner i).log) (ends i l).cut
 
-  -- each growth that was taken can be its sender's
-  passes : (i j : ℕ) (g : Growth) → i < c.owners → j < c.owners → Contains (got j i) g → Passes q c i j g
-  passes i j g li lj h =
+  -- what was taken stands in its sender's log
+  logged : (i j : ℕ) (g : Growth) → i < c.owners → j < c.owners → Contains (got j i) g → Contains (part q c i (owner j).log) g
+  logged i j g li lj h =
       let f = (ends j lj).front i li in
       let posted = subst (λ xs. Contains xs g) (sym (tied j i lj li)) (Contains-append_left (got j i) (rest j i) g h) in
       let in_part = subst (λ xs. Contains xs g) (sym f.1) (Contains-append_left (sent j i) f.0 g posted) in
-      let x = filter_from _ (owner j).log g (subst (λ xs. Contains xs g) (part_is j i lj) in_part) in
+      subst (λ xs. Contains xs g) (part_is j i lj) in_part
+
+  -- no rank of a log is 2 ^ 61 or above
+  low : (j : ℕ) (g : Growth) → j < c.owners → Contains (owner j).log g → g.rank < 2 ^ 61
+  low j g lj h =
+      let few : c.owners ≤ 64 = subst (λ (k : Cut). k.owners ≤ 64) (ends j lj).cut (ends j lj).sound.cut.cut.owner_limit in
+      ranks_low c.owners owner few (λ i l. (ends i l).sound) (λ i l. ap (λ (k : Cut). k.owners) (ends i l).cut) (λ i l. (ends i l).me)
+      (λ i k w li lk differ at. (filter_from _ (owner k).log w (logged i k w li lk ((ends i li).taken k w lk at))).0) j g lj h
+
+  -- each growth that was taken can be its sender's
+  passes : (i j : ℕ) (g : Growth) → i < c.owners → j < c.owners → Contains (got j i) g → Passes q c i j g
+  passes i j g li lj h =
+      let x = filter_from _ (owner j).log g (logged i j g li lj h) in
       record {
         sender = subst (λ k. owner_of k g.region ≡ j) (ends j lj).cut (subst (λ k. owner_of (owner j).cut g.region ≡ k) (ends j lj).me ((ends j lj).sound.well_formed.own g x.0));
         read = x.1;
         element = subst (λ (p : Problem). g.element < element_count p.graph) (ends j lj).problem ((ends j lj).sound.elements g x.0);
+        rank = low j g lj x.0;
       }
 
   pub not_stray : (i : ℕ) → i < c.owners → ending i ≢ Stray

@@ -1,6 +1,7 @@
 -- What a turn comes to.
-use Rattle.std.proofs.Common.{◌≡◌, ◌≢◌, ℕ, zero, suc, ◌+◌, ◌*◌, ◌^◌, ◌<◌, ◌≤◌, true, false, List, [], ◌∷◌, ◌++◌, length, length-append, take, slice_set, slice_index_or, replicate, refl, sym, ap, ◌∙◌, subst, ◌⊎◌, ⊎_elim, arith}
-use Rattle.std.proofs.lemmas.List.Elements.{filter-append}
+use Rattle.std.proofs.Common.{◌≡◌, ◌≢◌, ℕ, zero, suc, ◌+◌, ◌*◌, ◌^◌, ◌<◌, ◌≤◌, true, false, List, [], ◌∷◌, ◌++◌, length, length-append, take, slice_set, slice_index_or, replicate, Contains, refl, sym, ap, ◌∙◌, subst, ◌⊎◌, ⊎_elim, arith}
+use Rattle.std.proofs.lemmas.Bool.{cases_eq}
+use Rattle.std.proofs.lemmas.List.Elements.{filter-append, Contains-append_left}
 use Rattle.nll_owner.specs.Logs.{IsPrefix, log_of, part}
 use Rattle.nll_owner.specs.Owner.{Owner, IsSound, IsDone, Passes, part_for, given_to, received_from, with_growth, first_owner}
 use Rattle.nll_cut.specs.Partition.{Cut, reads}
@@ -9,7 +10,7 @@ use Rattle.nll_mail.specs.declared.growth.Growth.{Growth}
 use Rattle.nll_worker.specs.declared.exchange.Heard.TheVariants.{Nothing, One}
 use Rattle.nll_worker.specs.Sums.{sum_to}
 use Rattle.nll_worker.specs.Hearing.{IsGivenUp}
-use Rattle.nll_worker.specs.Turning.{HasPosted, HasTaken, IsAtRest, HasPostedFronts}
+use Rattle.nll_worker.specs.Turning.{HasPosted, HasTaken, IsAtRest, HasPostedFronts, HasTakenAll}
 use Rattle.nll_worker.specs.Finishing.{IsOwnerOf}
 use Rattle.nll_worker.specs.Mailboxes.{AreAllEmpty}
 use Rattle.nll_worker.proofs.SumLemmas.{sum_same, sum_zero}
@@ -45,11 +46,38 @@ module _ (old : Owner) (posts taken : List (List Growth)) (owed cleared : ℕ) (
   pub fronts_rest : HasPostedFronts old posts
   fronts_rest j l = subst (λ xs. IsPrefix xs (part_for old j)) (sym (posted_all j l)) (begins_all (part_for old j))
 
-  pub fronts_lost : (new : Owner) → IsGivenUp old new → HasPostedFronts new posts
-  fronts_lost new lost j l =
+  pub taken_rest : HasTakenAll old taken
+  taken_rest j g l h = subst (λ xs. Contains xs g) (sym (r.taking.heard j l)) h
+
+  pub fronts_lost : (new : Owner) (from : ℕ) (g : Growth) → IsGivenUp from g old new → HasPostedFronts new posts
+  fronts_lost new from g lost j l =
       let others = lost.2 in
       subst (λ xs. IsPrefix xs (part_for new j)) (sym (posted_all j (subst (λ (o : Owner). j < o.cut.owners) others l)))
       (part_longer old new j (ap (λ (o : Owner). o.problem) others) (ap (λ (o : Owner). o.cut) others) lost.0)
+
+  -- a growth more was taken, and received or not
+  module _ (after : List (List Growth)) (from : ℕ) (g : Growth) (more : log_of after from ≡ log_of taken from ++ g ∷ []) (rest : after ≡ slice_set taken from (log_of after from)) where
+    taken_still : (j : ℕ) (h : Growth) → Contains (log_of taken j) h → Contains (log_of after j) h
+    taken_still j h at = ⊎_elim
+        (λ (here : j ≡ from). subst (λ k. Contains (log_of after k) h) (sym here) (subst (λ xs. Contains xs h) (sym more) (Contains-append_left (log_of taken from) (g ∷ []) h (subst (λ k. Contains (log_of taken k) h) here at))))
+        (λ (other : j ≢ from). subst (λ xs. Contains xs h) (sym (ap (λ xs. log_of xs j) rest ∙ other_read taken from j (log_of after from) [] other)) at)
+        (cases_eq j from)
+
+    pub taken_same : (new : Owner) → new ≡ old → HasTakenAll new after
+    taken_same new same = subst (λ (o : Owner). HasTakenAll o after) (sym same) (λ j h l at. taken_still j h (taken_rest j h l at))
+
+    pub taken_lost : (new : Owner) → from < old.cut.owners → IsGivenUp from g old new → HasTakenAll new after
+    taken_lost new from_in lost j h l at =
+        let was : j < old.cut.owners = subst (λ (o : Owner). j < o.cut.owners) lost.2 l in
+        ⊎_elim
+        (λ (none : new.received ≡ old.received). taken_still j h (taken_rest j h was (subst (λ (lists : List (List Growth)). Contains (slice_index_or lists j []) h) none at)))
+        (λ (one : new.received ≡ with_growth old.received from g). ⊎_elim
+        (λ (here : j ≡ from).
+        let lists : received_from new from ≡ received_from old from ++ g ∷ [] = ap (λ xs. slice_index_or xs from []) one ∙ set_log old.received from (received_from old from ++ g ∷ []) [] (omega (arith, from_in, r.posting.sound.senders)) in
+        subst (λ k. Contains (log_of after k) h) (sym here) (subst (λ xs. Contains xs h) (sym (more ∙ ap (λ xs. xs ++ g ∷ []) (r.taking.heard from from_in))) (subst (λ xs. Contains xs h) lists (subst (λ k. Contains (received_from new k) h) here at))))
+        (λ (other : j ≢ from). taken_still j h (taken_rest j h was (subst (λ xs. Contains xs h) (ap (λ xs. slice_index_or xs j []) one ∙ other_read old.received from j (received_from old from ++ g ∷ []) [] other) at)))
+        (cases_eq j from))
+        lost.3
 
   pub rests_same : (new : Owner) (after : List (List Growth)) (from : ℕ) → new ≡ old → log_of after from ≡ log_of taken from → after ≡ slice_set taken from (log_of after from) → IsAtRest new posts after owed cleared
   rests_same new after from same none others =
@@ -111,6 +139,10 @@ takes_cleared o next taken cleared cleared' t others is = subst (λ (x : Owner).
   clears = omega (arith, t.clears, is);
 })
 
+-- all that was received was taken, whatever was given out since
+pub taken_of : (o next : Owner) (taken : List (List Growth)) (cleared items : ℕ) → HasTaken o taken cleared items → next ≡ record o { given = next.given } → HasTakenAll next taken
+taken_of o next taken cleared items t others = subst (λ (x : Owner). HasTakenAll x taken) (sym others) (λ j g l h. subst (λ xs. Contains xs g) (sym (t.heard j l)) h)
+
 pub is_of_kept : (q : Problem) (c : Cut) (i : ℕ) (o next : Owner) → next.problem ≡ o.problem → next.cut ≡ o.cut → next.me ≡ o.me → IsOwnerOf q c i o → IsOwnerOf q c i next
 is_of_kept q c i o next a b d is = record { problem = a ∙ is.problem; cut = b ∙ is.cut; me = d ∙ is.me }
 
@@ -161,6 +193,12 @@ module _ (q : Problem) (c : Cut) (i : ℕ) (old new : Owner) (first : old ≡ fi
       take_nothing : (ys : List Growth) → take 0 ys ≡ []
       take_nothing [] = refl
       take_nothing (y ∷ ys) = refl
+
+  -- it received nothing
+  pub none_taken : (next : Owner) (taken : List (List Growth)) → next ≡ record new { given = next.given } → HasTakenAll next taken
+  none_taken next taken later j g l h =
+      let none : received_from next j ≡ [] = ap (λ (o : Owner). received_from o j) later ∙ (ap (λ (o : Owner). received_from o j) begun ∙ read_replicate c.owners j []) in
+      absurd (omega (arith, (subst (λ (xs : List Growth). Contains xs g) none h).1))
 
   pub first_takes : (taken : List (List Growth)) (cleared : ℕ) → AreAllEmpty c.owners taken → cleared ≡ 0 → HasTaken new taken cleared 1
   first_takes taken cleared none is = record {

@@ -1,6 +1,6 @@
 -- What a worker is given, and what it gives back.
 -- Source: project's choice.
-use Rattle.std.specs.Prelude.{◌≡◌, ◌≢◌, ◌^◌, ℕ, ◌+◌, ◌<◌, ◌≤◌, true, false, List, [], length, map, Contains}
+use Rattle.std.specs.Prelude.{◌≡◌, ◌≢◌, ℕ, ◌+◌, ◌<◌, ◌≤◌, true, false, List, [], length, map, Contains}
 use Rattle.nll_problem.specs.Limits.{most_owners}
 use Rattle.nll_problem.specs.Problem.{Problem}
 use Rattle.nll_cut.specs.Partition.{Cut}
@@ -13,7 +13,7 @@ use Rattle.nll_worker.specs.Mailboxes.{Alike, AreAllEmpty, Keeps}
 use Rattle.nll_worker.specs.Sums.{sum_to}
 use Rattle.nll_worker.specs.declared.ending.Ending.{Ending}
 use Rattle.nll_worker.specs.declared.ending.Ending.TheVariants.{Quiet, Stopped, Unstarted, NoOwner}
-use Rattle.nll_worker.specs.declared.ending.Ending.TheVariants.{RankFull, Stray}
+use Rattle.nll_worker.specs.declared.ending.Ending.TheVariants.{Stray}
 
 -- The owner is of this problem, cut and number.
 pub record IsOwnerOf (q : Problem) (c : Cut) (i : ℕ) (o : Owner) : Type 0 where
@@ -37,7 +37,9 @@ pub record Finishes (q : Problem) (c : Cut) (i : ℕ) (o : Owner) (sent got : �
   -- it posted each part in order, from the front
   pub front : (j : ℕ) → j < c.owners → IsPrefix (sent j) (part_for o j)
   pub stray : ending ≡ Stray → HasStray q c i got
-  pub full : ending ≡ RankFull → 2 ^ 62 ≤ o.clock
+  -- its owner received nothing but what it took
+  pub taken :
+      (j : ℕ) (g : Growth) → j < c.owners → Contains (received_from o j) g → Contains (got j) g
   -- where all was quiet, its owner received what it took and has nothing left to do; it has posted
   -- all, owed for the load and for all that it posted, and cleared the load and all that it took
   pub heard : ending ≡ Quiet → (j : ℕ) → j < c.owners → got j ≡ received_from o j

@@ -1,6 +1,6 @@
 -- What a worker has between its steps. Private contracts alone cite this file.
 -- Source: project's choice.
-use Rattle.std.specs.Prelude.{◌≡◌, ◌^◌, ℕ, ◌+◌, ◌<◌, ◌≤◌, true, false, List, length, take}
+use Rattle.std.specs.Prelude.{◌≡◌, ◌^◌, ℕ, ◌+◌, ◌<◌, ◌≤◌, true, false, List, length, take, Contains}
 use Rattle.nll_problem.specs.Problem.{Problem}
 use Rattle.nll_cut.specs.Partition.{Cut}
 use Rattle.nll_mail.specs.declared.growth.Growth.{Growth}
@@ -11,7 +11,6 @@ use Rattle.nll_worker.specs.Finishing.{HasStray}
 use Rattle.nll_worker.specs.Sums.{sum_to}
 use Rattle.nll_worker.specs.declared.exchange.Heard.{Heard}
 use Rattle.nll_worker.specs.declared.exchange.Heard.TheVariants.{Nothing, One, Stray, Memory}
-use Rattle.nll_worker.specs.declared.exchange.Heard.TheVariants.{RankFull}
 
 -- The owner is sound and has nothing left to do; for each other owner just that was posted which it
 -- gave out. It owes 1 and what it posted.
@@ -57,6 +56,12 @@ pub record IsAtRest (o : Owner) (posts taken : List (List Growth)) (owed cleared
 abbrev pub HasPostedFronts : Owner → List (List Growth) → Type 0
 HasPostedFronts o posts = (j : ℕ) → j < o.cut.owners → IsPrefix (log_of posts j) (part_for o j)
 
+-- all that the owner received was taken
+abbrev pub HasTakenAll : Owner → List (List Growth) → Type 0
+HasTakenAll o taken =
+    (j : ℕ) (g : Growth) → j < o.cut.owners → Contains (received_from o j) g
+    → Contains (log_of taken j) g
+
 -- what a turn comes to
 abbrev pub ComesTo : Problem → Cut → ℕ → Owner → List (List Growth) → List (List Growth)
     → ℕ → ℕ → ℕ → Heard → Type 0
@@ -64,6 +69,6 @@ ComesTo q c i o posts taken owed cleared turns Nothing =
     IsAtRest o posts taken owed cleared × (turns ≡ cleared)
 ComesTo q c i o posts taken owed cleared turns One =
     IsAtRest o posts taken owed cleared × (turns ≡ cleared)
-ComesTo q c i o posts taken owed cleared turns Stray = HasStray q c i (log_of taken)
-ComesTo q c i o posts taken owed cleared turns Memory = Unit {0}
-ComesTo q c i o posts taken owed cleared turns RankFull = 2 ^ 62 ≤ o.clock
+ComesTo q c i o posts taken owed cleared turns Stray =
+    HasStray q c i (log_of taken) × HasTakenAll o taken
+ComesTo q c i o posts taken owed cleared turns Memory = HasTakenAll o taken

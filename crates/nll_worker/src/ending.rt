@@ -9,8 +9,6 @@ pub enum Ending {
     Stopped,
     /// A growth of memory was refused.
     Memory,
-    /// The clock of its owner was at its end.
-    RankFull,
     /// No thread was started for it, or an earlier one wasn't.
     Unstarted,
     /// A growth of memory was refused while its owner was made.

@@ -9,7 +9,7 @@ ghost use Rattle.nll_worker.specs.declared.exchange.Heard.TheVariants.{Nothing};
 
 use crate::gate::Gate;
 use nll_mail::{Growth, Mail, PostError};
-use nll_owner::{Owner, OwnerError};
+use nll_owner::Owner;
 
 /// Posts what isn't given out yet of the part of the log that another owner reads.
 ///
@@ -49,8 +49,6 @@ pub enum Heard {
     Stray,
     /// A growth of memory was refused.
     Memory,
-    /// The clock of the owner is at its end.
-    RankFull,
 }
 
 /// Takes a growth out of a mailbox, enters the gate, and hands the growth to the owner.
@@ -93,7 +91,6 @@ fn hand_in(owner: &mut Owner<'_>, from: u16, growth: Growth) -> Heard
     }
     match owner.receive(from, growth) {
         Ok(()) => Heard::One,
-        Err(OwnerError::RankFull) => Heard::RankFull,
         Err(_) => Heard::Memory,
     }
 }

@@ -20,7 +20,7 @@ use crate::gate::Gate;
 use nll_cut::Cut;
 use nll_ledger::Ledger;
 use nll_mail::{Mail, PostError};
-use nll_owner::{Owner, OwnerError};
+use nll_owner::Owner;
 use nll_problem::Problem;
 
 // How many growths of the log aren't given out yet, over all owners that read them.
@@ -204,7 +204,6 @@ fn turn<M: Mail, L: Ledger, G: Gate>(
         Heard::Nothing => Heard::Nothing,
         Heard::Stray => Heard::Stray,
         Heard::Memory => Heard::Memory,
-        Heard::RankFull => Heard::RankFull,
         Heard::One => {
             if share_out::<M, L>(book, share, owner, senders, owners).is_err() {
                 return Heard::Memory;
@@ -244,7 +243,6 @@ pub fn first_turn<M: Mail, L: Ledger, G: Gate>(
     gate.enter(me as usize, 1);
     match owner.load() {
         Ok(()) => {}
-        Err(OwnerError::RankFull) => return Heard::RankFull,
         Err(_) => return Heard::Memory,
     }
     if share_out::<M, L>(book, share, owner, senders, cut.owners()).is_err() {
@@ -292,7 +290,6 @@ pub fn round<M: Mail, L: Ledger, G: Gate>(
             Heard::One => any = true,
             Heard::Stray => return Heard::Stray,
             Heard::Memory => return Heard::Memory,
-            Heard::RankFull => return Heard::RankFull,
         }
     }
     if any { Heard::One } else { Heard::Nothing }

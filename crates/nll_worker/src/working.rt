@@ -98,7 +98,6 @@ fn work_on<M: Mail, L: Ledger, G: Gate, R: Wait>(
         match heard {
             Heard::Stray => return (halt::<L>(book, share), Ending::Stray),
             Heard::Memory => return (halt::<L>(book, share), Ending::Memory),
-            Heard::RankFull => return (halt::<L>(book, share), Ending::RankFull),
             Heard::One => backoff.reset(),
             Heard::Nothing => match ask_to_leave::<L>(book, share, &backoff) {
                 Leave::Quiet(left) => return (left, Ending::Quiet),

@@ -3,8 +3,7 @@ use Rattle.std.specs.List.{sum_by}
 use Rattle.nll_run.specs.Outcome.{IsOutcome}
 use Rattle.nll_run.specs.Settling.{ArePostsOf, InRows, sent_by, got_by}
 use Rattle.nll_run.proofs.PlaceLemmas.{map_from, within}
-use Rattle.nll_run.specs.declared.error.RunError.TheVariants.{RankFull}
-use Rattle.nll_run.proofs.ConcludingLemmas.{calm_or, full_clock, full_ending, in_range, one_lowest, says_least}
+use Rattle.nll_run.proofs.ConcludingLemmas.{calm_or, in_range, one_lowest, says_least}
 use Rattle.nll_run.proofs.coordinator.conclude.Goals as goal
 
 pub gather-requires-clause-each : goal.gather-requires-clause-each
@@ -50,14 +49,6 @@ returns-clause-ok g c =
     c.requires.problem c.in_ok-values.values c.in_ok-values.ensures.shaped
     (λ r e. (λ h. let x = (c.in_ok-values.ensures.held r e).0 h in (x.0, subst (λ ls. Contains ls x.0) values x.1, x.2), λ x. (c.in_ok-values.ensures.held r e).1 (x.0, subst (λ ls. Contains ls x.0) (sym values) x.1, x.2)))
     c.in_ok-settle_all.ensures.order)
-
-pub returns-in-Some-clause-full : goal.returns-in-Some-clause-full
-returns-in-Some-clause-full g c = λ e.
-    let is : c.in-Some.error ≡ RankFull = (cc e) in
-    let x = c.in-Some.ensures.first in
-    let at = subst (λ xs. slice_get xs x.0 ≡ Some x.1) c.deref.ensures.value x.2 in
-    let l : x.0 < c.args.cut.now.owners = (let w = within c.args.finished.items x.0 x.1 at in omega (arith, w, c.requires.count)) in
-    full_clock c.args.problem.now c.args.cut.now x.0 _ _ _ _ x.1.ending _ l (full_ending x.1.ending (x.3 ∙ ap Some is)) (c.requires.finishes x.0 x.1 at)
 
 pub returns-in-Some-clause-first : goal.returns-in-Some-clause-first
 returns-in-Some-clause-first g c = λ k d error at is below.

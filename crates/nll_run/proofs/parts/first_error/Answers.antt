@@ -27,11 +27,6 @@ returns-in-NoOwner-clause-first g c =
     let at = item_at c.args.finished.now c.loop-done.done-index c.done-item.result c.loop-done-test.true c.done-item.is in
     (c.loop-done.done-index, c.done-item.result, at, ap error_of c.in-NoOwner.is, c.loop-done.invariant)
 
-pub returns-in-RankFull-clause-first : goal.returns-in-RankFull-clause-first
-returns-in-RankFull-clause-first g c =
-    let at = item_at c.args.finished.now c.loop-done.done-index c.done-item.result c.loop-done-test.true c.done-item.is in
-    (c.loop-done.done-index, c.done-item.result, at, ap error_of c.in-RankFull.is, c.loop-done.invariant)
-
 pub returns-in-Unstarted-clause-first : goal.returns-in-Unstarted-clause-first
 returns-in-Unstarted-clause-first g c =
     let at = item_at c.args.finished.now c.loop-done.done-index c.done-item.result c.loop-done-test.true c.done-item.is in

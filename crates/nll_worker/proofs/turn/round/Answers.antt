@@ -29,12 +29,6 @@ returns-in-Memory-clause-pairs g c = stays_on g.M.Mail _ _ _ c.loop-from.invaria
 pub returns-in-Memory-clause-keeps : goal.returns-in-Memory-clause-keeps
 returns-in-Memory-clause-keeps g c = keeps_on g.M.Mail _ _ _ c.loop-from.invariant.keeps c.turn.ensures.keeps
 
-pub returns-in-RankFull-clause-pairs : goal.returns-in-RankFull-clause-pairs
-returns-in-RankFull-clause-pairs g c = stays_on g.M.Mail _ _ _ c.loop-from.invariant.pairs c.turn.ensures.pairs
-
-pub returns-in-RankFull-clause-keeps : goal.returns-in-RankFull-clause-keeps
-returns-in-RankFull-clause-keeps g c = keeps_on g.M.Mail _ _ _ c.loop-from.invariant.keeps c.turn.ensures.keeps
-
 pub loop-from-preserved : goal.loop-from-preserved
 loop-from-preserved g c =
     let rests : IsAtRest c.turn.new.owner (map g.M.Mail.sent c.turn.new.senders.items) (map g.M.Mail.received c.turn.new.receivers.items) (g.L.Ledger.owed c.turn.new.share) (g.L.Ledger.cleared c.turn.new.share) × (c.turn.new.turns ≡ g.L.Ledger.cleared c.turn.new.share) = elim c.match-turn.branch [

@@ -6,7 +6,7 @@ use Rattle.nll_owner.specs.Owner.{Owner}
 use Rattle.nll_worker.specs.Mailboxes.{Stays}
 use Rattle.nll_worker.specs.Turning.{HasPostedFronts}
 use Rattle.nll_worker.proofs.ListLemmas.{alike_refl, ok_of}
-use Rattle.nll_worker.proofs.TurnLemmas.{turns_small, not_passing, one_posts, one_takes, fronts_rest, fronts_lost, takes_cleared, nothing_is_not_one}
+use Rattle.nll_worker.proofs.TurnLemmas.{turns_small, taken_same, taken_lost, taken_of, not_passing, one_posts, one_takes, fronts_rest, fronts_lost, takes_cleared, nothing_is_not_one}
 use Rattle.nll_worker.proofs.turn.turn.Goals as goal
 
 pub overflow_add-turns : goal.overflow_add-turns
@@ -38,8 +38,10 @@ returns-in-Nothing-clause-pairs g c = alike_refl (Stays g.M.Mail) (λ s r p. p) 
 
 pub returns-in-Stray-clause-comes : goal.returns-in-Stray-clause-comes
 returns-in-Stray-clause-comes g c =
-    let h = c.in-Stray.ensures.hears in
-    (c.args.from, h.0, c.requires.from, subst (λ xs. Contains xs h.0) (sym h.1) (Contains-push (log_of (map g.M.Mail.received c.args.receivers.now.items) c.args.from) h.0), not_passing c.args.problem.now c.args.cut.now c.args.me c.args.owner.now c.args.from h.0 c.requires.is h.2.0)
+    let h = c.in-Stray.ensures.hears in (
+      (c.args.from, h.0, c.requires.from, subst (λ xs. Contains xs h.0) (sym h.1) (Contains-push (log_of (map g.M.Mail.received c.args.receivers.now.items) c.args.from) h.0), not_passing c.args.problem.now c.args.cut.now c.args.me c.args.owner.now c.args.from h.0 c.requires.is h.2.0),
+      taken_same c.args.owner.now _ _ _ _ c.requires.rests _ c.args.from h.0 h.1 c.hear_from.ensures.others c.hear_from.new.owner h.2.1,
+    )
 
 pub returns-in-Stray-clause-front : goal.returns-in-Stray-clause-front
 returns-in-Stray-clause-front g c =
@@ -51,18 +53,10 @@ returns-in-Stray-clause-pairs g c = alike_refl (Stays g.M.Mail) (λ s r p. p) c.
 pub returns-in-Memory-clause-front : goal.returns-in-Memory-clause-front
 returns-in-Memory-clause-front g c =
     let h = c.in-Memory.ensures.hears in
-    fronts_lost c.args.owner.now _ _ _ _ c.requires.rests c.hear_from.new.owner h.2
+    fronts_lost c.args.owner.now _ _ _ _ c.requires.rests c.hear_from.new.owner c.args.from h.0 h.2
 
 pub returns-in-Memory-clause-pairs : goal.returns-in-Memory-clause-pairs
 returns-in-Memory-clause-pairs g c = alike_refl (Stays g.M.Mail) (λ s r p. p) c.args.senders.now.items
-
-pub returns-in-RankFull-clause-front : goal.returns-in-RankFull-clause-front
-returns-in-RankFull-clause-front g c =
-    let h = c.in-RankFull.ensures.hears in
-    fronts_lost c.args.owner.now _ _ _ _ c.requires.rests c.hear_from.new.owner h.2.0
-
-pub returns-in-RankFull-clause-pairs : goal.returns-in-RankFull-clause-pairs
-returns-in-RankFull-clause-pairs g c = alike_refl (Stays g.M.Mail) (λ s r p. p) c.args.senders.now.items
 
 pub returns-else-is_err-clause-comes : goal.returns-else-is_err-clause-comes
 returns-else-is_err-clause-comes g c =
@@ -74,5 +68,15 @@ returns-else-is_err-clause-comes g c =
     let held = one_takes c.args.owner.now _ _ _ _ c.requires.rests c.hear_from.new.owner h.2.1 h.2.4 c.args.from h.0 _ from_in h.2.0 h.1 c.hear_from.ensures.others (c.hear_from.ensures.few (λ e. nothing_is_not_one (sym e ∙ c.in-One.is))) in
     (record { posting = ok; given = given; taking = takes_cleared c.hear_from.new.owner c.share_out.new.owner _ _ _ held c.share_out.ensures.others cleared }, omega (arith, c.requires.turns, cleared))
 
-pub returns-in-RankFull-clause-comes : goal.returns-in-RankFull-clause-comes
-returns-in-RankFull-clause-comes g c = c.in-RankFull.ensures.hears.2.1
+pub returns-in-Memory-clause-comes : goal.returns-in-Memory-clause-comes
+returns-in-Memory-clause-comes g c =
+    let h = c.in-Memory.ensures.hears in
+    let from_in : c.args.from < c.args.owner.now.cut.owners = subst (λ n. c.args.from < n) (ap (λ (k : Cut). k.owners) (sym c.requires.is.cut)) c.requires.from in
+    taken_lost c.args.owner.now _ _ _ _ c.requires.rests _ c.args.from h.0 h.1 c.hear_from.ensures.others c.hear_from.new.owner from_in h.2
+
+pub returns-then-is_err-clause-comes : goal.returns-then-is_err-clause-comes
+returns-then-is_err-clause-comes g c =
+    let h = c.in-One.ensures.hears in
+    let from_in : c.args.from < c.args.owner.now.cut.owners = subst (λ n. c.args.from < n) (ap (λ (k : Cut). k.owners) (sym c.requires.is.cut)) c.requires.from in
+    let held = one_takes c.args.owner.now _ _ _ _ c.requires.rests c.hear_from.new.owner h.2.1 h.2.4 c.args.from h.0 _ from_in h.2.0 h.1 c.hear_from.ensures.others (c.hear_from.ensures.few (λ e. nothing_is_not_one (sym e ∙ c.in-One.is))) in
+    taken_of c.hear_from.new.owner c.share_out.new.owner _ _ 1 held c.share_out.ensures.others

@@ -3,6 +3,7 @@ use Rattle.nll_worker.specs.Mailboxes.{Keeps}
 use Rattle.nll_worker.specs.Turning.{ComesTo}
 use Rattle.nll_worker.specs.declared.exchange.Heard.{Heard}
 use Rattle.nll_worker.proofs.ListLemmas.{alike_refl, stays_on, keeps_on}
+use Rattle.nll_worker.proofs.TurnLemmas.{taken_rest}
 use Rattle.nll_worker.proofs.FinishLemmas.{finishes_fail, finishes_stray, finishes_quiet, finishes_left, rests_open}
 use Rattle.nll_worker.proofs.working.work_on.Goals as goal
 use Rattle.nll_worker.proofs.working.work_on.Goals.{in-One, in-Nothing+in-Open}
@@ -16,19 +17,19 @@ pub returns-in-Stray-clause-finishes : goal.returns-in-Stray-clause-finishes
 returns-in-Stray-clause-finishes g c =
     let l = c.loop.invariant in
     let came = subst (λ (h : Heard). ComesTo c.args.problem.now c.args.cut.now c.args.me c.loop.owner (map g.M.Mail.sent c.loop.senders.items) (map g.M.Mail.received c.loop.receivers.items) (g.L.Ledger.owed c.loop.share) (g.L.Ledger.cleared c.loop.share) c.loop.turns h) c.in-Stray.is l.5 in
-    finishes_stray _ _ _ c.loop.owner _ _ _ _ l.2 l.3 l.6 came
+    finishes_stray _ _ _ c.loop.owner _ _ _ _ l.2 l.3 l.6 came.0 came.1
 
 pub returns-in-Memory-clause-finishes : goal.returns-in-Memory-clause-finishes
-returns-in-Memory-clause-finishes g c = let l = c.loop.invariant in finishes_fail _ _ _ c.loop.owner _ _ _ _ l.2 _ l.3 l.6 (λ e. cc) (λ e. cc) (λ e. cc)
-
-pub returns-in-RankFull-clause-finishes : goal.returns-in-RankFull-clause-finishes
-returns-in-RankFull-clause-finishes g c =
+returns-in-Memory-clause-finishes g c =
     let l = c.loop.invariant in
-    let came = subst (λ (h : Heard). ComesTo c.args.problem.now c.args.cut.now c.args.me c.loop.owner (map g.M.Mail.sent c.loop.senders.items) (map g.M.Mail.received c.loop.receivers.items) (g.L.Ledger.owed c.loop.share) (g.L.Ledger.cleared c.loop.share) c.loop.turns h) c.in-RankFull.is l.5 in
-    finishes_fail _ _ _ c.loop.owner _ _ _ _ l.2 _ l.3 l.6 (λ e. cc) (λ e. cc) (λ e. came)
+    let came = subst (λ (h : Heard). ComesTo c.args.problem.now c.args.cut.now c.args.me c.loop.owner (map g.M.Mail.sent c.loop.senders.items) (map g.M.Mail.received c.loop.receivers.items) (g.L.Ledger.owed c.loop.share) (g.L.Ledger.cleared c.loop.share) c.loop.turns h) c.in-Memory.is l.5 in
+    finishes_fail _ _ _ c.loop.owner _ _ _ _ l.2 _ l.3 l.6 came (λ e. cc) (λ e. cc)
 
 pub returns-in-Stopped-clause-finishes : goal.returns-in-Stopped-clause-finishes
-returns-in-Stopped-clause-finishes g c = let l = c.loop.invariant in finishes_fail _ _ _ c.loop.owner _ _ _ _ l.2 _ l.3 l.6 (λ e. cc) (λ e. cc) (λ e. cc)
+returns-in-Stopped-clause-finishes g c =
+    let l = c.loop.invariant in
+    let came = subst (λ (h : Heard). ComesTo c.args.problem.now c.args.cut.now c.args.me c.loop.owner (map g.M.Mail.sent c.loop.senders.items) (map g.M.Mail.received c.loop.receivers.items) (g.L.Ledger.owed c.loop.share) (g.L.Ledger.cleared c.loop.share) c.loop.turns h) c.in-Nothing.is l.5 in
+    finishes_fail _ _ _ c.loop.owner _ _ _ _ l.2 _ l.3 l.6 (taken_rest c.loop.owner _ _ _ _ came.0) (λ e. cc) (λ e. cc)
 
 pub returns-in-Quiet-clause-finishes : goal.returns-in-Quiet-clause-finishes
 returns-in-Quiet-clause-finishes g c =

@@ -38,11 +38,3 @@ returns-in-Thread-clause-all g c =
 pub returns-in-Thread-clause-cut : goal.returns-in-Thread-clause-cut
 returns-in-Thread-clause-cut g c =
     cut_as c.put_pieces-in-Thread.result _ _ _ _ _ (ap refusal_line c.in-Thread.is) c.put_pieces-in-Thread.ensures.cut
-
-pub returns-in-Rank-clause-all : goal.returns-in-Rank-clause-all
-returns-in-Rank-clause-all g c =
-    put_as c.put_pieces-in-Rank.result _ _ _ _ (ap refusal_line c.in-Rank.is) c.put_pieces-in-Rank.ensures.all
-
-pub returns-in-Rank-clause-cut : goal.returns-in-Rank-clause-cut
-returns-in-Rank-clause-cut g c =
-    cut_as c.put_pieces-in-Rank.result _ _ _ _ _ (ap refusal_line c.in-Rank.is) c.put_pieces-in-Rank.ensures.cut
