@@ -242,9 +242,10 @@ fn write_answer(out: &mut String, owner: &mut Owner, growth: Growth) -> Result<(
     write!(out, "{told:?}|")
 }
 
-// Hands growths of the region 1 to an owner, the first of the highest rank.
+// Hands growths of the region 1 to an owner: one of a rank that no growth of a run has, one of the
+// highest rank, and one of the lowest.
 fn write_last_answers(out: &mut String, owner: &mut Owner) -> Result<(), AllocError> {
-    for (element, rank) in [(1, 1 << 62), (0, 1), (0, 1)] {
+    for (element, rank) in [(1, 1 << 61), (1, (1 << 61) - 1), (0, 1)] {
         let growth = Growth {
             region: RegionId(1),
             element: Element(element),
@@ -252,10 +253,12 @@ fn write_last_answers(out: &mut String, owner: &mut Owner) -> Result<(), AllocEr
         };
         write_answer(out, owner, growth)?;
     }
+    if let Some(last) = owner.log().last() {
+        let rank = last.rank;
+        write!(out, "{rank}|")?;
+    }
     let unsent = owner.unsent(1);
-    let next = owner.next_for(1);
-    let given = owner.outgoing(1);
-    write!(out, "{unsent} {next:?} {given:?}|")
+    write!(out, "{unsent}|")
 }
 
 // What the first of two owners answers to them, and what it has for the other then.
@@ -282,8 +285,9 @@ fn last_answers_round(alloc: Global, problem: &Problem) -> Result<String, Failur
     told
 }
 
-/// What the first of two owners of a problem answers, once it is loaded, to a growth of the highest
-/// rank, to one that asks it to grow, and to that one again; and what it has for the other then.
+/// What the first of two owners of a problem answers, once it is loaded, to a growth of rank 2^61, to
+/// one of the rank before, and to one of rank 1 that asks it to grow; and what it has for the other
+/// then.
 pub fn answers_at_the_last_rank(alloc: Global, written: Written) -> Result<String, Failure> {
     let problem = problem_of(alloc, written)?;
     let told = last_answers_round(alloc, &problem);

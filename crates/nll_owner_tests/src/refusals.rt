@@ -1,11 +1,11 @@
-//! What an owner answers once no rank is left.
+//! What an owner answers to growths of the highest ranks.
 use super::driving::answers_at_the_last_rank;
 use super::problems::BY_TURNS;
 
 #[test]
-fn an_owner_without_ranks_is_refused(rt: HostRuntime) {
+fn the_highest_rank_passes_and_none_above(rt: HostRuntime) {
     let told = answers_at_the_last_rank(rt.alloc(), BY_TURNS);
-    let want = "Ok(())|Err(RankFull)|Err(Broken)|0 None None|4";
+    let want = "wrong|Ok(())|Ok(())|2305843009213693952|2|5";
     match told {
         Ok(text) => assert!(rt; text.as_str() == want, "{text}"),
         Err(failure) => assert!(rt; false, "{failure:?}"),
