@@ -1,0 +1,230 @@
+//! Mailboxes on rings.
+//!
+//! A ring of fixed room, with one end that pushes and one that pops. No call waits, and none asks
+//! for memory once the ring is made. The rule of the ring tells the receiver of each growth that
+//! fewer were sent before it than a mailbox may carry.
+//!
+//! Source: the ring of one producer and one consumer of the Rust crate `rtrb`, as the kit has it.
+
+ghost use Rattle.std.specs.Prelude.{◌≡◌, length};
+ghost use Rattle.rtrb.specs.Ring.{producer_capacity, received as popped};
+ghost use Rattle.nll_problem.specs.Limits.{most_places};
+
+use crate::growth::Growth;
+use crate::mail::{Mail, PostError};
+use nll_sets::Memory;
+use rtrb::{Consumer, Producer, Protocol, RingBuffer};
+use std::alloc::Global;
+
+/// The places of a ring.
+const PLACES: usize = 256;
+
+/// The rule of a mailbox's ring: fewer growths were sent before each one than a mailbox may carry.
+#[derive(Clone, Copy)]
+pub struct Few;
+
+impl Protocol<Growth> for Few {
+    ghost use Rattle.std.specs.Prelude.{◌<◌, length};
+    ghost use Rattle.nll_problem.specs.Limits.{most_posts};
+
+    ghost allows = { λ before _. length before < most_posts };
+}
+
+type Pushing = Producer<Growth, Global, Few>;
+
+type Popping = Consumer<Growth, Global, Few>;
+
+/// Mailboxes on rings of 256 places. Each of them is full where as many growths are in it.
+///
+/// # Threads
+/// No call holds a runtime, and none waits: an end never stands still for the other one.
+///
+/// # Cost
+/// `pair` makes two allocations, the places and the words by which the ends meet. No other call
+/// asks for memory: `post` and `take` are a few steps each, and look at the other end's word only
+/// where the places or growths that they know are used up. The places are freed where both ends
+/// are gone, and with them the growths that were left.
+#[derive(Clone, Copy)]
+pub struct RingMail;
+
+/// The end that posts.
+pub struct RingSender {
+    producer: Pushing,
+    ghost places: { producer_capacity producer ≡ most_places },
+}
+
+/// The end that takes.
+#[derive(Drop)]
+pub struct RingReceiver {
+    from: u16,
+    to: u16,
+    count: u64,
+    consumer: Popping,
+    ghost counted: { count ≡ length (popped consumer) },
+}
+
+/// A sender that posts no more.
+#[derive(Drop)]
+pub struct RingClosed {
+    producer: Pushing,
+}
+
+/// A settled mailbox.
+#[derive(Drop)]
+pub struct RingPost {
+    from: u16,
+    to: u16,
+    count: u64,
+    producer: Pushing,
+    consumer: Popping,
+    ghost counted: { count ≡ length (popped consumer) },
+}
+
+impl Mail for RingMail {
+    ghost use Rattle.std.specs.Prelude.{◌≡◌, ◌+◌, ◌<◌, ◌++◌, [], ◌∷◌, true, length};
+    ghost use Rattle.std.specs.Prelude.{IsOk, IfOk, OnOk, IfErr};
+    ghost use Rattle.rtrb.specs.Ring.{sent as pushed, received as popped, known_items, IsPair};
+    ghost use Rattle.nll_mail.specs.Channel.{refusal};
+    ghost use Rattle.nll_mail.specs.Rings.{sent_by, received_by, ends_of, room_of, IsJoined};
+    ghost use Rattle.nll_mail.specs.declared.ring_mail.RingReceiver.{RingReceiver};
+    ghost use Rattle.nll_problem.specs.Limits.{most_posts, most_places};
+
+    type S = RingSender;
+
+    type R = RingReceiver;
+
+    type Closed = RingClosed;
+
+    type Post = RingPost;
+
+    ghost is_bounded = { true };
+
+    ghost sent = { sent_by };
+
+    ghost received = { received_by };
+
+    ghost ends = { ends_of };
+
+    ghost pairs = { IsJoined };
+
+    ghost all_sent = { λ closed. pushed closed.producer };
+
+    ghost closes = { λ closed receiver. IsPair closed.producer receiver.consumer };
+
+    ghost post_ends = { λ post. (post.from, post.to) };
+
+    ghost post_sent = { λ post. pushed post.producer };
+
+    ghost post_received = { λ post. popped post.consumer };
+
+    ghost post_rest = { λ post. known_items post.consumer };
+
+    /// The two ends of a new ring. All its places are free, and the sender knows it.
+    ///
+    /// # Errors
+    /// - `Memory`.
+    fn pair(&self, alloc: Global, from: u16, to: u16) -> Result<(RingSender, RingReceiver), Memory>
+        ensures pair { IfOk result (λ both. IsJoined both.0 both.1) }
+        ensures ends { IfOk result (λ both. ends_of both.1 ≡ (from, to)) }
+        ensures sent { IfOk result (λ both. sent_by both.0 ≡ []) }
+        ensures received { IfOk result (λ both. received_by both.1 ≡ []) }
+        ensures room { IfOk result (λ both. room_of both.0 ≡ most_places) }
+    {
+        let (producer, consumer) = RingBuffer::with_protocol::<Global, Few>(alloc, PLACES)?;
+        let sender = RingSender { producer };
+        let receiver = RingReceiver {
+            from,
+            to,
+            count: 0,
+            consumer,
+        };
+        Ok((sender, receiver))
+    }
+
+    /// Puts a growth at the back of the ring. It is sure to succeed where the sender knows of a
+    /// free place, and then fills exactly one of those that it knows.
+    ///
+    /// # Errors
+    /// The growth comes back, and nothing was sent.
+    /// - `Full`, where the sender looked and found no place free.
+    fn post(sender: &mut RingSender, growth: Growth) -> Result<(), PostError>
+        requires { length (sent_by sender.old) < most_posts }
+        ensures ok { OnOk result (sent_by sender.new ≡ sent_by sender.old ++ growth ∷ []) }
+        ensures refused { IfErr result (λ error. error ≡ refusal true growth) }
+        ensures unchanged { IfErr result (λ _. sent_by sender.new ≡ sent_by sender.old) }
+        ensures pair { (receiver : RingReceiver)
+            → IsJoined sender.old receiver → IsJoined sender.new receiver }
+        ensures room { 0 < room_of sender.old → IsOk result }
+        ensures fills { OnOk result
+            (0 < room_of sender.old → room_of sender.old ≡ room_of sender.new + 1) }
+        ensures full { IfErr result (λ _. room_of sender.new ≡ 0) }
+    {
+        if sender.producer.cached_slots() == 0 && sender.producer.slots() == 0 {
+            return Err(PostError::Full(growth));
+        }
+        sender.producer.push_reserved(growth);
+        Ok(())
+    }
+
+    fn take(receiver: &mut RingReceiver) -> Option<Growth> {
+        match receiver.consumer.pop() {
+            Ok(growth) => {
+                receiver.count += 1;
+                Some(growth)
+            }
+            Err(_) => None,
+        }
+    }
+
+    fn close(sender: RingSender) -> RingClosed {
+        let RingSender { producer } = sender;
+        RingClosed { producer }
+    }
+
+    fn settle(closed: RingClosed, receiver: RingReceiver) -> RingPost {
+        let RingClosed { mut producer } = closed;
+        let RingReceiver {
+            from,
+            to,
+            count,
+            mut consumer,
+        } = receiver;
+        consumer.slots_beside(&mut producer);
+        RingPost {
+            from,
+            to,
+            count,
+            producer,
+            consumer,
+        }
+    }
+
+    fn count(post: &RingPost) -> u64 {
+        post.count
+    }
+}
+
+impl RingMail {
+    ghost use Rattle.std.specs.Prelude.{◌≡◌, ◌≤◌};
+    ghost use Rattle.nll_mail.specs.Rings.{sent_by, room_of, IsJoined};
+    ghost use Rattle.nll_mail.specs.declared.ring_mail.RingReceiver.{RingReceiver};
+    ghost use Rattle.nll_problem.specs.Limits.{most_places};
+
+    /// Mailboxes on rings. Each of them is made by `pair`, and nothing was sent through it.
+    pub fn new() -> RingMail {
+        RingMail
+    }
+
+    /// How many posts are sure to succeed: the sender looks, and knows of so many free places, which
+    /// no one else fills. The receiver may free more at any time.
+    pub fn room(sender: &mut RingSender) -> u64
+        ensures exact { result ≡ room_of sender.new }
+        ensures least { room_of sender.old ≤ room_of sender.new }
+        ensures most { result ≤ most_places }
+        ensures sent { sent_by sender.new ≡ sent_by sender.old }
+        ensures pair { (receiver : RingReceiver)
+            → IsJoined sender.old receiver → IsJoined sender.new receiver }
+    {
+        sender.producer.slots() as u64
+    }
+}
