@@ -4,8 +4,8 @@ use Rattle.std.specs.Prelude.{◌≡◌, ℕ, List, [], ◌∷◌, ◌++◌, ◌
 use Rattle.nll_mail.specs.declared.growth.Growth.{Growth}
 use Rattle.nll_owner.specs.Logs.{IsPrefix}
 use Rattle.nll_owner.specs.Owner.{Owner, IsSound, IsDone, Passes, with_growth}
-use Rattle.nll_worker.specs.declared.exchange.Heard.{Heard}
-use Rattle.nll_worker.specs.declared.exchange.Heard.TheVariants.{Nothing, One, Stray, Memory}
+use Rattle.nll_worker.specs.declared.receiving.Heard.{Heard}
+use Rattle.nll_worker.specs.declared.receiving.Heard.TheVariants.{Nothing, One, Stray, Memory}
 
 -- what an owner keeps that was refused to receive a growth of owner j: it is sound, its log is longer
 -- at most, and it received the growth or nothing

@@ -1,25 +1,27 @@
 //! Workers: each owner of a run at work in a thread of its own.
 //!
-//! Read `gate`, `ending`, `exchange` (what a worker does at its mailboxes), `turn`, `working` (one
-//! worker from its start to its end), `outbox`, `worker` and `threads`; `laws` says what follows of
-//! all workers together.
+//! Read `gate`, `ending`, `receiving` and `posting` (what a worker does at its mailboxes), `tally`,
+//! `turn`, `working` (one worker from its start to its end), `outbox`, `worker` and `threads`; `laws`
+//! says what follows of all workers together.
 //! The definitions are in specs/: `Finishing` first, which has what a worker promises.
 #![tactic(auto)]
 
 mod ending;
-mod exchange;
 mod gate;
 mod laws;
 mod outbox;
+mod posting;
+mod receiving;
+mod tally;
 mod threads;
 mod turn;
 mod worker;
 mod working;
 
 pub use ending::Ending;
-pub use exchange::Heard;
 pub use gate::{Gate, NoGate};
 pub use laws::{all_quiet, never_stray};
 pub use outbox::Outbox;
+pub use receiving::Heard;
 pub use threads::run_all;
 pub use worker::{Finished, Given, Worker};

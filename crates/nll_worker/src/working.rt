@@ -4,14 +4,17 @@ ghost use Rattle.std.specs.Prelude.{◌≡◌, ◌<◌, ◌≤◌, length, map, 
 ghost use Rattle.nll_problem.specs.Limits.{most_owners};
 ghost use Rattle.nll_ledger.specs.Leaving.{IfLeft, IfOpen, IfQuiet, IfStopped};
 ghost use Rattle.nll_owner.specs.Logs.{log_of};
-ghost use Rattle.nll_owner.specs.Owner.{first_owner};
+ghost use Rattle.nll_owner.specs.Owner.{IsSound, first_owner};
 ghost use Rattle.nll_owner.specs.Tables.{AreTables};
 ghost use Rattle.nll_worker.specs.Mailboxes.{Alike, AreAllEmpty, Stays, Keeps};
 ghost use Rattle.nll_worker.specs.Finishing.{Finishes, Leaves, WasMade, FinishedAs, IsFresh};
+ghost use Rattle.nll_worker.specs.Turning.{HasPosted, ComesTo};
 
 use crate::ending::Ending;
-use crate::exchange::Heard;
 use crate::gate::Gate;
+use crate::posting::share_out;
+use crate::receiving::Heard;
+use crate::tally::Tally;
 use crate::turn::{first_turn, round};
 use crossbeam_utils::Backoff;
 use nll_cut::Cut;
@@ -38,10 +41,33 @@ fn halt<L: Ledger>(book: &L::Book, share: L::Share) -> L::Left
     }
 }
 
-// Asks to leave, once the worker has waited for a while; else the share comes back.
+// Leaves where the stop flag is found set; else the share comes back.
+fn heed_stop<L: Ledger>(book: &L::Book, share: L::Share) -> Leave<L::Left, L::Share>
+    requires { L.belongs book.now share }
+    ensures left { IfLeft result (λ left. L.left_belongs book.now left
+        × (L.left_number left ≡ L.number share)
+        × (L.left_owed left ≡ L.owed share) × (L.left_cleared left ≡ L.cleared share)
+        × (L.left_called left ≡ L.called share)) }
+    ensures quiet { IfQuiet result (λ _. ⊥) }
+    ensures stopped { IfStopped result (λ left. L.left_quiet left ≡ false) }
+    ensures back { IfOpen result (λ back. L.belongs book.now back
+        × (L.number back ≡ L.number share)
+        × (L.owed back ≡ L.owed share) × (L.cleared back ≡ L.cleared share)
+        × (L.called back ≡ L.called share)) }
+{
+    let mut share = share;
+    if !L::stopped(book, &mut share) {
+        return Leave::Open(share);
+    }
+    L::leave(book, share)
+}
+
+// Asks to leave, once the worker has waited for a while with nothing left to post. Where growths
+// wait for a place in a mailbox, it leaves only on a stop.
 fn ask_to_leave<L: Ledger>(
     book: &L::Book,
     share: L::Share,
+    waiting: u64,
     backoff: &Backoff,
 ) -> Leave<L::Left, L::Share>
     requires { L.belongs book.now share }
@@ -49,18 +75,71 @@ fn ask_to_leave<L: Ledger>(
         × (L.left_number left ≡ L.number share)
         × (L.left_owed left ≡ L.owed share) × (L.left_cleared left ≡ L.cleared share)
         × (L.left_called left ≡ L.called share)) }
-    ensures quiet { IfQuiet result (λ left. L.left_quiet left ≡ true) }
+    ensures quiet { IfQuiet result (λ left. (L.left_quiet left ≡ true) × (waiting ≡ 0)) }
     ensures stopped { IfStopped result (λ left. L.left_quiet left ≡ false) }
     ensures back { IfOpen result (λ back. L.belongs book.now back
         × (L.number back ≡ L.number share)
         × (L.owed back ≡ L.owed share) × (L.cleared back ≡ L.cleared share)
         × (L.called back ≡ L.called share)) }
 {
-    if backoff.is_completed() {
+    if waiting > 0 {
+        heed_stop::<L>(book, share)
+    } else if backoff.is_completed() {
         L::leave(book, share)
     } else {
         Leave::Open(share)
     }
+}
+
+// Works until the share has left, where the first turn came to this: what is left of it, and how
+// this ended.
+fn go_on<M: Mail, L: Ledger, G: Gate, R: Wait>(
+    rt: &R,
+    gate: &G,
+    book: &L::Book,
+    share: L::Share,
+    owner: &mut Owner<'_>,
+    owners: u16,
+    tally: &mut Tally,
+    senders: &mut Vec<M::S>,
+    receivers: &mut Vec<M::R>,
+    me: u16,
+    heard: Heard,
+) -> (L::Left, Ending)
+    requires owners { owners ≡ owner.old.cut.owners }
+    requires me { owner.old.me ≡ me }
+    requires few { owners ≤ most_owners }
+    requires sound { IsSound owner.old }
+    requires book { L.belongs book.now share × (L.number share ≡ me) × (L.called share ≡ false) }
+    requires came { ComesTo owner.old (map M.received receivers.old.items)
+        (L.owed share) (L.cleared share) tally.old heard }
+    requires posts { HasPosted owner.old (map M.sent senders.old.items) }
+    ensures leaves { Leaves L.Ledger book.now me result.0 result.1 }
+    ensures finishes { Finishes owner.old.problem owner.old.cut me owner.new
+        (log_of (map M.sent senders.new.items)) (log_of (map M.received receivers.new.items))
+        (L.left_owed result.0) (L.left_cleared result.0) result.1 }
+    ensures pairs { Alike (Stays M.Mail) senders.old.items senders.new.items }
+    ensures keeps { Alike (Keeps M.Mail) receivers.old.items receivers.new.items }
+{
+    let mut share = share;
+    let mut heard = heard;
+    let backoff = Backoff::new();
+    for _ in rt.forever() {
+        heard = share_out::<M>(heard, owner, senders, owners, tally);
+        match heard {
+            Heard::Stray => return (halt::<L>(book, share), Ending::Stray),
+            Heard::Memory => return (halt::<L>(book, share), Ending::Memory),
+            Heard::One => backoff.reset(),
+            Heard::Nothing => backoff.snooze(),
+        }
+        match ask_to_leave::<L>(book, share, tally.waiting, &backoff) {
+            Leave::Quiet(left) => return (left, Ending::Quiet),
+            Leave::Stopped(left) => return (left, Ending::Stopped),
+            Leave::Open(back) => share = back,
+        }
+        heard = round::<M, L, G>(gate, book, &mut share, owner, owners, tally, receivers, me);
+    }
+    unreachable!()
 }
 
 // Loads the owner and works until the share has left: what is left of it, and how this ended.
@@ -88,31 +167,13 @@ fn work_on<M: Mail, L: Ledger, G: Gate, R: Wait>(
     ensures pairs { Alike (Stays M.Mail) senders.old.items senders.new.items }
     ensures keeps { Alike (Keeps M.Mail) receivers.old.items receivers.new.items }
 {
+    let owners = cut.owners();
     let mut share = share;
-    let mut turns = 0;
-    let backoff = Backoff::new();
-    let mut heard = first_turn::<M, L, G>(
-        problem, cut, gate, book, &mut share, &mut turns, owner, senders, me,
-    );
-    for _ in rt.forever() {
-        match heard {
-            Heard::Stray => return (halt::<L>(book, share), Ending::Stray),
-            Heard::Memory => return (halt::<L>(book, share), Ending::Memory),
-            Heard::One => backoff.reset(),
-            Heard::Nothing => match ask_to_leave::<L>(book, share, &backoff) {
-                Leave::Quiet(left) => return (left, Ending::Quiet),
-                Leave::Stopped(left) => return (left, Ending::Stopped),
-                Leave::Open(back) => {
-                    share = back;
-                    backoff.snooze();
-                }
-            },
-        }
-        heard = round::<M, L, G>(
-            problem, cut, gate, book, &mut share, &mut turns, owner, senders, receivers, me,
-        );
-    }
-    unreachable!()
+    let mut tally = Tally { grown: 0, waiting: 0, turns: 0 };
+    let heard = first_turn::<L, G>(gate, book, &mut share, owner, owners, &mut tally, me);
+    go_on::<M, L, G, R>(
+        rt, gate, book, share, owner, owners, &mut tally, senders, receivers, me, heard,
+    )
 }
 
 /// Makes the owner and works, where every worker so far was started; else stops at once.

@@ -1,7 +1,7 @@
 use Rattle.std.proofs.Common.{◌<◌, length, arith}
 use Rattle.nll_owner.specs.Owner.{part_for, given_to}
-use Rattle.nll_worker.proofs.BatchLemmas.{part_few, sum_next}
-use Rattle.nll_worker.proofs.turn.unsent_count.Goals as goal
+use Rattle.nll_worker.proofs.TallyLemmas.{part_few, sum_next}
+use Rattle.nll_worker.proofs.tally.unsent_count.Goals as goal
 
 pub overflow_add-count : goal.overflow_add-count
 overflow_add-count c =

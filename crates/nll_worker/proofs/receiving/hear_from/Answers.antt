@@ -2,7 +2,7 @@ use Rattle.std.proofs.Common.{◌<◌, [], length, map, slice_set, subst, refl, 
 use Rattle.nll_worker.specs.Hearing.{LooksInto}
 use Rattle.nll_worker.specs.Mailboxes.{Keeps}
 use Rattle.nll_worker.proofs.ListLemmas.{map_set, map_read, read_set, alike_set}
-use Rattle.nll_worker.proofs.turn.hear_from.Goals as goal
+use Rattle.nll_worker.proofs.receiving.hear_from.Goals as goal
 
 pub returns-clause-hears : goal.returns-clause-hears
 returns-clause-hears g c =

@@ -1,7 +1,7 @@
 use Rattle.std.proofs.Common.{◌-◌, length}
 use Rattle.nll_owner.specs.Owner.{part_for, given_to}
 use Rattle.nll_owner.proofs.PostingLemmas.{Posting}
-use Rattle.nll_worker.proofs.exchange.post_part.Given as goal
+use Rattle.nll_worker.proofs.posting.post_part.Given as goal
 
 abbrev pub invariant-loop-growth : goal.invariant-loop-growth
 invariant-loop-growth g l = record {

@@ -1,42 +1,16 @@
-//! What a worker does with its owner and one end of a mailbox.
+//! What a worker takes out of its mailboxes and hands to its owner.
 
-ghost use Rattle.std.specs.Prelude.{◌≡◌, ◌≢◌, ◌<◌, ℕ, false, true, length, take, OnOk};
+ghost use Rattle.std.specs.Prelude.{◌≡◌, ◌≢◌, ◌<◌, false, true, length, map, slice_set, vec_len};
 ghost use Rattle.nll_problem.specs.Limits.{most_posts};
-ghost use Rattle.nll_owner.specs.Logs.{IsPrefix};
-ghost use Rattle.nll_owner.specs.Owner.{IsSound, part_for, given_to};
+ghost use Rattle.nll_owner.specs.Logs.{log_of};
+ghost use Rattle.nll_owner.specs.Owner.{IsSound};
+ghost use Rattle.nll_worker.specs.Mailboxes.{Alike, Keeps};
 ghost use Rattle.nll_worker.specs.Hearing.{HandsIn, LooksInto};
-ghost use Rattle.nll_worker.specs.declared.exchange.Heard.TheVariants.{Nothing};
+ghost use Rattle.nll_worker.specs.declared.receiving.Heard.TheVariants.{Nothing};
 
 use crate::gate::Gate;
-use nll_mail::{Growth, Mail, PostError};
+use nll_mail::{Growth, Mail};
 use nll_owner::Owner;
-
-/// Posts what isn't given out yet of the part of the log that another owner reads.
-///
-/// # Errors
-/// That of the post that was refused; the front of the part was posted.
-pub fn post_part<M: Mail>(
-    owner: &mut Owner<'_>,
-    sender: &mut M::S,
-    to: u16,
-) -> Result<(), PostError>
-    requires sound { IsSound owner.old }
-    requires whole { owner.old.broken ≡ false }
-    requires to { to < owner.old.cut.owners }
-    requires sent { M.sent sender.old ≡ take (given_to owner.old to) (part_for owner.old to) }
-    ensures sent { OnOk result (M.sent sender.new ≡ part_for owner.old to) }
-    ensures given { OnOk result (given_to owner.new to ≡ length (part_for owner.old to)) }
-    ensures front { IsPrefix (M.sent sender.new) (part_for owner.old to) }
-    ensures others { owner.new ≡ record owner.old { given = owner.new.given } }
-    ensures other_given { (j : ℕ) → j ≢ to → given_to owner.new j ≡ given_to owner.old j }
-    ensures pair { (r : M.R) → M.pairs sender.old r → M.pairs sender.new r }
-    ensures sound { IsSound owner.new }
-{
-    while let Some(growth) = owner.outgoing(to) {
-        M::post(sender, growth)?;
-    }
-    Ok(())
-}
 
 /// What a look into a mailbox came to.
 #[derive(Clone, Copy, Debug, PartialEq, Eq)]
@@ -51,8 +25,8 @@ pub enum Heard {
     Memory,
 }
 
-/// Takes a growth out of a mailbox, enters the gate, and hands the growth to the owner.
-pub fn hear<M: Mail, G: Gate>(
+// Takes a growth out of a mailbox, enters the gate, and hands the growth to the owner.
+fn hear<M: Mail, G: Gate>(
     gate: &G,
     turn: u64,
     owner: &mut Owner<'_>,
@@ -93,4 +67,30 @@ fn hand_in(owner: &mut Owner<'_>, from: u16, growth: Growth) -> Heard
         Ok(()) => Heard::One,
         Err(_) => Heard::Memory,
     }
+}
+
+/// Takes a growth out of one of the mailboxes, enters the gate, and hands the growth to the owner.
+pub fn hear_from<M: Mail, G: Gate>(
+    gate: &G,
+    turn: u64,
+    owner: &mut Owner<'_>,
+    me: u16,
+    receivers: &mut Vec<M::R>,
+    from: u16,
+) -> Heard
+    requires sound { IsSound owner.old }
+    requires whole { owner.old.broken ≡ false }
+    requires loaded { owner.old.loaded ≡ true }
+    requires from { from < vec_len receivers.old }
+    ensures hears { LooksInto from owner.old owner.new
+        (log_of (map M.received receivers.old.items) from)
+        (log_of (map M.received receivers.new.items) from) result }
+    ensures few { result ≢ Nothing
+        → length (log_of (map M.received receivers.old.items) from) < most_posts }
+    ensures others { map M.received receivers.new.items ≡ slice_set
+        (map M.received receivers.old.items) from
+        (log_of (map M.received receivers.new.items) from) }
+    ensures keeps { Alike (Keeps M.Mail) receivers.old.items receivers.new.items }
+{
+    hear::<M, G>(gate, turn, owner, me, &mut receivers[from as usize], from)
 }

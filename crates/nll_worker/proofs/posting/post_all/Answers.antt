@@ -3,8 +3,8 @@ use Rattle.nll_owner.specs.Owner.{part_for}
 use Rattle.nll_owner.specs.Logs.{log_of}
 use Rattle.nll_worker.specs.Mailboxes.{Stays}
 use Rattle.nll_worker.proofs.ListLemmas.{alike_refl, alike_trans, set_log}
-use Rattle.nll_worker.proofs.BatchLemmas.{posts_none, posts_more, posts_fronts}
-use Rattle.nll_worker.proofs.turn.post_all.Goals as goal
+use Rattle.nll_worker.proofs.TallyLemmas.{posts_none, posts_more, posts_fronts}
+use Rattle.nll_worker.proofs.posting.post_all.Goals as goal
 
 pub loop-to-init : goal.loop-to-init
 loop-to-init g c = (posts_none c.args.owner.now _ c.requires.posts.1.sound, alike_refl (Stays g.M.Mail) (λ s r p. p) c.args.senders.now.items)

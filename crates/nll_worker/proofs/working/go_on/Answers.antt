@@ -5,8 +5,8 @@ use Rattle.nll_worker.specs.declared.exchange.Heard.{Heard}
 use Rattle.nll_worker.proofs.ListLemmas.{alike_refl, stays_on, keeps_on}
 use Rattle.nll_worker.proofs.TurnLemmas.{taken_rest}
 use Rattle.nll_worker.proofs.FinishLemmas.{finishes_fail, finishes_stray, finishes_quiet, finishes_left, rests_open}
-use Rattle.nll_worker.proofs.working.work_on.Goals as goal
-use Rattle.nll_worker.proofs.working.work_on.Goals.{in-One, in-Nothing+in-Open}
+use Rattle.nll_worker.proofs.working.go_on.Goals as goal
+use Rattle.nll_worker.proofs.working.go_on.Goals.{in-One, in-Nothing+in-Open}
 
 pub loop-init : goal.loop-init
 loop-init g c =

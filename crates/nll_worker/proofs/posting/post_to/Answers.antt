@@ -3,7 +3,7 @@ use Rattle.nll_owner.specs.Logs.{IsPrefix}
 use Rattle.nll_owner.specs.Owner.{part_for}
 use Rattle.nll_worker.specs.Mailboxes.{Stays}
 use Rattle.nll_worker.proofs.ListLemmas.{map_set, read_set, alike_set, on_ok_then}
-use Rattle.nll_worker.proofs.turn.post_to.Goals as goal
+use Rattle.nll_worker.proofs.posting.post_to.Goals as goal
 
 pub returns-clause-sent : goal.returns-clause-sent
 returns-clause-sent g c =

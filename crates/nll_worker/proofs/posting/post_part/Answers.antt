@@ -1,7 +1,7 @@
 use Rattle.std.proofs.Common.{◌≡◌, ◌<◌, sym, ap, ◌∙◌, subst}
 use Rattle.nll_owner.specs.Owner.{Owner, given_to}
 use Rattle.nll_owner.proofs.PostingLemmas.{posting_none, posting_more, posting_front, posted_all, posted_few, given_one, given_all, fewer}
-use Rattle.nll_worker.proofs.exchange.post_part.Goals as goal
+use Rattle.nll_worker.proofs.posting.post_part.Goals as goal
 
 pub loop-growth-init : goal.loop-growth-init
 loop-growth-init g c = record { posting = posting_none _ _ _ c.requires.sound c.requires.sent; pair = λ r h. h }

@@ -1,0 +1,80 @@
+-- What was posted, after a step.
+use Rattle.std.proofs.Common.{◌≡◌, ◌≢◌, ℕ, zero, suc, ◌+◌, ◌<◌, ◌≤◌, false, List, [], ◌∷◌, ◌++◌, length, take, drop, slice_get, slice_set, slice_index_or, replicate, refl, sym, ap, ◌∙◌, subst, ⊎_elim, arith}
+use Rattle.std.specs.Prelude.{Option, Some, None, IfSome, IfNone}
+use Rattle.std.proofs.lemmas.Bool.{cases_eq}
+use Rattle.std.proofs.lemmas.Option.{slice_get_within}
+use Rattle.std.proofs.lemmas.List.{get_or-set_other, take-append-drop}
+use Rattle.nll_problem.specs.Problem.{Problem}
+use Rattle.nll_cut.specs.Partition.{Cut}
+use Rattle.nll_mail.specs.declared.growth.Growth.{Growth}
+use Rattle.nll_owner.specs.Logs.{IsPrefix, log_of}
+use Rattle.nll_owner.specs.Owner.{Owner, IsSound, part_for, given_to, first_owner}
+use Rattle.nll_owner.proofs.PostingLemmas.{take_all}
+use Rattle.nll_worker.specs.Tallies.{IsCounted, HasGrown}
+use Rattle.nll_worker.specs.Turning.{HasPosted}
+use Rattle.nll_worker.specs.declared.tally.Tally.{Tally}
+use Rattle.nll_worker.proofs.ListLemmas.{set_length}
+use Rattle.nll_worker.proofs.TallyLemmas.{part_grows, given_same, all_given}
+
+pub other_read : {X : Type 0} (xs : List X) (n j : ℕ) (x d : X) → j ≢ n → slice_index_or (slice_set xs n x) j d ≡ slice_index_or xs j d
+other_read xs n j x d differs = get_or-set_other xs n j x d differs
+
+pub read_replicate : {X : Type 0} (n j : ℕ) (x : X) → slice_index_or (replicate n x) j x ≡ x
+read_replicate zero j x = refl
+read_replicate (suc n) zero x = refl
+read_replicate (suc n) (suc j) x = read_replicate n j x
+
+take_none : {X : Type 0} (ys : List X) → take 0 ys ≡ []
+take_none [] = refl
+take_none (y ∷ ys) = refl
+
+-- a beginning of a list begins a longer one
+take_within : {X : Type 0} (n : ℕ) (xs ys : List X) → n ≤ length xs → take n (xs ++ ys) ≡ take n xs
+take_within zero xs ys l = take_none (xs ++ ys) ∙ sym (take_none xs)
+take_within (suc n) [] ys l = absurd (omega (arith, l))
+take_within (suc n) (x ∷ xs) ys l = ap (λ zs. x ∷ zs) (take_within n xs ys (omega (arith, l)))
+
+-- the growth that comes next is the one that is given out
+pub gives_next : (old new : Owner) (to : ℕ) (r : Option Growth) (g : Growth) → old.broken ≡ false → to < old.cut.owners
+    → slice_get (part_for old to) (given_to old to) ≡ Some g
+    → IfSome r (λ growth. (old.broken ≡ false) × (slice_get (part_for old to) (given_to old to) ≡ Some growth) × (new ≡ record old { given = slice_set old.given to (given_to old to + 1) }))
+    → IfNone r ((new ≡ old) × (old.broken ≡ false → to < old.cut.owners → given_to old to ≡ length (part_for old to)))
+    → new ≡ record old { given = slice_set old.given to (given_to old to + 1) }
+gives_next old new to (Some x) g whole to_in next some none = some.2
+gives_next old new to None g whole to_in next some none = absurd (let l = slice_get_within (part_for old to) (given_to old to) g next in omega (arith, l, none.1 whole to_in))
+
+module _ (old next : Owner) (before after : List (List Growth)) (to : ℕ) (p : HasPosted old before) (others : next ≡ record old { given = next.given })
+    (other_given : (j : ℕ) → j ≢ to → given_to next j ≡ given_to old j) (sent : log_of after to ≡ take (given_to next to) (part_for old to)) (rest : after ≡ slice_set before to (log_of after to)) where
+  part_was : (j : ℕ) → part_for next j ≡ part_for old j
+  part_was j = ap (λ (o : Owner). part_for o j) others
+
+  pub posted_on : HasPosted next after
+  posted_on = record {
+    count = ap length rest ∙ (set_length before to (log_of after to) ∙ (p.count ∙ sym (ap (λ (o : Owner). o.cut.owners) others)));
+    front = λ j l. ⊎_elim
+        (λ (here : j ≡ to). ap (log_of after) here ∙ (sent ∙ (ap (take (given_to next to)) (sym (part_was to)) ∙ ap (λ k. take (given_to next k) (part_for next k)) (sym here))))
+        (λ (other : j ≢ to). ap (λ xs. log_of xs j) rest ∙ (other_read before to j (log_of after to) [] other ∙ (p.front j (subst (λ (o : Owner). j < o.cut.owners) others l) ∙ (ap (λ n. take n (part_for old j)) (sym (other_given j other)) ∙ ap (take (given_to next j)) (sym (part_was j))))))
+        (cases_eq j to);
+  }
+
+pub posts_grown : (old new : Owner) (posts : List (List Growth)) → HasGrown old new → IsSound old → HasPosted old posts → HasPosted new posts
+posts_grown old new posts h sound p = record {
+  count = p.count ∙ sym (ap (λ (k : Cut). k.owners) h.cut);
+  front = λ j l.
+      let b = part_grows old new h j in
+      p.front j (subst (λ (k : Cut). j < k.owners) h.cut l) ∙ (sym (take_within (given_to old j) (part_for old j) b.0 (sound.given j)) ∙ (ap (take (given_to old j)) (sym b.1) ∙ ap (λ n. take n (part_for new j)) (sym (given_same old new h j))));
+}
+
+pub posts_first : (q : Problem) (c : Cut) (i : ℕ) (o : Owner) (posts : List (List Growth)) → o ≡ first_owner q c i → length posts ≡ c.owners → ((j : ℕ) → log_of posts j ≡ []) → HasPosted o posts
+posts_first q c i o posts first count none = subst (λ (x : Owner). HasPosted x posts) (sym first) (record {
+  count = count;
+  front = λ j l. none j ∙ sym (ap (λ n. take n (part_for (first_owner q c i) j)) (read_replicate c.owners j 0) ∙ take_none (part_for (first_owner q c i) j));
+})
+
+-- the front of each part was posted
+pub posts_front : (o : Owner) (posts : List (List Growth)) → HasPosted o posts → (j : ℕ) → j < o.cut.owners → IsPrefix (log_of posts j) (part_for o j)
+posts_front o posts p j l = subst (λ xs. IsPrefix xs (part_for o j)) (sym (p.front j l)) (drop (given_to o j) (part_for o j), sym (take-append-drop (given_to o j) (part_for o j)))
+
+-- where nothing waits, all was posted
+pub posts_all : (o : Owner) (posts : List (List Growth)) (t : Tally) → IsSound o → HasPosted o posts → IsCounted o t → t.waiting ≡ 0 → (j : ℕ) → j < o.cut.owners → log_of posts j ≡ part_for o j
+posts_all o posts t sound p is none j l = p.front j l ∙ (ap (λ n. take n (part_for o j)) (all_given o t sound is none j l) ∙ take_all (part_for o j))

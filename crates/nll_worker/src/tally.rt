@@ -1,0 +1,58 @@
+//! What a worker counts of its owner's log.
+
+ghost use Rattle.std.specs.Prelude.{◌≡◌, ◌+◌, ◌*◌, ◌^◌, ◌≤◌, false};
+ghost use Rattle.nll_problem.specs.Limits.{most_owners};
+ghost use Rattle.nll_owner.specs.Owner.{Owner, IsSound, first_owner};
+ghost use Rattle.nll_worker.specs.Tallies.{IsCounted, HasGrown, due_of, given_of};
+ghost use Rattle.nll_worker.specs.declared.tally.Tally.{Tally};
+
+use nll_owner::Owner;
+
+/// What a worker counts of its owner's log, and of its own turns.
+#[derive(Clone, Copy, Debug, PartialEq, Eq)]
+pub struct Tally {
+    /// How many growths the log had when it was counted last.
+    pub grown: u64,
+    /// How many of them weren't given out yet, over all owners that read them.
+    pub waiting: u64,
+    /// How many turns there were.
+    pub turns: u64,
+}
+
+/// How many growths of the log aren't given out yet, over all owners that read them.
+pub fn unsent_count(owner: &Owner<'_>, owners: u16) -> u64
+    requires owners { owners ≡ owner.now.cut.owners }
+    requires few { owners ≤ most_owners }
+    requires whole { owner.now.broken ≡ false }
+    ensures count { given_of owner.now + result ≡ due_of owner.now }
+    ensures small { result ≤ owners * 2 ^ 37 }
+{
+    let mut count = 0;
+    for to in 0..owners {
+        count += owner.unsent(to);
+    }
+    count
+}
+
+/// Counts anew where the log has grown: for how many growths more there is to owe.
+pub fn count_new(owner: &Owner<'_>, owners: u16, tally: &mut Tally) -> u64
+    requires owners { owners ≡ owner.now.cut.owners }
+    requires few { owners ≤ most_owners }
+    requires whole { owner.now.broken ≡ false }
+    requires grew { (before : Owner) × HasGrown before owner.now × IsCounted before tally.old }
+    ensures counted { IsCounted owner.now tally.new }
+    ensures more { (before : Owner) → HasGrown before owner.now → IsCounted before tally.old
+        → due_of before + result ≡ due_of owner.now }
+    ensures turns { tally.new.turns ≡ tally.old.turns }
+    ensures small { result ≤ owners * 2 ^ 37 }
+{
+    let grown = owner.log().len() as u64;
+    if grown == tally.grown {
+        return 0;
+    }
+    let waiting = unsent_count(owner, owners);
+    let new = waiting - tally.waiting;
+    tally.grown = grown;
+    tally.waiting = waiting;
+    new
+}
