@@ -1,10 +1,11 @@
 -- What a mailbox on a ring tells of its ends.
 -- Source: project's choice.
 use Rattle.std.specs.Prelude.{ℕ, List}
-use Rattle.rtrb.specs.Ring.{sent, received, known_free, IsPair}
+use Rattle.rtrb.specs.Ring.{sent, received, known_free, known_items, IsPair}
 use Rattle.nll_mail.specs.declared.growth.Growth.{Growth}
 use Rattle.nll_mail.specs.declared.ring_mail.RingSender.{RingSender}
 use Rattle.nll_mail.specs.declared.ring_mail.RingReceiver.{RingReceiver}
+use Rattle.nll_mail.specs.declared.ring_mail.RingClosed.{RingClosed}
 
 -- what a sender has sent, in order
 abbrev pub sent_by : RingSender → List Growth
@@ -22,6 +23,15 @@ ends_of receiver = (receiver.from, receiver.to)
 abbrev pub room_of : RingSender → ℕ
 room_of sender = known_free sender.producer
 
+-- the growths that a receiver has seen in the ring and not yet received; no one but the receiver
+-- takes them out
+abbrev pub seen_by : RingReceiver → List Growth
+seen_by receiver = known_items receiver.consumer
+
 -- the two are the ends of one ring
 abbrev pub IsJoined : RingSender → RingReceiver → Type 0
 IsJoined sender receiver = IsPair sender.producer receiver.consumer
+
+-- the closed sender and the receiver are the ends of one ring
+abbrev pub Closes : RingClosed → RingReceiver → Type 0
+Closes closed receiver = IsPair closed.producer receiver.consumer

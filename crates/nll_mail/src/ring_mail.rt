@@ -82,10 +82,14 @@ pub struct RingPost {
 
 impl Mail for RingMail {
     ghost use Rattle.std.specs.Prelude.{◌≡◌, ◌+◌, ◌<◌, ◌++◌, [], ◌∷◌, true, length};
-    ghost use Rattle.std.specs.Prelude.{IsOk, IfOk, OnOk, IfErr};
-    ghost use Rattle.rtrb.specs.Ring.{sent as pushed, received as popped, known_items, IsPair};
+    ghost use Rattle.std.specs.Prelude.{IsOk, IfOk, OnOk, IfErr, IsSome, IfSome, IfNone};
+    ghost use mathlib.Core.List.{IsPrefix};
+    ghost use Rattle.rtrb.specs.Ring.{sent as pushed, received as popped, known_items};
     ghost use Rattle.nll_mail.specs.Channel.{refusal};
-    ghost use Rattle.nll_mail.specs.Rings.{sent_by, received_by, ends_of, room_of, IsJoined};
+    ghost use Rattle.nll_mail.specs.Rings.{sent_by, received_by, ends_of, room_of, seen_by};
+    ghost use Rattle.nll_mail.specs.Rings.{IsJoined, Closes};
+    ghost use Rattle.nll_mail.specs.declared.ring_mail.RingSender.{RingSender};
+    ghost use Rattle.nll_mail.specs.declared.ring_mail.RingClosed.{RingClosed};
     ghost use Rattle.nll_mail.specs.declared.ring_mail.RingReceiver.{RingReceiver};
     ghost use Rattle.nll_problem.specs.Limits.{most_posts, most_places};
 
@@ -109,7 +113,7 @@ impl Mail for RingMail {
 
     ghost all_sent = { λ closed. pushed closed.producer };
 
-    ghost closes = { λ closed receiver. IsPair closed.producer receiver.consumer };
+    ghost closes = { Closes };
 
     ghost post_ends = { λ post. (post.from, post.to) };
 
@@ -166,7 +170,23 @@ impl Mail for RingMail {
         Ok(())
     }
 
-    fn take(receiver: &mut RingReceiver) -> Option<Growth> {
+    /// Takes the growth at the front of the ring: the first of those that were seen there, where
+    /// any were. It looks only where none is left of those, and gives none where it then sees none.
+    fn take(receiver: &mut RingReceiver) -> Option<Growth>
+        ensures some { IfSome result
+            (λ growth. received_by receiver.new ≡ received_by receiver.old ++ growth ∷ []) }
+        ensures none { IfNone result (received_by receiver.new ≡ received_by receiver.old) }
+        ensures few { IfSome result (λ _. length (received_by receiver.old) < most_posts) }
+        ensures ends { ends_of receiver.new ≡ ends_of receiver.old }
+        ensures pair { (sender : RingSender)
+            → IsJoined sender receiver.old → IsJoined sender receiver.new }
+        ensures closed { (closed : RingClosed)
+            → Closes closed receiver.old → Closes closed receiver.new }
+        ensures seen { 0 < length (seen_by receiver.old) → IsSome result }
+        ensures front { IfSome result
+            (λ growth. IsPrefix (seen_by receiver.old) (growth ∷ seen_by receiver.new)) }
+        ensures empty { IfNone result (seen_by receiver.new ≡ []) }
+    {
         match receiver.consumer.pop() {
             Ok(growth) => {
                 receiver.count += 1;
