@@ -9,11 +9,19 @@ use Rattle.nll_worker.specs.declared.ending.Ending.{Ending}
 use Rattle.nll_worker.specs.declared.ending.Ending.TheVariants.{Quiet, Stray}
 use Rattle.nll_worker.specs.declared.tally.Tally.{Tally}
 use Rattle.nll_worker.specs.Sums.{sum_to}
+use Rattle.nll_worker.specs.Tallies.{HasGrown}
 use Rattle.nll_worker.specs.Turning.{IsAtRest, HasPosted, HasTakenAll}
 use Rattle.nll_worker.specs.Finishing.{Finishes, IsOwnerOf, HasStray}
 use Rattle.nll_worker.proofs.SumLemmas.{sum_same}
 use Rattle.nll_worker.proofs.PostLemmas.{posts_front, posts_all}
 use Rattle.nll_worker.proofs.TurnLemmas.{taken_all}
+
+-- it is of the same problem, cut and number after it gave out more, or grew
+pub is_given : (q : Problem) (c : Cut) (i : ℕ) (old new : Owner) → new ≡ record old { given = new.given } → IsOwnerOf q c i old → IsOwnerOf q c i new
+is_given q c i old new others is = record { problem = ap (λ (o : Owner). o.problem) others ∙ is.problem; cut = ap (λ (o : Owner). o.cut) others ∙ is.cut; me = ap (λ (o : Owner). o.me) others ∙ is.me }
+
+pub is_grown : (q : Problem) (c : Cut) (i : ℕ) (old new : Owner) → HasGrown old new → IsOwnerOf q c i old → IsOwnerOf q c i new
+is_grown q c i old new h is = record { problem = h.problem ∙ is.problem; cut = h.cut ∙ is.cut; me = h.me ∙ is.me }
 
 module _ (q : Problem) (c : Cut) (i : ℕ) (o : Owner) (posts taken : List (List Growth)) (owed cleared : ℕ) (is : IsOwnerOf q c i o) (posted : HasPosted o posts) where
   inside : (j : ℕ) → j < c.owners → j < o.cut.owners

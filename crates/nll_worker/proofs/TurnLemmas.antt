@@ -1,9 +1,9 @@
 -- What a turn comes to.
-use Rattle.std.proofs.Common.{◌≡◌, ◌≢◌, ℕ, zero, suc, ◌+◌, ◌*◌, ◌^◌, ◌<◌, ◌≤◌, true, false, List, [], ◌∷◌, ◌++◌, length, length-append, slice_set, slice_index_or, Contains, refl, sym, ap, ◌∙◌, subst, ◌⊎◌, ⊎_elim, arith}
+use Rattle.std.proofs.Common.{◌≡◌, ◌≢◌, ℕ, zero, suc, ◌+◌, ◌*◌, ◌^◌, ◌<◌, ◌≤◌, List, [], ◌∷◌, ◌++◌, length, length-append, slice_set, slice_index_or, Contains, sym, ap, ◌∙◌, subst, ◌⊎◌, ⊎_elim, arith}
 use Rattle.std.proofs.lemmas.Bool.{cases_eq}
 use Rattle.std.proofs.lemmas.List.Elements.{Contains-append_left}
 use Rattle.nll_owner.specs.Logs.{IsPrefix, log_of}
-use Rattle.nll_owner.specs.Owner.{Owner, IsSound, IsDone, part_for, given_to, received_from, with_growth, first_owner}
+use Rattle.nll_owner.specs.Owner.{Owner, IsSound, IsDone, received_from, with_growth, first_owner}
 use Rattle.nll_cut.specs.Partition.{Cut}
 use Rattle.nll_problem.specs.Problem.{Problem}
 use Rattle.nll_mail.specs.declared.growth.Growth.{Growth}
@@ -14,10 +14,11 @@ use Rattle.nll_worker.specs.Sums.{sum_to}
 use Rattle.nll_worker.specs.Hearing.{IsGivenUp}
 use Rattle.nll_worker.specs.Tallies.{HasGrown, IsCounted, due_of}
 use Rattle.nll_worker.specs.Turning.{IsWorking, HasTaken, IsAtRest, HasTakenAll, ComesTo}
+use Rattle.nll_worker.specs.Finishing.{HasStray}
 use Rattle.nll_worker.specs.Mailboxes.{AreAllEmpty}
 use Rattle.nll_worker.proofs.SumLemmas.{sum_same, sum_zero}
 use Rattle.nll_worker.proofs.ListLemmas.{set_length, set_log, set_own}
-use Rattle.nll_worker.proofs.TallyLemmas.{sum_bound, grown_self}
+use Rattle.nll_worker.proofs.TallyLemmas.{sum_bound}
 use Rattle.nll_worker.proofs.PostLemmas.{other_read, read_replicate}
 
 pub sum_one : (n : ℕ) (f f' : ℕ → ℕ) (j : ℕ) → j < n → f' j ≡ f j + 1 → ((k : ℕ) → k ≢ j → f' k ≡ f k) → sum_to n f' ≡ sum_to n f + 1
@@ -122,6 +123,10 @@ turns_small o taken cleared items few t =
 pub nothing_is_not_one : Nothing ≡ One → ⊥
 nothing_is_not_one e = cc
 
+-- a growth that can't be its sender's
+pub stray_same : (old new : Owner) (got : ℕ → List Growth) → new ≡ old → HasStray old.problem old.cut old.me got → HasStray new.problem new.cut new.me got
+stray_same old new got same h = subst (λ (o : Owner). HasStray o.problem o.cut o.me got) (sym same) h
+
 -- ---- what was given out changes nothing of this
 
 module _ (old new : Owner) (others : new ≡ record old { given = new.given }) (taken : List (List Growth)) where
@@ -146,6 +151,15 @@ module _ (old new : Owner) (others : new ≡ record old { given = new.given }) (
     counted = counted;
     turns = turns ∙ r.turns;
   }
+
+  pub comes_given : (owed cleared : ℕ) (t t' : Tally) → IsSound new → IsCounted new t' → t'.turns ≡ t.turns → (heard : Heard) → ComesTo old taken owed cleared t heard → ComesTo new taken owed cleared t' heard
+  comes_given owed cleared t t' sound counted turns Nothing came = rests_given owed cleared t t' sound counted turns came
+  comes_given owed cleared t t' sound counted turns One came = rests_given owed cleared t t' sound counted turns came
+  comes_given owed cleared t t' sound counted turns Stray came = (subst (λ (o : Owner). HasStray o.problem o.cut o.me (log_of taken)) (sym others) came.0, taken_given came.1)
+  comes_given owed cleared t t' sound counted turns Memory came = taken_given came
+
+pub rests_open : (o : Owner) (taken : List (List Growth)) (owed cleared owed' cleared' : ℕ) (t : Tally) → owed' ≡ owed → cleared' ≡ cleared → IsAtRest o taken owed cleared t → IsAtRest o taken owed' cleared' t
+rests_open o taken owed cleared owed' cleared' t a b r = subst (λ (y : ℕ × ℕ). IsAtRest o taken y.0 y.1 t) (λ i. (sym a i, sym b i)) r
 
 -- ---- the first turn
 

@@ -3,6 +3,7 @@
 ghost use Rattle.std.specs.Prelude.{◌≡◌, ◌≢◌, ◌<◌, ◌≤◌, ℕ, List, length, map, take, slice_set};
 ghost use Rattle.std.specs.Prelude.{false, vec_len};
 ghost use Rattle.nll_problem.specs.Limits.{most_owners};
+ghost use Rattle.nll_mail.specs.declared.growth.Growth.{Growth};
 ghost use Rattle.nll_owner.specs.Logs.{log_of};
 ghost use Rattle.nll_owner.specs.Owner.{IsSound, part_for, given_to};
 ghost use Rattle.nll_worker.specs.Mailboxes.{Alike, Stays};

@@ -25,7 +25,6 @@ pub fn unsent_count(owner: &Owner<'_>, owners: u16) -> u64
     requires few { owners ≤ most_owners }
     requires whole { owner.now.broken ≡ false }
     ensures count { given_of owner.now + result ≡ due_of owner.now }
-    ensures small { result ≤ owners * 2 ^ 37 }
 {
     let mut count = 0;
     for to in 0..owners {
@@ -44,7 +43,6 @@ pub fn count_new(owner: &Owner<'_>, owners: u16, tally: &mut Tally) -> u64
     ensures more { (before : Owner) → HasGrown before owner.now → IsCounted before tally.old
         → due_of before + result ≡ due_of owner.now }
     ensures turns { tally.new.turns ≡ tally.old.turns }
-    ensures small { result ≤ owners * 2 ^ 37 }
 {
     let grown = owner.log().len() as u64;
     if grown == tally.grown {

@@ -107,14 +107,15 @@ fn turn<M: Mail, L: Ledger, G: Gate>(
         (L.owed share.new) (L.cleared share.new) tally.new result }
     ensures keeps { Alike (Keeps M.Mail) receivers.old.items receivers.new.items }
 {
-    let heard = hear_from::<M, G>(gate, tally.turns + 1, owner, me, receivers, from);
-    match heard {
-        Heard::Nothing => {}
-        Heard::Stray => {}
-        Heard::Memory => {}
-        Heard::One => keep_book::<L>(book, share, owner, owners, tally),
+    match hear_from::<M, G>(gate, tally.turns + 1, owner, me, receivers, from) {
+        Heard::Nothing => Heard::Nothing,
+        Heard::Stray => Heard::Stray,
+        Heard::Memory => Heard::Memory,
+        Heard::One => {
+            keep_book::<L>(book, share, owner, owners, tally);
+            Heard::One
+        }
     }
-    heard
 }
 
 /// One look into each mailbox: whether the owner received a growth, or why the worker has to end.

@@ -1,31 +1,39 @@
-use Rattle.std.proofs.Common.{refl, arith}
-use Rattle.nll_worker.specs.Mailboxes.{Stays}
-use Rattle.nll_worker.proofs.ListLemmas.{alike_refl, ok_of}
-use Rattle.nll_worker.proofs.TurnLemmas.{fronts_empty, first_is, first_posts, first_takes, none_taken, takes_cleared}
+use Rattle.std.proofs.Common.{refl, ap, ◌∙◌, arith}
+use Rattle.nll_owner.specs.Owner.{Owner}
+use Rattle.nll_worker.proofs.TurnLemmas.{first_grows, first_takes, first_due, none_taken}
 use Rattle.nll_worker.proofs.turn.first_turn.Goals as goal
 
 pub returns-in-Err : goal.returns-in-Err
 returns-in-Err g c = record {
-  is = first_is _ _ _ c.args.owner.now c.load.new.self c.requires.first c.load.ensures.others;
+  grows = first_grows _ _ _ c.args.owner.now c.load.new.self c.requires.first.2 c.load.ensures.others c.load.ensures.begins;
   sound = c.load.ensures.sound;
   book = (c.requires.fresh.of_book, refl, refl);
-  comes = λ taken none. none_taken _ _ _ c.args.owner.now c.load.new.self c.requires.first c.load.ensures.others c.load.new.self taken refl;
-  front = fronts_empty c.load.new.self _ c.requires.posts.1;
-  pairs = alike_refl (Stays g.M.Mail) (λ s r p. p) c.args.senders.now.items;
+  comes = λ taken none. none_taken _ _ _ c.args.owner.now c.load.new.self c.requires.first.2 c.load.ensures.others taken;
 }
 
-pub share_out-requires-clause-posts : goal.share_out-requires-clause-posts
-share_out-requires-clause-posts g c κs within =
-    first_posts _ _ _ c.args.owner.now c.load.new.self c.requires.first c.load.ensures.others _ _ c.requires.posts c.requires.fresh.owed_is c.load.ensures.sound c.in-Ok.ensures.ok.2 c.in-Ok.ensures.ok.1 c.in-Ok.ensures.done
+pub keep_book-requires-clause-grew : goal.keep_book-requires-clause-grew
+keep_book-requires-clause-grew g c κs within = (
+  c.args.owner.now,
+  first_grows _ _ _ c.args.owner.now c.load.new.self c.requires.first.2 c.load.ensures.others c.load.ensures.begins,
+  c.requires.counted,
+  (let none = first_due _ _ _ c.args.owner.now c.requires.first.2 in omega (arith, none, c.requires.fresh.owed_is)),
+)
+
+pub returns-clause-grows : goal.returns-clause-grows
+returns-clause-grows g c = first_grows _ _ _ c.args.owner.now c.load.new.self c.requires.first.2 c.load.ensures.others c.load.ensures.begins
 
 pub returns-clause-comes : goal.returns-clause-comes
-returns-clause-comes g c =
-    let ok = ok_of c.share_out.result c.is_err.result _ c.is_err.ensures.value c.if-is_err.false c.share_out.ensures.posts in
-    let given = ok_of c.share_out.result c.is_err.result _ c.is_err.ensures.value c.if-is_err.false c.share_out.ensures.given in
-    let cleared = ok_of c.share_out.result c.is_err.result _ c.is_err.ensures.value c.if-is_err.false c.share_out.ensures.cleared in
-    λ taken none.
-    let held = first_takes _ _ _ c.args.owner.now c.load.new.self c.requires.first c.load.ensures.others taken _ none c.requires.fresh.cleared_is in
-    (record { posting = ok; given = given; taking = takes_cleared c.load.new.self c.share_out.new.owner _ _ _ held c.share_out.ensures.others cleared }, omega (arith, c.requires.fresh.cleared_is, cleared))
-
-pub returns-then-is_err-clause-comes : goal.returns-then-is_err-clause-comes
-returns-then-is_err-clause-comes g c = λ taken none. none_taken _ _ _ c.args.owner.now c.load.new.self c.requires.first c.load.ensures.others c.share_out.new.owner taken c.share_out.ensures.others
+returns-clause-comes g c = λ taken none. record {
+  working = record {
+    sound = c.load.ensures.sound;
+    whole = c.in-Ok.ensures.ok.2;
+    loaded = c.in-Ok.ensures.ok.1;
+    done = c.in-Ok.ensures.done;
+    owes = c.keep_book.ensures.owes;
+  };
+  taking = first_takes _ _ _ c.args.owner.now c.load.new.self c.requires.first.2 c.load.ensures.others taken _
+      (none.0 ∙ (c.requires.owners ∙ ap (λ (o : Owner). o.cut.owners) c.requires.first.2), none.1)
+      (omega (arith, c.keep_book.ensures.clears, c.requires.fresh.cleared_is));
+  counted = c.keep_book.ensures.counted;
+  turns = c.keep_book.ensures.turns;
+}

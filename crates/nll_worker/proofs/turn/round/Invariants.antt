@@ -1,17 +1,15 @@
 use Rattle.std.proofs.Common.{◌≡◌, map}
-use Rattle.nll_worker.specs.Mailboxes.{Alike, Stays, Keeps}
+use Rattle.nll_worker.specs.Mailboxes.{Alike, Keeps}
+use Rattle.nll_worker.specs.Tallies.{HasGrown}
 use Rattle.nll_worker.specs.Turning.{IsAtRest}
-use Rattle.nll_worker.specs.Finishing.{IsOwnerOf}
 use Rattle.nll_worker.proofs.turn.round.Given as goal
 
 abbrev pub invariant-loop-from : goal.invariant-loop-from
 invariant-loop-from g l = record {
-  is : IsOwnerOf l.problem l.cut l.me l.owner;
+  grows : HasGrown l.fn.owner l.owner;
   book : g.L.Ledger.belongs l.book l.share;
   number : g.L.Ledger.number l.share ≡ g.L.Ledger.number l.fn.share;
   called : g.L.Ledger.called l.share ≡ g.L.Ledger.called l.fn.share;
-  rests : IsAtRest l.owner (map g.M.Mail.sent l.senders.items) (map g.M.Mail.received l.receivers.items) (g.L.Ledger.owed l.share) (g.L.Ledger.cleared l.share);
-  turns : l.turns ≡ g.L.Ledger.cleared l.share;
-  pairs : Alike (Stays g.M.Mail) l.fn.senders.items l.senders.items;
+  rests : IsAtRest l.owner (map g.M.Mail.received l.receivers.items) (g.L.Ledger.owed l.share) (g.L.Ledger.cleared l.share) l.tally;
   keeps : Alike (Keeps g.M.Mail) l.fn.receivers.items l.receivers.items;
 }

@@ -1,0 +1,16 @@
+use Rattle.std.proofs.Common.{◌≤◌, subst, arith}
+use Rattle.nll_worker.proofs.TallyLemmas.{due_small}
+use Rattle.nll_worker.proofs.turn.keep_book.Goals as goal
+
+pub owe-requires-clause-few : goal.owe-requires-clause-few
+owe-requires-clause-few g c =
+    let w = c.requires.grew in
+    let more = c.count_new-count.ensures.more w.0 w.1 w.2 in
+    let small = due_small c.args.owner.now c.requires.sound (subst (λ n. n ≤ 64) c.requires.owners c.requires.few) in
+    (omega (arith, more, small), omega (arith, more, small, w.3))
+
+pub returns-clause-owes : goal.returns-clause-owes
+returns-clause-owes g c =
+    let w = c.requires.grew in
+    let more = c.count_new-count.ensures.more w.0 w.1 w.2 in
+    omega (arith, c.clear.ensures.same.0, c.owe.ensures.owed, more, w.3)
