@@ -10,9 +10,10 @@ use Rattle.nll_mail.specs.declared.growth.Growth.{Growth}
 use Rattle.nll_owner.specs.Logs.{IsPrefix, log_of}
 use Rattle.nll_owner.specs.Owner.{Owner, IsSound, part_for, given_to, first_owner}
 use Rattle.nll_owner.proofs.PostingLemmas.{take_all}
-use Rattle.nll_worker.specs.Tallies.{IsCounted, HasGrown}
-use Rattle.nll_worker.specs.Turning.{HasPosted}
+use Rattle.nll_worker.specs.Tallies.{IsCounted, HasGrown, due_of, given_of}
+use Rattle.nll_worker.specs.Turning.{HasPosted, HasGivenAll}
 use Rattle.nll_worker.specs.declared.tally.Tally.{Tally}
+use Rattle.nll_worker.proofs.SumLemmas.{sum_same}
 use Rattle.nll_worker.proofs.ListLemmas.{set_length}
 use Rattle.nll_worker.proofs.TallyLemmas.{part_grows, given_same, all_given}
 
@@ -78,3 +79,22 @@ posts_front o posts p j l = subst (λ xs. IsPrefix xs (part_for o j)) (sym (p.fr
 -- where nothing waits, all was posted
 pub posts_all : (o : Owner) (posts : List (List Growth)) (t : Tally) → IsSound o → HasPosted o posts → IsCounted o t → t.waiting ≡ 0 → (j : ℕ) → j < o.cut.owners → log_of posts j ≡ part_for o j
 posts_all o posts t sound p is none j l = p.front j l ∙ (ap (λ n. take n (part_for o j)) (all_given o t sound is none j l) ∙ take_all (part_for o j))
+
+-- all of one part more was given out
+pub given_more : (old next : Owner) (to : ℕ) → HasGivenAll to old → next ≡ record old { given = next.given } → ((j : ℕ) → j ≢ to → given_to next j ≡ given_to old j)
+    → given_to next to ≡ length (part_for old to) → HasGivenAll (to + 1) next
+given_more old next to was others other_given given j l =
+    let part_was : (k : ℕ) → part_for next k ≡ part_for old k = λ k. ap (λ (o : Owner). part_for o k) others in
+    ⊎_elim
+    (λ (here : j ≡ to). ap (given_to next) here ∙ (given ∙ (ap length (sym (part_was to)) ∙ ap (λ k. length (part_for next k)) (sym here))))
+    (λ (other : j ≢ to). other_given j other ∙ (was j (below j to l other) ∙ ap length (sym (part_was j))))
+    (cases_eq j to)
+  where
+    below : (j to : ℕ) → j < to + 1 → j ≢ to → j < to
+    below j to l other = grind arith
+
+-- then nothing waits
+pub none_waits : (o : Owner) (waiting : ℕ) → HasGivenAll o.cut.owners o → given_of o + waiting ≡ due_of o → waiting ≡ 0
+none_waits o waiting all sum =
+    let same = sum_same o.cut.owners (λ j. given_to o j) (λ j. length (part_for o j)) all in
+    omega (arith, same, sum)

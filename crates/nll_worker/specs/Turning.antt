@@ -16,6 +16,10 @@ pub record HasPosted (o : Owner) (posts : List (List Growth)) : Type 0 where
   pub count : length posts ≡ o.cut.owners
   pub front : (j : ℕ) → j < o.cut.owners → log_of posts j ≡ take (given_to o j) (part_for o j)
 
+-- all of the first so many parts was given out
+abbrev pub HasGivenAll : ℕ → Owner → Type 0
+HasGivenAll owners o = (j : ℕ) → j < owners → given_to o j ≡ length (part_for o j)
+
 -- The owner is loaded and has nothing left to do. It owes 1 for its load and for each growth of each
 -- part, posted or not.
 pub record IsWorking (o : Owner) (owed : ℕ) : Type 0 where
@@ -45,6 +49,13 @@ abbrev pub HasTakenAll : Owner → List (List Growth) → Type 0
 HasTakenAll o taken =
     (j : ℕ) (g : Growth) → j < o.cut.owners → Contains (received_from o j) g
     → Contains (log_of taken j) g
+
+-- the worker hasn't to end now
+abbrev pub GoesOn : Heard → Type 0
+GoesOn Nothing = Unit {0}
+GoesOn One = Unit {0}
+GoesOn Stray = ⊥
+GoesOn Memory = ⊥
 
 -- what a turn comes to
 abbrev pub ComesTo : Owner → List (List Growth) → ℕ → ℕ → Tally → Heard → Type 0

@@ -1,14 +1,14 @@
 //! What a worker posts. A mailbox that is full is tried again later.
 
 ghost use Rattle.std.specs.Prelude.{◌≡◌, ◌≢◌, ◌<◌, ◌≤◌, ℕ, List, length, map, take, slice_set};
-ghost use Rattle.std.specs.Prelude.{false, vec_len};
+ghost use Rattle.std.specs.Prelude.{OnOk, false, vec_len};
 ghost use Rattle.nll_problem.specs.Limits.{most_owners};
 ghost use Rattle.nll_mail.specs.declared.growth.Growth.{Growth};
 ghost use Rattle.nll_owner.specs.Logs.{log_of};
 ghost use Rattle.nll_owner.specs.Owner.{IsSound, part_for, given_to};
 ghost use Rattle.nll_worker.specs.Mailboxes.{Alike, Stays};
 ghost use Rattle.nll_worker.specs.Tallies.{IsCounted};
-ghost use Rattle.nll_worker.specs.Turning.{HasPosted, ComesTo};
+ghost use Rattle.nll_worker.specs.Turning.{HasPosted, HasGivenAll, GoesOn, ComesTo};
 
 use crate::receiving::Heard;
 use crate::tally::{Tally, unsent_count};
@@ -27,6 +27,8 @@ fn post_part<M: Mail>(
     requires to { to < owner.old.cut.owners }
     requires sent { M.sent sender.old ≡ take (given_to owner.old to) (part_for owner.old to) }
     ensures sent { M.sent sender.new ≡ take (given_to owner.new to) (part_for owner.old to) }
+    ensures all { M.is_bounded ≡ false
+        → OnOk result (given_to owner.new to ≡ length (part_for owner.old to)) }
     ensures others { owner.new ≡ record owner.old { given = owner.new.given } }
     ensures other_given { (j : ℕ) → j ≢ to → given_to owner.new j ≡ given_to owner.old j }
     ensures pair { (r : M.R) → M.pairs sender.old r → M.pairs sender.new r }
@@ -53,7 +55,10 @@ fn post_to<M: Mail>(
     requires to { to < owner.old.cut.owners }
     requires posts { HasPosted owner.old (map M.sent senders.old.items) }
     ensures posts { HasPosted owner.new (map M.sent senders.new.items) }
+    ensures all { M.is_bounded ≡ false
+        → OnOk result (given_to owner.new to ≡ length (part_for owner.old to)) }
     ensures others { owner.new ≡ record owner.old { given = owner.new.given } }
+    ensures other_given { (j : ℕ) → j ≢ to → given_to owner.new j ≡ given_to owner.old j }
     ensures pairs { Alike (Stays M.Mail) senders.old.items senders.new.items }
     ensures sound { IsSound owner.new }
 {
@@ -71,6 +76,7 @@ fn post_all<M: Mail>(
     requires whole { owner.old.broken ≡ false }
     requires posts { HasPosted owner.old (map M.sent senders.old.items) }
     ensures posts { HasPosted owner.new (map M.sent senders.new.items) }
+    ensures all { M.is_bounded ≡ false → OnOk result (HasGivenAll owners owner.new) }
     ensures others { owner.new ≡ record owner.old { given = owner.new.given } }
     ensures pairs { Alike (Stays M.Mail) senders.old.items senders.new.items }
     ensures sound { IsSound owner.new }
@@ -97,6 +103,7 @@ fn post_waiting<M: Mail>(
     ensures posts { HasPosted owner.new (map M.sent senders.new.items) }
     ensures counted { IsCounted owner.new tally.new }
     ensures turns { tally.new.turns ≡ tally.old.turns }
+    ensures all { M.is_bounded ≡ false → OnOk result (tally.new.waiting ≡ 0) }
     ensures others { owner.new ≡ record owner.old { given = owner.new.given } }
     ensures pairs { Alike (Stays M.Mail) senders.old.items senders.new.items }
     ensures sound { IsSound owner.new }
@@ -127,6 +134,7 @@ pub fn share_out<M: Mail>(
     ensures comes { (taken : List (List Growth)) (owed cleared : ℕ)
         → ComesTo owner.old taken owed cleared tally.old heard
         → ComesTo owner.new taken owed cleared tally.new result }
+    ensures all { M.is_bounded ≡ false → GoesOn result → tally.new.waiting ≡ 0 }
     ensures others { owner.new ≡ record owner.old { given = owner.new.given } }
     ensures pairs { Alike (Stays M.Mail) senders.old.items senders.new.items }
     ensures sound { IsSound owner.new }
