@@ -3,7 +3,7 @@
 ghost use Rattle.std.specs.Prelude.{◌≡◌, ◌≤◌, ◌++◌, [], IfOk};
 ghost use Rattle.nll_problem.specs.Limits.{most_posts};
 
-use nll_mail::{Growth, Mail};
+use nll_mail::{Growth, Mail, PostError};
 use nll_problem::RegionId;
 use nll_sets::{Element, Memory};
 use std::alloc::Global;
@@ -43,17 +43,31 @@ pub fn numbered(number: u64) -> Growth {
     }
 }
 
-// Posts growths up to this number of them, and closes the sender. Gives up where one is refused.
-fn post_all<M: Mail>(sending: Sending<M>, growths: u64, gave_up: &AtomicBool) -> M::Closed
+// Posts growths up to this number of them, and closes the sender. Tries again where the mailbox is
+// full, and gives up where memory is refused.
+fn post_all<M: Mail, R: Wait>(
+    rt: &R,
+    sending: Sending<M>,
+    growths: u64,
+    gave_up: &AtomicBool,
+) -> M::Closed
     requires few { growths ≤ most_posts }
     requires new { M.sent sending.sender ≡ [] }
     ensures { (receiver : M.R) → M.pairs sending.sender receiver → M.closes result receiver }
 {
     let mut sender = sending.out();
-    for number in 0..growths {
-        if M::post(&mut sender, numbered(number)).is_err() {
-            gave_up.store(true, Ordering::SeqCst);
+    let mut number = 0;
+    for _ in rt.forever() {
+        if number >= growths {
             break;
+        }
+        match M::post(&mut sender, numbered(number)) {
+            Ok(()) => number += 1,
+            Err(PostError::Full(_)) => thread::yield_now(),
+            Err(PostError::Memory(_)) => {
+                gave_up.store(true, Ordering::SeqCst);
+                break;
+            }
         }
     }
     M::close(sender)
@@ -89,7 +103,7 @@ fn take_all<M: Mail, R: Wait>(
     (receiver, in_order)
 }
 
-/// Posts growths in one thread, and takes them in another until there are so many or one is
+/// Posts growths in one thread, and takes them in another until there are so many or memory is
 /// refused. Answers the settled mailbox, and whether they came in order.
 pub fn through_two_threads<M: Mail, R: Threads + Wait + Sync>(
     rt: &R,
@@ -115,7 +129,7 @@ pub fn through_two_threads<M: Mail, R: Threads + Wait + Sync>(
         move || -> M::Closed
             requires { (growths ≤ most_posts) × (M.sent sending.sender ≡ []) }
             ensures { (other : M.R) → M.pairs sending.sender other → M.closes result other }
-        { post_all::<M>(sending, growths, flag) },
+        { post_all::<M, R>(rt, sending, growths, flag) },
     );
     Ok((M::settle(closed, receiver), in_order))
 }

@@ -11,6 +11,8 @@ pub use exchange::through_two_threads;
 pub use settling::settle_both;
 
 #[cfg(test)]
-mod queues;
+mod one_thread;
+#[cfg(test)]
+mod rings;
 #[cfg(test)]
 mod rounds;
