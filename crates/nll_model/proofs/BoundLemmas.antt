@@ -14,7 +14,9 @@ use Rattle.nll_owner.proofs.OwnerLemmas.{pair_small, filter_le}
 use Rattle.std.proofs.lemmas.List.Elements.{Contains-append_left, Contains-append_right}
 use Rattle.nll_model.specs.declared.seat.Item.{Item}
 use Rattle.nll_model.specs.declared.seat.Item.TheVariants.{Nothing, Fresh, Owed}
-use Rattle.nll_model.specs.@S@.{Lane, empty_lane, Seat, State, lane_to, IsAt, held, under_way, fresh_count, owed_lane, IsSoundSeat, IsSoundState}
+use Rattle.nll_model.specs.State.{Lane, empty_lane, Seat, State, lane_to, IsAt}
+use Rattle.nll_model.specs.Events.{fresh_count, owed_lane}
+use Rattle.nll_model.specs.Soundness.{held, under_way, IsSoundSeat, IsSoundState, AreRanksLow}
 use Rattle.nll_model.proofs.EventLemmas.{owe}
 use Rattle.nll_model.proofs.SoundLemmas.{get_within}
 
@@ -35,11 +37,11 @@ module _ (q : Problem) (c : Cut) (w : State) (sound : IsSoundState q c w) where
   lane_small i s at j l = ⊎_elim
       (λ same. (let none = ap (λ (x : Lane). length x.out + length x.box) (subst (λ k. lane_to s k ≡ empty_lane) (sym same) seat.own) in omega (arith, none)))
       (λ differs.
-        let t = get_within w.seats j (omega (arith, l, seat.count, sound.count)) in
-        let way = ap length (sound.ways i j s t.0 (λ e. differs (sym e)) at t.1) in
-        let box = (lane_to s j).box in let out = (lane_to s j).out in let fresh = (lane_to s j).fresh in
-        let few = filter_le (λ (g : Growth). reads s.owner.problem s.owner.cut j g.region) s.owner.log in
-        omega (arith, way, length-append (received_from t.0.owner i) (box ++ (out ++ fresh)), length-append box (out ++ fresh), length-append out fresh, few, seat.sound.few, pair_small s.owner.problem seat.sound.problem))
+      let t = get_within w.seats j (omega (arith, l, seat.count, sound.count)) in
+      let way = ap length (sound.ways i j s t.0 (λ e. differs (sym e)) at t.1) in
+      let box = (lane_to s j).box in let out = (lane_to s j).out in let fresh = (lane_to s j).fresh in
+      let few = filter_le (λ (g : Growth). reads s.owner.problem s.owner.cut j g.region) s.owner.log in
+      omega (arith, way, length-append (received_from t.0.owner i) (box ++ (out ++ fresh)), length-append box (out ++ fresh), length-append out fresh, few, seat.sound.few, pair_small s.owner.problem seat.sound.problem))
       (cases_eq j i)
     where
       seat : IsSoundSeat q c i s
@@ -77,8 +79,8 @@ module _ (q : Problem) (c : Cut) (w : State) (sound : IsSoundState q c w) where
       held_some false l = (let a = ap (λ x. held x s.item) l in omega (arith, a))
 
   -- the first growth of a box may be told
-  pub first_passes : (i j : ℕ) (s u : Seat) (g : Growth) (rest : List Growth) → i ≢ j → IsAt w i s → IsAt w j u → (lane_to u i).box ≡ g ∷ rest → Passes s.owner.problem s.owner.cut s.owner.me j g
-  first_passes i j s u g rest differ at at_u first =
+  pub first_passes : (i j : ℕ) (s u : Seat) (g : Growth) (rest : List Growth) → i ≢ j → IsAt w i s → IsAt w j u → AreRanksLow w → (lane_to u i).box ≡ g ∷ rest → Passes s.owner.problem s.owner.cut s.owner.me j g
+  first_passes i j s u g rest differ at at_u low first =
       let seat = sound.seats i s at in let giver = sound.seats j u at_u in
       let in_box = subst (λ xs. Contains xs g) (sym first) (contains_head g rest) in
       let in_lane = Contains-append_left (lane_to u i).box ((lane_to u i).out ++ (lane_to u i).fresh) g in_box in
@@ -91,4 +93,5 @@ module _ (q : Problem) (c : Cut) (w : State) (sound : IsSoundState q c w) where
         sender = subst (λ (x : Cut). owner_of x g.region ≡ j) cut (giver.sound.well_formed.own g from.0 ∙ giver.me);
         read = subst (λ (x : Problem). reads x s.owner.cut s.owner.me g.region ≡ true) problem (subst (λ (x : Cut). reads u.owner.problem x s.owner.me g.region ≡ true) cut (subst (λ k. reads u.owner.problem u.owner.cut k g.region ≡ true) (sym seat.me) from.1));
         element = subst (λ (x : Problem). g.element < element_count x.graph) problem (giver.sound.elements g from.0);
+        rank = low j u g at_u from.0;
       }

@@ -16,7 +16,9 @@ use Rattle.nll_owner.specs.Logs.{part, IsCutOf, IsPrefix}
 use Rattle.nll_owner.specs.Owner.{Owner, IsSound, IsDone, received_from, part_for, given_to, with_growth, first_owner}
 use Rattle.nll_model.specs.declared.seat.Item.{Item}
 use Rattle.nll_model.specs.declared.seat.Item.TheVariants.{Nothing, Fresh, Owed}
-use Rattle.nll_model.specs.@S@.{Lane, empty_lane, Seat, State, lane_to, IsAt, with_seat, with_lane, owed_lane, fresh_count, Turns, held, under_way, IsSoundSeat, IsSoundState}
+use Rattle.nll_model.specs.State.{Lane, empty_lane, Seat, State, lane_to, IsAt, with_seat, with_lane}
+use Rattle.nll_model.specs.Events.{owed_lane, fresh_count, Turns}
+use Rattle.nll_model.specs.Soundness.{held, under_way, IsSoundSeat, IsSoundState}
 
 -- ---- lists
 
@@ -89,17 +91,17 @@ module _ (q : Problem) (c : Cut) (w : State) (sound : IsSoundState q c w) (i : �
           (set_cases w.seats i t k u h);
       ways = λ a b u v differ hu hv. ⊎_elim
           (λ (p : (a ≡ i) × (u ≡ t)). ⊎_elim
-              (λ (r : (b ≡ i) × (v ≡ t)). absurd (differ (p.0 ∙ sym r.0)))
-              (λ (r : (b ≢ i) × (slice_get w.seats b ≡ Some v)).
-                subst (λ x. part_for x.owner b ≡ received_from v.owner a ++ whole (lane_to x b)) (sym p.1)
-                (subst (λ x. part_for t.owner b ≡ received_from v.owner x ++ whole (lane_to t b)) (sym p.0) (to b v (λ e. r.0 (sym e)) r.1)))
-              (set_cases w.seats i t b v hv))
+          (λ (r : (b ≡ i) × (v ≡ t)). absurd (differ (p.0 ∙ sym r.0)))
+          (λ (r : (b ≢ i) × (slice_get w.seats b ≡ Some v)).
+          subst (λ x. part_for x.owner b ≡ received_from v.owner a ++ whole (lane_to x b)) (sym p.1)
+          (subst (λ x. part_for t.owner b ≡ received_from v.owner x ++ whole (lane_to t b)) (sym p.0) (to b v (λ e. r.0 (sym e)) r.1)))
+          (set_cases w.seats i t b v hv))
           (λ (p : (a ≢ i) × (slice_get w.seats a ≡ Some u)). ⊎_elim
-              (λ (r : (b ≡ i) × (v ≡ t)).
-                subst (λ x. part_for u.owner b ≡ received_from x.owner a ++ whole (lane_to u b)) (sym r.1)
-                (subst (λ x. part_for u.owner x ≡ received_from t.owner a ++ whole (lane_to u x)) (sym r.0) (from a u (λ e. p.0 (sym e)) p.1)))
-              (λ (r : (b ≢ i) × (slice_get w.seats b ≡ Some v)). sound.ways a b u v differ p.1 r.1)
-              (set_cases w.seats i t b v hv))
+          (λ (r : (b ≡ i) × (v ≡ t)).
+          subst (λ x. part_for u.owner b ≡ received_from x.owner a ++ whole (lane_to u b)) (sym r.1)
+          (subst (λ x. part_for u.owner x ≡ received_from t.owner a ++ whole (lane_to u x)) (sym r.0) (from a u (λ e. p.0 (sym e)) p.1)))
+          (λ (r : (b ≢ i) × (slice_get w.seats b ≡ Some v)). sound.ways a b u v differ p.1 r.1)
+          (set_cases w.seats i t b v hv))
           (set_cases w.seats i t a u hu);
       balance =
           let sum = sum_by-set under_way w.seats i t s i_within in
@@ -151,6 +153,7 @@ module _ (q : Problem) (c : Cut) (w : State) (sound : IsSoundState q c w) (i : �
         cut = seat.cut;
         me = seat.me;
         sound = seat.sound;
+        whole = seat.whole;
         count = length-map s.lanes owed_lane ∙ seat.count;
         given = seat.given;
         done = seat.done;
@@ -187,6 +190,7 @@ module _ (q : Problem) (c : Cut) (w : State) (sound : IsSoundState q c w) (i : �
         cut = seat.cut;
         me = seat.me;
         sound = seat.sound;
+        whole = seat.whole;
         count = seat.count;
         given = seat.given;
         done = seat.done;
@@ -203,6 +207,7 @@ module _ (q : Problem) (c : Cut) (w : State) (sound : IsSoundState q c w) (i : �
     cut = seat.cut;
     me = seat.me;
     sound = seat.sound;
+    whole = seat.whole;
     count = seat.count;
     given = seat.given;
     done = seat.done;
@@ -247,6 +252,7 @@ module _ (q : Problem) (c : Cut) (w : State) (sound : IsSoundState q c w) (i : �
         cut = seat.cut;
         me = seat.me;
         sound = seat.sound;
+        whole = seat.whole;
         count = length-set s.lanes j m ∙ seat.count;
         given = seat.given;
         done = seat.done;
@@ -311,6 +317,7 @@ module _ (q : Problem) (c : Cut) (w : State) (sound : IsSoundState q c w) (i : �
       cut = turns.cut ∙ seat.cut;
       me = turns.me ∙ seat.me;
       sound = turns.sound;
+      whole = turns.whole;
       count = turns.count ∙ seat.count;
       given = λ j l. turns.given j (subst (λ n. j < n) (sym owners_is) l);
       done = λ h. turns.done;
@@ -382,6 +389,7 @@ module _ (q : Problem) (c : Cut) (w : State) (sound : IsSoundState q c w) (i : �
         cut = old.cut;
         me = old.me;
         sound = old.sound;
+        whole = old.whole;
         count = length-set u.lanes i (record (lane_to u i) { box = left }) ∙ old.count;
         given = old.given;
         done = old.done;
@@ -407,28 +415,28 @@ module _ (q : Problem) (c : Cut) (w : State) (sound : IsSoundState q c w) (i : �
       from_giver b v differs h = ⊎_elim
           (λ (p : (b ≡ j) × (v ≡ giver)). absurd (differs p.0))
           (λ (p : (b ≢ j) × (((b ≡ i) × (v ≡ t)) ⊎ ((b ≢ i) × IsAt w b v))). ⊎_elim
-            (λ (r : (b ≡ i) × (v ≡ t)). subst (λ x. part_for u.owner x ≡ received_from v.owner j ++ whole (lane_to giver x)) (sym r.0) (subst (λ (x : Seat). part_for u.owner i ≡ received_from x.owner j ++ whole (lane_to giver i)) (sym r.1) given_way))
-            (λ (r : (b ≢ i) × IsAt w b v). sound.ways j b u v (λ e. differs (sym e)) at_u r.1 ∙ ap (λ (l : Lane). received_from v.owner j ++ whole l) (sym (lane_other b r.0)))
-            p.1)
+          (λ (r : (b ≡ i) × (v ≡ t)). subst (λ x. part_for u.owner x ≡ received_from v.owner j ++ whole (lane_to giver x)) (sym r.0) (subst (λ (x : Seat). part_for u.owner i ≡ received_from x.owner j ++ whole (lane_to giver i)) (sym r.1) given_way))
+          (λ (r : (b ≢ i) × IsAt w b v). sound.ways j b u v (λ e. differs (sym e)) at_u r.1 ∙ ap (λ (l : Lane). received_from v.owner j ++ whole l) (sym (lane_other b r.0)))
+          p.1)
           (where_is b v h)
 
       from_taker : (b : ℕ) (v : Seat) → b ≢ i → IsAt taken b v → part_for t.owner b ≡ received_from v.owner i ++ whole (lane_to t b)
       from_taker b v differs h = ⊎_elim
           (λ (p : (b ≡ j) × (v ≡ giver)). subst (λ x. part_for t.owner x ≡ received_from v.owner i ++ whole (lane_to t x)) (sym p.0) (subst (λ (x : Seat). part_for t.owner j ≡ received_from x.owner i ++ whole (lane_to t j)) (sym p.1) (turn_to j (received_from u.owner i) j_in (sound.ways i j s u differ at at_u))))
           (λ (p : (b ≢ j) × (((b ≡ i) × (v ≡ t)) ⊎ ((b ≢ i) × IsAt w b v))). ⊎_elim
-            (λ (r : (b ≡ i) × (v ≡ t)). absurd (differs r.0))
-            (λ (r : (b ≢ i) × IsAt w b v). turn_to b (received_from v.owner i) (owner_in b v r.1) (sound.ways i b s v (λ e. differs (sym e)) at r.1))
-            p.1)
+          (λ (r : (b ≡ i) × (v ≡ t)). absurd (differs r.0))
+          (λ (r : (b ≢ i) × IsAt w b v). turn_to b (received_from v.owner i) (owner_in b v r.1) (sound.ways i b s v (λ e. differs (sym e)) at r.1))
+          p.1)
           (where_is b v h)
 
       from_other : (a b : ℕ) (x v : Seat) → a ≢ i → a ≢ j → a ≢ b → IsAt w a x → IsAt taken b v → part_for x.owner b ≡ received_from v.owner a ++ whole (lane_to x b)
       from_other a b x v not_i not_j differs hx h = ⊎_elim
           (λ (p : (b ≡ j) × (v ≡ giver)). subst (λ y. part_for x.owner y ≡ received_from v.owner a ++ whole (lane_to x y)) (sym p.0) (subst (λ (y : Seat). part_for x.owner j ≡ received_from y.owner a ++ whole (lane_to x j)) (sym p.1) (sound.ways a j x u not_j hx at_u)))
           (λ (p : (b ≢ j) × (((b ≡ i) × (v ≡ t)) ⊎ ((b ≢ i) × IsAt w b v))). ⊎_elim
-            (λ (r : (b ≡ i) × (v ≡ t)). subst (λ y. part_for x.owner y ≡ received_from v.owner a ++ whole (lane_to x y)) (sym r.0) (subst (λ (y : Seat). part_for x.owner i ≡ received_from y.owner a ++ whole (lane_to x i)) (sym r.1)
-              (sound.ways a i x s not_i hx at ∙ ap (λ xs. xs ++ whole (lane_to x i)) (sym (received_other a not_j)))))
-            (λ (r : (b ≢ i) × IsAt w b v). sound.ways a b x v differs hx r.1)
-            p.1)
+          (λ (r : (b ≡ i) × (v ≡ t)). subst (λ y. part_for x.owner y ≡ received_from v.owner a ++ whole (lane_to x y)) (sym r.0) (subst (λ (y : Seat). part_for x.owner i ≡ received_from y.owner a ++ whole (lane_to x i)) (sym r.1)
+          (sound.ways a i x s not_i hx at ∙ ap (λ xs. xs ++ whole (lane_to x i)) (sym (received_other a not_j)))))
+          (λ (r : (b ≢ i) × IsAt w b v). sound.ways a b x v differs hx r.1)
+          p.1)
           (where_is b v h)
 
       taken_balance : w.balance ≡ sum_by under_way taken.seats
@@ -446,20 +454,20 @@ module _ (q : Problem) (c : Cut) (w : State) (sound : IsSoundState q c w) (i : �
         seats = λ k z h. ⊎_elim
             (λ (p : (k ≡ j) × (z ≡ giver)). subst (λ x. IsSoundSeat q c x z) (sym p.0) (subst (IsSoundSeat q c j) (sym p.1) giver_seat))
             (λ (p : (k ≢ j) × (((k ≡ i) × (z ≡ t)) ⊎ ((k ≢ i) × IsAt w k z))). ⊎_elim
-              (λ (r : (k ≡ i) × (z ≡ t)). subst (λ x. IsSoundSeat q c x z) (sym r.0) (subst (IsSoundSeat q c i) (sym r.1) turned_seat))
-              (λ (r : (k ≢ i) × IsAt w k z). sound.seats k z r.1)
-              p.1)
+            (λ (r : (k ≡ i) × (z ≡ t)). subst (λ x. IsSoundSeat q c x z) (sym r.0) (subst (IsSoundSeat q c i) (sym r.1) turned_seat))
+            (λ (r : (k ≢ i) × IsAt w k z). sound.seats k z r.1)
+            p.1)
             (where_is k z h);
         ways = λ a b x v differs hx hv. ⊎_elim
             (λ (p : (a ≡ j) × (x ≡ giver)).
-              subst (λ y. part_for x.owner b ≡ received_from v.owner y ++ whole (lane_to x b)) (sym p.0)
-              (subst (λ (y : Seat). part_for y.owner b ≡ received_from v.owner j ++ whole (lane_to y b)) (sym p.1) (from_giver b v (λ e. differs (p.0 ∙ sym e)) hv)))
+            subst (λ y. part_for x.owner b ≡ received_from v.owner y ++ whole (lane_to x b)) (sym p.0)
+            (subst (λ (y : Seat). part_for y.owner b ≡ received_from v.owner j ++ whole (lane_to y b)) (sym p.1) (from_giver b v (λ e. differs (p.0 ∙ sym e)) hv)))
             (λ (p : (a ≢ j) × (((a ≡ i) × (x ≡ t)) ⊎ ((a ≢ i) × IsAt w a x))). ⊎_elim
-              (λ (r : (a ≡ i) × (x ≡ t)).
-                subst (λ y. part_for x.owner b ≡ received_from v.owner y ++ whole (lane_to x b)) (sym r.0)
-                (subst (λ (y : Seat). part_for y.owner b ≡ received_from v.owner i ++ whole (lane_to y b)) (sym r.1) (from_taker b v (λ e. differs (r.0 ∙ sym e)) hv)))
-              (λ (r : (a ≢ i) × IsAt w a x). from_other a b x v r.0 p.0 differs r.1 hv)
-              p.1)
+            (λ (r : (a ≡ i) × (x ≡ t)).
+            subst (λ y. part_for x.owner b ≡ received_from v.owner y ++ whole (lane_to x b)) (sym r.0)
+            (subst (λ (y : Seat). part_for y.owner b ≡ received_from v.owner i ++ whole (lane_to y b)) (sym r.1) (from_taker b v (λ e. differs (r.0 ∙ sym e)) hv)))
+            (λ (r : (a ≢ i) × IsAt w a x). from_other a b x v r.0 p.0 differs r.1 hv)
+            p.1)
             (where_is a x hx);
         balance = taken_balance;
       }

@@ -1,6 +1,5 @@
 -- What filling the lanes of a seat adds up to.
 use Rattle.std.proofs.Common.{◌≡◌, ◌≢◌, ℕ, zero, suc, ◌+◌, ◌<◌, ◌≤◌, Bool, true, false, List, [], ◌∷◌, ◌++◌, length, drop, set, get_or, refl, sym, ap, ◌∙◌, subst, inl, inr, ◌⊎◌, ⊎_elim, arith}
-use Rattle.std.specs.Prelude.{Result, Ok, Err, is_ok, is_err}
 use Rattle.std.proofs.lemmas.Bool.{cases_eq, true≢false}
 use Rattle.std.proofs.lemmas.List.{length-set, get_or-set_same, get_or-set_other, get_or_default}
 use Rattle.nll_mail.specs.declared.growth.Growth.{Growth}
@@ -8,7 +7,9 @@ use Rattle.nll_owner.specs.Logs.{IsPrefix}
 use Rattle.nll_owner.specs.Owner.{Owner, IsSound, IsDone, part_for, given_to}
 use Rattle.nll_model.specs.declared.seat.Item.{Item}
 use Rattle.nll_model.specs.declared.seat.Item.TheVariants.{Nothing, Fresh, Owed}
-use Rattle.nll_model.specs.@S@.{Lane, empty_lane, Seat, lane_to, Turns, Fills}
+use Rattle.nll_model.specs.State.{Lane, empty_lane, Seat, lane_to}
+use Rattle.nll_model.specs.Events.{Turns}
+use Rattle.nll_model.specs.Working.{Fills}
 
 pub fills_none : (s : Seat) → IsSound s.owner → Fills s s 0
 fills_none s sound = record {
@@ -75,7 +76,7 @@ module _ (first now : Seat) (count : ℕ) (f : Fills first now count) (old new :
 -- ---- a load, or a receipt, and then the lanes
 
 module _ (old middle new : Seat) (count : ℕ) (begins : IsPrefix old.owner.log middle.owner.log) (problem : middle.owner.problem ≡ old.owner.problem) (cut : middle.owner.cut ≡ old.owner.cut) (me : middle.owner.me ≡ old.owner.me)
-    (given : middle.owner.given ≡ old.owner.given) (left : middle.left ≡ old.left) (lanes : middle.lanes ≡ old.lanes) (done : IsDone middle.owner) (loaded : middle.owner.loaded ≡ true)
+    (given : middle.owner.given ≡ old.owner.given) (left : middle.left ≡ old.left) (lanes : middle.lanes ≡ old.lanes) (done : IsDone middle.owner) (whole : middle.owner.broken ≡ false) (loaded : middle.owner.loaded ≡ true)
     (none_fresh : (j : ℕ) → (lane_to old j).fresh ≡ []) (owners : count ≡ middle.owner.cut.owners) (f : Fills middle new count) where
   lane_old : (j : ℕ) → lane_to middle j ≡ lane_to old j
   lane_old j = ap (λ ls. get_or ls j empty_lane) lanes
@@ -98,6 +99,7 @@ module _ (old middle new : Seat) (count : ℕ) (begins : IsPrefix old.owner.log 
     cut = ap (λ (o : Owner). o.cut) f.owner ∙ cut;
     me = ap (λ (o : Owner). o.me) f.owner ∙ me;
     sound = f.sound;
+    whole = ap (λ (o : Owner). o.broken) f.owner ∙ whole;
     done = subst IsDone (sym f.owner) done;
     loaded = ap (λ (o : Owner). o.loaded) f.owner ∙ loaded;
     item = refl;
@@ -106,7 +108,3 @@ module _ (old middle new : Seat) (count : ℕ) (begins : IsPrefix old.owner.log 
     given = λ j l. f.given j (in_count j l) ∙ ap length (sym (part_new j));
     lanes = λ j l. f.lanes j (in_count j l) ∙ (ap (λ (m : Lane). record m { fresh = (lane_to middle j).fresh ++ drop (given_to middle.owner j) (part_for middle.owner j) }) (lane_old j) ∙ ap (λ xs. record (lane_to old j) { fresh = xs }) (fresh_is j));
   }
-
-pub ok_not_err : {T E : Type 0} (r : Result T E) → is_err r ≡ false → is_ok r ≡ true
-ok_not_err (Ok x) h = refl
-ok_not_err (Err e) h = absurd (true≢false h)

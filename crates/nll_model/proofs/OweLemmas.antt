@@ -6,7 +6,8 @@ use Rattle.std.proofs.lemmas.List.{length-map, length-set, get_or-set_same, get_
 use Rattle.std.proofs.lemmas.List.Sums.{sum_by_more, sum_by_more_le, sum_by-take-le}
 use Rattle.nll_owner.specs.Owner.{Owner}
 use Rattle.nll_model.specs.declared.seat.Item.{Item}
-use Rattle.nll_model.specs.@S@.{Lane, Seat, empty_lane, lane_to, owed_lane, fresh_count}
+use Rattle.nll_model.specs.State.{Lane, Seat, empty_lane, lane_to}
+use Rattle.nll_model.specs.Events.{owed_lane, fresh_count}
 use Rattle.nll_model.proofs.EventLemmas.{map_or}
 
 -- the first lanes are owed for, and so much was fresh in them

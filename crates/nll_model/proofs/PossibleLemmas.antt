@@ -6,17 +6,19 @@ use Rattle.std.proofs.lemmas.Option.{slice_get_within}
 use Rattle.nll_problem.specs.Problem.{Problem}
 use Rattle.nll_cut.specs.Partition.{Cut}
 use Rattle.nll_model.specs.declared.event.Event.TheVariants.{Take, Push}
-use Rattle.nll_model.specs.@S@.{Lane, Seat, State, IsAt, IsFree, lane_to, IsPossible, IsRunning}
+use Rattle.nll_model.specs.State.{Lane, Seat, State, IsAt, lane_to}
+use Rattle.nll_model.specs.Events.{IsFree, IsPossible}
+use Rattle.nll_model.specs.Soundness.{IsSoundState}
 use Rattle.nll_model.proofs.EventLemmas.{same_at}
 use Rattle.nll_model.proofs.StateLemmas.{lanes_is}
 
 -- numbers of no two owners
-pub no_push : (q : Problem) (c : Cut) (w : State) → IsRunning q c w → (i j : ℕ) (b : Bool) → (IsTrue b ↔ ((i ≢ j) × (i < length w.seats) × (j < length w.seats))) → b ≡ false → IsTrue false ↔ IsPossible w (Push i j)
-no_push q c w running i j b two is = (
+pub no_push : (q : Problem) (c : Cut) (w : State) → IsSoundState q c w → (i j : ℕ) (b : Bool) → (IsTrue b ↔ ((i ≢ j) × (i < length w.seats) × (j < length w.seats))) → b ≡ false → IsTrue false ↔ IsPossible w (Push i j)
+no_push q c w sound i j b two is = (
   (λ h. absurd (false≢true h)),
   (λ p.
-    let within = slice_get_within w.seats i p.0 p.2 in
-    absurd (false≢true (sym is ∙ two.1 (p.1, within, omega (arith, p.3, lanes_is q c w running.sound i p.0 p.2))))),
+      let within = slice_get_within w.seats i p.0 p.2 in
+      absurd (false≢true (sym is ∙ two.1 (p.1, within, omega (arith, p.3, lanes_is q c w sound i p.0 p.2))))),
 )
 
 pub may_push : (w : State) (i j : ℕ) (s : Seat) → i ≢ j → IsAt w i s → j < length s.lanes → (b : Bool) → (IsTrue b ↔ ((lane_to s j).out ≡ [])) → IsTrue (not b) ↔ IsPossible w (Push i j)

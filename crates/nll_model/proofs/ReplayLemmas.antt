@@ -1,20 +1,31 @@
 -- A world after a step, and its first seats.
-use Rattle.std.proofs.Common.{◌≡◌, ℕ, zero, suc, ◌+◌, ◌<◌, true, false, List, [], ◌∷◌, ◌++◌, length, take, get_or, slice_get, Some, refl, sym, ap, ◌∙◌, subst, ◌⊎◌, inl, inr, ⊎_elim, arith}
-use Rattle.std.specs.Prelude.{Option, Result, Ok, Err, IfOk, OnOk, is_err}
+use Rattle.std.proofs.Common.{◌≡◌, ℕ, zero, suc, ◌+◌, ◌<◌, true, false, List, [], ◌∷◌, ◌++◌, length, replicate, take, get_or, slice_get, Some, refl, sym, ap, ◌∙◌, subst, ◌⊎◌, inl, inr, ⊎_elim, arith}
+use Rattle.std.specs.Prelude.{Option, Result, Ok, Err, IfOk, is_err}
 use Rattle.std.proofs.lemmas.Bool.{true≢false}
 use Rattle.std.proofs.lemmas.Option.{slice_get_within}
-use Rattle.nll_problem.specs.Problem.{Problem, IsSound as IsSoundProblem}
-use Rattle.nll_owner.specs.Logs.{IsCutOf}
+use Rattle.nll_problem.specs.Problem.{Problem}
 use Rattle.nll_cut.specs.Partition.{Cut}
+use Rattle.nll_owner.specs.Owner.{Owner, first_owner}
 use Rattle.nll_owner.specs.declared.error.OwnerError.{OwnerError}
 use Rattle.nll_model.specs.declared.event.Event.{Event}
 use Rattle.nll_model.specs.declared.event.Step.{Step}
-use Rattle.nll_model.specs.@S@.{Seat, State, Does, IsWhole, IsRunning, IsFirst, IsStep, AreSteps, first_seat, AreFirst}
-use Rattle.nll_model.proofs.StepsLemmas.{step_sound, first_world}
+use Rattle.nll_model.specs.declared.seat.Item.TheVariants.{Nothing}
+use Rattle.nll_model.specs.State.{Seat, State, empty_lane, first_seat}
+use Rattle.nll_model.specs.Events.{Does, IsStep, AreSteps}
+use Rattle.nll_model.specs.Working.{AreFirst}
+use Rattle.nll_model.specs.Soundness.{IsLawful}
+use Rattle.nll_model.proofs.StepsLemmas.{step_sound}
+use Rattle.nll_model.proofs.LawfulLemmas.{lawful}
 
-pub running_after : (q : Problem) (c : Cut) (w new : State) (e : Event) (r : Result Step OwnerError) → IfOk r (λ answer. Does w e answer new) → OnOk r (IsWhole new) → IsRunning q c w → is_err r ≡ false → IsRunning q c new
-running_after q c w new e (Ok answer) step whole run h = record { sound = step_sound q c w new e answer run.sound step; whole = whole }
-running_after q c w new e (Err error) step whole run h = absurd (true≢false h)
+-- a step that was done leads to a lawful state
+pub lawful_after : (q : Problem) (c : Cut) (w new : State) (e : Event) (r : Result Step OwnerError) → IfOk r (λ answer. Does w e answer new) → IsLawful q c w → is_err r ≡ false → IsLawful q c new
+lawful_after q c w new e (Ok answer) does old good = lawful q c new (step_sound q c w new e answer old.sound does) old.problem old.cut
+lawful_after q c w new e (Err error) does old good = absurd (true≢false good)
+
+pub is_first : (q : Problem) (c : Cut) (i : ℕ) (s : Seat) (o : Owner) (n : ℕ) → s ≡ record { owner = o; item = Nothing; left = false; lanes = replicate n empty_lane } → o ≡ first_owner q c i → n ≡ c.owners → s ≡ first_seat q c i
+is_first q c i s o n is owner count = is
+    ∙ (ap (λ (p : Owner). record { owner = p; item = Nothing; left = false; lanes = replicate n empty_lane }) owner
+    ∙ ap (λ (m : ℕ). record { owner = first_owner q c i; item = Nothing; left = false; lanes = replicate m empty_lane }) count)
 
 get_push : {X : Type 0} (xs : List X) (x : X) (k : ℕ) (y : X) → slice_get (xs ++ x ∷ []) k ≡ Some y → (slice_get xs k ≡ Some y) ⊎ ((k ≡ length xs) × (x ≡ y))
 get_push [] x zero y h = inr (refl, cc h)
@@ -27,12 +38,6 @@ first_push q c seats s first is k t h = ⊎_elim
     (λ old. first k t old)
     (λ (p : (k ≡ length seats) × (s ≡ t)). sym p.1 ∙ (is ∙ ap (first_seat q c) (sym p.0)))
     (get_push seats s k t h)
-
-pub first_running : (q : Problem) (c : Cut) (w : State) → IsSoundProblem q → IsCutOf q c → IsFirst q c w → IsRunning q c w
-first_running q c w problem cut first = record {
-  sound = first_world q c w problem cut first;
-  whole = λ i s at. ap (λ (x : Seat). x.owner.broken) (first.each i s at);
-}
 
 -- a run goes on by one event
 pub runs_push : (w now next : State) (events : List Event) (answers : List (Option Step)) (e : Event) (a : Option Step) → AreSteps w events answers now → IsStep now e a next → AreSteps w (events ++ e ∷ []) (answers ++ a ∷ []) next

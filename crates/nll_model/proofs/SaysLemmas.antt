@@ -1,4 +1,4 @@
--- Growths entered into values one by one.
+-- What all logs say, entered into values log by log.
 use Rattle.std.proofs.Common.{◌≡◌, ◌↔◌, map, replicate, false, ℕ, zero, suc, ◌+◌, ◌<◌, ◌⊎◌, ⊎_elim, inl, inr, Bool, List, [], ◌∷◌, length, slice_index_or, slice_get, Some, Contains, refl, sym, ap, ◌∙◌, subst, arith}
 use Rattle.nll_core.specs.Growing.{Gains}
 use Rattle.nll_core.specs.Values.{set_of, IsHeld, with_element}
@@ -13,42 +13,13 @@ use Rattle.nll_problem.specs.Graph.{element_count}
 use Rattle.nll_problem.specs.Problem.{Problem}
 use Rattle.nll_cut.specs.Partition.{Cut, owner_of}
 use Rattle.nll_owner.specs.Owner.{IsSound}
-use Rattle.nll_model.specs.@S@.{Seat, State, IsAt, IsSaid, Says, IsSoundState}
+use Rattle.nll_model.specs.State.{Seat, State, IsAt}
+use Rattle.nll_model.specs.Soundness.{Says, IsSoundState}
+use Rattle.nll_model.specs.Working.{IsSaid}
 use Rattle.nll_model.proofs.EventLemmas.{same_at}
-
-get_read : {X : Type 0} (xs : List X) (k : ℕ) (x : X) → k < length xs → slice_index_or xs k x ≡ x → slice_get xs k ≡ Some x
-get_read [] k x lt e = absurd (omega (arith, lt))
-get_read (y ∷ ys) zero x lt e = ap (λ z. Some z) e
-get_read (y ∷ ys) (suc k) x lt e = get_read ys k x (omega (arith, lt)) e
-
-same_get : {X : Type 0} (a : _) (x y : X) → a ≡ Some x → a ≡ Some y → x ≡ y
-same_get a x y p q = cc
 
 cases_last : (k n : ℕ) → k < n + 1 → (k < n) ⊎ (k ≡ n)
 cases_last k n l = grind arith
-
-module _ (log : List Growth) (old now next : List (List Bool)) (n : ℕ) (x : Growth) (inside : n < length log) (is : slice_index_or log n x ≡ x)
-    (gains : Gains (IsTold log) old now) (region : x.region < length now) (element : x.element < length (set_of now x.region)) (next_is : next ≡ with_element now x.region x.element) where
-  one : Gains (IsTold log) now next
-  one = subst (λ v. Gains (IsTold log) now v) (sym next_is) (gains_one now x.region x.element region element (IsTold log) (x, (n, inside, is), refl, refl))
-
-  pub entered : Gains (IsTold log) old next
-  entered = gains_append (IsTold log) old now next gains one
-
-  pub all_entered : ((k : ℕ) (g : Growth) → k < n → slice_get log k ≡ Some g → IsHeld now g.region g.element) → (k : ℕ) (g : Growth) → k < n + 1 → slice_get log k ≡ Some g → IsHeld next g.region g.element
-  all_entered all k g l at = ⊎_elim (λ (h : k < n). one.kept g.region g.element (all k g h at))
-      (λ (e : k ≡ n).
-        let same : x ≡ g = same_get (slice_get log n) x g (get_read log n x inside is) (subst (λ j. slice_get log j ≡ Some g) e at) in
-        subst (λ (y : Growth). IsHeld next y.region y.element) same (subst (λ v. IsHeld v x.region x.element) (sym next_is) (held_one now x.region x.element region element)))
-      (cases_last k n l)
-
-pub stands_held : (log : List Growth) (values : List (List Bool)) → ((k : ℕ) (g : Growth) → k < length log → slice_get log k ≡ Some g → IsHeld values g.region g.element) → (r e : ℕ) → IsTold log r e → IsHeld values r e
-stands_held log values all r e s =
-    let g = s.0 in
-    let held = all s.1.0 g s.1.1 (get_read log s.1.0 g s.1.1 s.1.2) in
-    subst (λ (y : ℕ × ℕ). IsHeld values y.0 y.1) (λ i. (s.2 i, s.3 i)) held
-
--- ---- all seats
 
 module _ (q : Problem) (c : Cut) (w : State) (sound : IsSoundState q c w) where
   -- what stands in a log is in the values' range
@@ -83,9 +54,9 @@ module _ (q : Problem) (c : Cut) (w : State) (sound : IsSoundState q c w) where
       → (r e : ℕ) → IsHeld values r e ↔ Says c w r e
   says_values values gains all r e = (
     (λ h. ⊎_elim
-      (λ z. absurd (nothing_held q.regions (element_count q.graph) r e z))
-      (λ (x : IsSaid w r e). says x)
-      (gains.cause r e h)),
+        (λ z. absurd (nothing_held q.regions (element_count q.graph) r e z))
+        (λ (x : IsSaid w r e). says x)
+        (gains.cause r e h)),
     (λ (x : Says c w r e). all (owner_of c r) x.0 (slice_get_within w.seats (owner_of c r) x.0 x.1) x.1 r e x.2),
   )
     where

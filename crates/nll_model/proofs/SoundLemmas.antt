@@ -19,7 +19,8 @@ use Rattle.nll_owner.proofs.LawLemmas.{each_least, least_exact}
 use Rattle.nll_owner.proofs.OwnerLemmas.{supported_in}
 use Rattle.nll_model.specs.declared.seat.Item.{Item}
 use Rattle.nll_model.specs.declared.seat.Item.TheVariants.{Nothing, Fresh, Owed}
-use Rattle.nll_model.specs.@S@.{Lane, empty_lane, Seat, State, lane_to, IsAt, held, under_way, IsSoundSeat, IsSoundState, IsStill, Says}
+use Rattle.nll_model.specs.State.{Lane, empty_lane, Seat, State, lane_to, IsAt}
+use Rattle.nll_model.specs.Soundness.{held, under_way, IsSoundSeat, IsSoundState, IsStill, Says}
 
 -- ---- reading lists
 
@@ -175,8 +176,8 @@ module _ (q : Problem) (c : Cut) (w : State) (sound : IsSoundState q c w) where
       says_from r e h = ⊎_elim
           (λ within. let s = get_within w.seats (owner_of c r) within in (s.0, s.1, subst (λ xs. IsTold xs r e) (log_at (owner_of c r) s.0 s.1) h))
           (λ past.
-            let empty : log_of (logs_of w) (owner_of c r) ≡ [] = get_or_past (logs_of w) (owner_of c r) [] (omega (arith, past, length-map w.seats (λ (s : Seat). s.owner.log))) in
-            absurd (let l = (subst (λ xs. IsTold xs r e) empty h).1.1 in omega arith))
+          let empty : log_of (logs_of w) (owner_of c r) ≡ [] = get_or_past (logs_of w) (owner_of c r) [] (omega (arith, past, length-map w.seats (λ (s : Seat). s.owner.log))) in
+          absurd (let l = (subst (λ xs. IsTold xs r e) empty h).1.1 in omega arith))
           (cases_lt (owner_of c r) (length w.seats))
 
       pub says_least : (r e : ℕ) → Says c w r e ↔ Least q r e

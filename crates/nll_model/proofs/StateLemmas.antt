@@ -7,8 +7,11 @@ use Rattle.nll_cut.specs.Partition.{Cut}
 use Rattle.nll_mail.specs.declared.growth.Growth.{Growth}
 use Rattle.nll_owner.specs.Owner.{Passes}
 use Rattle.nll_model.specs.declared.seat.Item.TheVariants.{Nothing, Fresh, Owed}
-use Rattle.nll_model.specs.@S@.{Lane, Seat, State, IsAt, IsFree, with_lane, with_seat, lane_to, fresh_count, IsWhole, IsSoundSeat, IsSoundState, IsRunning}
-use Rattle.nll_model.proofs.EventLemmas.{set_cases, same_at, owe}
+use Rattle.nll_model.specs.State.{Lane, Seat, State, IsAt, with_lane, with_seat, lane_to}
+use Rattle.nll_model.specs.Events.{IsFree, fresh_count}
+use Rattle.nll_model.specs.Soundness.{IsSoundState}
+use Rattle.nll_model.proofs.EventLemmas.{owe}
+use Rattle.nll_model.proofs.LawfulLemmas.{ranks_are_low}
 use Rattle.nll_model.proofs.BoundLemmas.{balance_small, limit, first_passes}
 
 -- the seat that stands at the place of another is that one
@@ -17,13 +20,6 @@ seat_is w i s t at is = is ∙ get_or_from_slice_get w.seats i s t at
 
 pub place_in : (w : State) (i : ℕ) (s : Seat) → IsAt w i s → i < length w.seats
 place_in w i s at = slice_get_within w.seats i s at
-
--- one seat changes, and no call of its owner was refused
-pub whole_set : (w : State) (i : ℕ) (t : Seat) (balance : ℕ) → IsWhole w → t.owner.broken ≡ false → IsWhole (record { seats = set w.seats i t; balance = balance })
-whole_set w i t balance whole kept k u h = ⊎_elim
-    (λ (p : (k ≡ i) × (u ≡ t)). ap (λ (x : Seat). x.owner.broken) p.1 ∙ kept)
-    (λ (p : (k ≢ i) × (slice_get w.seats k ≡ Some u)). whole k u p.1)
-    (set_cases w.seats i t k u h)
 
 module _ (q : Problem) (c : Cut) (w : State) (sound : IsSoundState q c w) (i : ℕ) (s : Seat) (at : IsAt w i s) where
   pub owners_is : length w.seats ≡ s.owner.cut.owners
@@ -50,18 +46,14 @@ set_swap (x ∷ xs) (suc i) zero a b h = refl
 set_swap (x ∷ xs) (suc i) (suc j) a b h = ap (λ ys. x ∷ ys) (set_swap xs i j a b (λ e. h (ap suc e)))
 
 -- ---- a growth goes from one seat to another
-module _ (q : Problem) (c : Cut) (w : State) (running : IsRunning q c w) (i j : ℕ) (s u : Seat) (differ : i ≢ j) (at : IsAt w i s) (free : IsFree s) (at_u : IsAt w j u) where
+module _ (q : Problem) (c : Cut) (w : State) (sound : IsSoundState q c w) (i j : ℕ) (s u : Seat) (differ : i ≢ j) (at : IsAt w i s) (free : IsFree s) (at_u : IsAt w j u) where
   -- the seat at i after one at j was changed
   pub other_is : (v t : Seat) → t ≡ get_or (set w.seats j v) i t → t ≡ s
   other_is v t is = seat_is w i s t at (is ∙ get_or-set_other w.seats j i v t differ)
 
   pub passes : (g : Growth) (rest : List Growth) → (lane_to u i).box ≡ g ∷ rest → Passes s.owner.problem s.owner.cut s.owner.me j g
-  passes g rest first = first_passes q c w running.sound i j s u g rest differ at at_u first
+  passes g rest first = first_passes q c w sound i j s u g rest differ at at_u (ranks_are_low q c w sound) first
 
   pub taken_is : (t : Seat) (v : Seat) (lane : Lane) → v ≡ with_lane u i lane → record { seats = set (set w.seats j v) i t; balance = w.balance } ≡ with_seat (with_seat w i t) j (with_lane u i lane)
   taken_is t v lane is = ap (λ (x : Seat). record { seats = set (set w.seats j x) i t; balance = w.balance }) is
       ∙ ap (λ (xs : List Seat). record { seats = xs; balance = w.balance }) (set_swap w.seats i j (with_lane u i lane) t differ)
-
-  pub taken_whole : (t : Seat) (v : Seat) (lane : Lane) → v ≡ with_lane u i lane → t.owner.broken ≡ false → IsWhole (record { seats = set (set w.seats j v) i t; balance = w.balance })
-  taken_whole t v lane is kept = whole_set (record { seats = set w.seats j v; balance = w.balance }) i t w.balance
-      (whole_set w j v w.balance running.whole (ap (λ (x : Seat). x.owner.broken) is ∙ running.whole j u at_u)) kept

@@ -9,14 +9,17 @@ use Rattle.nll_problem.specs.Problem.{Problem, IsSound as IsSoundProblem}
 use Rattle.nll_cut.specs.Partition.{Cut, owner_of}
 use Rattle.nll_mail.specs.declared.growth.Growth.{Growth}
 use Rattle.nll_owner.specs.Logs.{part, IsCutOf}
-use Rattle.nll_owner.specs.Owner.{Owner, IsSound, received_from, part_for, given_to, first_owner}
+use Rattle.nll_owner.specs.Owner.{received_from, part_for, given_to, first_owner}
+use Rattle.nll_owner.proofs.OwnerLemmas.{first_sound}
 use Rattle.nll_model.specs.declared.event.Event.{Event}
 use Rattle.nll_model.specs.declared.event.Event.TheVariants.{Load, Take, Owe, Clear, Push, Leave}
 use Rattle.nll_model.specs.declared.event.Step.{Step}
 use Rattle.nll_model.specs.declared.event.Step.TheVariants.{Done, Quiet, Open}
 use Rattle.nll_model.specs.declared.seat.Item.{Item}
 use Rattle.nll_model.specs.declared.seat.Item.TheVariants.{Nothing, Fresh, Owed}
-use Rattle.nll_model.specs.@S@.{Lane, empty_lane, Seat, State, lane_to, IsAt, under_way, first_seat, IsFirst, Does, IsStep, AreSteps, IsSoundSeat, IsSoundState}
+use Rattle.nll_model.specs.State.{Lane, empty_lane, Seat, State, lane_to, IsAt, first_seat, IsFirst}
+use Rattle.nll_model.specs.Events.{Does, IsStep, AreSteps}
+use Rattle.nll_model.specs.Soundness.{under_way, IsSoundSeat, IsSoundState}
 use Rattle.nll_model.proofs.EventLemmas.{owe, clear, leave, push, load, take}
 use Rattle.nll_model.proofs.SoundLemmas.{get_within}
 
@@ -32,33 +35,6 @@ ones f [] h = refl
 ones f (x ∷ xs) h = (let a = h 0 x refl in let b = ones f xs (λ j y p. h (suc j) y p) in omega (arith, a, b, sum_by-cons f x xs))
 
 module _ (q : Problem) (c : Cut) (i : ℕ) (problem : IsSoundProblem q) (cut : IsCutOf q c) (me : i < c.owners) where
-  none_received : (j : ℕ) (g : Growth) → Contains (received_from (first_owner q c i) j) g → ⊥
-  none_received j g h = absurd (let l = (subst (λ xs. Contains xs g) (all_at c.owners j []) h).1 in omega arith)
-
-  first_sound : IsSound (first_owner q c i)
-  first_sound = record {
-    problem = problem;
-    cut = cut;
-    me = me;
-    well_formed = record {
-      own = λ g h. absurd (let l = h.1 in omega arith);
-      once = λ i j d l k. absurd (omega arith);
-      rising = λ i j d l k. absurd (omega arith);
-    };
-    supported = λ g h. absurd (let l = h.1 in omega arith);
-    based = λ h. absurd (false≢true h);
-    elements = λ g h. absurd (let l = h.1 in omega arith);
-    few = omega arith;
-    senders = length-replicate c.owners [];
-    heard = λ j g h. absurd (none_received j g h);
-    own_ranks = λ g h. absurd (let l = h.1 in omega arith);
-    heard_ranks = λ j g h. absurd (none_received j g h);
-    top = inl refl;
-    steps = λ g h. absurd (let l = h.1 in omega arith);
-    receivers = length-replicate c.owners 0;
-    given = λ j. (let a = all_at {X = ℕ} c.owners j 0 in omega (arith, a));
-  }
-
   no_lane : (j : ℕ) → lane_to (first_seat q c i) j ≡ empty_lane
   no_lane j = all_at c.owners j empty_lane
 
@@ -67,7 +43,8 @@ module _ (q : Problem) (c : Cut) (i : ℕ) (problem : IsSoundProblem q) (cut : I
     problem = refl;
     cut = refl;
     me = refl;
-    sound = first_sound;
+    sound = first_sound q c i problem cut.cut cut.regions me;
+    whole = refl;
     count = length-replicate c.owners empty_lane;
     given = λ j l. all_at {X = ℕ} c.owners j 0;
     done = λ h. absurd (false≢true h);
@@ -87,8 +64,8 @@ first_world q c w problem cut first = record {
   ways = λ i j s t differ hs ht.
       subst (λ (x : Seat). part_for x.owner j ≡ received_from t.owner i ++ ((lane_to x j).box ++ ((lane_to x j).out ++ (lane_to x j).fresh))) (sym (first.each i s hs))
       (subst (λ (x : Seat). [] ≡ received_from x.owner i ++ ((lane_to (first_seat q c i) j).box ++ ((lane_to (first_seat q c i) j).out ++ (lane_to (first_seat q c i) j).fresh))) (sym (first.each j t ht))
-        (sym (ap (λ xs. xs ++ ((lane_to (first_seat q c i) j).box ++ ((lane_to (first_seat q c i) j).out ++ (lane_to (first_seat q c i) j).fresh))) (all_at c.owners i [])
-          ∙ ap (λ (l : Lane). l.box ++ (l.out ++ l.fresh)) (all_at c.owners j empty_lane))));
+      (sym (ap (λ xs. xs ++ ((lane_to (first_seat q c i) j).box ++ ((lane_to (first_seat q c i) j).out ++ (lane_to (first_seat q c i) j).fresh))) (all_at c.owners i [])
+      ∙ ap (λ (l : Lane). l.box ++ (l.out ++ l.fresh)) (all_at c.owners j empty_lane))));
   balance =
       let each = ones under_way w.seats (λ j s at. ap under_way (first.each j s at) ∙ (let z = owing_none c.owners in omega (arith, z))) in
       omega (arith, each, first.balance, first.count);

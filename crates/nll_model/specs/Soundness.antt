@@ -4,11 +4,11 @@
 -- distributed termination detection", 1987).
 use Rattle.std.specs.Prelude.{◌≡◌, ◌≢◌, ◌↔◌, ℕ, ◌+◌, ◌<◌, ◌^◌, Bool, true, false, List, []}
 use Rattle.std.specs.Prelude.{◌++◌, length, sum_by, Contains}
-use Rattle.nll_problem.specs.Problem.{Problem}
+use Rattle.nll_problem.specs.Problem.{Problem, IsSound as IsSoundProblem}
 use Rattle.nll_problem.specs.Solution.{Least}
 use Rattle.nll_cut.specs.Partition.{Cut, owner_of}
 use Rattle.nll_mail.specs.declared.growth.Growth.{Growth}
-use Rattle.nll_owner.specs.Logs.{IsTold}
+use Rattle.nll_owner.specs.Logs.{IsCutOf, IsTold}
 use Rattle.nll_owner.specs.Owner.{IsSound, IsDone, part_for, given_to, received_from}
 use Rattle.nll_model.specs.State.{Lane, Seat, State, IsAt, lane_to, empty_lane}
 use Rattle.nll_model.specs.declared.seat.Item.{Item}
@@ -80,10 +80,12 @@ abbrev pub AreRanksLow : State → Type 0
 AreRanksLow w =
     (i : ℕ) (s : Seat) (g : Growth) → IsAt w i s → Contains s.owner.log g → g.rank < 2 ^ 61
 
--- What holds of every state that a world comes to: it is sound; its logs say only what the least
--- values have; at a balance of 0 nothing is under way, and they say just that; and its ranks are
--- low.
+-- What holds of every state that a world of this problem and cut comes to: it is sound; its logs say
+-- only what the least values have; at a balance of 0 nothing is under way, and they say just that;
+-- and its ranks are low.
 pub record IsLawful (q : Problem) (c : Cut) (w : State) : Type 0 where
+  pub problem : IsSoundProblem q
+  pub cut : IsCutOf q c
   pub sound : IsSoundState q c w
   pub only_least : SaysOnlyLeast q c w
   pub still : w.balance ≡ 0 → IsStill w

@@ -1,6 +1,7 @@
 //! Why a step of a world is refused.
 
 use nll_owner::OwnerError;
+use nll_sets::Memory;
 use thiserror::Error;
 
 /// Why a step of a world is refused.
@@ -12,4 +13,16 @@ pub enum ModelError {
     /// A call of an owner, or a growth of the world's own lists, was refused.
     #[error("{0}")]
     Owner(OwnerError),
+}
+
+impl From<Memory> for ModelError {
+    ghost use Rattle.std.specs.Prelude.{◌≡◌};
+    ghost use Rattle.nll_owner.specs.declared.error.OwnerError.TheVariants.{Memory as memory};
+    ghost use Rattle.nll_model.specs.declared.error.ModelError.TheVariants.{Owner};
+
+    ghost from_gives = { λ _ error. error ≡ Owner memory };
+
+    fn from(_: Memory) -> ModelError {
+        ModelError::Owner(OwnerError::Memory)
+    }
 }

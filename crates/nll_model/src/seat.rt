@@ -55,7 +55,7 @@ impl<'q> Seat<'q> {
     // The seat of an owner that has done nothing yet.
     pub(crate) fn of(alloc: Global, owner: Owner<'q>, owners: u16) -> Result<Seat<'q>, Memory>
         ensures { IfOk result (λ s. s ≡ record {
-          owner = owner;
+          owner = owner.entry;
           item = Nothing;
           left = false;
           lanes = replicate owners empty_lane;

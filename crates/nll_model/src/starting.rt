@@ -29,7 +29,8 @@ pub fn first_seats<'q>(
     let mut seats = Vec::new(alloc);
     for me in 0..owners {
         let owner = first_owner_of(alloc, problem, cut, tables, me)?;
-        seats.push(Seat::of(alloc, owner, owners)?)?;
+        let seat = Seat::of(alloc, owner, owners)?;
+        seats.push(seat)?;
     }
     Ok(seats)
 }

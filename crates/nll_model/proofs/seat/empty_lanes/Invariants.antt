@@ -1,5 +1,5 @@
 use Rattle.std.proofs.Common.{◌≡◌, replicate}
-use Rattle.nll_model.specs.@S@.{empty_lane}
+use Rattle.nll_model.specs.State.{empty_lane}
 use Rattle.nll_model.proofs.seat.empty_lanes.Given as goal
 
 abbrev pub invariant-loop : goal.invariant-loop

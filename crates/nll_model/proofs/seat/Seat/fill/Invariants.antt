@@ -1,4 +1,4 @@
-use Rattle.nll_model.specs.@S@.{Fills}
+use Rattle.nll_model.specs.Working.{Fills}
 use Rattle.nll_model.proofs.seat.Seat.fill.Given as goal
 
 abbrev pub invariant-loop-to : goal.invariant-loop-to

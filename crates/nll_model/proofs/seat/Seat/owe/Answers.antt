@@ -1,5 +1,6 @@
 use Rattle.std.proofs.Common.{◌≡◌, ◌+◌, ◌<◌, ◌≤◌, length, sym, ap, ◌∙◌, subst, arith}
-use Rattle.nll_model.specs.@S@.{Seat, Lane, fresh_count, owed_lane}
+use Rattle.nll_model.specs.State.{Seat, Lane}
+use Rattle.nll_model.specs.Events.{fresh_count, owed_lane}
 use Rattle.nll_model.specs.declared.seat.Item.TheVariants.{Owed}
 use Rattle.nll_model.proofs.OweLemmas.{Owes, owes_more, owes_le, owes_seat, owes_count}
 use Rattle.nll_model.proofs.seat.Seat.owe.Goals as goal

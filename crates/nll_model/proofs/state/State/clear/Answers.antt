@@ -1,8 +1,8 @@
 use Rattle.std.proofs.Common.{◌≡◌, ◌+◌, ◌-◌, ◌≤◌, ◌<◌, ℕ, false, length, get_or, slice_set, refl, sym, ap, ◌∙◌, subst, arith}
 use Rattle.nll_model.specs.declared.seat.Item.TheVariants.{Nothing}
-use Rattle.nll_model.specs.@S@.{Seat, State, IsAt, IsWhole}
+use Rattle.nll_model.specs.State.{Seat, State, IsAt}
 use Rattle.nll_model.proofs.BoundLemmas.{balance_some}
-use Rattle.nll_model.proofs.StateLemmas.{seat_is, whole_set}
+use Rattle.nll_model.proofs.StateLemmas.{seat_is}
 use Rattle.nll_model.proofs.state.State.clear.Goals as goal
 use Rattle.nll_model.proofs.state.State.clear.Goals.{After-index_mut}
 
@@ -12,23 +12,21 @@ is c = seat_is c.args.self.now c.args.i c.requires.possible.0 c.index_mut.result
 some : (c : After-index_mut) → 0 < c.self.inside.balance
 some c =
     let n = ap (λ (w : State). w.balance) c.self.view_is in
-    let b = balance_some c.requires.running.0 c.requires.running.1 c.args.self.now c.requires.running.2.sound c.args.i c.requires.possible.0 c.requires.possible.1 c.requires.possible.2 in
+    let b = balance_some c.requires.sound.0 c.requires.sound.1 c.args.self.now c.requires.sound.2 c.args.i c.requires.possible.0 c.requires.possible.1 c.requires.possible.2 in
     omega (arith, n, b)
 
 pub overflow_sub-self : goal.overflow_sub-self
 overflow_sub-self c = (let d = (goal.at.overflow_sub-self c).After-index_mut in omega (arith, some d))
 
-pub returns-clause-step : goal.returns-clause-step
-returns-clause-step c =
-    let d = (goal.at.returns-clause-step c).After-index_mut in
+pub returns : goal.returns
+returns c =
+    let d = (goal.at.returns c).After-index_mut in
     let n = ap (λ (w : State). w.balance) c.self.view_is in
-    let cleared : c.clear.new.self ≡ record c.requires.possible.0 { item = Nothing } = c.clear.ensures ∙ ap (λ (s : Seat). record s { item = Nothing }) (is d) in
-    (c.requires.possible.0, c.requires.possible.1, c.requires.possible.2, omega (arith, n, some d),
+    let cleared : c.clear.new.self ≡ record c.requires.possible.0 { item = Nothing } = c.clear.ensures ∙ ap (λ (s : Seat). record s { item = Nothing }) (is d) in (
+      c.requires.possible.0,
+      c.requires.possible.1,
+      c.requires.possible.2,
+      omega (arith, n, some d),
       ap (λ (w : State). record { seats = slice_set w.seats c.args.i c.clear.new.self; balance = c.self.inside.balance - 1 }) c.self.view_is
-      ∙ ap (λ (s : Seat). record { seats = slice_set c.args.self.now.seats c.args.i s; balance = c.self.inside.balance - 1 }) cleared)
-
-pub returns-clause-whole : goal.returns-clause-whole
-returns-clause-whole c =
-    let d = (goal.at.returns-clause-whole c).After-index_mut in
-    let kept = ap (λ (s : Seat). s.owner.broken) (c.clear.ensures ∙ ap (λ (s : Seat). record s { item = Nothing }) (is d)) ∙ c.requires.running.2.whole c.args.i c.requires.possible.0 c.requires.possible.1 in
-    subst IsWhole (ap (λ (w : State). record { seats = slice_set w.seats c.args.i c.clear.new.self; balance = c.self.inside.balance - 1 }) (sym c.self.view_is)) (whole_set c.args.self.now c.args.i c.clear.new.self (c.self.inside.balance - 1) c.requires.running.2.whole kept)
+          ∙ ap (λ (s : Seat). record { seats = slice_set c.args.self.now.seats c.args.i s; balance = c.self.inside.balance - 1 }) cleared,
+    )

@@ -2,7 +2,8 @@ use Rattle.std.proofs.Common.{◌≡◌, ℕ, ◌<◌}
 use Rattle.nll_core.specs.Growing.{Gains}
 use Rattle.nll_core.specs.Values.{IsHeld, empty_values}
 use Rattle.nll_owner.specs.Logs.{IsTold}
-use Rattle.nll_model.specs.@S@.{Seat, IsAt, IsSaid}
+use Rattle.nll_model.specs.State.{Seat, IsAt}
+use Rattle.nll_model.specs.Working.{IsSaid}
 use Rattle.nll_model.proofs.state.State.values.Given as goal
 
 abbrev pub invariant-loop-place : goal.invariant-loop-place
