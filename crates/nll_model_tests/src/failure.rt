@@ -2,7 +2,7 @@
 use nll_core::{BuildError, Memory};
 use nll_cut::CutError;
 use nll_model::ModelError;
-use std::alloc::AllocError;
+use std::alloc::{AllocError, AllocFailed};
 
 /// Why what a test asks for couldn't be had.
 #[derive(Clone, Copy, Debug, PartialEq, Eq)]
@@ -39,6 +39,12 @@ impl From<Memory> for Failure {
 
 impl From<AllocError> for Failure {
     fn from(_: AllocError) -> Failure {
+        Failure::Memory
+    }
+}
+
+impl<T: Drop> From<AllocFailed<T>> for Failure {
+    fn from(_: AllocFailed<T>) -> Failure {
         Failure::Memory
     }
 }

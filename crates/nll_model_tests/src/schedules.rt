@@ -56,7 +56,15 @@ const ROWS: &[Row] = &[
     (
         REACHED,
         64,
-        &[Load(1), Load(64), Take(1, 1), Push(1, 1), Push(1, 65535), Owe(1), Push(1, 2)],
+        &[
+            Load(1),
+            Load(64),
+            Take(1, 1),
+            Push(1, 1),
+            Push(1, 65535),
+            Owe(1),
+            Push(1, 2),
+        ],
         "done|not now|not now|not now|not now|done|done|balance 66|0:|1: 1 2|2:|",
     ),
 ];

@@ -4,7 +4,7 @@ use super::telling::{compare, stepped};
 use nll_model::Event::{self, Clear, Leave, Load, Owe, Push, Take};
 
 // Events of two owners, of which the first has the regions 0 and 2, and the second the region 1. A
-// growth is written as its region, its element and its rank.
+// growth is written as its region and its element.
 const EVENTS: &[Event] = &[
     Load(0),
     Load(1),
@@ -20,39 +20,15 @@ const EVENTS: &[Event] = &[
 
 // How many of the events there were, what the last one answers, and the state then.
 const STATES: &[(usize, &str)] = &[
-    (0, "Nothing|Nothing|2"),
-    (
-        1,
-        "done|Fresh 0-0-1 0-1-2 0-2-3 2-1-4 fresh 2-1-4|Nothing|2",
-    ),
-    (
-        2,
-        "done|Fresh 0-0-1 0-1-2 0-2-3 2-1-4 fresh 2-1-4|Fresh 1-0-1 fresh 1-0-1|2",
-    ),
-    (
-        3,
-        "done|Owed 0-0-1 0-1-2 0-2-3 2-1-4 out 2-1-4|Fresh 1-0-1 fresh 1-0-1|3",
-    ),
-    (
-        4,
-        "done|Owed 0-0-1 0-1-2 0-2-3 2-1-4 box 2-1-4|Fresh 1-0-1 fresh 1-0-1|3",
-    ),
-    (
-        7,
-        "done|Nothing 0-0-1 0-1-2 0-2-3 2-1-4 box 2-1-4|Nothing 1-0-1 out 1-0-1|2",
-    ),
-    (
-        8,
-        "done|Nothing 0-0-1 0-1-2 0-2-3 2-1-4|Fresh 1-0-1 out 1-0-1|2",
-    ),
-    (
-        9,
-        "open|Nothing 0-0-1 0-1-2 0-2-3 2-1-4|Fresh 1-0-1 out 1-0-1|2",
-    ),
-    (
-        10,
-        "done|Nothing 0-0-1 0-1-2 0-2-3 2-1-4|Fresh 1-0-1 box 1-0-1|2",
-    ),
+    (0, "Nothing 0|Nothing 0|2"),
+    (1, "done|Fresh 4 fresh 2-1|Nothing 0|2"),
+    (2, "done|Fresh 4 fresh 2-1|Fresh 1 fresh 1-0|2"),
+    (3, "done|Owed 4 out 2-1|Fresh 1 fresh 1-0|3"),
+    (4, "done|Owed 4 box 2-1|Fresh 1 fresh 1-0|3"),
+    (7, "done|Nothing 4 box 2-1|Nothing 1 out 1-0|2"),
+    (8, "done|Nothing 4|Fresh 1 out 1-0|2"),
+    (9, "open|Nothing 4|Fresh 1 out 1-0|2"),
+    (10, "done|Nothing 4|Fresh 1 box 1-0|2"),
 ];
 
 #[test]

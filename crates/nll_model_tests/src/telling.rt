@@ -100,24 +100,16 @@ pub fn replayed(
 
 // ---- states
 
-// Writes growths, each as its region, its element and its rank.
+// Writes growths, each as its region and its element.
 fn write_growths(out: &mut String, growths: &[Growth]) -> Result<(), AllocError> {
     for growth in growths {
-        write!(
-            out,
-            " {}-{}-{}",
-            growth.region.0, growth.element.0, growth.rank
-        )?;
+        write!(out, " {}-{}", growth.region.0, growth.element.0)?;
     }
     Ok(())
 }
 
 // Writes one list of a lane, if something is in it.
-fn write_queue(
-    out: &mut String,
-    name: &str,
-    growths: &VecDeque<Growth>,
-) -> Result<(), AllocError> {
+fn write_queue(out: &mut String, name: &str, growths: &VecDeque<Growth>) -> Result<(), AllocError> {
     if growths.is_empty() {
         return Ok(());
     }
@@ -134,11 +126,11 @@ fn write_lane(out: &mut String, lane: &Lane) -> Result<(), AllocError> {
     write_queue(out, "box", lane.boxed())
 }
 
-// Writes the log of an owner, what it works on, whether it has left, and what is on its lanes.
+// Writes what an owner works on, how many growths it has grown, what is on its lanes, and whether it
+// has left.
 fn write_seat(out: &mut String, seat: &Seat) -> Result<(), AllocError> {
     let item = seat.item();
-    write!(out, "{item:?}")?;
-    write_growths(out, seat.owner().log())?;
+    write!(out, "{item:?} {}", seat.owner().log().len())?;
     for lane in seat.lanes() {
         write_lane(out, lane)?;
     }
@@ -205,7 +197,8 @@ fn stepped_round(
 }
 
 /// What the last of these events answers, and the state of the world then: for each owner what it
-/// works on, its log, what is on its lanes and whether it has left; and the balance.
+/// works on, how many growths it has grown, what is on its lanes and whether it has left; and the
+/// balance.
 pub fn stepped(
     alloc: Global,
     written: Written,
