@@ -69,17 +69,26 @@ const ROWS: &[Row] = &[
     ),
 ];
 
+// The balance and the values after so many lines of the schedule.
+fn values_after(count: usize) -> &'static str {
+    if count == 0 {
+        return "balance 2|0:|1:|2:|";
+    }
+    match BY_TURNS_TO_QUIET.get(count - 1) {
+        Some((_, _, values)) => values,
+        None => "no line",
+    }
+}
+
 // What the first so many lines of the schedule come to, and what they are to come to.
 fn first_lines(alloc: Global, count: usize) -> Result<(String, String), Failure> {
     let mut events = Vec::new(alloc);
     let mut want = String::new(alloc);
-    let mut then = "balance 2|0:|1:|2:|";
-    for (event, answer, values) in BY_TURNS_TO_QUIET.iter().take(count) {
+    for (event, answer, _) in BY_TURNS_TO_QUIET.iter().take(count) {
         events.push(*event)?;
         want.push_str(answer)?;
-        then = values;
     }
-    want.push_str(then)?;
+    want.push_str(values_after(count))?;
     let told = replayed(alloc, BY_TURNS, 2, &events)?;
     Ok((told, want))
 }
