@@ -2,15 +2,12 @@
 
 ghost use Rattle.std.specs.Prelude.{◌≡◌, ◌≢◌, ◌↔◌, ℕ, ◌<◌, length, Err, OnOk, IfOk, IsTrue};
 ghost use Rattle.nll_problem.specs.Problem.{Problem};
-ghost use Rattle.nll_core.specs.Growing.{Gains};
-ghost use Rattle.nll_core.specs.Values.{IsHeld, IsShaped, empty_values};
+ghost use Rattle.nll_core.specs.Values.{IsHeld, IsShaped};
 ghost use Rattle.nll_cut.specs.Partition.{Cut};
-ghost use Rattle.nll_owner.specs.Logs.{IsTold};
 ghost use Rattle.nll_owner.specs.declared.error.OwnerError.TheVariants.{Broken};
 ghost use Rattle.nll_model.specs.State.{Seat, IsAt};
 ghost use Rattle.nll_model.specs.Events.{Does, IsPossible};
-ghost use Rattle.nll_model.specs.Soundness.{IsSoundState};
-ghost use Rattle.nll_model.specs.Working.{IsSaid};
+ghost use Rattle.nll_model.specs.Soundness.{IsSoundState, Says};
 ghost use Rattle.nll_model.specs.declared.event.Event.TheVariants as events;
 ghost use Rattle.nll_model.specs.declared.event.Step.TheVariants.{Done};
 
@@ -64,11 +61,8 @@ impl<'q> State<'q> {
     pub fn values(&self, alloc: Global, problem: &Problem) -> Result<Values, Memory>
         requires { (c : Cut) × IsSoundState problem.now c self.now }
         ensures shaped { IfOk result (λ values. IsShaped problem.now values) }
-        ensures gains { IfOk result
-            (λ values. Gains (IsSaid self.now) (empty_values problem.now) values) }
-        ensures all { IfOk result (λ values. (i : ℕ) (s : Seat)
-            → i < length self.now.seats → IsAt self.now i s
-            → (r e : ℕ) → IsTold s.owner.log r e → IsHeld values r e) }
+        ensures held { IfOk result (λ values. (c : Cut) → IsSoundState problem.now c self.now
+            → (r e : ℕ) → IsHeld values r e ↔ Says c self.now r e) }
     {
         let mut values = Values::empty(alloc, problem)?;
         for place in 0..self.seats.len() {

@@ -9,7 +9,7 @@ use Rattle.nll_owner.specs.Owner.{Owner}
 use Rattle.nll_owner.proofs.OwnerLemmas.{get_at}
 use Rattle.nll_model.specs.State.{Seat, State, IsAt}
 use Rattle.nll_model.specs.Working.{IsSaid}
-use Rattle.nll_model.proofs.SaysLemmas.{said_in, says_more, says_all}
+use Rattle.nll_model.proofs.SaysLemmas.{said_in, says_more, says_all, says_values}
 use Rattle.nll_model.proofs.state.State.values.Goals as goal
 use Rattle.nll_model.proofs.state.State.values.Goals.{After-index}
 
@@ -37,3 +37,7 @@ loop-place-preserved c =
       gains = says_more c.args.problem.now c.requires.0 c.args.self.now c.requires.1 (empty_values c.args.problem.now) c.loop-place.values c.enter_log.new.values c.loop-place.place s (at d) c.loop-place.invariant.gains one;
       all = says_all c.args.problem.now c.requires.0 c.args.self.now c.requires.1 c.loop-place.values c.enter_log.new.values c.loop-place.place s (at d) one held c.loop-place.invariant.all;
     }
+
+pub returns-clause-held : goal.returns-clause-held
+returns-clause-held c = λ d sound. says_values c.args.problem.now d c.args.self.now sound c.loop-place.values c.loop-place.invariant.gains
+    (λ j t l at. c.loop-place.invariant.all j t (omega (arith, l, c.loop-place-test.false, c.len-place-end.ensures, ap (λ (w : State). length w.seats) c.self.view_is)) at)
