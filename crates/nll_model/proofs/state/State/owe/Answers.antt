@@ -1,0 +1,41 @@
+use Rattle.std.proofs.Common.{◌≡◌, ◌+◌, ◌-◌, ◌≤◌, ◌<◌, ℕ, false, length, map, get_or, slice_set, refl, sym, ap, ◌∙◌, subst, arith}
+use Rattle.nll_model.specs.declared.seat.Item.TheVariants.{Owed}
+use Rattle.nll_model.specs.State.{Seat, State, IsAt}
+use Rattle.nll_model.specs.Events.{owed_lane, fresh_count}
+use Rattle.nll_model.proofs.StateLemmas.{seat_is, owe_small}
+use Rattle.nll_model.proofs.state.State.owe.Goals as goal
+use Rattle.nll_model.proofs.state.State.owe.Goals.{After-index_mut}
+
+is : (c : After-index_mut) → c.index_mut.result.now ≡ c.requires.possible.0
+is c = seat_is c.args.self.now c.args.i c.requires.possible.0 c.index_mut.result.now c.requires.possible.1 (c.index_mut.ensures.value ∙ ap (λ (w : State). get_or w.seats c.args.i c.index_mut.result.now) c.self.view_is)
+
+small : (c : After-index_mut) → c.args.self.now.balance + fresh_count c.requires.possible.0 ≤ 2251799813685248
+small c = owe_small c.requires.sound.0 c.requires.sound.1 c.args.self.now c.requires.sound.2 c.args.i c.requires.possible.0 c.requires.possible.1 c.requires.possible.2
+
+pub owe-requires : goal.owe-requires
+owe-requires c =
+    let d = (goal.at.owe-requires c).After-index_mut in
+    let e = ap fresh_count (is d) in omega (arith, e, small d)
+
+pub overflow_add-self : goal.overflow_add-self
+overflow_add-self c =
+    let d = (goal.at.overflow_add-self c).After-index_mut in
+    let e = ap fresh_count (is d) in let n = ap (λ (w : State). w.balance) c.self.view_is in
+    omega (arith, e, n, small d, c.in_ok-count.ensures.count)
+
+pub returns : goal.returns
+returns c =
+    let d = (goal.at.returns c).After-index_mut in
+    let s = c.requires.possible.0 in
+    let owed = c.in_ok-count.ensures.seat ∙ ap (λ (x : Seat). record x { item = Owed; lanes = map owed_lane x.lanes }) (is d) in
+    let count = c.in_ok-count.ensures.count ∙ ap fresh_count (is d) in
+    record {
+      does = (
+        s,
+        c.requires.possible.1,
+        c.requires.possible.2,
+        ap (λ (w : State). record { seats = slice_set w.seats c.args.i c.owe.new.self; balance = w.balance + c.in_ok-count.count }) c.self.view_is
+            ∙ (ap (λ (x : Seat). record { seats = slice_set c.args.self.now.seats c.args.i x; balance = c.args.self.now.balance + c.in_ok-count.count }) owed
+            ∙ ap (λ (k : ℕ). record { seats = slice_set c.args.self.now.seats c.args.i (record s { item = Owed; lanes = map owed_lane s.lanes }); balance = c.args.self.now.balance + k }) count),
+      );
+    }

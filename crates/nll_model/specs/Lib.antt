@@ -1,0 +1,5 @@
+pub mod State
+pub mod Events
+pub mod Soundness
+pub mod Replaying
+pub mod Working

@@ -1,0 +1,57 @@
+-- What the steps inside an event do to a lane and to a seat.
+-- Source: project's choice. Private contracts alone cite this file.
+use Rattle.std.specs.Prelude.{◌≡◌, ℕ, ◌<◌, ◌≤◌, Bool, true, false, List, [], ◌∷◌, ◌++◌, length}
+use Rattle.std.specs.Prelude.{drop, slice_get, Option, Some, None}
+use Rattle.nll_problem.specs.Problem.{Problem}
+use Rattle.nll_cut.specs.Partition.{Cut}
+use Rattle.nll_mail.specs.declared.growth.Growth.{Growth}
+use Rattle.nll_owner.specs.Logs.{IsTold}
+use Rattle.nll_owner.specs.Owner.{IsSound, part_for, given_to}
+use Rattle.nll_model.specs.State.{Lane, Seat, State, IsAt, lane_to, with_lane, first_seat}
+
+-- The first growth that is owed for went to the back of the box, or there is none.
+abbrev pub Pushes : Bool → Lane → Lane → Type 0
+Pushes true old new =
+    (g : Growth) × (rest : List Growth) × (old.out ≡ g ∷ rest)
+    × (new ≡ record old { out = rest; box = old.box ++ g ∷ [] })
+Pushes false old new = (old.out ≡ []) × (new ≡ old)
+
+-- The same of a seat's lane.
+abbrev pub PushesTo : Bool → ℕ → Seat → Seat → Type 0
+PushesTo true to old new =
+    (g : Growth) × (rest : List Growth) × ((lane_to old to).out ≡ g ∷ rest)
+    × (new ≡ with_lane old to (record (lane_to old to) {
+      out = rest;
+      box = (lane_to old to).box ++ g ∷ [];
+    }))
+PushesTo false to old new = (lane_to old to).out ≡ []
+
+-- The first growth of a box came out of it, and this is so of the lane then; or there is none.
+abbrev pub TakesFrom : Lane → Option Growth → (Lane → Type 0) → Type 0
+TakesFrom old (Some g) P =
+    (rest : List Growth) × (old.box ≡ g ∷ rest) × P (record old { box = rest })
+TakesFrom old None P = old.box ≡ []
+
+-- The lanes to the first owners got all that the owner hadn't given out to them.
+pub record Fills (old new : Seat) (count : ℕ) : Type 0 where
+  pub sound : IsSound new.owner
+  pub owner : new.owner ≡ record old.owner { given = new.owner.given }
+  pub item : new.item ≡ old.item
+  pub left : new.left ≡ old.left
+  pub lane_count : length new.lanes ≡ length old.lanes
+  pub given : (j : ℕ) → j < count → given_to new.owner j ≡ length (part_for old.owner j)
+  pub lanes :
+      (j : ℕ) → j < count
+      → lane_to new j ≡ record (lane_to old j) {
+        fresh = (lane_to old j).fresh ++ drop (given_to old.owner j) (part_for old.owner j);
+      }
+  pub other_given : (j : ℕ) → count ≤ j → given_to new.owner j ≡ given_to old.owner j
+  pub other_lanes : (j : ℕ) → count ≤ j → lane_to new j ≡ lane_to old j
+
+-- the seats are those of owners that have done nothing yet
+abbrev pub AreFirst : Problem → Cut → List Seat → Type 0
+AreFirst q c seats = (i : ℕ) (s : Seat) → slice_get seats i ≡ Some s → s ≡ first_seat q c i
+
+-- some log says that the region r has e
+abbrev pub IsSaid : State → ℕ → ℕ → Type 0
+IsSaid w r e = (i : ℕ) × (s : Seat) × IsAt w i s × IsTold s.owner.log r e

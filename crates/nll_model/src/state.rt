@@ -1,0 +1,245 @@
+//! The state of a world, and what each event does to it.
+
+ghost use Rattle.std.specs.Prelude.{◌≡◌, ◌≢◌, ◌↔◌, ℕ, ◌<◌, length, Err, OnOk, IfOk, IsTrue};
+ghost use Rattle.nll_problem.specs.Problem.{Problem};
+ghost use Rattle.nll_core.specs.Values.{IsHeld, IsShaped};
+ghost use Rattle.nll_cut.specs.Partition.{Cut};
+ghost use Rattle.nll_owner.specs.declared.error.OwnerError.TheVariants.{Broken};
+ghost use Rattle.nll_model.specs.State.{Seat, IsAt};
+ghost use Rattle.nll_model.specs.Events.{Does, IsPossible};
+ghost use Rattle.nll_model.specs.Soundness.{IsSoundState, Says};
+ghost use Rattle.nll_model.specs.declared.event.Event.TheVariants as events;
+ghost use Rattle.nll_model.specs.declared.event.Step.TheVariants.{Done};
+
+use crate::event::{Event, Step};
+use crate::seat::{Item, Seat};
+use nll_core::Values;
+use nll_owner::{OwnerError, enter_log};
+use nll_problem::Problem;
+use nll_sets::Memory;
+use std::alloc::Global;
+use std::marker::Model;
+
+/// The seats of all owners, and the balance.
+#[derive(Drop)]
+pub struct State<'q> {
+    seats: Vec<Seat<'q>>,
+    balance: u64,
+}
+
+impl<'q> Model for State<'q> {
+    ghost use Rattle.nll_model.specs.State as spec;
+
+    ghost Value = { spec.State };
+
+    ghost view = { λ w. record { seats = w.seats.items; balance = w.balance } };
+}
+
+impl<'q> State<'q> {
+    /// The state of these seats.
+    pub fn new(seats: Vec<Seat<'q>>, balance: u64) -> State<'q>
+        ensures { result ≡ record { seats = seats.entry.items; balance = balance } }
+    {
+        State { seats, balance }
+    }
+
+    /// The seats, in the order of the owners' numbers.
+    pub fn seats(&self) -> &[Seat<'q>]
+        ensures { result.now ≡ self.now.seats }
+    {
+        &self.seats
+    }
+
+    /// The balance.
+    pub fn balance(&self) -> u64
+        ensures { result ≡ self.now.balance }
+    {
+        self.balance
+    }
+
+    /// The values that the logs say.
+    pub fn values(&self, alloc: Global, problem: &Problem) -> Result<Values, Memory>
+        requires { (c : Cut) × IsSoundState problem.now c self.now }
+        ensures shaped { IfOk result (λ values. IsShaped problem.now values) }
+        ensures held { IfOk result (λ values. (c : Cut) → IsSoundState problem.now c self.now
+            → (r e : ℕ) → IsHeld values r e ↔ Says c self.now r e) }
+    {
+        let mut values = Values::empty(alloc, problem)?;
+        for place in 0..self.seats.len() {
+            enter_log(&mut values, self.seats[place].owner().log())?;
+        }
+        Ok(values)
+    }
+
+    /// Whether an event is possible.
+    pub fn is_possible(&self, event: Event) -> bool
+        requires { (q : Problem) × (c : Cut) × IsSoundState q c self.now }
+        ensures { IsTrue result ↔ IsPossible self.now event }
+    {
+        match event {
+            Event::Load(i) => self.can_load(i),
+            Event::Take(i, j) => self.can_take(i, j),
+            Event::Owe(i) => self.has_item(i, Item::Fresh),
+            Event::Clear(i) => self.has_item(i, Item::Owed),
+            Event::Push(i, j) => self.can_push(i, j),
+            Event::Leave(i) => self.can_leave(i),
+        }
+    }
+
+    /// Does what an event does.
+    pub fn apply(&mut self, event: Event) -> Result<Step, OwnerError>
+        requires sound { (q : Problem) × (c : Cut) × IsSoundState q c self.old }
+        requires possible { IsPossible self.old event }
+        ensures does { IfOk result (λ answer. Does self.old event answer self.new) }
+        ensures whole { result ≡ Err Broken → ⊥ }
+    {
+        match event {
+            Event::Load(i) => self.load(i)?,
+            Event::Take(i, j) => self.take(i, j)?,
+            Event::Owe(i) => self.owe(i)?,
+            Event::Clear(i) => self.clear(i),
+            Event::Push(i, j) => self.push(i, j)?,
+            Event::Leave(i) => return Ok(self.leave(i)),
+        }
+        Ok(Step::Done)
+    }
+
+    // ---- whether an event is possible
+
+    // Whether an owner isn't loaded.
+    fn can_load(&self, i: u16) -> bool
+        ensures { IsTrue result ↔ IsPossible self.now (events.Load i) }
+    {
+        if i as usize >= self.seats.len() {
+            return false;
+        }
+        !self.seats[i as usize].owner().is_loaded()
+    }
+
+    // Whether an owner can receive a growth of the box from another.
+    fn can_take(&self, i: u16, j: u16) -> bool
+        requires { (q : Problem) × (c : Cut) × IsSoundState q c self.now }
+        ensures { IsTrue result ↔ IsPossible self.now (events.Take i j) }
+    {
+        if !self.are_two(i, j) || !self.seats[i as usize].is_free() {
+            return false;
+        }
+        !self.seats[j as usize].is_taken_by(i)
+    }
+
+    // Whether an owner works on an item of this kind.
+    fn has_item(&self, i: u16, item: Item) -> bool
+        ensures { IsTrue result ↔ ((s : Seat) × IsAt self.now i s × (s.item ≡ item)) }
+    {
+        if i as usize >= self.seats.len() {
+            return false;
+        }
+        self.seats[i as usize].item() == item
+    }
+
+    // Whether an owner has something to send to another.
+    fn can_push(&self, i: u16, j: u16) -> bool
+        requires { (q : Problem) × (c : Cut) × IsSoundState q c self.now }
+        ensures { IsTrue result ↔ IsPossible self.now (events.Push i j) }
+    {
+        if !self.are_two(i, j) {
+            return false;
+        }
+        !self.seats[i as usize].has_sent_to(j)
+    }
+
+    // Whether an owner may look at the balance.
+    fn can_leave(&self, i: u16) -> bool
+        ensures { IsTrue result ↔ IsPossible self.now (events.Leave i) }
+    {
+        if i as usize >= self.seats.len() {
+            return false;
+        }
+        let seat = &self.seats[i as usize];
+        if !seat.is_free() {
+            return false;
+        }
+        seat.has_sent()
+    }
+
+    // Whether two numbers are those of two owners.
+    fn are_two(&self, i: u16, j: u16) -> bool
+        ensures { IsTrue result
+            ↔ ((i ≢ j) × (i < length self.now.seats) × (j < length self.now.seats)) }
+    {
+        i != j && (i as usize) < self.seats.len() && (j as usize) < self.seats.len()
+    }
+
+    // ---- what an event does
+
+    // Loads an owner.
+    fn load(&mut self, i: u16) -> Result<(), OwnerError>
+        requires sound { (q : Problem) × (c : Cut) × IsSoundState q c self.old }
+        requires possible { IsPossible self.old (events.Load i) }
+        ensures does { OnOk result (Does self.old (events.Load i) Done self.new) }
+        ensures whole { result ≡ Err Broken → ⊥ }
+    {
+        let owners = self.seats.len() as u16;
+        self.seats[i as usize].load(owners)?;
+        Ok(())
+    }
+
+    // Lets an owner receive the first growth of the box from another.
+    fn take(&mut self, i: u16, j: u16) -> Result<(), OwnerError>
+        requires sound { (q : Problem) × (c : Cut) × IsSoundState q c self.old }
+        requires possible { IsPossible self.old (events.Take i j) }
+        ensures does { OnOk result (Does self.old (events.Take i j) Done self.new) }
+        ensures whole { result ≡ Err Broken → ⊥ }
+    {
+        let owners = self.seats.len() as u16;
+        match self.seats[j as usize].take(i) {
+            Some(growth) => self.seats[i as usize].receive(owners, j, growth)?,
+            None => unreachable!(),
+        }
+        Ok(())
+    }
+
+    // Adds what is fresh of an owner to the balance.
+    fn owe(&mut self, i: u16) -> Result<(), Memory>
+        requires sound { (q : Problem) × (c : Cut) × IsSoundState q c self.old }
+        requires possible { IsPossible self.old (events.Owe i) }
+        ensures does { OnOk result (Does self.old (events.Owe i) Done self.new) }
+    {
+        let count = self.seats[i as usize].owe()?;
+        self.balance += count;
+        Ok(())
+    }
+
+    // Takes the item of an owner off the balance.
+    fn clear(&mut self, i: u16)
+        requires sound { (q : Problem) × (c : Cut) × IsSoundState q c self.old }
+        requires possible { IsPossible self.old (events.Clear i) }
+        ensures { Does self.old (events.Clear i) Done self.new }
+    {
+        self.seats[i as usize].clear();
+        self.balance -= 1;
+    }
+
+    // Puts the next growth from one owner to another into the box.
+    fn push(&mut self, i: u16, j: u16) -> Result<(), Memory>
+        requires sound { (q : Problem) × (c : Cut) × IsSoundState q c self.old }
+        requires possible { IsPossible self.old (events.Push i j) }
+        ensures does { OnOk result (Does self.old (events.Push i j) Done self.new) }
+    {
+        self.seats[i as usize].push(j)?;
+        Ok(())
+    }
+
+    // Lets an owner look at the balance, and leave where it is 0.
+    fn leave(&mut self, i: u16) -> Step
+        requires possible { IsPossible self.old (events.Leave i) }
+        ensures { Does self.old (events.Leave i) result self.new }
+    {
+        if self.balance == 0 {
+            self.seats[i as usize].leave();
+            Step::Quiet
+        } else {
+            Step::Open
+        }
+    }
+}
