@@ -29,7 +29,7 @@ const REPORT: &[u8] = b"'static: 0 1 end('static)
 fn two_owners_meet_for_an_answer(rt: HostRuntime) {
     let facts = meaning(rt.alloc(), TEXT).expect(&rt, "the text is right");
     let cut = Cut::round(rt.alloc(), facts.problem.regions(), 2).expect(&rt, "two owners");
-    let meeting = Meeting::new();
+    let meeting = Meeting::new(2);
     let mail = QueueMail::new(rt);
     let asked = Command::Values;
     let answer = answer_run(
@@ -49,5 +49,5 @@ fn two_owners_meet_for_an_answer(rt: HostRuntime) {
         status == 0 && report.as_slice() == REPORT,
         "another report"
     );
-    assert!(rt; meeting.met(2), "the owners don't meet");
+    assert!(rt; meeting.met(), "the owners don't meet");
 }

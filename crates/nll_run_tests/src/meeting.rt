@@ -7,42 +7,49 @@ use std::thread;
 /// A place where the owners 0 and 1 meet, again and again. Who comes there waits for the other, but
 /// not for good.
 ///
-/// As a gate it has them meet in the turns 1 and 2; as a watch of mailboxes, at their first posts.
+/// As a gate it has them meet in as many turns as it is made for; as a watch of mailboxes, at as many
+/// posts.
 #[derive(Drop)]
 pub struct Meeting {
+    times: u64,
     first: AtomicU64,
     second: AtomicU64,
     missed: AtomicBool,
 }
 
 impl Meeting {
-    /// A place to which none has come.
-    pub fn new() -> Meeting {
+    /// A place for so many meetings, to which none has come.
+    pub fn new(times: u64) -> Meeting {
         Meeting {
+            times,
             first: AtomicU64::new(0),
             second: AtomicU64::new(0),
             missed: AtomicBool::new(false),
         }
     }
 
-    /// Whether the two met so many times, and none of them waited in vain.
-    pub fn met(&self, times: u64) -> bool {
+    /// Whether the two met each time, and none of them waited in vain.
+    pub fn met(&self) -> bool {
         !self.missed.load(Ordering::SeqCst)
-            && self.first.load(Ordering::SeqCst) == times
-            && self.second.load(Ordering::SeqCst) == times
+            && self.first.load(Ordering::SeqCst) == self.times
+            && self.second.load(Ordering::SeqCst) == self.times
     }
 
-    // Has an owner come for the meeting of this number, and wait for the other.
-    fn come(&self, owner: usize, number: u64) {
+    // Has an owner come for its next meeting, and wait for the other.
+    fn come(&self, owner: usize) {
         match owner {
-            0 => self.wait(&self.first, &self.second, number),
-            1 => self.wait(&self.second, &self.first, number),
+            0 => self.wait(&self.first, &self.second),
+            1 => self.wait(&self.second, &self.first),
             _ => {}
         }
     }
 
-    // Notes that an owner has come, and waits for the other.
-    fn wait(&self, mine: &AtomicU64, other: &AtomicU64, number: u64) {
+    // Notes that an owner has come, and waits for the other; not where all meetings are over.
+    fn wait(&self, mine: &AtomicU64, other: &AtomicU64) {
+        let number = mine.load(Ordering::SeqCst).saturating_add(1);
+        if number > self.times {
+            return;
+        }
         mine.store(number, Ordering::SeqCst);
         for _ in 0..10_000_000u32 {
             if other.load(Ordering::SeqCst) >= number || self.missed.load(Ordering::SeqCst) {
@@ -55,17 +62,15 @@ impl Meeting {
 }
 
 impl Gate for Meeting {
-    fn enter(&self, owner: usize, turn: u64) {
-        if turn <= 2 {
-            self.come(owner, turn);
-        }
+    fn enter(&self, owner: usize, _: u64) {
+        self.come(owner);
     }
 }
 
 impl Watch for Meeting {
     fn before(&self, owner: u16, step: Step) {
         if step == Step::Post {
-            self.come(owner as usize, 1);
+            self.come(owner as usize);
         }
     }
 }

@@ -6,12 +6,13 @@ use nll_cut::{Cut, CutError};
 use std::alloc::Global;
 
 /// A problem: its points, of which the last returns, each next to the one before; its region
-/// variables; its base facts, as a region and a point; and its constraints, as the larger region,
-/// the smaller one and the point.
+/// variables; those of them that have all points; its other base facts, as a region and a point; and
+/// its constraints, as the larger region, the smaller one and the point.
 #[derive(Clone, Copy)]
 pub struct Written {
     pub points: u32,
     pub variables: u32,
+    pub full: &'static [u32],
     pub bases: &'static [(u32, u32)],
     pub constraints: &'static [(u32, u32, u32)],
 }
@@ -20,6 +21,7 @@ pub struct Written {
 pub const REACHED: Written = Written {
     points: 3,
     variables: 2,
+    full: &[],
     bases: &[(1, 1), (1, 2)],
     constraints: &[(2, 1, 1)],
 };
@@ -28,6 +30,7 @@ pub const REACHED: Written = Written {
 pub const BY_TURNS: Written = Written {
     points: 2,
     variables: 2,
+    full: &[],
     bases: &[(1, 0), (2, 1)],
     constraints: &[(2, 1, 0), (1, 2, 0)],
 };
@@ -36,6 +39,7 @@ pub const BY_TURNS: Written = Written {
 pub const FILLED_HOLE: Written = Written {
     points: 3,
     variables: 3,
+    full: &[],
     bases: &[(1, 0), (1, 2), (3, 1)],
     constraints: &[(1, 3, 1), (2, 1, 0)],
 };
@@ -44,8 +48,27 @@ pub const FILLED_HOLE: Written = Written {
 pub const ONE_POINT: Written = Written {
     points: 1,
     variables: 0,
+    full: &[],
     bases: &[],
     constraints: &[],
+};
+
+/// A region has more points than a ring has places, and another one gets them all.
+pub const MANY: Written = Written {
+    points: 300,
+    variables: 2,
+    full: &[1],
+    bases: &[],
+    constraints: &[(2, 1, 0)],
+};
+
+/// Two regions have more points than a ring has places, and each gets those of the other.
+pub const MANY_BOTH_WAYS: Written = Written {
+    points: 300,
+    variables: 2,
+    full: &[1, 2],
+    bases: &[],
+    constraints: &[(2, 1, 0), (1, 2, 0)],
 };
 
 /// How the regions are dealt to so many owners.
@@ -59,6 +82,14 @@ pub enum Deal {
     List(u16, &'static [u16]),
 }
 
+// Gives a region all points.
+fn fill(builder: &mut ProblemBuilder, region: u32, points: u32) -> Result<(), BuildError> {
+    for point in 0..points {
+        builder.base(RegionId(region), point)?;
+    }
+    Ok(())
+}
+
 // Puts the facts of a written problem into a builder.
 fn enter(builder: &mut ProblemBuilder, written: Written) -> Result<(), BuildError> {
     for _ in 0..written.variables {
@@ -68,6 +99,9 @@ fn enter(builder: &mut ProblemBuilder, written: Written) -> Result<(), BuildErro
         builder.next(point - 1, point)?;
     }
     builder.ret(written.points.saturating_sub(1))?;
+    for region in written.full {
+        fill(builder, *region, written.points)?;
+    }
     for (region, point) in written.bases {
         builder.base(RegionId(*region), *point)?;
     }

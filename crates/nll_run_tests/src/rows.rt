@@ -1,9 +1,14 @@
 //! Runs of worked problems come to values and counts that were found by hand.
-use super::problems::{BY_TURNS, Deal, FILLED_HOLE, ONE_POINT, REACHED, Written};
+use super::problems::{BY_TURNS, Deal, FILLED_HOLE, MANY, MANY_BOTH_WAYS, ONE_POINT, REACHED};
+use super::problems::Written;
 use super::telling::{compare, told};
-use nll_ledger::{LockLedger, WordLedger};
-use nll_mail::QueueMail;
+use nll_ledger::{Ledger, LockLedger, WordLedger};
+use nll_mail::{QueueMail, RingMail};
 use nll_worker::NoGate;
+use std::alloc::{AllocError, AllocGlobal, Global};
+use std::process::Abort;
+use std::sync::Wait;
+use std::thread::Threads;
 
 // A problem, how its regions are dealt, and what its run comes to: the value of each region (a
 // universal region has all points, and its end behind them), how many logs there are and how long
@@ -100,23 +105,71 @@ const ROWS: &[Row] = &[
     (ONE_POINT, Deal::Round(64), "0: 0 1|64: 0 2|4032:"),
 ];
 
-// What the runs come to, with either kind of ledger.
+// Runs through mailboxes that fill up: the logs and the posts.
+const FILLING: &[(Written, &str)] = &[
+    (MANY, "2: 0 601 1 300|2: 1-0 300"),
+    (MANY_BOTH_WAYS, "2: 0 601 1 300|2: 0-1 300 1-0 300"),
+];
+
+// Compares what a run comes to with either kind of mailbox.
+fn compare_mailboxes<L: Ledger, R: AllocGlobal + Abort + Threads + Wait + Sync>(
+    rt: &R,
+    written: Written,
+    deal: Deal,
+    ledger: &L,
+    want: &str,
+) {
+    let queues = QueueMail::new(rt);
+    let rings = RingMail::new();
+    let by_queues = told(rt, rt.alloc(), written, deal, &queues, ledger, &NoGate);
+    compare(rt, by_queues, want);
+    let by_rings = told(rt, rt.alloc(), written, deal, &rings, ledger, &NoGate);
+    compare(rt, by_rings, want);
+}
+
+// The same with either kind of ledger.
+fn compare_all<R: AllocGlobal + Abort + Threads + Wait + Sync>(
+    rt: &R,
+    written: Written,
+    deal: Deal,
+    want: &str,
+) {
+    compare_mailboxes(rt, written, deal, &WordLedger, want);
+    compare_mailboxes(rt, written, deal, &LockLedger::new(rt), want);
+}
+
+// What the runs come to, with each pair of mailbox and ledger.
 #[test]
 fn runs_come_to_the_least_values(rt: HostRuntime) {
-    let mail = QueueMail::new(rt);
-    let locks = LockLedger::new(rt);
     for (written, deal, want) in ROWS {
-        let by_words = told(
-            &rt,
-            rt.alloc(),
-            *written,
-            *deal,
-            &mail,
-            &WordLedger,
-            &NoGate,
-        );
-        compare(&rt, by_words, want);
-        let by_locks = told(&rt, rt.alloc(), *written, *deal, &mail, &locks, &NoGate);
-        compare(&rt, by_locks, want);
+        compare_all(&rt, *written, *deal, want);
+    }
+}
+
+// Writes a region that has the first so many elements.
+fn write_first(out: &mut String, region: u32, count: u32) -> Result<(), AllocError> {
+    write!(out, "{region}:")?;
+    for element in 0..count {
+        write!(out, " {element}")?;
+    }
+    out.push('|')
+}
+
+// What a run comes to whose regions all have all points.
+fn filled(alloc: Global, rest: &str) -> Result<String, AllocError> {
+    let mut out = String::new(alloc);
+    let universal = write_first(&mut out, 0, 301);
+    let first = write_first(&mut out, 1, 300);
+    let second = write_first(&mut out, 2, 300);
+    let rest = out.push_str(rest);
+    universal.and(first).and(second).and(rest).and(Ok(out))
+}
+
+// More growths go from owner to owner than a ring has places.
+#[test]
+fn full_mailboxes_hold_nothing_up(rt: HostRuntime) {
+    for (written, rest) in FILLING {
+        let want = filled(rt.alloc(), rest).expect(&rt, "memory");
+        compare_all(&rt, *written, Deal::Round(2), &want);
     }
 }

@@ -2,12 +2,16 @@
 use super::failure::Failure;
 use super::meeting::Meeting;
 use super::notes::Notes;
-use super::problems::{BY_TURNS, Deal, REACHED, Written};
+use super::problems::{BY_TURNS, Deal, MANY_BOTH_WAYS, REACHED, Written};
 use super::telling::{compare, told};
 use super::watching::Watched;
 use nll_ledger::WordLedger;
-use nll_mail::QueueMail;
+use nll_mail::{Mail, QueueMail, RingMail};
 use nll_worker::NoGate;
+use std::alloc::AllocGlobal;
+use std::process::Abort;
+use std::sync::Wait;
+use std::thread::Threads;
 
 // What a run of the two owners of `BY_TURNS` comes to.
 const WANT: &str = "0: 0 1 2|1: 0 1|2: 0 1|2: 0 5 1 2|2: 0-1 2 1-0 2";
@@ -25,57 +29,78 @@ const STEPS: &[(Written, &str, &str)] = &[
 ];
 
 // The two owners are at work side by side: each begins its turns 1 and 2 only where the other has.
-#[test]
-fn two_owners_meet(rt: HostRuntime) {
-    let meeting = Meeting::new();
-    let mail = QueueMail::new(rt);
+fn meet<M: Mail, R: AllocGlobal + Abort + Threads + Wait + Sync>(rt: &R, mail: &M) {
+    let meeting = Meeting::new(2);
     let deal = Deal::Round(2);
-    let told = told(
-        &rt,
-        rt.alloc(),
-        BY_TURNS,
-        deal,
-        &mail,
-        &WordLedger,
-        &meeting,
-    );
-    compare(&rt, told, WANT);
-    assert!(rt; meeting.met(2), "the owners don't meet");
+    let told = told(rt, rt.alloc(), BY_TURNS, deal, mail, &WordLedger, &meeting);
+    compare(rt, told, WANT);
+    assert!(rt; meeting.met(), "the owners don't meet");
 }
 
-// Each of the two posts its first growth only where the other does.
 #[test]
-fn two_owners_post(rt: HostRuntime) {
-    let meeting = Meeting::new();
-    let queues = QueueMail::new(rt);
+fn two_owners_meet(rt: HostRuntime) {
+    meet(&rt, &QueueMail::new(rt));
+    meet(&rt, &RingMail::new());
+}
+
+// Each of the two makes its first posts, so many of them, only where the other does.
+fn post_together<M: Mail, R: AllocGlobal + Abort + Threads + Wait + Sync>(
+    rt: &R,
+    inner: &M,
+    written: Written,
+    times: u64,
+) {
+    let meeting = Meeting::new(times);
     let mail = Watched {
-        inner: &queues,
+        inner,
         watch: &meeting,
     };
     let deal = Deal::Round(2);
-    let told = told(&rt, rt.alloc(), BY_TURNS, deal, &mail, &WordLedger, &NoGate);
-    compare(&rt, told, WANT);
-    assert!(rt; meeting.met(1), "the owners don't post side by side");
+    let told = told(rt, rt.alloc(), written, deal, &mail, &WordLedger, &NoGate);
+    assert!(rt; told.is_ok(), "the owners come to nothing");
+    assert!(rt; meeting.met(), "the owners don't post side by side");
+}
+
+#[test]
+fn two_owners_post(rt: HostRuntime) {
+    let queues = QueueMail::new(rt);
+    let rings = RingMail::new();
+    for (written, times) in [(BY_TURNS, 1), (MANY_BOTH_WAYS, 256)] {
+        post_together(&rt, &queues, written, times);
+        post_together(&rt, &rings, written, times);
+    }
 }
 
 // The turns of an owner have the numbers 1, 2 and so on, and in each of them it owes before it posts
 // and clears.
+fn owes_first<M: Mail, R: AllocGlobal + Abort + Threads + Wait + Sync>(
+    rt: &R,
+    inner: &M,
+    written: Written,
+    want: &str,
+    steps: &str,
+) {
+    let notes = Notes::new();
+    let mail = Watched {
+        inner,
+        watch: &notes,
+    };
+    let ledger = Watched {
+        inner: &WordLedger,
+        watch: &notes,
+    };
+    let deal = Deal::Round(2);
+    let told = told(rt, rt.alloc(), written, deal, &mail, &ledger, &notes);
+    compare(rt, told, want);
+    compare(rt, notes.written(rt.alloc()).map_err(Failure::from), steps);
+}
+
 #[test]
 fn owe_first(rt: HostRuntime) {
+    let queues = QueueMail::new(rt);
+    let rings = RingMail::new();
     for (written, want, steps) in STEPS {
-        let notes = Notes::new();
-        let queues = QueueMail::new(rt);
-        let mail = Watched {
-            inner: &queues,
-            watch: &notes,
-        };
-        let ledger = Watched {
-            inner: &WordLedger,
-            watch: &notes,
-        };
-        let deal = Deal::Round(2);
-        let told = told(&rt, rt.alloc(), *written, deal, &mail, &ledger, &notes);
-        compare(&rt, told, want);
-        compare(&rt, notes.written(rt.alloc()).map_err(Failure::from), steps);
+        owes_first(&rt, &queues, *written, want, steps);
+        owes_first(&rt, &rings, *written, want, steps);
     }
 }
