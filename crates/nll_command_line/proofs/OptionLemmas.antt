@@ -11,7 +11,7 @@ use Rattle.nll_command_line.specs.Taking.{IsUnfit}
 use Rattle.nll_command_line.specs.declared.options.Deal.{Deal}
 use Rattle.nll_command_line.specs.declared.options.Deal.TheVariants.{Round, Blocks}
 use Rattle.nll_command_line.specs.declared.options.MailKind.{MailKind}
-use Rattle.nll_command_line.specs.declared.options.MailKind.TheVariants.{Queue}
+use Rattle.nll_command_line.specs.declared.options.MailKind.TheVariants.{Queue, Ring}
 use Rattle.nll_command_line.specs.declared.options.Key.TheVariants as key
 
 pub none_of : {X : Type 0} (o : Option X) → is_some o ≡ false → o ≡ None
@@ -126,6 +126,9 @@ same_option (deal Blocks) (deal Round) a b k v = cc
 same_option (deal Blocks) (deal Blocks) a b k v = refl
 same_option (cut file) (cut other) a b k v = ap cut v
 same_option (mail Queue) (mail Queue) a b k v = refl
+same_option (mail Queue) (mail Ring) a b k v = cc
+same_option (mail Ring) (mail Queue) a b k v = cc
+same_option (mail Ring) (mail Ring) a b k v = refl
 same_option (owners m) (deal how) a b k v = cc
 same_option (owners m) (cut file) a b k v = cc
 same_option (owners m) (mail kind) a b k v = cc

@@ -51,8 +51,8 @@ task_help task = help_begin task
     ++ codes "turns, or in blocks of neighbours\n"
     ++ codes "      --cut <CUT>            Deals the regions to the owners as the "
     ++ codes "cut file CUT lists\n"
-    ++ codes "      --mail <queue>         The kind of mailboxes through which the "
-    ++ codes "owners tell each other\n"
+    ++ codes "      --mail <queue|ring>    Has the owners tell each other through "
+    ++ codes "queues or through rings\n"
     ++ codes "  -h, --help                 Print help\n"
 
 -- the help of a task where there is one, else that of the program

@@ -10,7 +10,7 @@ use Rattle.nll_command_line.specs.CommandLine.{begins_as_option}
 use Rattle.nll_command_line.specs.declared.options.Deal.{Deal}
 use Rattle.nll_command_line.specs.declared.options.Deal.TheVariants.{Round, Blocks}
 use Rattle.nll_command_line.specs.declared.options.MailKind.{MailKind}
-use Rattle.nll_command_line.specs.declared.options.MailKind.TheVariants.{Queue}
+use Rattle.nll_command_line.specs.declared.options.MailKind.TheVariants.{Queue, Ring}
 use Rattle.nll_command_line.specs.declared.options.Key.{Key}
 use Rattle.nll_command_line.specs.declared.options.Key.TheVariants as key
 use Rattle.nll_command_line.specs.declared.task.Line.{Line}
@@ -43,6 +43,7 @@ value_of (deal Round) = codes "round"
 value_of (deal Blocks) = codes "blocks"
 value_of (cut file) = file
 value_of (mail Queue) = codes "queue"
+value_of (mail Ring) = codes "ring"
 
 -- there are 1 to 64 owners; what other options give is always lawful
 abbrev pub IsLawful : Given → Type 0

@@ -38,7 +38,7 @@ Options:
       --owners <N>           Has 1 to 64 owners of regions find the answer, each in a thread of its own
       --deal <round|blocks>  Deals the regions to the owners in turns, or in blocks of neighbours
       --cut <CUT>            Deals the regions to the owners as the cut file CUT lists
-      --mail <queue>         The kind of mailboxes through which the owners tell each other
+      --mail <queue|ring>    Has the owners tell each other through queues or through rings
   -h, --help                 Print help
 ";
 
@@ -54,7 +54,7 @@ Options:
       --owners <N>           Has 1 to 64 owners of regions find the answer, each in a thread of its own
       --deal <round|blocks>  Deals the regions to the owners in turns, or in blocks of neighbours
       --cut <CUT>            Deals the regions to the owners as the cut file CUT lists
-      --mail <queue>         The kind of mailboxes through which the owners tell each other
+      --mail <queue|ring>    Has the owners tell each other through queues or through rings
   -h, --help                 Print help
 ";
 

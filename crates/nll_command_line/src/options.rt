@@ -25,6 +25,8 @@ pub enum Deal {
 pub enum MailKind {
     /// Queues without a bound.
     Queue,
+    /// Rings of 256 places.
+    Ring,
 }
 
 /// An option.
@@ -150,6 +152,7 @@ impl<'a> Options<'a> {
     {
         let mail = match value {
             "queue" => MailKind::Queue,
+            "ring" => MailKind::Ring,
             _ => return Err(LineError::Usage),
         };
         if self.mail.is_some() {

@@ -79,9 +79,11 @@ values|a|--cut|c ~ Values a, cut c
 values|--cut=-c|a|--owners|2 ~ Values a, 2 owners, cut -c
 values|--cut=|a ~ Values a, cut\x20
 values|a|--mail|queue ~ Values a, Queue
+values|--mail|ring|a ~ Values a, Ring
 values|--owners|2|--|--owners ~ Values --owners, 2 owners
 values|--cut|values|values ~ Values values, cut values
 values|a|--mail=queue|--deal|blocks|--owners=7 ~ Values a, 7 owners, Blocks, Queue
+check|a|--owners|2|--mail=ring ~ Check a, 2 owners, Ring
 ";
 
 // Whatever is not of that form, options that there are not, and help behind a word that is refused.
@@ -128,7 +130,11 @@ values|a|--deal|round|--cut|c
 values|a|--cut|c|--cut|c
 values|a|--cut|-c
 values|a|--cut
-values|a|--mail|ring
+values|a|--mail|rings
+values|a|--mail|Ring
+values|a|--mail|
+values|a|--mail
+values|a|--mail|queue|--mail|ring
 values|a|--own|2
 values|a|--owner|2
 values|a|-owners|2
@@ -178,7 +184,7 @@ Options:
       --owners <N>           Has 1 to 64 owners of regions find the answer, each in a thread of its own
       --deal <round!blocks>  Deals the regions to the owners in turns, or in blocks of neighbours
       --cut <CUT>            Deals the regions to the owners as the cut file CUT lists
-      --mail <queue>         The kind of mailboxes through which the owners tell each other
+      --mail <queue!ring>    Has the owners tell each other through queues or through rings
   -h, --help                 Print help
 ";
 
@@ -193,7 +199,7 @@ Options:
       --owners <N>           Has 1 to 64 owners of regions find the answer, each in a thread of its own
       --deal <round!blocks>  Deals the regions to the owners in turns, or in blocks of neighbours
       --cut <CUT>            Deals the regions to the owners as the cut file CUT lists
-      --mail <queue>         The kind of mailboxes through which the owners tell each other
+      --mail <queue!ring>    Has the owners tell each other through queues or through rings
   -h, --help                 Print help
 ";
 
@@ -263,14 +269,14 @@ const DEAL_ABOUT: &str = "Deals the regions to the owners in turns, or in blocks
 
 const CUT_ABOUT: &str = "Deals the regions to the owners as the cut file CUT lists";
 
-const MAIL_ABOUT: &str = "The kind of mailboxes through which the owners tell each other";
+const MAIL_ABOUT: &str = "Has the owners tell each other through queues or through rings";
 
 // A command with its options, for `clap`.
 fn with_options<'a>(rt: &impl Abort, alloc: Global, command: Command<'a>) -> Command<'a> {
     let owners = option(alloc, "owners", "N", OWNERS_ABOUT);
     let deal = option(alloc, "deal", "round|blocks", DEAL_ABOUT);
     let cut = option(alloc, "cut", "CUT", CUT_ABOUT);
-    let mail = option(alloc, "mail", "queue", MAIL_ABOUT);
+    let mail = option(alloc, "mail", "queue|ring", MAIL_ABOUT);
     let command = command.arg(owners).expect(rt, "memory");
     let command = command.arg(deal).expect(rt, "memory");
     let command = command.arg(cut).expect(rt, "memory");
