@@ -1,5 +1,5 @@
 -- What the words are that a line is made of, and what is told of words that are no line.
-use Rattle.std.proofs.Common.{◌≡◌, ◌∙◌, ℕ, ◌<◌, ◌≤◌, List, [], ◌∷◌, Option, None, Some, IfSome, inl, sym, subst}
+use Rattle.std.proofs.Common.{◌≡◌, ◌∙◌, ℕ, ◌<◌, ◌≤◌, List, [], ◌∷◌, Option, None, Some, IfSome, sym, subst}
 use Rattle.std.specs.List.{filter_map}
 use Rattle.std.specs.Option.{option_to_list}
 use Rattle.nll_problem.specs.Limits.{most_owners}
@@ -61,7 +61,7 @@ help_told words line.Memory bytes status h is = absurd is
 pub words_told : (holds : Holds) (lacks : Lacks) (words : Words) (e : LineError) (refusal : Refusal) → IsWordsError words e
     → ((others : Words) (said : Said) → AreRead words others said → AsksPlainlyForHelp others → IsHelpFor others e) → IsRefusalOf e refusal → IsRefused holds lacks words refusal
 words_told holds lacks words (line.Help text) refusal h help is = absurd is
-words_told holds lacks words line.Usage refusal h help is = subst (IsRefused holds lacks words) (sym is) (inl (λ others said read. ((h others said read).0, help others said read)))
+words_told holds lacks words line.Usage refusal h help is = subst (IsRefused holds lacks words) (sym is) (λ others said read. ((h others said read).0, help others said read))
 words_told holds lacks words line.Memory refusal h help is = subst (IsRefused holds lacks words) (sym is) tt
 
 -- ---- words that are a line

@@ -51,7 +51,7 @@ no_line others said read =
 pub lost_words : (holds : Holds) (lacks : Lacks) (refusal : Refusal) → (refusal ≡ Usage) ⊎ (refusal ≡ Memory)
     → IsRefused holds lacks [] refusal
 lost_words holds lacks refusal = ⊎_elim
-    (λ is. subst (IsRefused holds lacks []) (sym is) (inl no_line))
+    (λ is. subst (IsRefused holds lacks []) (sym is) no_line)
     (λ is. subst (IsRefused holds lacks []) (sym is) tt)
 
 -- bytes of a run of which a sink took some only

@@ -11,6 +11,8 @@ use Rattle.nll_cut_text.specs.CutText.{cut, Means}
 use Rattle.nll_answer.specs.Texts.{IsMeaning}
 use Rattle.nll_command_line.specs.declared.options.Deal.{Deal}
 use Rattle.nll_command_line.specs.declared.options.Deal.TheVariants.{Round, Blocks}
+use Rattle.nll_command_line.specs.declared.options.MailKind.{MailKind}
+use Rattle.nll_command_line.specs.declared.options.MailKind.TheVariants.{Queue}
 use Rattle.nll_report.specs.Texts.{Holds, Lacks}
 use Rattle.nll_report.specs.declared.messages.Refusal.{Refusal}
 use Rattle.nll_report.specs.declared.messages.Refusal.TheVariants.{CannotRead, CutText}
@@ -32,6 +34,11 @@ count_of (Some count) = count
 abbrev pub deal_of : Option Deal → Deal
 deal_of None = Round
 deal_of (Some how) = how
+
+-- mailboxes are queues where nothing else is said
+abbrev pub mail_of : Option MailKind → MailKind
+mail_of None = Queue
+mail_of (Some kind) = kind
 
 -- ---- the cut
 

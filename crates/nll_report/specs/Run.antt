@@ -1,6 +1,6 @@
 -- What the program makes of its words, over the texts that are held at paths.
 -- Source: project's choice.
-use Rattle.std.specs.Prelude.{◌≡◌, ◌⊎◌, ℕ, List, Option, Some, string_bytes}
+use Rattle.std.specs.Prelude.{◌≡◌, ◌⊎◌, ℕ, List, Option, string_bytes}
 use Rattle.std.specs.Io.KnownBytes.{Appends}
 use Rattle.nll_reading.specs.declared.error.TextKind.{TextKind}
 use Rattle.nll_answer.specs.declared.answers.Command.{Command}
@@ -19,7 +19,6 @@ use Rattle.nll_answer.specs.Answer.{IsAnswer}
 use Rattle.nll_answer.specs.Texts.{IsTextFault, IsAnswerError}
 use Rattle.nll_command_line.specs.CommandLine.{AsksPlainlyForHelp, IsLine, IsNoPlainLine}
 use Rattle.nll_command_line.specs.Options.{AreRead, Said}
-use Rattle.nll_command_line.specs.declared.options.MailKind.TheVariants.{Ring}
 use Rattle.nll_command_line.specs.Help.{help_for}
 use Rattle.nll_command_line.specs.declared.error.LineError.{LineError}
 use Rattle.nll_command_line.specs.declared.error.LineError.TheVariants as line
@@ -140,16 +139,9 @@ abbrev pub AreRefused : Words → Type 0
 AreRefused words = (others : Words) (said : Said) → AreRead words others said
     → IsNoPlainLine others × (AsksPlainlyForHelp others → ⊥)
 
--- The words, with options among them, ask for rings, which owners don't have yet.
-pub record AskForRings (words : Words) : Type 0 where
-  pub others : Words
-  pub said : Said
-  pub read : AreRead words others said
-  pub rings : said.mail ≡ Some Ring
-
 -- the refusal tells the truth of the words and the texts; want of memory says nothing of them
 abbrev pub IsRefused : Holds → Lacks → Words → Refusal → Type 0
-IsRefused holds lacks words Usage = AreRefused words ⊎ AskForRings words
+IsRefused holds lacks words Usage = AreRefused words
 IsRefused holds lacks words (CannotRead path) = IsLineRefused holds lacks words (CannotRead path)
 IsRefused holds lacks words (Text line kind) = IsLineRefused holds lacks words (Text line kind)
 IsRefused holds lacks words (Limit counted) = IsLineRefused holds lacks words (Limit counted)

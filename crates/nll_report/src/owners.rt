@@ -8,7 +8,7 @@ ghost use Rattle.nll_answer.specs.Running.{IsRunError};
 ghost use Rattle.nll_report.specs.Owners.{AsksForOwners, IsAskedCut, IsCutFileRefused};
 ghost use Rattle.nll_report.specs.Owners.{IsCutRefused, IsCutTextRefused, IsDealtCut};
 ghost use Rattle.nll_report.specs.Owners.{IsListedCut, IsOwnersRefused, IsTextCut};
-ghost use Rattle.nll_report.specs.Owners.{IsWorkRefused, count_of, deal_of};
+ghost use Rattle.nll_report.specs.Owners.{IsWorkRefused, count_of, deal_of, mail_of};
 ghost use Rattle.nll_report.specs.Refusal.{IsCutRefusal, cut_refusal_at};
 ghost use Rattle.nll_report.specs.Run.{IsFileAnswer, IsFileRefused};
 
@@ -16,12 +16,12 @@ use crate::messages::Refusal;
 use crate::program::{Texts, command_of};
 use crate::reading::{facts_of, without_text};
 use nll_answer::{AnswerError, Command, answer_run};
-use nll_command_line::{Deal, Task};
+use nll_command_line::{Deal, MailKind, Task};
 use nll_cut::{Cut, CutError};
 use nll_cut_text::read_cut;
 use nll_facts::Facts;
 use nll_ledger::WordLedger;
-use nll_mail::QueueMail;
+use nll_mail::{Mail, QueueMail, RingMail};
 use nll_reading::{TextError, TextKind};
 use nll_worker::NoGate;
 use std::alloc::Global;
@@ -35,20 +35,24 @@ pub(crate) struct Owners {
     pub(crate) count: u16,
     /// How the regions are dealt to them where there is no cut file.
     pub(crate) deal: Deal,
+    /// What carries what they tell each other.
+    pub(crate) mail: MailKind,
     /// The path of the cut file.
     pub(crate) cut: Option<String>,
 }
 
 /// The owners that options ask for: none where neither their number is given nor a cut file, else 1
-/// and in turns where nothing is said.
+/// and in turns, over queues, where nothing is said.
 pub(crate) fn owners_asked(
     owners: Option<u16>,
     deal: Option<Deal>,
+    mail: Option<MailKind>,
     cut: Option<String>,
 ) -> Option<Owners>
     ensures { MatchOption result ((owners ≡ None) × (cut ≡ None))
         (λ o. AsksForOwners owners (option_map string_bytes cut)
-        × (o.count ≡ count_of owners) × (o.deal ≡ deal_of deal) × (o.cut ≡ cut)) }
+        × (o.count ≡ count_of owners) × (o.deal ≡ deal_of deal) × (o.mail ≡ mail_of mail)
+        × (o.cut ≡ cut)) }
 {
     if owners.is_none() && cut.is_none() {
         return None;
@@ -56,6 +60,7 @@ pub(crate) fn owners_asked(
     Some(Owners {
         count: owners.unwrap_or(1),
         deal: deal.unwrap_or(Deal::Round),
+        mail: mail.unwrap_or(MailKind::Queue),
         cut,
     })
 }
@@ -100,18 +105,21 @@ fn told_by_owners<R: AllocGlobal + Threads + Wait + Sync, T: Texts>(
     ensures err { IfErr result (IsWorkRefused (T.holds texts.now) (T.lacks texts.now)
         facts.now.problem owners.count owners.deal (option_map string_bytes owners.cut)) }
 {
+    let mail = owners.mail;
     let cut = asked_cut(rt.alloc(), facts.problem.regions(), owners, texts)?;
-    let told = told_by_cut(rt, command, facts, &cut);
+    let told = told_by_cut(rt, command, facts, &cut, mail);
     drop(cut);
     Ok(told?)
 }
 
-// The answer to a command on a problem and its labels, by the owners of a cut.
+// The answer to a command on a problem and its labels, by the owners of a cut, over mailboxes of
+// this kind.
 fn told_by_cut<R: AllocGlobal + Threads + Wait + Sync>(
     rt: &R,
     command: Command,
     facts: &Facts,
     cut: &Cut,
+    mail: MailKind,
 ) -> Result<(Vec<u8>, u8), AnswerError>
     requires named { length facts.now.labels.names ≡ facts.now.problem.regions }
     requires cut { length cut.now.list ≡ facts.now.problem.regions }
@@ -120,14 +128,34 @@ fn told_by_cut<R: AllocGlobal + Threads + Wait + Sync>(
     ensures status { IfOk result (λ r. r.1 ≤ 1) }
     ensures err { IfErr result IsRunError }
 {
-    let mail = QueueMail::new(rt);
+    match mail {
+        MailKind::Queue => told_over(rt, command, facts, cut, &QueueMail::new(rt)),
+        MailKind::Ring => told_over(rt, command, facts, cut, &RingMail::new()),
+    }
+}
+
+// The same over these mailboxes.
+fn told_over<R: AllocGlobal + Threads + Wait + Sync, M: Mail>(
+    rt: &R,
+    command: Command,
+    facts: &Facts,
+    cut: &Cut,
+    mail: &M,
+) -> Result<(Vec<u8>, u8), AnswerError>
+    requires named { length facts.now.labels.names ≡ facts.now.problem.regions }
+    requires cut { length cut.now.list ≡ facts.now.problem.regions }
+    ensures ok { IfOk result (λ r.
+        IsProblemAnswer command facts.now.problem facts.now.labels r.0.items r.1) }
+    ensures status { IfOk result (λ r. r.1 ≤ 1) }
+    ensures err { IfErr result IsRunError }
+{
     answer_run(
         rt,
         rt.alloc(),
         command,
         facts,
         cut,
-        &mail,
+        mail,
         &WordLedger,
         &NoGate,
     )
@@ -147,7 +175,12 @@ fn asked_cut<T: Texts>(
     ensures err { IfErr result (IsCutRefused (T.holds texts.now) (T.lacks texts.now)
         regions owners.count (option_map string_bytes owners.cut)) }
 {
-    let Owners { count, deal, cut } = owners;
+    let Owners {
+        count,
+        deal,
+        mail: _,
+        cut,
+    } = owners;
     match cut {
         Some(path) => listed_cut(alloc, regions, count, path, texts),
         None => dealt_cut(alloc, regions, count, deal),

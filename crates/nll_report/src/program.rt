@@ -1,6 +1,6 @@
 //! The whole program, over whatever holds its files and takes its lines.
 ghost use Rattle.std.specs.Prelude.{◌≡◌, ◌⊎◌, ◌<◌, ◌≤◌, ℕ, List, map};
-ghost use Rattle.std.specs.Prelude.{IfErr, IfOk, IfSome, MatchResult, Some, string_bytes};
+ghost use Rattle.std.specs.Prelude.{IfErr, IfOk, IfSome, MatchResult, string_bytes};
 ghost use Rattle.std.specs.Io.KnownBytes.{Appends};
 ghost use Rattle.nll_command_line.specs.Options.{said_by};
 ghost use Rattle.nll_problem.specs.Limits.{most_owners};
@@ -20,7 +20,7 @@ use crate::reading::without_text;
 use crate::sink::Sink;
 use crate::words::words_of;
 use nll_answer::{Command, answer_text};
-use nll_command_line::{Line, LineError, MailKind, Task, line};
+use nll_command_line::{Line, LineError, Task, line};
 use std::alloc::Global;
 use std::rt::{Env, Files};
 use std::sync::Wait;
@@ -128,7 +128,7 @@ fn report<R: AllocGlobal + Threads + Wait + Sync, T: Texts>(
         (IsRefused (T.holds texts.now) (T.lacks texts.now) (map string_bytes words.now)) }
 {
     match line(rt.alloc(), words) {
-        Ok(line) => answered_or_unserved(rt, line, texts),
+        Ok(line) => answered(rt, line, texts),
         Err(error) => without_line(error),
     }
 }
@@ -141,27 +141,6 @@ fn without_line(error: LineError) -> Result<(Vec<u8>, u8), Refusal>
         LineError::Help(text) => Ok((text.into_bytes(), 0)),
         LineError::Usage => Err(Refusal::Usage),
         LineError::Memory => Err(Refusal::Memory),
-    }
-}
-
-// The same as `answered`, save that a line which asks for rings is refused: owners don't have them
-// yet.
-fn answered_or_unserved<R: AllocGlobal + Threads + Wait + Sync, T: Texts>(
-    rt: &R,
-    line: Line,
-    texts: &T,
-) -> Result<(Vec<u8>, u8), Refusal>
-    requires { IfSome line.owners (λ n. (0 < n) × (n ≤ most_owners)) }
-    ensures ok { IfOk result (λ r.
-        IsFileAnswer (T.holds texts.now) line.task (string_bytes line.file) r.0.items r.1) }
-    ensures status { IfOk result (λ r. r.1 ≤ 1) }
-    ensures err { IfErr result (λ e. ((e ≡ Refusal.Usage) × (line.mail ≡ Some MailKind.Ring))
-        ⊎ IsTaskRefused (T.holds texts.now) (T.lacks texts.now)
-        (string_bytes line.file) (said_by line) e) }
-{
-    match line.mail {
-        Some(MailKind::Ring) => Err(Refusal::Usage),
-        _ => answered(rt, line, texts),
     }
 }
 
@@ -184,9 +163,9 @@ fn answered<R: AllocGlobal + Threads + Wait + Sync, T: Texts>(
         owners,
         deal,
         cut,
-        mail: _,
+        mail,
     } = line;
-    match owners_asked(owners, deal, cut) {
+    match owners_asked(owners, deal, mail, cut) {
         Some(owners) => answered_by_owners(rt, task, file, owners, texts),
         None => answered_by_one(rt.alloc(), task, file, texts),
     }

@@ -1,6 +1,7 @@
 //! Runs of worked problems come to values and counts that were found by hand.
-use super::problems::{BY_TURNS, Deal, FILLED_HOLE, MANY, MANY_BOTH_WAYS, ONE_POINT, REACHED};
-use super::problems::Written;
+use super::problems::{
+    BY_TURNS, Deal, FILLED_HOLE, MANY, MANY_BOTH_WAYS, ONE_POINT, REACHED, Written,
+};
 use super::telling::{compare, told};
 use nll_ledger::{Ledger, LockLedger, WordLedger};
 use nll_mail::{QueueMail, RingMail};

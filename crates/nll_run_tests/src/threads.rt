@@ -44,63 +44,82 @@ fn two_owners_meet(rt: HostRuntime) {
 }
 
 // Each of the two makes its first posts, so many of them, only where the other does.
-fn post_together<M: Mail, R: AllocGlobal + Abort + Threads + Wait + Sync>(
-    rt: &R,
-    inner: &M,
-    written: Written,
-    times: u64,
-) {
-    let meeting = Meeting::new(times);
-    let mail = Watched {
-        inner,
-        watch: &meeting,
-    };
-    let deal = Deal::Round(2);
-    let told = told(rt, rt.alloc(), written, deal, &mail, &WordLedger, &NoGate);
-    assert!(rt; told.is_ok(), "the owners come to nothing");
-    assert!(rt; meeting.met(), "the owners don't post side by side");
+const POSTS: &[(Written, u64)] = &[(BY_TURNS, 1), (MANY_BOTH_WAYS, 256)];
+
+#[test]
+fn two_owners_post_to_queues(rt: HostRuntime) {
+    for (written, times) in POSTS {
+        let meeting = Meeting::new(*times);
+        let queues = QueueMail::new(rt);
+        let mail = Watched {
+            inner: &queues,
+            watch: &meeting,
+        };
+        let deal = Deal::Round(2);
+        let told = told(&rt, rt.alloc(), *written, deal, &mail, &WordLedger, &NoGate);
+        assert!(rt;
+            told.is_ok() && meeting.met(),
+            "the owners don't post side by side"
+        );
+    }
 }
 
 #[test]
-fn two_owners_post(rt: HostRuntime) {
-    let queues = QueueMail::new(rt);
-    let rings = RingMail::new();
-    for (written, times) in [(BY_TURNS, 1), (MANY_BOTH_WAYS, 256)] {
-        post_together(&rt, &queues, written, times);
-        post_together(&rt, &rings, written, times);
+fn two_owners_post_to_rings(rt: HostRuntime) {
+    for (written, times) in POSTS {
+        let meeting = Meeting::new(*times);
+        let rings = RingMail::new();
+        let mail = Watched {
+            inner: &rings,
+            watch: &meeting,
+        };
+        let deal = Deal::Round(2);
+        let told = told(&rt, rt.alloc(), *written, deal, &mail, &WordLedger, &NoGate);
+        assert!(rt;
+            told.is_ok() && meeting.met(),
+            "the owners don't post side by side"
+        );
     }
 }
 
 // The turns of an owner have the numbers 1, 2 and so on, and in each of them it owes before it posts
 // and clears.
-fn owes_first<M: Mail, R: AllocGlobal + Abort + Threads + Wait + Sync>(
-    rt: &R,
-    inner: &M,
-    written: Written,
-    want: &str,
-    steps: &str,
-) {
-    let notes = Notes::new();
-    let mail = Watched {
-        inner,
-        watch: &notes,
-    };
-    let ledger = Watched {
-        inner: &WordLedger,
-        watch: &notes,
-    };
-    let deal = Deal::Round(2);
-    let told = told(rt, rt.alloc(), written, deal, &mail, &ledger, &notes);
-    compare(rt, told, want);
-    compare(rt, notes.written(rt.alloc()).map_err(Failure::from), steps);
+#[test]
+fn owe_first_over_queues(rt: HostRuntime) {
+    for (written, want, steps) in STEPS {
+        let notes = Notes::new();
+        let queues = QueueMail::new(rt);
+        let mail = Watched {
+            inner: &queues,
+            watch: &notes,
+        };
+        let ledger = Watched {
+            inner: &WordLedger,
+            watch: &notes,
+        };
+        let deal = Deal::Round(2);
+        let told = told(&rt, rt.alloc(), *written, deal, &mail, &ledger, &notes);
+        compare(&rt, told, want);
+        compare(&rt, notes.written(rt.alloc()).map_err(Failure::from), steps);
+    }
 }
 
 #[test]
-fn owe_first(rt: HostRuntime) {
-    let queues = QueueMail::new(rt);
-    let rings = RingMail::new();
+fn owe_first_over_rings(rt: HostRuntime) {
     for (written, want, steps) in STEPS {
-        owes_first(&rt, &queues, *written, want, steps);
-        owes_first(&rt, &rings, *written, want, steps);
+        let notes = Notes::new();
+        let rings = RingMail::new();
+        let mail = Watched {
+            inner: &rings,
+            watch: &notes,
+        };
+        let ledger = Watched {
+            inner: &WordLedger,
+            watch: &notes,
+        };
+        let deal = Deal::Round(2);
+        let told = told(&rt, rt.alloc(), *written, deal, &mail, &ledger, &notes);
+        compare(&rt, told, want);
+        compare(&rt, notes.written(rt.alloc()).map_err(Failure::from), steps);
     }
 }

@@ -17,11 +17,7 @@ use nll_owner::Owner;
 
 // Posts what isn't given out yet of the part of the log that another owner reads, as long as its
 // mailbox isn't full.
-fn post_part<M: Mail>(
-    owner: &mut Owner<'_>,
-    sender: &mut M::S,
-    to: u16,
-) -> Result<(), PostError>
+fn post_part<M: Mail>(owner: &mut Owner<'_>, sender: &mut M::S, to: u16) -> Result<(), PostError>
     requires sound { IsSound owner.old }
     requires whole { owner.old.broken ≡ false }
     requires to { to < owner.old.cut.owners }

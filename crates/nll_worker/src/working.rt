@@ -169,7 +169,11 @@ fn work_on<M: Mail, L: Ledger, G: Gate, R: Wait>(
 {
     let owners = cut.owners();
     let mut share = share;
-    let mut tally = Tally { grown: 0, waiting: 0, turns: 0 };
+    let mut tally = Tally {
+        grown: 0,
+        waiting: 0,
+        turns: 0,
+    };
     let heard = first_turn::<L, G>(gate, book, &mut share, owner, owners, &mut tally, me);
     go_on::<M, L, G, R>(
         rt, gate, book, share, owner, owners, &mut tally, senders, receivers, me, heard,

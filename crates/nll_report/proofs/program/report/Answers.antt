@@ -1,17 +1,16 @@
-use Rattle.std.proofs.Common.{inl, inr, ⊎_elim, subst, sym, string_bytes}
+use Rattle.std.proofs.Common.{inl, inr, string_bytes}
 use Rattle.std.proofs.lemmas.Result.{IfErr-weaker, IfOk-weaker, MatchResult-weaker}
 use Rattle.nll_command_line.specs.Options.{said_by}
-use Rattle.nll_report.specs.Run.{IsRefused}
 use Rattle.nll_report.proofs.LineLemmas.{asked_line, help_told, lawful_count, words_told}
 use Rattle.nll_report.proofs.RunLemmas.{line_told}
 use Rattle.nll_report.proofs.program.report.Goals as goal
 
-pub answered_or_unserved-requires-after_bounds : goal.answered_or_unserved-requires-after_bounds
-answered_or_unserved-requires-after_bounds g c = λ κs bounds. let ok = c.in-Ok.ensures.ok in lawful_count _ ok.0 (said_by c.in-Ok.line) ok.1
+pub answered-requires-after_bounds : goal.answered-requires-after_bounds
+answered-requires-after_bounds g c = λ κs bounds. let ok = c.in-Ok.ensures.ok in lawful_count _ ok.0 (said_by c.in-Ok.line) ok.1
 
 pub returns-in-Ok-clause-ok : goal.returns-in-Ok-clause-ok
 returns-in-Ok-clause-ok g c =
-    IfOk-weaker c.answered_or_unserved.result _ _
+    IfOk-weaker c.answered.result _ _
     (λ r h. inl (record {
       task = c.in-Ok.line.task;
       file = string_bytes c.in-Ok.line.file;
@@ -19,20 +18,13 @@ returns-in-Ok-clause-ok g c =
       asked = asked_line _ _ _ _ c.in-Ok.ensures.ok c.in-Ok.ensures.help;
       answer = h;
     }))
-    c.answered_or_unserved.ensures.ok
+    c.answered.ensures.ok
 
 pub returns-in-Ok-clause-err : goal.returns-in-Ok-clause-err
 returns-in-Ok-clause-err g c =
-    IfErr-weaker c.answered_or_unserved.result _ _
-    (λ e. ⊎_elim
-    (λ unserved. subst (IsRefused _ _ _) (sym unserved.0) (inr (record {
-      others = c.in-Ok.ensures.ok.0;
-      said = said_by c.in-Ok.line;
-      read = c.in-Ok.ensures.ok.1;
-      rings = unserved.1;
-    })))
-    (λ h. line_told _ _ _ c.in-Ok.line.task _ _ (asked_line _ _ _ _ c.in-Ok.ensures.ok c.in-Ok.ensures.help) e h))
-    c.answered_or_unserved.ensures.err
+    IfErr-weaker c.answered.result _ _
+    (λ e h. line_told _ _ _ c.in-Ok.line.task _ _ (asked_line _ _ _ _ c.in-Ok.ensures.ok c.in-Ok.ensures.help) e h)
+    c.answered.ensures.err
 
 pub returns-in-Err-clause-ok : goal.returns-in-Err-clause-ok
 returns-in-Err-clause-ok g c =
