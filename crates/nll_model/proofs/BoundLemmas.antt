@@ -1,5 +1,5 @@
 -- Bounds of the balance of a sound world.
-use Rattle.std.proofs.Common.{◌≡◌, ◌≢◌, ℕ, zero, suc, ◌+◌, ◌*◌, ◌^◌, ◌<◌, ◌≤◌, Bool, true, false, List, [], ◌∷◌, ◌++◌, length, Contains, get_or, set, slice_get, Some, refl, sym, ap, ◌∙◌, subst, ⊎_elim, arith, length-append}
+use Rattle.std.proofs.Common.{◌≡◌, ◌≢◌, ℕ, suc, ◌+◌, ◌*◌, ◌^◌, ◌<◌, ◌≤◌, Bool, true, false, List, [], ◌∷◌, ◌++◌, length, Contains, get_or, slice_get, refl, sym, ap, ◌∙◌, subst, ⊎_elim, arith, length-append}
 use Rattle.std.specs.Prelude.{sum_by}
 use Rattle.std.proofs.lemmas.Bool.{cases_eq}
 use Rattle.std.proofs.lemmas.Option.{slice_get_within, get_or_from_slice_get}
@@ -8,16 +8,14 @@ use Rattle.nll_problem.specs.Graph.{element_count}
 use Rattle.nll_problem.specs.Problem.{Problem}
 use Rattle.nll_cut.specs.Partition.{Cut, reads, owner_of}
 use Rattle.nll_mail.specs.declared.growth.Growth.{Growth}
-use Rattle.nll_owner.specs.Owner.{Owner, IsSound, Passes, part_for, given_to, received_from}
+use Rattle.nll_owner.specs.Owner.{Passes, received_from}
 use Rattle.nll_owner.proofs.LogLemmas.{filter_from, contains_head}
 use Rattle.nll_owner.proofs.OwnerLemmas.{pair_small, filter_le}
 use Rattle.std.proofs.lemmas.List.Elements.{Contains-append_left, Contains-append_right}
 use Rattle.nll_model.specs.declared.seat.Item.{Item}
 use Rattle.nll_model.specs.declared.seat.Item.TheVariants.{Nothing, Fresh, Owed}
 use Rattle.nll_model.specs.State.{Lane, empty_lane, Seat, State, lane_to, IsAt}
-use Rattle.nll_model.specs.Events.{fresh_count, owed_lane}
 use Rattle.nll_model.specs.Soundness.{held, under_way, IsSoundSeat, IsSoundState, AreRanksLow}
-use Rattle.nll_model.proofs.EventLemmas.{owe}
 use Rattle.nll_model.proofs.SoundLemmas.{get_within}
 
 sum_le : {X : Type 0} (f : X → ℕ) (m : ℕ) (d : X) (xs : List X) → ((j : ℕ) → j < length xs → f (get_or xs j d) ≤ m) → sum_by f xs ≤ length xs * m

@@ -1,12 +1,12 @@
 -- What holds of every sound state: its ranks are low, and its logs say only what is least.
-use Rattle.std.proofs.Common.{◌≡◌, ◌≢◌, ℕ, ◌<◌, ◌≤◌, ◌^◌, length, Contains, get_or, slice_get, Some, refl, sym, ap, ◌∙◌, subst, arith}
+use Rattle.std.proofs.Common.{◌≢◌, ℕ, ◌<◌, length, Contains, get_or, sym, ap, ◌∙◌, subst, arith}
 use Rattle.std.proofs.lemmas.Option.{slice_get-get_or, slice_get_within}
 use Rattle.std.proofs.lemmas.List.Elements.{Contains-append_left}
 use Rattle.nll_problem.specs.Problem.{Problem, IsSound as IsSoundProblem}
 use Rattle.nll_cut.specs.Partition.{Cut}
 use Rattle.nll_mail.specs.declared.growth.Growth.{Growth}
 use Rattle.nll_owner.specs.Logs.{IsCutOf}
-use Rattle.nll_owner.specs.Owner.{Owner, received_from}
+use Rattle.nll_owner.specs.Owner.{received_from}
 use Rattle.nll_owner.proofs.LogLemmas.{filter_from}
 use Rattle.nll_owner.proofs.RankLemmas.{ranks_low}
 use Rattle.nll_model.specs.State.{Seat, State, IsAt, first_seat}

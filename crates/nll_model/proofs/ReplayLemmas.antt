@@ -1,6 +1,7 @@
 -- A world after a step, and its first seats.
-use Rattle.std.proofs.Common.{◌≡◌, ℕ, zero, suc, ◌+◌, ◌<◌, true, false, List, [], ◌∷◌, ◌++◌, length, replicate, take, get_or, slice_get, Some, refl, sym, ap, ◌∙◌, subst, ◌⊎◌, inl, inr, ⊎_elim, arith}
+use Rattle.std.proofs.Common.{◌≡◌, ℕ, zero, suc, ◌+◌, ◌<◌, false, List, [], ◌∷◌, ◌++◌, length, replicate, take, get_or, slice_get, Some, refl, sym, ap, ◌∙◌, subst, ◌⊎◌, inl, inr, ⊎_elim, arith}
 use Rattle.std.specs.Prelude.{Option, Result, Ok, Err, IfOk, is_err}
+use Rattle.std.proofs.Math.Seq.{take-suc}
 use Rattle.std.proofs.lemmas.Bool.{true≢false}
 use Rattle.std.proofs.lemmas.Option.{slice_get_within}
 use Rattle.nll_problem.specs.Problem.{Problem}
@@ -40,16 +41,11 @@ first_push q c seats s first is k t h = ⊎_elim
     (get_push seats s k t h)
 
 -- a run goes on by one event
-pub runs_push : (w now next : State) (events : List Event) (answers : List (Option Step)) (e : Event) (a : Option Step) → AreSteps w events answers now → IsStep now e a next → AreSteps w (events ++ e ∷ []) (answers ++ a ∷ []) next
-runs_push w now next [] [] e a h step = (next, subst (λ x. IsStep x e a next) h step, refl)
-runs_push w now next [] (b ∷ bs) e a h step = absurd h
-runs_push w now next (f ∷ fs) [] e a h step = absurd h
-runs_push w now next (f ∷ fs) (b ∷ bs) e a h step = (h.0, h.1, runs_push h.0 now next fs bs e a h.2 step)
+pub steps_push : (w now next : State) (events : List Event) (answers : List (Option Step)) (e : Event) (a : Option Step) → AreSteps w events answers now → IsStep now e a next → AreSteps w (events ++ e ∷ []) (answers ++ a ∷ []) next
+steps_push w now next [] [] e a h step = (next, subst (λ x. IsStep x e a next) h step, refl)
+steps_push w now next [] (b ∷ bs) e a h step = absurd h
+steps_push w now next (f ∷ fs) [] e a h step = absurd h
+steps_push w now next (f ∷ fs) (b ∷ bs) e a h step = (h.0, h.1, steps_push h.0 now next fs bs e a h.2 step)
 
 pub take_next : {X : Type 0} (xs : List X) (n : ℕ) (x : X) → n < length xs → get_or xs n x ≡ x → take (n + 1) xs ≡ take n xs ++ x ∷ []
-take_next xs n x l is = (let e : n + 1 ≡ suc n = omega arith in ap (λ k. take k xs) e) ∙ go xs n l is
-  where
-    go : {X : Type 0} (xs : List X) (n : ℕ) {x : X} → n < length xs → get_or xs n x ≡ x → take (suc n) xs ≡ take n xs ++ x ∷ []
-    go [] n l is = absurd (omega arith)
-    go (y ∷ ys) zero l is = ap (λ z. z ∷ []) is
-    go (y ∷ ys) (suc n) l is = ap (λ zs. y ∷ zs) (go ys n (omega arith) is)
+take_next xs n x l is = (let e : n + 1 ≡ suc n = omega arith in ap (λ k. take k xs) e) ∙ (take-suc xs n x l ∙ ap (λ y. take n xs ++ y ∷ []) is)

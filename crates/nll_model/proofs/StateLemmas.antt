@@ -1,12 +1,12 @@
 -- What a board has at a place, and after a change there.
-use Rattle.std.proofs.Common.{◌≡◌, ◌≢◌, ℕ, zero, suc, ◌+◌, ◌^◌, ◌<◌, ◌≤◌, Bool, true, false, List, [], ◌∷◌, length, get_or, set, slice_get, Some, refl, sym, ap, ◌∙◌, subst, ◌⊎◌, ⊎_elim, arith}
+use Rattle.std.proofs.Common.{◌≡◌, ◌≢◌, ℕ, zero, suc, ◌+◌, ◌^◌, ◌<◌, ◌≤◌, List, [], ◌∷◌, length, get_or, set, refl, sym, ap, ◌∙◌, arith}
 use Rattle.std.proofs.lemmas.Option.{slice_get_within, get_or_from_slice_get}
 use Rattle.std.proofs.lemmas.List.{get_or-set_other}
 use Rattle.nll_problem.specs.Problem.{Problem}
 use Rattle.nll_cut.specs.Partition.{Cut}
 use Rattle.nll_mail.specs.declared.growth.Growth.{Growth}
 use Rattle.nll_owner.specs.Owner.{Passes}
-use Rattle.nll_model.specs.declared.seat.Item.TheVariants.{Nothing, Fresh, Owed}
+use Rattle.nll_model.specs.declared.seat.Item.TheVariants.{Nothing, Fresh}
 use Rattle.nll_model.specs.State.{Lane, Seat, State, IsAt, with_lane, with_seat, lane_to}
 use Rattle.nll_model.specs.Events.{IsFree, fresh_count}
 use Rattle.nll_model.specs.Soundness.{IsSoundState}

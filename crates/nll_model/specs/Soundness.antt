@@ -2,7 +2,7 @@
 -- Source: project's choice, after RFC 2094, "Solving constraints". That a balance of 0 shows that
 -- nothing is under way is the argument of credits, or of counted messages (Mattern, "Algorithms for
 -- distributed termination detection", 1987).
-use Rattle.std.specs.Prelude.{◌≡◌, ◌≢◌, ◌↔◌, ℕ, ◌+◌, ◌<◌, ◌^◌, Bool, true, false, List, []}
+use Rattle.std.specs.Prelude.{◌≡◌, ◌≢◌, ◌↔◌, ℕ, ◌+◌, ◌<◌, ◌^◌, Bool, true, false, []}
 use Rattle.std.specs.Prelude.{◌++◌, length, sum_by, Contains}
 use Rattle.nll_problem.specs.Problem.{Problem, IsSound as IsSoundProblem}
 use Rattle.nll_problem.specs.Solution.{Least}

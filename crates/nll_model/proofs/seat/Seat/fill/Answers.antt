@@ -1,6 +1,5 @@
-use Rattle.std.proofs.Common.{◌≡◌, ◌<◌, length, refl, sym, ap, ◌∙◌, subst, arith}
+use Rattle.std.proofs.Common.{◌≡◌, ap, ◌∙◌, subst, arith}
 use Rattle.nll_owner.specs.Owner.{Owner}
-use Rattle.nll_model.specs.State.{Seat}
 use Rattle.nll_model.specs.Working.{Fills}
 use Rattle.nll_model.proofs.FillLemmas.{fills_none, fills_more}
 use Rattle.nll_model.proofs.seat.Seat.fill.Goals as goal

@@ -1,5 +1,4 @@
-use Rattle.std.proofs.Common.{◌≡◌, ◌≤◌, ◌<◌, ℕ, false, [], length, get_or, slice_set, sym, ap, ◌∙◌, subst, arith}
-use Rattle.nll_cut.specs.Partition.{Cut}
+use Rattle.std.proofs.Common.{◌≡◌, ℕ, [], length, get_or, sym, ap, ◌∙◌, subst, arith}
 use Rattle.nll_owner.specs.Owner.{IsSound}
 use Rattle.nll_model.specs.State.{Seat, State, IsAt, with_seat, lane_to}
 use Rattle.nll_model.proofs.StateLemmas.{seat_is, place_in, owners_is, lanes_is, seats_few, none_fresh}

@@ -1,6 +1,6 @@
-use Rattle.std.proofs.Common.{◌≡◌, ◌+◌, ◌-◌, ◌≤◌, ◌<◌, ℕ, false, length, map, get_or, slice_set, refl, sym, ap, ◌∙◌, subst, arith}
+use Rattle.std.proofs.Common.{◌≡◌, ◌+◌, ◌≤◌, ℕ, map, get_or, slice_set, ap, ◌∙◌, arith}
 use Rattle.nll_model.specs.declared.seat.Item.TheVariants.{Owed}
-use Rattle.nll_model.specs.State.{Seat, State, IsAt}
+use Rattle.nll_model.specs.State.{Seat, State}
 use Rattle.nll_model.specs.Events.{owed_lane, fresh_count}
 use Rattle.nll_model.proofs.StateLemmas.{seat_is, owe_small}
 use Rattle.nll_model.proofs.state.State.owe.Goals as goal

@@ -1,10 +1,7 @@
-use Rattle.std.proofs.Common.{◌≡◌, ◌≢◌, ◌≤◌, ◌<◌, ℕ, true, false, [], List, ◌∷◌, length, get_or, slice_set, sym, ap, ◌∙◌, subst, arith}
-use Rattle.nll_problem.specs.Problem.{Problem}
-use Rattle.nll_cut.specs.Partition.{Cut}
-use Rattle.nll_mail.specs.declared.growth.Growth.{Growth}
+use Rattle.std.proofs.Common.{◌≡◌, ℕ, [], length, get_or, slice_set, sym, ap, ◌∙◌, subst, arith}
 use Rattle.nll_owner.specs.Owner.{IsSound, Passes, with_growth}
-use Rattle.nll_model.specs.State.{Seat, State, Lane, IsAt, with_seat, with_lane, lane_to}
-use Rattle.nll_model.specs.Events.{Turns, IsFree}
+use Rattle.nll_model.specs.State.{Seat, State, with_lane, lane_to}
+use Rattle.nll_model.specs.Events.{Turns}
 use Rattle.nll_model.proofs.StateLemmas.{seat_is, place_in, owners_is, lanes_is, seats_few, none_fresh, other_is, passes, taken_is}
 use Rattle.nll_model.proofs.state.State.take.Goals as goal
 use Rattle.nll_model.proofs.state.State.take.Goals.{After-index_mut, After-index_mut-in-Some}

@@ -1,4 +1,4 @@
-use Rattle.std.proofs.Common.{◌≡◌, false, sym, ap, ◌∙◌}
+use Rattle.std.proofs.Common.{sym, ◌∙◌}
 use Rattle.nll_model.proofs.ReplayLemmas.{lawful_after}
 use Rattle.nll_model.proofs.world.World.step.Goals as goal
 

@@ -1,4 +1,3 @@
-use Rattle.std.proofs.Common.{◌≡◌, ap, ◌∙◌, sym}
 use Rattle.nll_model.proofs.world.World.values.Goals as goal
 
 pub returns-clause-held : goal.returns-clause-held
