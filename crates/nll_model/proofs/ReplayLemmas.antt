@@ -1,6 +1,6 @@
 -- A world after a step, and its first seats.
-use Rattle.std.proofs.Common.{◌≡◌, ℕ, zero, suc, ◌+◌, ◌<◌, false, List, [], ◌∷◌, ◌++◌, length, replicate, take, get_or, slice_get, Some, refl, sym, ap, ◌∙◌, subst, ◌⊎◌, inl, inr, ⊎_elim, arith}
-use Rattle.std.specs.Prelude.{Option, Result, Ok, Err, IfOk, is_err}
+use Rattle.std.proofs.Common.{◌≡◌, Bool, ℕ, zero, suc, ◌+◌, ◌<◌, false, List, [], ◌∷◌, ◌++◌, length, replicate, take, get_or, slice_get, Some, refl, sym, ap, ◌∙◌, subst, ◌⊎◌, inl, inr, ⊎_elim, arith}
+use Rattle.std.specs.Prelude.{Option, Result, Ok, Err, IfOk, OnErr, is_err}
 use Rattle.std.proofs.Math.Seq.{take-suc}
 use Rattle.std.proofs.lemmas.Bool.{true≢false}
 use Rattle.std.proofs.lemmas.Option.{slice_get_within}
@@ -14,14 +14,18 @@ use Rattle.nll_model.specs.declared.seat.Item.TheVariants.{Nothing}
 use Rattle.nll_model.specs.State.{Seat, State, empty_lane, first_seat}
 use Rattle.nll_model.specs.Events.{Does, IsStep, AreSteps}
 use Rattle.nll_model.specs.Working.{AreFirst}
-use Rattle.nll_model.specs.Soundness.{IsLawful}
+use Rattle.nll_model.specs.Soundness.{IsLawful, IsOrderly}
 use Rattle.nll_model.proofs.StepsLemmas.{step_sound}
+use Rattle.nll_model.proofs.OrderlyLemmas.{sound_is_orderly}
 use Rattle.nll_model.proofs.LawfulLemmas.{lawful}
 
--- a step that was done leads to a lawful state
-pub lawful_after : (q : Problem) (c : Cut) (w new : State) (e : Event) (r : Result Step OwnerError) → IfOk r (λ answer. Does w e answer new) → IsLawful q c w → is_err r ≡ false → IsLawful q c new
-lawful_after q c w new e (Ok answer) does old good = lawful q c new (step_sound q c w new e answer old.sound does) old.problem old.cut
-lawful_after q c w new e (Err error) does old good = absurd (true≢false good)
+-- a step leads to an orderly state, and to a lawful one where it isn't refused
+pub after_step : (q : Problem) (c : Cut) (w new : State) (e : Event) (r : Result Step OwnerError) (broken : Bool) → IfOk r (λ answer. Does w e answer new) → OnErr r ((p : Problem) (d : Cut) → IsOrderly p d w → IsOrderly p d new) → IsLawful q c w → IsOrderly q c w
+    → broken ≡ is_err r → IsOrderly q c new × (broken ≡ false → IsLawful q c new)
+after_step q c w new e (Ok answer) broken does keeps old orderly is =
+    let sound = step_sound q c w new e answer old.sound does in
+    (sound_is_orderly q c new sound, λ good. lawful q c new sound old.problem old.cut)
+after_step q c w new e (Err error) broken does keeps old orderly is = (keeps q c orderly, λ good. absurd (true≢false (sym is ∙ good)))
 
 pub is_first : (q : Problem) (c : Cut) (i : ℕ) (s : Seat) (o : Owner) (n : ℕ) → s ≡ record { owner = o; item = Nothing; left = false; lanes = replicate n empty_lane } → o ≡ first_owner q c i → n ≡ c.owners → s ≡ first_seat q c i
 is_first q c i s o n is owner count = is

@@ -9,7 +9,7 @@ use Rattle.nll_problem.specs.Solution.{Least}
 use Rattle.nll_cut.specs.Partition.{Cut, owner_of}
 use Rattle.nll_mail.specs.declared.growth.Growth.{Growth}
 use Rattle.nll_owner.specs.Logs.{IsCutOf, IsTold}
-use Rattle.nll_owner.specs.Owner.{IsSound, IsDone, part_for, given_to, received_from}
+use Rattle.nll_owner.specs.Owner.{Owner, IsSound, IsDone, part_for, given_to, received_from}
 use Rattle.nll_model.specs.State.{Lane, Seat, State, IsAt, lane_to, empty_lane}
 use Rattle.nll_model.specs.declared.seat.Item.{Item}
 use Rattle.nll_model.specs.declared.seat.Item.TheVariants.{Nothing, Fresh}
@@ -56,6 +56,22 @@ pub record IsSoundState (q : Problem) (c : Cut) (w : State) : Type 0 where
       → part_for s.owner j ≡ received_from t.owner i
       ++ ((lane_to s j).box ++ ((lane_to s j).out ++ (lane_to s j).fresh))
   pub balance : w.balance ≡ sum_by under_way w.seats
+
+-- The owner is of this problem, cut and number, and sound, which it is after a refusal too.
+pub record IsOwner (q : Problem) (c : Cut) (i : ℕ) (o : Owner) : Type 0 where
+  pub problem : o.problem ≡ q
+  pub cut : o.cut ≡ c
+  pub me : o.me ≡ i
+  pub sound : IsSound o
+
+-- An orderly state, as each is, also once a growth of memory was refused: the owners are sound, and
+-- what one received from another stands in that one's log.
+pub record IsOrderly (q : Problem) (c : Cut) (w : State) : Type 0 where
+  pub count : length w.seats ≡ c.owners
+  pub owners : (i : ℕ) (s : Seat) → IsAt w i s → IsOwner q c i s.owner
+  pub heard :
+      (i j : ℕ) (s t : Seat) (g : Growth) → i ≢ j → IsAt w i s → IsAt w j t
+      → Contains (received_from s.owner j) g → Contains t.owner.log g
 
 -- ---- what follows
 

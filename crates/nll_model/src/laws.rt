@@ -6,7 +6,7 @@ ghost use Rattle.nll_cut.specs.Partition.{Cut};
 ghost use Rattle.nll_owner.specs.Logs.{IsCutOf};
 ghost use Rattle.nll_model.specs.State.{State, IsFirst};
 ghost use Rattle.nll_model.specs.Events.{AreSteps};
-ghost use Rattle.nll_model.specs.Soundness.{IsSoundState, IsLawful};
+ghost use Rattle.nll_model.specs.Soundness.{IsSoundState, IsOrderly, IsLawful, AreRanksLow};
 ghost use Rattle.nll_model.specs.declared.event.Event.{Event};
 ghost use Rattle.nll_model.specs.declared.event.Step.{Step};
 
@@ -24,4 +24,10 @@ pub fn steps_are_lawful()
         (events : List Event) (answers : List (Option Step))
         → IsSound q → IsCutOf q c → IsFirst q c first → AreSteps first events answers last
         → IsLawful q c last }
+{}
+
+/// States that in an orderly state, as each is, also once a growth of memory was refused, no rank is
+/// 2^61 or above.
+pub fn orderly_states_have_low_ranks()
+    ensures { (q : Problem) (c : Cut) (w : State) → IsOrderly q c w → AreRanksLow w }
 {}

@@ -19,7 +19,7 @@ mod world;
 pub use error::ModelError;
 pub use event::{Event, Step};
 pub use lane::Lane;
-pub use laws::{sound_states_are_lawful, steps_are_lawful};
+pub use laws::{orderly_states_have_low_ranks, sound_states_are_lawful, steps_are_lawful};
 pub use outcome::Replay;
 pub use replaying::replay;
 pub use seat::{Item, Seat};
