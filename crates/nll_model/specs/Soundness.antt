@@ -96,9 +96,9 @@ abbrev pub AreRanksLow : State → Type 0
 AreRanksLow w =
     (i : ℕ) (s : Seat) (g : Growth) → IsAt w i s → Contains s.owner.log g → g.rank < 2 ^ 61
 
--- What holds of every state that a world of this problem and cut comes to: it is sound; its logs say
--- only what the least values have; at a balance of 0 nothing is under way, and they say just that;
--- and its ranks are low.
+-- What holds of every state that a world of this problem and cut comes to: it is sound; its logs
+-- say only what the least values have; at a balance of 0 nothing is under way, and they say just
+-- that; and its ranks are low.
 pub record IsLawful (q : Problem) (c : Cut) (w : State) : Type 0 where
   pub problem : IsSoundProblem q
   pub cut : IsCutOf q c

@@ -1,7 +1,7 @@
 //! The model of a run: owners, the boxes between them and the balance, one event after another.
 //!
-//! Reading order: `laws`, `event`, `error`, `outcome`, `lane`, `seat`, `state`, `starting`, `world`,
-//! `replaying`. The definitions are in specs/: `State` first, then `Events`, `Soundness`,
+//! Reading order: `laws`, `event`, `error`, `outcome`, `lane`, `seat`, `state`, `starting`,
+//! `world`, `replaying`. The definitions are in specs/: `State` first, then `Events`, `Soundness`,
 //! `Replaying`.
 #![tactic(auto)]
 
