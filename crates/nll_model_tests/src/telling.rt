@@ -145,6 +145,9 @@ fn write_state(out: &mut String, world: &World) -> Result<(), AllocError> {
     for seat in world.seats() {
         write_seat(out, seat)?;
     }
+    if world.is_broken() {
+        out.push_str("broken|")?;
+    }
     write!(out, "{}", world.balance())
 }
 
