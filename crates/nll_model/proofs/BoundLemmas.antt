@@ -1,5 +1,5 @@
 -- Bounds of the balance of a sound world.
-use Rattle.std.proofs.Common.{◌≡◌, ◌≢◌, ℕ, zero, suc, ◌+◌, ◌*◌, ◌^◌, ◌<◌, ◌≤◌, Bool, true, false, List, [], ◌∷◌, ◌++◌, length, Contains, get_or, set, slice_get, Some, refl, sym, ap, ◌∙◌, subst, ⊎_elim, arith, length-append}
+use Rattle.std.proofs.Common.{◌≡◌, ◌≢◌, ℕ, suc, ◌+◌, ◌*◌, ◌^◌, ◌<◌, ◌≤◌, Bool, true, false, List, [], ◌∷◌, ◌++◌, length, Contains, get_or, slice_get, refl, sym, ap, ◌∙◌, subst, ⊎_elim, arith, length-append}
 use Rattle.std.specs.Prelude.{sum_by}
 use Rattle.std.proofs.lemmas.Bool.{cases_eq}
 use Rattle.std.proofs.lemmas.Option.{slice_get_within, get_or_from_slice_get}
@@ -8,16 +8,14 @@ use Rattle.nll_problem.specs.Graph.{element_count}
 use Rattle.nll_problem.specs.Problem.{Problem}
 use Rattle.nll_cut.specs.Partition.{Cut, reads, owner_of}
 use Rattle.nll_mail.specs.declared.growth.Growth.{Growth}
-use Rattle.nll_owner.specs.Owner.{Owner, IsSound, Passes, part_for, given_to, received_from}
+use Rattle.nll_owner.specs.Owner.{Passes, received_from}
 use Rattle.nll_owner.proofs.LogLemmas.{filter_from, contains_head}
 use Rattle.nll_owner.proofs.OwnerLemmas.{pair_small, filter_le}
 use Rattle.std.proofs.lemmas.List.Elements.{Contains-append_left, Contains-append_right}
 use Rattle.nll_model.specs.declared.seat.Item.{Item}
 use Rattle.nll_model.specs.declared.seat.Item.TheVariants.{Nothing, Fresh, Owed}
 use Rattle.nll_model.specs.State.{Lane, empty_lane, Seat, State, lane_to, IsAt}
-use Rattle.nll_model.specs.Events.{fresh_count, owed_lane}
 use Rattle.nll_model.specs.Soundness.{held, under_way, IsSoundSeat, IsSoundState, AreRanksLow}
-use Rattle.nll_model.proofs.EventLemmas.{owe}
 use Rattle.nll_model.proofs.SoundLemmas.{get_within}
 
 sum_le : {X : Type 0} (f : X → ℕ) (m : ℕ) (d : X) (xs : List X) → ((j : ℕ) → j < length xs → f (get_or xs j d) ≤ m) → sum_by f xs ≤ length xs * m
@@ -78,15 +76,23 @@ module _ (q : Problem) (c : Cut) (w : State) (sound : IsSoundState q c w) where
       held_some true l = (let a = ap (λ x. held x s.item) l in let b = ap (held true) owed in omega (arith, a, b))
       held_some false l = (let a = ap (λ x. held x s.item) l in omega (arith, a))
 
-  -- the first growth of a box may be told
-  pub first_passes : (i j : ℕ) (s u : Seat) (g : Growth) (rest : List Growth) → i ≢ j → IsAt w i s → IsAt w j u → AreRanksLow w → (lane_to u i).box ≡ g ∷ rest → Passes s.owner.problem s.owner.cut s.owner.me j g
-  first_passes i j s u g rest differ at at_u low first =
-      let seat = sound.seats i s at in let giver = sound.seats j u at_u in
+  -- the first growth of a box stands in the log of its sender, and may be told
+  first_from : (i j : ℕ) (s u : Seat) (g : Growth) (rest : List Growth) → i ≢ j → IsAt w i s → IsAt w j u → (lane_to u i).box ≡ g ∷ rest → Contains u.owner.log g × (reads u.owner.problem u.owner.cut i g.region ≡ true)
+  first_from i j s u g rest differ at at_u first =
       let in_box = subst (λ xs. Contains xs g) (sym first) (contains_head g rest) in
       let in_lane = Contains-append_left (lane_to u i).box ((lane_to u i).out ++ (lane_to u i).fresh) g in_box in
       let in_way = Contains-append_right (received_from s.owner j) ((lane_to u i).box ++ ((lane_to u i).out ++ (lane_to u i).fresh)) g in_lane in
       let in_part = subst (λ xs. Contains xs g) (sym (sound.ways j i u s (λ e. differ (sym e)) at_u at)) in_way in
-      let from = filter_from _ u.owner.log g in_part in
+      filter_from _ u.owner.log g in_part
+
+  pub first_logged : (i j : ℕ) (s u : Seat) (g : Growth) (rest : List Growth) → i ≢ j → IsAt w i s → IsAt w j u → (lane_to u i).box ≡ g ∷ rest → Contains u.owner.log g
+  first_logged i j s u g rest differ at at_u first = (first_from i j s u g rest differ at at_u first).0
+
+  pub first_passes : (i j : ℕ) (s u : Seat) (g : Growth) (rest : List Growth) → i ≢ j → IsAt w i s → IsAt w j u → AreRanksLow w → (lane_to u i).box ≡ g ∷ rest → Passes s.owner.problem s.owner.cut s.owner.me j g
+  first_passes i j s u g rest differ at at_u low first =
+      let seat = sound.seats i s at in
+      let giver = sound.seats j u at_u in
+      let from = first_from i j s u g rest differ at at_u first in
       let cut = giver.cut ∙ sym seat.cut in
       let problem = giver.problem ∙ sym seat.problem in
       record {

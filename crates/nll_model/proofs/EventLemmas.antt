@@ -1,20 +1,19 @@
 -- Every event keeps the world sound.
-use Rattle.std.proofs.Common.{◌≡◌, ◌≢◌, ◌↔◌, ℕ, zero, suc, ◌+◌, ◌<◌, ◌≤◌, Bool, true, false, List, [], ◌∷◌, ◌++◌, length, map, drop, replicate, cond, Contains, get_or, set, slice_get, Some, None, refl, sym, ap, ◌∙◌, subst, inl, inr, ◌⊎◌, ⊎_elim, arith, append-nil, append_assoc, length-append}
-use Rattle.std.specs.Prelude.{Option, sum_by}
-use Rattle.std.specs.List.{filter}
-use Rattle.std.proofs.lemmas.Bool.{cases_eq, cases_lt, false≢true, true≢false}
+use Rattle.std.proofs.Common.{◌≡◌, ◌≢◌, ℕ, zero, suc, ◌+◌, ◌<◌, Bool, true, false, List, [], ◌∷◌, ◌++◌, length, map, drop, cond, Contains, get_or, set, slice_get, Some, refl, sym, ap, ◌∙◌, subst, inl, inr, ◌⊎◌, ⊎_elim, arith, append-nil, append_assoc, length-append}
+use Rattle.std.specs.Prelude.{sum_by}
+use Rattle.std.proofs.Math.ListN.{get_or-map}
+use Rattle.std.proofs.lemmas.Bool.{cases_eq, false≢true}
 use Rattle.std.proofs.lemmas.Option.{slice_get_within, get_or_from_slice_get}
-use Rattle.std.proofs.lemmas.List.{length-map, length-set, length-replicate, get_or_past, get_or-set_same, get_or-set_other, get_or_default}
+use Rattle.std.proofs.lemmas.List.{length-map, length-set, get_or-set_same, get_or-set_other}
 use Rattle.std.proofs.lemmas.List.Elements.{filter-append, Contains-append_right}
 use Rattle.std.proofs.lemmas.List.Sums.{sum_by-set, sum_by-cons}
-use Rattle.nll_problem.specs.Problem.{Problem, IsSound as IsSoundProblem}
+use Rattle.nll_problem.specs.Problem.{Problem}
 use Rattle.nll_cut.specs.Partition.{Cut, owner_of, reads}
 use Rattle.nll_cut.proofs.ReadLemmas.{reads_tells}
 use Rattle.nll_owner.proofs.LogLemmas.{contains_head, contains_tail}
 use Rattle.nll_mail.specs.declared.growth.Growth.{Growth}
-use Rattle.nll_owner.specs.Logs.{part, IsCutOf, IsPrefix}
-use Rattle.nll_owner.specs.Owner.{Owner, IsSound, IsDone, received_from, part_for, given_to, with_growth, first_owner}
-use Rattle.nll_model.specs.declared.seat.Item.{Item}
+use Rattle.nll_owner.specs.Logs.{part}
+use Rattle.nll_owner.specs.Owner.{received_from, part_for, given_to, with_growth}
 use Rattle.nll_model.specs.declared.seat.Item.TheVariants.{Nothing, Fresh, Owed}
 use Rattle.nll_model.specs.State.{Lane, empty_lane, Seat, State, lane_to, IsAt, with_seat, with_lane}
 use Rattle.nll_model.specs.Events.{owed_lane, fresh_count, Turns}
@@ -40,11 +39,6 @@ sum_same f d (x ∷ xs) (y ∷ ys) l h =
     let first : f x ≡ f y = h 0 (omega arith) in
     let rest = sum_same f d xs ys (omega arith) (λ j p. h (suc j) (omega arith)) in
     omega (arith, first, rest, sum_by-cons f x xs, sum_by-cons f y ys)
-
-pub map_or : {X Y : Type 0} (f : X → Y) (xs : List X) (j : ℕ) (d : X) → get_or (map f xs) j (f d) ≡ f (get_or xs j d)
-map_or f [] j d = refl
-map_or f (x ∷ xs) zero d = refl
-map_or f (x ∷ xs) (suc j) d = map_or f xs j d
 
 drop_front : {X : Type 0} (xs ys : List X) → drop (length xs) (xs ++ ys) ≡ ys
 drop_front [] ys = refl
@@ -129,7 +123,7 @@ module _ (q : Problem) (c : Cut) (w : State) (sound : IsSoundState q c w) (i : �
       t = record s { item = Owed; lanes = map owed_lane s.lanes }
 
       lane : (j : ℕ) → lane_to t j ≡ owed_lane (lane_to s j)
-      lane j = map_or owed_lane s.lanes j empty_lane
+      lane j = get_or-map owed_lane s.lanes j empty_lane
 
       lanes : (j : ℕ) → whole (lane_to t j) ≡ whole (lane_to s j)
       lanes j = ap whole (lane j) ∙ ap (λ x. (lane_to s j).box ++ x) (append-nil ((lane_to s j).out ++ (lane_to s j).fresh))

@@ -1,12 +1,10 @@
 -- What filling the lanes of a seat adds up to.
-use Rattle.std.proofs.Common.{◌≡◌, ◌≢◌, ℕ, zero, suc, ◌+◌, ◌<◌, ◌≤◌, Bool, true, false, List, [], ◌∷◌, ◌++◌, length, drop, set, get_or, refl, sym, ap, ◌∙◌, subst, inl, inr, ◌⊎◌, ⊎_elim, arith}
-use Rattle.std.proofs.lemmas.Bool.{cases_eq, true≢false}
+use Rattle.std.proofs.Common.{◌≡◌, ◌≢◌, ℕ, ◌+◌, ◌<◌, true, false, List, [], ◌++◌, length, drop, set, get_or, refl, sym, ap, ◌∙◌, subst, ⊎_elim, arith}
+use Rattle.std.proofs.lemmas.Bool.{cases_eq}
 use Rattle.std.proofs.lemmas.List.{length-set, get_or-set_same, get_or-set_other, get_or_default}
-use Rattle.nll_mail.specs.declared.growth.Growth.{Growth}
 use Rattle.nll_owner.specs.Logs.{IsPrefix}
 use Rattle.nll_owner.specs.Owner.{Owner, IsSound, IsDone, part_for, given_to}
-use Rattle.nll_model.specs.declared.seat.Item.{Item}
-use Rattle.nll_model.specs.declared.seat.Item.TheVariants.{Nothing, Fresh, Owed}
+use Rattle.nll_model.specs.declared.seat.Item.TheVariants.{Fresh}
 use Rattle.nll_model.specs.State.{Lane, empty_lane, Seat, lane_to}
 use Rattle.nll_model.specs.Events.{Turns}
 use Rattle.nll_model.specs.Working.{Fills}

@@ -1,14 +1,14 @@
 -- What a seat has that makes its lanes owed for, one after another.
-use Rattle.std.proofs.Common.{◌≡◌, ◌≢◌, ℕ, zero, suc, ◌+◌, ◌<◌, ◌≤◌, List, [], ◌∷◌, length, map, set, take, get_or, slice_get, Some, refl, sym, ap, ◌∙◌, subst, ⊎_elim, arith}
+use Rattle.std.proofs.Common.{◌≡◌, ℕ, zero, suc, ◌+◌, ◌<◌, ◌≤◌, List, [], ◌∷◌, length, map, set, take, get_or, refl, sym, ap, ◌∙◌, subst, ⊎_elim, arith}
 use Rattle.std.specs.Prelude.{sum_by}
+use Rattle.std.proofs.Math.ListN.{get_or-map}
 use Rattle.std.proofs.lemmas.Bool.{cases_eq}
 use Rattle.std.proofs.lemmas.List.{length-map, length-set, get_or-set_same, get_or-set_other, get_or_default}
-use Rattle.std.proofs.lemmas.List.Sums.{sum_by_more, sum_by_more_le, sum_by-take-le}
+use Rattle.std.proofs.lemmas.List.Sums.{sum_by_more, sum_by_more_le}
 use Rattle.nll_owner.specs.Owner.{Owner}
 use Rattle.nll_model.specs.declared.seat.Item.{Item}
 use Rattle.nll_model.specs.State.{Lane, Seat, empty_lane, lane_to}
 use Rattle.nll_model.specs.Events.{owed_lane, fresh_count}
-use Rattle.nll_model.proofs.EventLemmas.{map_or}
 
 -- the first lanes are owed for, and so much was fresh in them
 pub record Owes (old now : Seat) (count to : ℕ) : Type 0 where
@@ -52,7 +52,7 @@ list_is d (x ∷ xs) (y ∷ ys) l h = ap (λ z. z ∷ xs) (h 0 (omega arith)) �
 
 pub owes_lanes : (old now : Seat) (count to : ℕ) → Owes old now count to → length now.lanes ≤ to → now.lanes ≡ map owed_lane old.lanes
 owes_lanes old now count to h all = list_is empty_lane now.lanes (map owed_lane old.lanes) (h.lane_count ∙ sym (length-map old.lanes owed_lane))
-    (λ j l. h.owed j (omega (arith, l, all, h.lane_count, length-map old.lanes owed_lane)) ∙ sym (map_or owed_lane old.lanes j empty_lane))
+    (λ j l. h.owed j (omega (arith, l, all, h.lane_count, length-map old.lanes owed_lane)) ∙ sym (get_or-map owed_lane old.lanes j empty_lane))
 
 pub owes_le : (old now : Seat) (count to : ℕ) → Owes old now count to → to < length old.lanes → (lane : Lane) → lane ≡ get_or now.lanes to lane → count + length lane.fresh ≤ fresh_count old
 owes_le old now count to h within lane is =

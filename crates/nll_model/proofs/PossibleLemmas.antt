@@ -1,12 +1,12 @@
 -- Where an event is possible.
-use Rattle.std.proofs.Common.{◌≡◌, ◌≢◌, ◌↔◌, ℕ, ◌<◌, ◌≤◌, Bool, true, false, not, List, [], length, get_or, slice_get, Some, refl, sym, ap, ◌∙◌, subst, arith}
+use Rattle.std.proofs.Common.{◌≡◌, ◌≢◌, ◌↔◌, ℕ, ◌<◌, Bool, true, false, not, [], length, refl, sym, ap, ◌∙◌, arith}
 use Rattle.std.specs.Prelude.{IsTrue}
-use Rattle.std.proofs.lemmas.Bool.{false≢true, true≢false}
+use Rattle.std.proofs.lemmas.Bool.{false≢true}
 use Rattle.std.proofs.lemmas.Option.{slice_get_within}
 use Rattle.nll_problem.specs.Problem.{Problem}
 use Rattle.nll_cut.specs.Partition.{Cut}
 use Rattle.nll_model.specs.declared.event.Event.TheVariants.{Take, Push}
-use Rattle.nll_model.specs.State.{Lane, Seat, State, IsAt, lane_to}
+use Rattle.nll_model.specs.State.{Seat, State, IsAt, lane_to}
 use Rattle.nll_model.specs.Events.{IsFree, IsPossible}
 use Rattle.nll_model.specs.Soundness.{IsSoundState}
 use Rattle.nll_model.proofs.EventLemmas.{same_at}

@@ -1,6 +1,7 @@
 -- A world after a step, and its first seats.
-use Rattle.std.proofs.Common.{◌≡◌, ℕ, zero, suc, ◌+◌, ◌<◌, true, false, List, [], ◌∷◌, ◌++◌, length, replicate, take, get_or, slice_get, Some, refl, sym, ap, ◌∙◌, subst, ◌⊎◌, inl, inr, ⊎_elim, arith}
-use Rattle.std.specs.Prelude.{Option, Result, Ok, Err, IfOk, is_err}
+use Rattle.std.proofs.Common.{◌≡◌, Bool, ℕ, zero, suc, ◌+◌, ◌<◌, false, List, [], ◌∷◌, ◌++◌, length, replicate, take, get_or, slice_get, Some, refl, sym, ap, ◌∙◌, subst, ◌⊎◌, inl, inr, ⊎_elim, arith}
+use Rattle.std.specs.Prelude.{Option, Result, Ok, Err, IfOk, OnErr, is_err}
+use Rattle.std.proofs.Math.Seq.{take-suc}
 use Rattle.std.proofs.lemmas.Bool.{true≢false}
 use Rattle.std.proofs.lemmas.Option.{slice_get_within}
 use Rattle.nll_problem.specs.Problem.{Problem}
@@ -13,14 +14,18 @@ use Rattle.nll_model.specs.declared.seat.Item.TheVariants.{Nothing}
 use Rattle.nll_model.specs.State.{Seat, State, empty_lane, first_seat}
 use Rattle.nll_model.specs.Events.{Does, IsStep, AreSteps}
 use Rattle.nll_model.specs.Working.{AreFirst}
-use Rattle.nll_model.specs.Soundness.{IsLawful}
+use Rattle.nll_model.specs.Soundness.{IsLawful, IsOrderly}
 use Rattle.nll_model.proofs.StepsLemmas.{step_sound}
+use Rattle.nll_model.proofs.OrderlyLemmas.{sound_is_orderly}
 use Rattle.nll_model.proofs.LawfulLemmas.{lawful}
 
--- a step that was done leads to a lawful state
-pub lawful_after : (q : Problem) (c : Cut) (w new : State) (e : Event) (r : Result Step OwnerError) → IfOk r (λ answer. Does w e answer new) → IsLawful q c w → is_err r ≡ false → IsLawful q c new
-lawful_after q c w new e (Ok answer) does old good = lawful q c new (step_sound q c w new e answer old.sound does) old.problem old.cut
-lawful_after q c w new e (Err error) does old good = absurd (true≢false good)
+-- a step leads to an orderly state, and to a lawful one where it isn't refused
+pub after_step : (q : Problem) (c : Cut) (w new : State) (e : Event) (r : Result Step OwnerError) (broken : Bool) → IfOk r (λ answer. Does w e answer new) → OnErr r ((p : Problem) (d : Cut) → IsOrderly p d w → IsOrderly p d new) → IsLawful q c w → IsOrderly q c w
+    → broken ≡ is_err r → IsOrderly q c new × (broken ≡ false → IsLawful q c new)
+after_step q c w new e (Ok answer) broken does keeps old orderly is =
+    let sound = step_sound q c w new e answer old.sound does in
+    (sound_is_orderly q c new sound, λ good. lawful q c new sound old.problem old.cut)
+after_step q c w new e (Err error) broken does keeps old orderly is = (keeps q c orderly, λ good. absurd (true≢false (sym is ∙ good)))
 
 pub is_first : (q : Problem) (c : Cut) (i : ℕ) (s : Seat) (o : Owner) (n : ℕ) → s ≡ record { owner = o; item = Nothing; left = false; lanes = replicate n empty_lane } → o ≡ first_owner q c i → n ≡ c.owners → s ≡ first_seat q c i
 is_first q c i s o n is owner count = is
@@ -40,16 +45,11 @@ first_push q c seats s first is k t h = ⊎_elim
     (get_push seats s k t h)
 
 -- a run goes on by one event
-pub runs_push : (w now next : State) (events : List Event) (answers : List (Option Step)) (e : Event) (a : Option Step) → AreSteps w events answers now → IsStep now e a next → AreSteps w (events ++ e ∷ []) (answers ++ a ∷ []) next
-runs_push w now next [] [] e a h step = (next, subst (λ x. IsStep x e a next) h step, refl)
-runs_push w now next [] (b ∷ bs) e a h step = absurd h
-runs_push w now next (f ∷ fs) [] e a h step = absurd h
-runs_push w now next (f ∷ fs) (b ∷ bs) e a h step = (h.0, h.1, runs_push h.0 now next fs bs e a h.2 step)
+pub steps_push : (w now next : State) (events : List Event) (answers : List (Option Step)) (e : Event) (a : Option Step) → AreSteps w events answers now → IsStep now e a next → AreSteps w (events ++ e ∷ []) (answers ++ a ∷ []) next
+steps_push w now next [] [] e a h step = (next, subst (λ x. IsStep x e a next) h step, refl)
+steps_push w now next [] (b ∷ bs) e a h step = absurd h
+steps_push w now next (f ∷ fs) [] e a h step = absurd h
+steps_push w now next (f ∷ fs) (b ∷ bs) e a h step = (h.0, h.1, steps_push h.0 now next fs bs e a h.2 step)
 
 pub take_next : {X : Type 0} (xs : List X) (n : ℕ) (x : X) → n < length xs → get_or xs n x ≡ x → take (n + 1) xs ≡ take n xs ++ x ∷ []
-take_next xs n x l is = (let e : n + 1 ≡ suc n = omega arith in ap (λ k. take k xs) e) ∙ go xs n l is
-  where
-    go : {X : Type 0} (xs : List X) (n : ℕ) {x : X} → n < length xs → get_or xs n x ≡ x → take (suc n) xs ≡ take n xs ++ x ∷ []
-    go [] n l is = absurd (omega arith)
-    go (y ∷ ys) zero l is = ap (λ z. z ∷ []) is
-    go (y ∷ ys) (suc n) l is = ap (λ zs. y ∷ zs) (go ys n (omega arith) is)
+take_next xs n x l is = (let e : n + 1 ≡ suc n = omega arith in ap (λ k. take k xs) e) ∙ (take-suc xs n x l ∙ ap (λ y. take n xs ++ y ∷ []) is)

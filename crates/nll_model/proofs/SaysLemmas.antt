@@ -1,8 +1,8 @@
 -- What all logs say, entered into values log by log.
-use Rattle.std.proofs.Common.{◌≡◌, ◌↔◌, map, replicate, false, ℕ, zero, suc, ◌+◌, ◌<◌, ◌⊎◌, ⊎_elim, inl, inr, Bool, List, [], ◌∷◌, length, slice_index_or, slice_get, Some, Contains, refl, sym, ap, ◌∙◌, subst, arith}
+use Rattle.std.proofs.Common.{◌≡◌, ◌↔◌, replicate, false, ℕ, ◌+◌, ◌<◌, ◌⊎◌, ⊎_elim, Bool, List, length, Contains, sym, ap, ◌∙◌, subst, arith}
 use Rattle.nll_core.specs.Growing.{Gains}
-use Rattle.nll_core.specs.Values.{set_of, IsHeld, with_element}
-use Rattle.nll_core.proofs.GrowingLemmas.{held_one, gains_one, gains_append, gains_weaker, nothing_held}
+use Rattle.nll_core.specs.Values.{set_of, IsHeld}
+use Rattle.nll_core.proofs.GrowingLemmas.{gains_append, gains_weaker, nothing_held}
 use Rattle.nll_mail.specs.declared.growth.Growth.{Growth}
 use Rattle.nll_owner.specs.Logs.{IsTold}
 use Rattle.std.proofs.lemmas.Bool.{cases_lt}

@@ -1,19 +1,18 @@
 -- What a sound world says, and where nothing is under way.
-use Rattle.std.proofs.Common.{◌≡◌, ◌≢◌, ◌↔◌, ℕ, zero, suc, ◌+◌, ◌<◌, ◌≤◌, Bool, true, false, List, [], ◌∷◌, ◌++◌, length, map, Contains, get_or, set, slice_get, Some, None, refl, sym, ap, ◌∙◌, subst, inl, inr, ◌⊎◌, ⊎_elim, arith, append-nil}
-use Rattle.std.specs.Prelude.{Option, sum_by}
-use Rattle.std.proofs.lemmas.Bool.{cases_eq, cases_lt, false≢true, true≢false}
+use Rattle.std.proofs.Common.{◌≡◌, ◌≢◌, ◌↔◌, ℕ, zero, suc, ◌+◌, ◌<◌, Bool, true, false, List, [], ◌∷◌, ◌++◌, length, map, Contains, get_or, slice_get, Some, None, refl, sym, ap, ◌∙◌, subst, ⊎_elim, arith, append-nil}
+use Rattle.std.specs.Prelude.{Option}
+use Rattle.std.proofs.lemmas.Bool.{cases_eq, cases_lt}
 use Rattle.std.proofs.lemmas.Option.{slice_get_within, get_or_from_slice_get}
 use Rattle.std.proofs.lemmas.List.{length-map, get_or_past}
 use Rattle.std.proofs.lemmas.List.Elements.{Contains-append_left}
 use Rattle.std.proofs.lemmas.List.Sums.{get_or-le-sum_by}
 use Rattle.nll_problem.specs.Problem.{Problem, IsSound as IsSoundProblem}
 use Rattle.nll_problem.specs.Solution.{Least}
-use Rattle.nll_problem.specs.declared.constraint.Constraint.{Constraint}
 use Rattle.nll_problem.proofs.WalkLemmas.{reaches_weaker}
 use Rattle.nll_cut.specs.Partition.{Cut, owner_of}
 use Rattle.nll_mail.specs.declared.growth.Growth.{Growth}
 use Rattle.nll_owner.specs.Logs.{IsWellFormed, part, IsTold, list_of, IsWellSupported, IsSaturated, IsCutOf, log_of, AreSound, AreSettled}
-use Rattle.nll_owner.specs.Owner.{Owner, IsSound, IsDone, list_in, received_from, part_for, given_to}
+use Rattle.nll_owner.specs.Owner.{IsDone, list_in, received_from, part_for}
 use Rattle.nll_owner.proofs.LogLemmas.{filter_from, list_own, list_other}
 use Rattle.nll_owner.proofs.LawLemmas.{each_least, least_exact}
 use Rattle.nll_owner.proofs.OwnerLemmas.{supported_in}
@@ -40,18 +39,18 @@ lane_is l f o b = ap (λ x. record l { fresh = x }) f ∙ (ap (λ x. record l { 
 -- ---- one seat
 
 module _ (q : Problem) (c : Cut) (i : ℕ) (s : Seat) (sound : IsSoundSeat q c i s) where
-  pub seat_lawful : IsWellFormed c i s.owner.log
-  seat_lawful = subst (λ x. IsWellFormed x i s.owner.log) sound.cut (subst (λ x. IsWellFormed s.owner.cut x s.owner.log) sound.me sound.sound.well_formed)
+  pub seat_well_formed : IsWellFormed c i s.owner.log
+  seat_well_formed = subst (λ x. IsWellFormed x i s.owner.log) sound.cut (subst (λ x. IsWellFormed s.owner.cut x s.owner.log) sound.me sound.sound.well_formed)
 
   seat_list : (b : ℕ) → list_in s.owner b ≡ list_of c i s.owner.log (received_from s.owner) b
   seat_list b = ap (λ x. list_of x s.owner.me s.owner.log (received_from s.owner) b) sound.cut ∙ ap (λ x. list_of c x s.owner.log (received_from s.owner) b) sound.me
 
-  seat_justified : IsWellSupported q (list_of c i s.owner.log (received_from s.owner)) s.owner.log
-  seat_justified = subst (λ x. IsWellSupported x (list_of c i s.owner.log (received_from s.owner)) s.owner.log) sound.problem
+  seat_supported : IsWellSupported q (list_of c i s.owner.log (received_from s.owner)) s.owner.log
+  seat_supported = subst (λ x. IsWellSupported x (list_of c i s.owner.log (received_from s.owner)) s.owner.log) sound.problem
       (supported_in s.owner.problem (list_in s.owner) (list_of c i s.owner.log (received_from s.owner)) (λ b g h. subst (λ xs. Contains xs g) (seat_list b) h) s.owner.log sound.sound.supported)
 
-  seat_filled : IsDone s.owner → IsSaturated q c i (list_of c i s.owner.log (received_from s.owner))
-  seat_filled done = subst (λ x. IsSaturated x c i list) sound.problem (subst (λ x. IsSaturated s.owner.problem x i list) sound.cut (subst (λ x. IsSaturated s.owner.problem s.owner.cut x list) sound.me here))
+  seat_saturated : IsDone s.owner → IsSaturated q c i (list_of c i s.owner.log (received_from s.owner))
+  seat_saturated done = subst (λ x. IsSaturated x c i list) sound.problem (subst (λ x. IsSaturated s.owner.problem x i list) sound.cut (subst (λ x. IsSaturated s.owner.problem s.owner.cut x list) sound.me here))
     where
       list : ℕ → List Growth
       list = list_of c i s.owner.log (received_from s.owner)
@@ -96,11 +95,11 @@ module _ (q : Problem) (c : Cut) (w : State) (sound : IsSoundState q c w) where
   pub world_sound : AreSound q c (logs_of w) (received_of w)
   world_sound = record {
     counted = length-map w.seats (λ (s : Seat). s.owner.log) ∙ sound.count;
-    well_formed = λ i l. let s = seat_at i l in subst (IsWellFormed c i) (sym (log_at i s.0 s.1)) (seat_lawful q c i s.0 (sound.seats i s.0 s.1));
+    well_formed = λ i l. let s = seat_at i l in subst (IsWellFormed c i) (sym (log_at i s.0 s.1)) (seat_well_formed q c i s.0 (sound.seats i s.0 s.1));
     supported = λ i l.
         let s = seat_at i l in
         subst (IsWellSupported q (list_of c i (log_of (logs_of w) i) (received_of w i))) (sym (log_at i s.0 s.1))
-        (supported_in q _ (list_of c i (log_of (logs_of w) i) (received_of w i)) (λ b g h. subst (λ xs. Contains xs g) (sym (list_at i s.0 s.1 b)) h) s.0.owner.log (seat_justified q c i s.0 (sound.seats i s.0 s.1)));
+        (supported_in q _ (list_of c i (log_of (logs_of w) i) (received_of w i)) (λ b g h. subst (λ xs. Contains xs g) (sym (list_at i s.0 s.1 b)) h) s.0.owner.log (seat_supported q c i s.0 (sound.seats i s.0 s.1)));
     heard = λ i j li lj differ g h.
         let s = seat_at i li in
         let t = seat_at j lj in
@@ -157,7 +156,7 @@ module _ (q : Problem) (c : Cut) (w : State) (sound : IsSoundState q c w) where
     world_settled = record {
       saturated = λ i l.
           let s = seat_at i l in
-          let f = seat_filled q c i s.0 (sound.seats i s.0 s.1) ((sound.seats i s.0 s.1).done (resting i s.0 s.1).0) in
+          let f = seat_saturated q c i s.0 (sound.seats i s.0 s.1) ((sound.seats i s.0 s.1).done (resting i s.0 s.1).0) in
           record {
             base = λ r e own b. subst (λ xs. IsTold xs r e) (sym (list_at i s.0 s.1 r)) (f.base r e own b);
             each = λ k there own e h. subst (λ xs. IsTold xs k.sup e) (sym (list_at i s.0 s.1 k.sup)) (f.each k there own e (reaches_weaker q.graph _ k.at _ (λ x t. subst (λ xs. IsTold xs k.sub x) (list_at i s.0 s.1 k.sub) t) e h));

@@ -1,27 +1,23 @@
 -- A run of events keeps the world sound.
-use Rattle.std.proofs.Common.{◌≡◌, ◌≢◌, ℕ, zero, suc, ◌+◌, ◌<◌, ◌≤◌, Bool, true, false, cond, List, [], ◌∷◌, ◌++◌, length, map, replicate, Contains, get_or, slice_get, Some, None, eqb, refl, sym, ap, ◌∙◌, subst, inl, inr, ◌⊎◌, ⊎_elim, arith}
+use Rattle.std.proofs.Common.{◌≡◌, ℕ, zero, suc, ◌+◌, ◌<◌, List, [], ◌∷◌, ◌++◌, length, replicate, get_or, slice_get, Some, None, refl, sym, ap, ◌∙◌, subst, arith}
 use Rattle.std.specs.Prelude.{Option, sum_by}
 use Rattle.std.proofs.lemmas.Bool.{false≢true}
-use Rattle.std.proofs.lemmas.Option.{slice_get_within, get_or_from_slice_get}
-use Rattle.std.proofs.lemmas.List.{length-replicate, get_or_default}
+use Rattle.std.proofs.lemmas.Option.{slice_get_within}
+use Rattle.std.proofs.lemmas.List.{length-replicate}
 use Rattle.std.proofs.lemmas.List.Sums.{sum_by-cons}
 use Rattle.nll_problem.specs.Problem.{Problem, IsSound as IsSoundProblem}
-use Rattle.nll_cut.specs.Partition.{Cut, owner_of}
-use Rattle.nll_mail.specs.declared.growth.Growth.{Growth}
-use Rattle.nll_owner.specs.Logs.{part, IsCutOf}
-use Rattle.nll_owner.specs.Owner.{received_from, part_for, given_to, first_owner}
+use Rattle.nll_cut.specs.Partition.{Cut}
+use Rattle.nll_owner.specs.Logs.{IsCutOf}
+use Rattle.nll_owner.specs.Owner.{received_from, part_for}
 use Rattle.nll_owner.proofs.OwnerLemmas.{first_sound}
 use Rattle.nll_model.specs.declared.event.Event.{Event}
 use Rattle.nll_model.specs.declared.event.Event.TheVariants.{Load, Take, Owe, Clear, Push, Leave}
 use Rattle.nll_model.specs.declared.event.Step.{Step}
 use Rattle.nll_model.specs.declared.event.Step.TheVariants.{Done, Quiet, Open}
-use Rattle.nll_model.specs.declared.seat.Item.{Item}
-use Rattle.nll_model.specs.declared.seat.Item.TheVariants.{Nothing, Fresh, Owed}
-use Rattle.nll_model.specs.State.{Lane, empty_lane, Seat, State, lane_to, IsAt, first_seat, IsFirst}
+use Rattle.nll_model.specs.State.{Lane, empty_lane, Seat, State, lane_to, first_seat, IsFirst}
 use Rattle.nll_model.specs.Events.{Does, IsStep, AreSteps}
 use Rattle.nll_model.specs.Soundness.{under_way, IsSoundSeat, IsSoundState}
 use Rattle.nll_model.proofs.EventLemmas.{owe, clear, leave, push, load, take}
-use Rattle.nll_model.proofs.SoundLemmas.{get_within}
 
 -- ---- the first world
 
@@ -57,8 +53,8 @@ owing_none : (n : ℕ) → sum_by (λ (l : Lane). length l.out + length l.box) (
 owing_none zero = refl
 owing_none (suc n) = (let r = owing_none n in omega (arith, r, sum_by-cons (λ (l : Lane). length l.out + length l.box) empty_lane (replicate n empty_lane)))
 
-pub first_world : (q : Problem) (c : Cut) (w : State) → IsSoundProblem q → IsCutOf q c → IsFirst q c w → IsSoundState q c w
-first_world q c w problem cut first = record {
+pub first_sound_state : (q : Problem) (c : Cut) (w : State) → IsSoundProblem q → IsCutOf q c → IsFirst q c w → IsSoundState q c w
+first_sound_state q c w problem cut first = record {
   count = first.count;
   seats = λ i s at. subst (IsSoundSeat q c i) (sym (first.each i s at)) (first_is_sound q c i problem cut (subst (λ n. i < n) first.count (slice_get_within w.seats i s at)));
   ways = λ i j s t differ hs ht.
@@ -99,8 +95,8 @@ pub world_step_sound : (q : Problem) (c : Cut) (w new : State) (event : Event) (
 world_step_sound q c w new event (Some answer) sound h = step_sound q c w new event answer sound h
 world_step_sound q c w new event None sound h = subst (IsSoundState q c) (sym h.1) sound
 
-pub runs_sound : (q : Problem) (c : Cut) (w last : State) (events : List Event) (answers : List (Option Step)) → IsSoundState q c w → AreSteps w events answers last → IsSoundState q c last
-runs_sound q c w last [] [] sound h = subst (IsSoundState q c) (sym h) sound
-runs_sound q c w last [] (a ∷ rest) sound h = absurd h
-runs_sound q c w last (e ∷ es) [] sound h = absurd h
-runs_sound q c w last (e ∷ es) (a ∷ rest) sound h = runs_sound q c h.0 last es rest (world_step_sound q c w h.0 e a sound h.1) h.2
+pub steps_sound : (q : Problem) (c : Cut) (w last : State) (events : List Event) (answers : List (Option Step)) → IsSoundState q c w → AreSteps w events answers last → IsSoundState q c last
+steps_sound q c w last [] [] sound h = subst (IsSoundState q c) (sym h) sound
+steps_sound q c w last [] (a ∷ rest) sound h = absurd h
+steps_sound q c w last (e ∷ es) [] sound h = absurd h
+steps_sound q c w last (e ∷ es) (a ∷ rest) sound h = steps_sound q c h.0 last es rest (world_step_sound q c w h.0 e a sound h.1) h.2

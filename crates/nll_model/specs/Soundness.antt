@@ -2,14 +2,14 @@
 -- Source: project's choice, after RFC 2094, "Solving constraints". That a balance of 0 shows that
 -- nothing is under way is the argument of credits, or of counted messages (Mattern, "Algorithms for
 -- distributed termination detection", 1987).
-use Rattle.std.specs.Prelude.{◌≡◌, ◌≢◌, ◌↔◌, ℕ, ◌+◌, ◌<◌, ◌^◌, Bool, true, false, List, []}
+use Rattle.std.specs.Prelude.{◌≡◌, ◌≢◌, ◌↔◌, ℕ, ◌+◌, ◌<◌, ◌^◌, Bool, true, false, []}
 use Rattle.std.specs.Prelude.{◌++◌, length, sum_by, Contains}
 use Rattle.nll_problem.specs.Problem.{Problem, IsSound as IsSoundProblem}
 use Rattle.nll_problem.specs.Solution.{Least}
 use Rattle.nll_cut.specs.Partition.{Cut, owner_of}
 use Rattle.nll_mail.specs.declared.growth.Growth.{Growth}
 use Rattle.nll_owner.specs.Logs.{IsCutOf, IsTold}
-use Rattle.nll_owner.specs.Owner.{IsSound, IsDone, part_for, given_to, received_from}
+use Rattle.nll_owner.specs.Owner.{Owner, IsSound, IsDone, part_for, given_to, received_from}
 use Rattle.nll_model.specs.State.{Lane, Seat, State, IsAt, lane_to, empty_lane}
 use Rattle.nll_model.specs.declared.seat.Item.{Item}
 use Rattle.nll_model.specs.declared.seat.Item.TheVariants.{Nothing, Fresh}
@@ -57,6 +57,22 @@ pub record IsSoundState (q : Problem) (c : Cut) (w : State) : Type 0 where
       ++ ((lane_to s j).box ++ ((lane_to s j).out ++ (lane_to s j).fresh))
   pub balance : w.balance ≡ sum_by under_way w.seats
 
+-- The owner is of this problem, cut and number, and sound, which it is after a refusal too.
+pub record IsOwner (q : Problem) (c : Cut) (i : ℕ) (o : Owner) : Type 0 where
+  pub problem : o.problem ≡ q
+  pub cut : o.cut ≡ c
+  pub me : o.me ≡ i
+  pub sound : IsSound o
+
+-- An orderly state, as each is, also once a growth of memory was refused: the owners are sound, and
+-- what one received from another stands in that one's log.
+pub record IsOrderly (q : Problem) (c : Cut) (w : State) : Type 0 where
+  pub count : length w.seats ≡ c.owners
+  pub owners : (i : ℕ) (s : Seat) → IsAt w i s → IsOwner q c i s.owner
+  pub heard :
+      (i j : ℕ) (s t : Seat) (g : Growth) → i ≢ j → IsAt w i s → IsAt w j t
+      → Contains (received_from s.owner j) g → Contains t.owner.log g
+
 -- ---- what follows
 
 -- the log of the owner of r says that r has e
@@ -80,9 +96,9 @@ abbrev pub AreRanksLow : State → Type 0
 AreRanksLow w =
     (i : ℕ) (s : Seat) (g : Growth) → IsAt w i s → Contains s.owner.log g → g.rank < 2 ^ 61
 
--- What holds of every state that a world of this problem and cut comes to: it is sound; its logs say
--- only what the least values have; at a balance of 0 nothing is under way, and they say just that;
--- and its ranks are low.
+-- What holds of every state that a world of this problem and cut comes to: it is sound; its logs
+-- say only what the least values have; at a balance of 0 nothing is under way, and they say just
+-- that; and its ranks are low.
 pub record IsLawful (q : Problem) (c : Cut) (w : State) : Type 0 where
   pub problem : IsSoundProblem q
   pub cut : IsCutOf q c

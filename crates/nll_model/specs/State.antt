@@ -1,4 +1,5 @@
--- The world of a schedule: every owner, what is under way between each two of them, and the balance.
+-- The world of a schedule: every owner, what is under way between each two of them, and the
+-- balance.
 -- Source: project's choice. (The global state of a distributed computation: each process, and what
 -- is in each channel; Chandy and Lamport, "Distributed snapshots", 1985.)
 use Rattle.std.specs.Prelude.{◌≡◌, ℕ, Bool, false, List, [], length, replicate}

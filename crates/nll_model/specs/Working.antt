@@ -1,12 +1,12 @@
 -- What the steps inside an event do to a lane and to a seat.
 -- Source: project's choice. Private contracts alone cite this file.
-use Rattle.std.specs.Prelude.{◌≡◌, ℕ, ◌<◌, ◌≤◌, Bool, true, false, List, [], ◌∷◌, ◌++◌, length}
-use Rattle.std.specs.Prelude.{drop, slice_get, Option, Some, None}
+use Rattle.std.specs.Prelude.{◌≡◌, ◌⊎◌, ℕ, ◌<◌, ◌≤◌, Bool, true, false, List, [], ◌∷◌, ◌++◌, length}
+use Rattle.std.specs.Prelude.{drop, slice_get, Contains, Option, Some, None}
 use Rattle.nll_problem.specs.Problem.{Problem}
 use Rattle.nll_cut.specs.Partition.{Cut}
 use Rattle.nll_mail.specs.declared.growth.Growth.{Growth}
-use Rattle.nll_owner.specs.Logs.{IsTold}
-use Rattle.nll_owner.specs.Owner.{IsSound, part_for, given_to}
+use Rattle.nll_owner.specs.Logs.{IsPrefix, IsTold}
+use Rattle.nll_owner.specs.Owner.{Owner, IsSound, part_for, given_to, received_from}
 use Rattle.nll_model.specs.State.{Lane, Seat, State, IsAt, lane_to, with_lane, first_seat}
 
 -- The first growth that is owed for went to the back of the box, or there is none.
@@ -47,6 +47,26 @@ pub record Fills (old new : Seat) (count : ℕ) : Type 0 where
       }
   pub other_given : (j : ℕ) → count ≤ j → given_to new.owner j ≡ given_to old.owner j
   pub other_lanes : (j : ℕ) → count ≤ j → lane_to new j ≡ lane_to old j
+
+-- The owner went on, perhaps to a refusal: its log is longer at most, and what it received it had
+-- received before, or it is of this kind.
+pub record GoesOn (came : ℕ → Growth → Type 0) (old new : Owner) : Type 0 where
+  pub begins : IsPrefix old.log new.log
+  pub problem : new.problem ≡ old.problem
+  pub cut : new.cut ≡ old.cut
+  pub me : new.me ≡ old.me
+  pub sound : IsSound new
+  pub heard :
+      (j : ℕ) (g : Growth) → Contains (received_from new j) g
+      → Contains (received_from old j) g ⊎ came j g
+
+-- no growth came
+abbrev pub NoGrowth : ℕ → Growth → Type 0
+NoGrowth j g = ⊥
+
+-- the growth came from the owner
+abbrev pub IsGrowthFrom : ℕ → Growth → ℕ → Growth → Type 0
+IsGrowthFrom from growth j g = (j ≡ from) × (g ≡ growth)
 
 -- the seats are those of owners that have done nothing yet
 abbrev pub AreFirst : Problem → Cut → List Seat → Type 0

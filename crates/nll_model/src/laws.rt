@@ -6,12 +6,12 @@ ghost use Rattle.nll_cut.specs.Partition.{Cut};
 ghost use Rattle.nll_owner.specs.Logs.{IsCutOf};
 ghost use Rattle.nll_model.specs.State.{State, IsFirst};
 ghost use Rattle.nll_model.specs.Events.{AreSteps};
-ghost use Rattle.nll_model.specs.Soundness.{IsSoundState, IsLawful};
+ghost use Rattle.nll_model.specs.Soundness.{IsSoundState, IsOrderly, IsLawful, AreRanksLow};
 ghost use Rattle.nll_model.specs.declared.event.Event.{Event};
 ghost use Rattle.nll_model.specs.declared.event.Step.{Step};
 
-/// States that in a sound state the logs say only what the least values have, that at a balance of 0
-/// nothing is under way and they say just that, and that no rank is 2^61 or above.
+/// States that in a sound state the logs say only what the least values have, that at a balance of
+/// 0 nothing is under way and they say just that, and that no rank is 2^61 or above.
 pub fn sound_states_are_lawful()
     ensures { (q : Problem) (c : Cut) (w : State)
         → IsSound q → IsCutOf q c → IsSoundState q c w → IsLawful q c w }
@@ -24,4 +24,10 @@ pub fn steps_are_lawful()
         (events : List Event) (answers : List (Option Step))
         → IsSound q → IsCutOf q c → IsFirst q c first → AreSteps first events answers last
         → IsLawful q c last }
+{}
+
+/// States that in an orderly state, as each is, also once a growth of memory was refused, no rank
+/// is 2^61 or above.
+pub fn orderly_states_have_low_ranks()
+    ensures { (q : Problem) (c : Cut) (w : State) → IsOrderly q c w → AreRanksLow w }
 {}

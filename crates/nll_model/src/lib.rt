@@ -1,7 +1,7 @@
 //! The model of a run: owners, the boxes between them and the balance, one event after another.
 //!
-//! Reading order: `laws`, `event`, `error`, `outcome`, `lane`, `seat`, `state`, `starting`, `world`,
-//! `replaying`. The definitions are in specs/: `State` first, then `Events`, `Soundness`,
+//! Reading order: `laws`, `event`, `error`, `outcome`, `lane`, `seat`, `state`, `starting`,
+//! `world`, `replaying`. The definitions are in specs/: `State` first, then `Events`, `Soundness`,
 //! `Replaying`.
 #![tactic(auto)]
 
@@ -19,7 +19,7 @@ mod world;
 pub use error::ModelError;
 pub use event::{Event, Step};
 pub use lane::Lane;
-pub use laws::{sound_states_are_lawful, steps_are_lawful};
+pub use laws::{orderly_states_have_low_ranks, sound_states_are_lawful, steps_are_lawful};
 pub use outcome::Replay;
 pub use replaying::replay;
 pub use seat::{Item, Seat};

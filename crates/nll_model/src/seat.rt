@@ -8,6 +8,7 @@ ghost use Rattle.nll_owner.specs.declared.error.OwnerError.TheVariants.{Broken};
 ghost use Rattle.nll_model.specs.State.{lane_to, with_lane, first_seat, empty_lane};
 ghost use Rattle.nll_model.specs.Events.{Turns, IsFree, HasSent, owed_seat, fresh_count};
 ghost use Rattle.nll_model.specs.Working.{Fills, PushesTo, TakesFrom};
+ghost use Rattle.nll_model.specs.Working.{GoesOn, NoGrowth, IsGrowthFrom};
 ghost use Rattle.nll_model.specs.declared.seat.Item.TheVariants.{Nothing};
 
 use crate::lane::Lane;
@@ -151,6 +152,7 @@ impl<'q> Seat<'q> {
         ensures turns { OnOk result (Turns self.old self.new) }
         ensures received { OnOk result (self.new.owner.received ≡ self.old.owner.received) }
         ensures whole { result ≡ Err Broken → ⊥ }
+        ensures goes_on { GoesOn NoGrowth self.old.owner self.new.owner }
     {
         self.owner.load()?;
         self.fill(owners)?;
@@ -177,6 +179,7 @@ impl<'q> Seat<'q> {
         ensures received { OnOk result
             (self.new.owner.received ≡ with_growth self.old.owner.received from growth) }
         ensures whole { result ≡ Err Broken → ⊥ }
+        ensures goes_on { GoesOn (IsGrowthFrom from growth) self.old.owner self.new.owner }
     {
         self.owner.receive(from, growth)?;
         self.fill(owners)?;
@@ -191,6 +194,8 @@ impl<'q> Seat<'q> {
         requires owners { owners ≡ self.old.owner.cut.owners }
         requires lanes { length self.old.lanes ≡ owners }
         ensures fills { OnOk result (Fills self.old self.new owners) }
+        ensures owner { self.new.owner ≡ record self.old.owner { given = self.new.owner.given } }
+        ensures sound { IsSound self.new.owner }
     {
         for to in 0..owners {
             self.lanes[to as usize].collect(&mut self.owner, to)?;
@@ -212,6 +217,7 @@ impl<'q> Seat<'q> {
         requires { fresh_count self.old < 2 ^ 64 }
         ensures seat { OnOk result (self.new ≡ owed_seat self.old) }
         ensures count { IfOk result (λ n. n ≡ fresh_count self.old) }
+        ensures owner { self.new.owner ≡ self.old.owner }
     {
         let mut count = 0u64;
         for to in 0..self.lanes.len() {
@@ -232,7 +238,8 @@ impl<'q> Seat<'q> {
     // is one.
     pub(crate) fn push(&mut self, to: u16) -> Result<bool, Memory>
         requires { to < length self.old.lanes }
-        ensures { IfOk result (λ moved. PushesTo moved to self.old self.new) }
+        ensures pushes { IfOk result (λ moved. PushesTo moved to self.old self.new) }
+        ensures owner { self.new.owner ≡ self.old.owner }
     {
         self.lanes[to as usize].push()
     }

@@ -1,13 +1,14 @@
 //! The state of a world, and what each event does to it.
 
-ghost use Rattle.std.specs.Prelude.{◌≡◌, ◌≢◌, ◌↔◌, ℕ, ◌<◌, length, Err, OnOk, IfOk, IsTrue};
+ghost use Rattle.std.specs.Prelude.{◌≡◌, ◌≢◌, ◌↔◌, ℕ, ◌<◌, length, Err, OnOk};
+ghost use Rattle.std.specs.Prelude.{OnErr, IfOk, IsTrue};
 ghost use Rattle.nll_problem.specs.Problem.{Problem};
 ghost use Rattle.nll_core.specs.Values.{IsHeld, IsShaped};
 ghost use Rattle.nll_cut.specs.Partition.{Cut};
 ghost use Rattle.nll_owner.specs.declared.error.OwnerError.TheVariants.{Broken};
 ghost use Rattle.nll_model.specs.State.{Seat, IsAt};
 ghost use Rattle.nll_model.specs.Events.{Does, IsPossible};
-ghost use Rattle.nll_model.specs.Soundness.{IsSoundState, Says};
+ghost use Rattle.nll_model.specs.Soundness.{IsSoundState, IsOrderly, Says};
 ghost use Rattle.nll_model.specs.declared.event.Event.TheVariants as events;
 ghost use Rattle.nll_model.specs.declared.event.Step.TheVariants.{Done};
 
@@ -92,6 +93,8 @@ impl<'q> State<'q> {
         requires possible { IsPossible self.old event }
         ensures does { IfOk result (λ answer. Does self.old event answer self.new) }
         ensures whole { result ≡ Err Broken → ⊥ }
+        ensures orderly { OnErr result ((q : Problem) (c : Cut)
+            → IsOrderly q c self.old → IsOrderly q c self.new) }
     {
         match event {
             Event::Load(i) => self.load(i)?,
@@ -178,6 +181,8 @@ impl<'q> State<'q> {
         requires possible { IsPossible self.old (events.Load i) }
         ensures does { OnOk result (Does self.old (events.Load i) Done self.new) }
         ensures whole { result ≡ Err Broken → ⊥ }
+        ensures orderly { OnErr result ((q : Problem) (c : Cut)
+            → IsOrderly q c self.old → IsOrderly q c self.new) }
     {
         let owners = self.seats.len() as u16;
         self.seats[i as usize].load(owners)?;
@@ -190,6 +195,8 @@ impl<'q> State<'q> {
         requires possible { IsPossible self.old (events.Take i j) }
         ensures does { OnOk result (Does self.old (events.Take i j) Done self.new) }
         ensures whole { result ≡ Err Broken → ⊥ }
+        ensures orderly { OnErr result ((q : Problem) (c : Cut)
+            → IsOrderly q c self.old → IsOrderly q c self.new) }
     {
         let owners = self.seats.len() as u16;
         match self.seats[j as usize].take(i) {
@@ -204,6 +211,8 @@ impl<'q> State<'q> {
         requires sound { (q : Problem) × (c : Cut) × IsSoundState q c self.old }
         requires possible { IsPossible self.old (events.Owe i) }
         ensures does { OnOk result (Does self.old (events.Owe i) Done self.new) }
+        ensures orderly { OnErr result ((q : Problem) (c : Cut)
+            → IsOrderly q c self.old → IsOrderly q c self.new) }
     {
         let count = self.seats[i as usize].owe()?;
         self.balance += count;
@@ -225,6 +234,8 @@ impl<'q> State<'q> {
         requires sound { (q : Problem) × (c : Cut) × IsSoundState q c self.old }
         requires possible { IsPossible self.old (events.Push i j) }
         ensures does { OnOk result (Does self.old (events.Push i j) Done self.new) }
+        ensures orderly { OnErr result ((q : Problem) (c : Cut)
+            → IsOrderly q c self.old → IsOrderly q c self.new) }
     {
         self.seats[i as usize].push(j)?;
         Ok(())

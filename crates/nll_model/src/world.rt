@@ -7,7 +7,7 @@ ghost use Rattle.nll_owner.specs.Tables.{AreTables};
 ghost use Rattle.nll_owner.specs.declared.error.OwnerError.TheVariants.{Memory as memory, Broken};
 ghost use Rattle.nll_model.specs.State.{World, IsNew};
 ghost use Rattle.nll_model.specs.Events.{IsStep, IsPossible};
-ghost use Rattle.nll_model.specs.Soundness.{IsLawful, Says};
+ghost use Rattle.nll_model.specs.Soundness.{IsLawful, IsOrderly, Says};
 ghost use Rattle.nll_model.specs.declared.error.ModelError.TheVariants.{NotNow, Owner};
 
 use crate::error::ModelError;
@@ -42,7 +42,7 @@ pub struct World<'q> {
 impl<'q> Model for World<'q> {
     ghost use Rattle.std.specs.Prelude.{◌≡◌, false};
     ghost use Rattle.nll_model.specs.State as spec;
-    ghost use Rattle.nll_model.specs.Soundness.{IsLawful};
+    ghost use Rattle.nll_model.specs.Soundness.{IsLawful, IsOrderly};
 
     ghost Value = { spec.World };
 
@@ -53,7 +53,8 @@ impl<'q> Model for World<'q> {
       broken = w.broken;
     } };
 
-    ghost invariant = { λ w. w.broken ≡ false → IsLawful w.problem.now w.cut.now w.state };
+    ghost invariant = { λ w. IsOrderly w.problem.now w.cut.now w.state
+        × (w.broken ≡ false → IsLawful w.problem.now w.cut.now w.state) };
 }
 
 impl<'q> World<'q> {
@@ -134,6 +135,7 @@ impl<'q> World<'q> {
         ensures unchanged { IfErr result (λ error. error ≢ Owner memory → self.new ≡ self.old) }
         ensures lawful { self.new.broken ≡ false
             → IsLawful self.new.problem self.new.cut self.new.state }
+        ensures orderly { IsOrderly self.new.problem self.new.cut self.new.state }
     {
         if self.broken {
             return Err(ModelError::Owner(OwnerError::Broken));
@@ -154,6 +156,7 @@ impl<'q> World<'q> {
         ensures seats { result.now ≡ self.now.state.seats }
         ensures lawful { self.now.broken ≡ false
             → IsLawful self.now.problem self.now.cut self.now.state }
+        ensures orderly { IsOrderly self.now.problem self.now.cut self.now.state }
     {
         self.state.seats()
     }

@@ -2,9 +2,9 @@
 use nll_core::{BuildError, Constraint, Problem, ProblemBuilder, RegionId};
 use std::alloc::Global;
 
-/// A problem: its points, of which the last returns, each next to the one before; its base facts, as
-/// a region and a point; and its constraints, as the larger region, the smaller one and the point.
-/// It has two region variables.
+/// A problem of two region variables: its points, of which the last returns, each next to the one
+/// before; its base facts, as a region and a point; and its constraints, as the larger region, the
+/// smaller one and the point.
 #[derive(Clone, Copy)]
 pub struct Written {
     pub points: u32,

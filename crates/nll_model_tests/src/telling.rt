@@ -126,8 +126,8 @@ fn write_lane(out: &mut String, lane: &Lane) -> Result<(), AllocError> {
     write_queue(out, "box", lane.boxed())
 }
 
-// Writes what an owner works on, how many growths it has grown, what is on its lanes, and whether it
-// has left.
+// Writes what an owner works on, how many growths it has grown, what is on its lanes, and whether
+// it has left.
 fn write_seat(out: &mut String, seat: &Seat) -> Result<(), AllocError> {
     let item = seat.item();
     write!(out, "{item:?} {}", seat.owner().log().len())?;
@@ -144,6 +144,9 @@ fn write_seat(out: &mut String, seat: &Seat) -> Result<(), AllocError> {
 fn write_state(out: &mut String, world: &World) -> Result<(), AllocError> {
     for seat in world.seats() {
         write_seat(out, seat)?;
+    }
+    if world.is_broken() {
+        out.push_str("broken|")?;
     }
     write!(out, "{}", world.balance())
 }

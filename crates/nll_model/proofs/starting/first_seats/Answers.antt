@@ -1,4 +1,4 @@
-use Rattle.std.proofs.Common.{◌≡◌, ◌+◌, ◌++◌, [], ◌∷◌, List, length, sym, ap, ◌∙◌, subst, arith, length-append}
+use Rattle.std.proofs.Common.{[], ◌∷◌, List, length, sym, ap, ◌∙◌, subst, arith, length-append}
 use Rattle.nll_model.specs.State.{Seat, first_seat}
 use Rattle.nll_model.specs.Working.{AreFirst}
 use Rattle.nll_model.proofs.ReplayLemmas.{first_push, is_first}

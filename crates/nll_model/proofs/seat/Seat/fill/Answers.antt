@@ -1,6 +1,5 @@
-use Rattle.std.proofs.Common.{◌≡◌, ◌<◌, length, refl, sym, ap, ◌∙◌, subst, arith}
+use Rattle.std.proofs.Common.{◌≡◌, ap, ◌∙◌, subst, arith}
 use Rattle.nll_owner.specs.Owner.{Owner}
-use Rattle.nll_model.specs.State.{Seat}
 use Rattle.nll_model.specs.Working.{Fills}
 use Rattle.nll_model.proofs.FillLemmas.{fills_none, fills_more}
 use Rattle.nll_model.proofs.seat.Seat.fill.Goals as goal
@@ -27,4 +26,8 @@ loop-to-preserved c = fills_more _ _ _ c.loop-to.invariant c.index_mut.result.no
 pub returns : goal.returns
 returns c =
     let end : c.loop-to.to ≡ c.args.owners = omega (arith, c.loop-to-test.false, c.loop-to.auto.to-end) in
-    record { fills = subst (Fills c.args.self.now _) end c.loop-to.invariant }
+    record {
+      fills = subst (Fills c.args.self.now _) end c.loop-to.invariant;
+      owner = c.loop-to.invariant.owner;
+      sound = c.loop-to.invariant.sound;
+    }

@@ -1,4 +1,4 @@
-use Rattle.std.proofs.Common.{◌≡◌, refl, sym, ap, ◌∙◌, subst}
+use Rattle.std.proofs.Common.{refl, sym, ap, ◌∙◌, subst}
 use Rattle.nll_owner.specs.Owner.{Owner}
 use Rattle.nll_model.specs.declared.seat.Item.TheVariants.{Fresh}
 use Rattle.nll_model.specs.State.{Seat}

@@ -1,8 +1,7 @@
-use Rattle.std.proofs.Common.{◌≡◌, ◌+◌, ◌<◌, ◌≤◌, length, sym, ap, ◌∙◌, subst, arith}
-use Rattle.nll_model.specs.State.{Seat, Lane}
-use Rattle.nll_model.specs.Events.{fresh_count, owed_lane}
+use Rattle.std.proofs.Common.{◌<◌, ◌≤◌, length, ap, arith}
+use Rattle.nll_model.specs.State.{Seat}
 use Rattle.nll_model.specs.declared.seat.Item.TheVariants.{Owed}
-use Rattle.nll_model.proofs.OweLemmas.{Owes, owes_more, owes_le, owes_seat, owes_count}
+use Rattle.nll_model.proofs.OweLemmas.{owes_more, owes_le, owes_seat}
 use Rattle.nll_model.proofs.seat.Seat.owe.Goals as goal
 
 pub overflow_add-count : goal.overflow_add-count

@@ -1,4 +1,3 @@
-use Rattle.nll_model.specs.State.{Seat}
 use Rattle.nll_model.proofs.OweLemmas.{Owes}
 use Rattle.nll_model.proofs.seat.Seat.owe.Given as goal
 

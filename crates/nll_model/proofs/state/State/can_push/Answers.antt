@@ -1,6 +1,6 @@
-use Rattle.std.proofs.Common.{◌≡◌, ◌≢◌, ◌<◌, ℕ, Bool, true, false, not, length, get_or, sym, ap, ◌∙◌, subst, arith}
+use Rattle.std.proofs.Common.{◌≢◌, ◌<◌, length, get_or, sym, ap, ◌∙◌, arith}
 use Rattle.nll_owner.proofs.OwnerLemmas.{get_at}
-use Rattle.nll_model.specs.State.{Seat, State, IsAt}
+use Rattle.nll_model.specs.State.{State, IsAt}
 use Rattle.nll_model.proofs.StateLemmas.{lanes_is}
 use Rattle.nll_model.proofs.PossibleLemmas.{no_push, may_push}
 use Rattle.nll_model.proofs.state.State.can_push.Goals as goal

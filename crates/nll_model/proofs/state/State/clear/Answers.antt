@@ -1,6 +1,6 @@
-use Rattle.std.proofs.Common.{◌≡◌, ◌+◌, ◌-◌, ◌≤◌, ◌<◌, ℕ, false, length, get_or, slice_set, refl, sym, ap, ◌∙◌, subst, arith}
+use Rattle.std.proofs.Common.{◌≡◌, ◌-◌, ◌<◌, get_or, slice_set, ap, ◌∙◌, arith}
 use Rattle.nll_model.specs.declared.seat.Item.TheVariants.{Nothing}
-use Rattle.nll_model.specs.State.{Seat, State, IsAt}
+use Rattle.nll_model.specs.State.{Seat, State}
 use Rattle.nll_model.proofs.BoundLemmas.{balance_some}
 use Rattle.nll_model.proofs.StateLemmas.{seat_is}
 use Rattle.nll_model.proofs.state.State.clear.Goals as goal

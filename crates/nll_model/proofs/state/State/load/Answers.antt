@@ -1,8 +1,13 @@
-use Rattle.std.proofs.Common.{◌≡◌, ◌≤◌, ◌<◌, ℕ, false, [], length, get_or, slice_set, sym, ap, ◌∙◌, subst, arith}
-use Rattle.nll_cut.specs.Partition.{Cut}
+use Rattle.std.proofs.Common.{◌≡◌, ℕ, [], length, get_or, slice_set, sym, ap, ◌∙◌, subst, arith}
 use Rattle.nll_owner.specs.Owner.{IsSound}
 use Rattle.nll_model.specs.State.{Seat, State, IsAt, with_seat, lane_to}
 use Rattle.nll_model.proofs.StateLemmas.{seat_is, place_in, owners_is, lanes_is, seats_few, none_fresh}
+use Rattle.nll_model.specs.Working.{GoesOn, NoGrowth}
+use Rattle.nll_problem.specs.Problem.{Problem}
+use Rattle.nll_cut.specs.Partition.{Cut}
+use Rattle.nll_owner.proofs.OwnerLemmas.{on_err_always}
+use Rattle.nll_model.specs.Soundness.{IsOrderly}
+use Rattle.nll_model.proofs.OrderlyLemmas.{orderly_after}
 use Rattle.nll_model.proofs.state.State.load.Goals as goal
 use Rattle.nll_model.proofs.state.State.load.Goals.{After-index_mut}
 
@@ -61,3 +66,10 @@ pub returns-clause-does : goal.returns-clause-does
 returns-clause-does c =
     let d = (goal.at.returns-clause-does c).After-index_mut in
     (c.index_mut.result.now, c.load.new.self, subst (IsAt c.args.self.now c.args.i) (sym (is d)) c.requires.possible.1, ap (λ (s : Seat). s.owner.loaded) (is d) ∙ c.requires.possible.2, c.in_ok-load.ensures.turns, c.in_ok-load.ensures.received, ap (λ (w : State). with_seat w c.args.i c.load.new.self) c.self.view_is)
+
+pub returns-in_err-load-clause-orderly : goal.returns-in_err-load-clause-orderly
+returns-in_err-load-clause-orderly c =
+    let d = (goal.at.returns-in_err-load-clause-orderly c).After-index_mut in
+    let on = subst (λ (s : Seat). GoesOn NoGrowth s.owner c.load.new.self.owner) (is d) c.load.ensures.goes_on in
+    let all : (q : Problem) (e : Cut) → IsOrderly q e c.args.self.now → IsOrderly q e (record { seats = slice_set c.self.inside.seats.items c.args.i c.load.new.self; balance = c.self.inside.balance }) = λ q e orderly. orderly_after q e c.args.self.now (record { seats = c.self.inside.seats.items; balance = c.self.inside.balance }) c.args.i c.requires.possible.0 c.load.new.self c.self.inside.balance c.self.view_is c.requires.possible.1 on orderly in
+    on_err_always _ all

@@ -1,8 +1,12 @@
-use Rattle.std.proofs.Common.{◌≡◌, ◌+◌, ◌-◌, ◌≤◌, ◌<◌, ℕ, false, length, map, get_or, slice_set, refl, sym, ap, ◌∙◌, subst, arith}
-use Rattle.nll_model.specs.declared.seat.Item.TheVariants.{Owed}
-use Rattle.nll_model.specs.State.{Seat, State, IsAt}
-use Rattle.nll_model.specs.Events.{owed_lane, fresh_count}
+use Rattle.std.proofs.Common.{◌≡◌, ◌+◌, ◌≤◌, ℕ, get_or, slice_set, ap, ◌∙◌, arith}
+use Rattle.nll_model.specs.State.{Seat, State}
+use Rattle.nll_model.specs.Events.{owed_seat, fresh_count}
 use Rattle.nll_model.proofs.StateLemmas.{seat_is, owe_small}
+use Rattle.nll_problem.specs.Problem.{Problem}
+use Rattle.nll_cut.specs.Partition.{Cut}
+use Rattle.nll_owner.proofs.OwnerLemmas.{on_err_always}
+use Rattle.nll_model.specs.Soundness.{IsOrderly}
+use Rattle.nll_model.proofs.OrderlyLemmas.{orderly_after, stays}
 use Rattle.nll_model.proofs.state.State.owe.Goals as goal
 use Rattle.nll_model.proofs.state.State.owe.Goals.{After-index_mut}
 
@@ -23,19 +27,24 @@ overflow_add-self c =
     let e = ap fresh_count (is d) in let n = ap (λ (w : State). w.balance) c.self.view_is in
     omega (arith, e, n, small d, c.in_ok-count.ensures.count)
 
-pub returns : goal.returns
-returns c =
-    let d = (goal.at.returns c).After-index_mut in
+pub returns-clause-does : goal.returns-clause-does
+returns-clause-does c =
+    let d = (goal.at.returns-clause-does c).After-index_mut in
     let s = c.requires.possible.0 in
-    let owed = c.in_ok-count.ensures.seat ∙ ap (λ (x : Seat). record x { item = Owed; lanes = map owed_lane x.lanes }) (is d) in
-    let count = c.in_ok-count.ensures.count ∙ ap fresh_count (is d) in
-    record {
-      does = (
-        s,
-        c.requires.possible.1,
-        c.requires.possible.2,
-        ap (λ (w : State). record { seats = slice_set w.seats c.args.i c.owe.new.self; balance = w.balance + c.in_ok-count.count }) c.self.view_is
-            ∙ (ap (λ (x : Seat). record { seats = slice_set c.args.self.now.seats c.args.i x; balance = c.args.self.now.balance + c.in_ok-count.count }) owed
-            ∙ ap (λ (k : ℕ). record { seats = slice_set c.args.self.now.seats c.args.i (record s { item = Owed; lanes = map owed_lane s.lanes }); balance = c.args.self.now.balance + k }) count),
-      );
-    }
+    let owed = c.in_ok-count.ensures.seat ∙ ap owed_seat (is d) in
+    let count = c.in_ok-count.ensures.count ∙ ap fresh_count (is d) in (
+      s,
+      c.requires.possible.1,
+      c.requires.possible.2,
+      ap (λ (w : State). record { seats = slice_set w.seats c.args.i c.owe.new.self; balance = w.balance + c.in_ok-count.count }) c.self.view_is
+          ∙ (ap (λ (x : Seat). record { seats = slice_set c.args.self.now.seats c.args.i x; balance = c.args.self.now.balance + c.in_ok-count.count }) owed
+          ∙ ap (λ (k : ℕ). record { seats = slice_set c.args.self.now.seats c.args.i (owed_seat s); balance = c.args.self.now.balance + k }) count),
+    )
+
+pub returns-in_err-count-clause-orderly : goal.returns-in_err-count-clause-orderly
+returns-in_err-count-clause-orderly c =
+    let d = (goal.at.returns-in_err-count-clause-orderly c).After-index_mut in
+    let old = c.requires.sound.2.seats c.args.i c.requires.possible.0 c.requires.possible.1 in
+    let on = stays _ _ (c.owe.ensures.owner ∙ ap (λ (s : Seat). s.owner) (is d)) old.sound in
+    let all : (q : Problem) (e : Cut) → IsOrderly q e c.args.self.now → IsOrderly q e (record { seats = slice_set c.self.inside.seats.items c.args.i c.owe.new.self; balance = c.self.inside.balance }) = λ q e orderly. orderly_after q e c.args.self.now (record { seats = c.self.inside.seats.items; balance = c.self.inside.balance }) c.args.i c.requires.possible.0 c.owe.new.self c.self.inside.balance c.self.view_is c.requires.possible.1 on orderly in
+    on_err_always _ all

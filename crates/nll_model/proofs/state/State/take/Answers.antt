@@ -1,11 +1,13 @@
-use Rattle.std.proofs.Common.{◌≡◌, ◌≢◌, ◌≤◌, ◌<◌, ℕ, true, false, [], List, ◌∷◌, length, get_or, slice_set, sym, ap, ◌∙◌, subst, arith}
+use Rattle.std.proofs.Common.{◌≡◌, ℕ, [], length, get_or, slice_set, sym, ap, ◌∙◌, subst, arith}
+use Rattle.nll_owner.specs.Owner.{IsSound, Passes, with_growth}
+use Rattle.nll_model.specs.State.{Seat, State, with_lane, lane_to}
+use Rattle.nll_model.specs.Events.{Turns}
+use Rattle.nll_model.proofs.StateLemmas.{seat_is, place_in, owners_is, lanes_is, seats_few, none_fresh, other_is, passes, taken_is, taken_orderly}
 use Rattle.nll_problem.specs.Problem.{Problem}
 use Rattle.nll_cut.specs.Partition.{Cut}
-use Rattle.nll_mail.specs.declared.growth.Growth.{Growth}
-use Rattle.nll_owner.specs.Owner.{IsSound, Passes, with_growth}
-use Rattle.nll_model.specs.State.{Seat, State, Lane, IsAt, with_seat, with_lane, lane_to}
-use Rattle.nll_model.specs.Events.{Turns, IsFree}
-use Rattle.nll_model.proofs.StateLemmas.{seat_is, place_in, owners_is, lanes_is, seats_few, none_fresh, other_is, passes, taken_is}
+use Rattle.nll_owner.proofs.OwnerLemmas.{on_err_always}
+use Rattle.nll_model.specs.Soundness.{IsOrderly}
+use Rattle.nll_model.specs.Working.{GoesOn, IsGrowthFrom}
 use Rattle.nll_model.proofs.state.State.take.Goals as goal
 use Rattle.nll_model.proofs.state.State.take.Goals.{After-index_mut, After-index_mut-in-Some}
 
@@ -112,3 +114,15 @@ returns-clause-does c =
       ap (λ (w : State). record { seats = slice_set (slice_set w.seats c.args.j c.take.new.self) c.args.i t; balance = w.balance }) c.self.view_is
           ∙ taken_is c.requires.sound.0 c.requires.sound.1 c.args.self.now c.requires.sound.2 c.args.i c.args.j s u c.requires.possible.2 c.requires.possible.3 c.requires.possible.4 c.requires.possible.5 t c.take.new.self _ left,
     )
+
+pub returns-in_err-receive-in-Some-clause-orderly : goal.returns-in_err-receive-in-Some-clause-orderly
+returns-in_err-receive-in-Some-clause-orderly c =
+    let d = (goal.at.returns-in_err-receive-in-Some-clause-orderly c).After-index_mut-in-Some in
+    let e = (goal.at.returns-in_err-receive-in-Some-clause-orderly c).After-index_mut in
+    let first = ap (λ (x : Seat). (lane_to x c.args.i).box) (sym (giver e)) ∙ c.in-Some.ensures.1 in
+    let left = c.in-Some.ensures.2 ∙ ap (λ (x : Seat). with_lane x c.args.i (record (lane_to x c.args.i) { box = c.in-Some.ensures.0 })) (giver e) in
+    let on = subst (λ (x : Seat). GoesOn (IsGrowthFrom c.args.j c.in-Some.growth) x.owner c.receive.new.self.owner) (taker d) c.receive.ensures.goes_on in
+    let all : (q : Problem) (f : Cut) → IsOrderly q f c.args.self.now → IsOrderly q f (record { seats = slice_set (slice_set c.self.inside.seats.items c.args.j c.take.new.self) c.args.i c.receive.new.self; balance = c.self.inside.balance }) = λ q f orderly. subst (λ (w : State). IsOrderly q f (record { seats = slice_set (slice_set w.seats c.args.j c.take.new.self) c.args.i c.receive.new.self; balance = w.balance })) (sym c.self.view_is)
+    (taken_orderly c.requires.sound.0 c.requires.sound.1 c.args.self.now c.requires.sound.2 c.args.i c.args.j c.requires.possible.0 c.requires.possible.1 c.requires.possible.2 c.requires.possible.3 c.requires.possible.4 c.requires.possible.5
+    c.in-Some.growth c.in-Some.ensures.0 first c.take.new.self c.receive.new.self _ left on q f orderly) in
+    on_err_always _ all

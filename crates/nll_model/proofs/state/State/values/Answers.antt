@@ -1,13 +1,12 @@
-use Rattle.std.proofs.Common.{◌≡◌, ◌<◌, ◌+◌, ℕ, List, false, Contains, replicate, length, get_or, sym, ap, ◌∙◌, subst, arith}
-use Rattle.nll_problem.specs.Graph.{element_count}
+use Rattle.std.proofs.Common.{ℕ, List, Contains, length, get_or, sym, ap, ◌∙◌, subst, arith}
 use Rattle.nll_core.specs.Growing.{Gains}
-use Rattle.nll_core.specs.Values.{IsHeld, IsShaped, set_of, empty_values}
+use Rattle.nll_core.specs.Values.{IsHeld, IsShaped, empty_values}
 use Rattle.nll_core.proofs.SolverLemmas.{shaped_empty, shaped_gains}
 use Rattle.nll_mail.specs.declared.growth.Growth.{Growth}
 use Rattle.nll_owner.specs.Logs.{IsTold}
 use Rattle.nll_owner.specs.Owner.{Owner}
 use Rattle.nll_owner.proofs.OwnerLemmas.{get_at}
-use Rattle.nll_model.specs.State.{Seat, State, IsAt}
+use Rattle.nll_model.specs.State.{State, IsAt}
 use Rattle.nll_model.specs.Working.{IsSaid}
 use Rattle.nll_model.proofs.SaysLemmas.{said_in, says_more, says_all, says_values}
 use Rattle.nll_model.proofs.state.State.values.Goals as goal

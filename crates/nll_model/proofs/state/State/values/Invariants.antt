@@ -1,4 +1,4 @@
-use Rattle.std.proofs.Common.{◌≡◌, ℕ, ◌<◌}
+use Rattle.std.proofs.Common.{ℕ, ◌<◌}
 use Rattle.nll_core.specs.Growing.{Gains}
 use Rattle.nll_core.specs.Values.{IsHeld, empty_values}
 use Rattle.nll_owner.specs.Logs.{IsTold}
