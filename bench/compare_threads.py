@@ -41,7 +41,7 @@ USAGES = [["--owners", "0"], ["--owners", "65"], ["--owners", "-1"], ["--owners"
           ["--owners", "65537"], ["--owners", "18446744073709551617"], ["--owners", "01"], ["--owners", "+1"],
           ["--owners=0"], ["--owners=65"], ["--owners="], ["--owners"], ["--owners", "1", "--owners", "1"],
           ["--deal", "random"], ["--deal", "2"], ["--deal="], ["--deal"], ["--deal=round", "--deal", "round"],
-          ["--mail", "post"], ["--mail"], ["--cut"], ["--owner", "2"], ["--deals", "round"]]
+          ["--mail", "post"], ["--mail", "rings"], ["--mail"], ["--mail=ring", "--mail", "ring"], ["--cut"], ["--owner", "2"], ["--deals", "round"]]
 
 
 def region_count(text):
@@ -131,8 +131,8 @@ class Case:
             pairs += [["--deal", deal]] if deal == "blocks" or rng.random() < 0.5 else []
         if self.owners > 1 or not self.has_cut or rng.random() < 0.5:
             pairs.append(["--owners", str(self.owners)])
-        if rng.random() < 0.3:
-            pairs.append(["--mail", "queue"])
+        if rng.random() < 0.6:
+            pairs.append(["--mail", rng.choice(["queue", "ring", "ring"])])
         pairs = [["=".join(pair)] if rng.random() < 0.2 else pair for pair in pairs]
         rng.shuffle(pairs)
         pairs.insert(rng.choice([0, 0, rng.randrange(len(pairs) + 1)]), [FILE])

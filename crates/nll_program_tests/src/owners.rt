@@ -17,6 +17,9 @@ values|chain|--owners|2|--deal|blocks
 values|chain|--owners|16|--deal|blocks
 values|chain|--owners|64|--deal|blocks
 values|--owners|3|chain|--mail|queue
+values|--owners|3|chain|--mail|ring
+values|chain|--mail=ring|--cut|two|--owners|64
+values|chain|--mail|ring
 values|chain|--cut|one
 values|chain|--owners|2|--cut|one
 values|chain|--owners|2|--cut|two
@@ -75,7 +78,7 @@ values|chain|--owners
 values|chain|--owners|2|--owners|2
 values|chain|--owners|2|--deal|turns
 values|chain|--owners|3|--deal|round|--cut|one
-values|chain|--owners|2|--mail|ring
+values|chain|--owners|2|--mail|rings
 ";
 
 const USAGE_LINE: &str = "2>>usage: nllc values!check!replay FILE \
