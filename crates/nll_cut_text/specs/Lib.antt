@@ -1,2 +1,1 @@
 pub mod CutText
-pub mod CutReading

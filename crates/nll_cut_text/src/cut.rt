@@ -1,13 +1,12 @@
 //! Reading a whole cut file.
 
-ghost use Rattle.std.specs.Prelude.{◌≡◌, ◌⊎◌, ◌<◌, ◌^◌, ℕ, List, length, OnOk, IfOk, IfErr};
-ghost use Rattle.nll_text.specs.Lines.{lines_left};
-ghost use Rattle.nll_reading.specs.Text.{IsFault, IsFaulty, IsRefusal};
-ghost use Rattle.nll_cut_text.specs.CutText.{cut, Means};
-ghost use Rattle.nll_cut_text.specs.CutReading.{ReadsLine, MeansBody, RefusesBody};
+ghost use Rattle.std.specs.Prelude.{IfOk, IfErr, [], codes, refl};
+ghost use Rattle.nll_reading.specs.Parts.{number as number_part};
+ghost use Rattle.nll_reading.specs.Text.{IsFault, IsRefusal};
+ghost use Rattle.nll_cut_text.specs.CutText.{cut, owners, Means};
 
-use nll_reading::{TextError, TextKind, number, open_text, pass_over};
-use nll_text::next_line;
+use nll_list_text::{ListFormat, read_list};
+use nll_reading::{TextError, TextKind, number};
 use std::alloc::Global;
 
 /// Reads a cut file, version 1: the owner of each region, in region order.
@@ -22,42 +21,35 @@ pub fn read_cut(alloc: Global, text: &[u8]) -> Result<Vec<u16>, TextError>
     ensures ok { IfOk result (λ list. Means text.now list.items) }
     ensures fault { IfErr result (IsRefusal (IsFault cut text.now)) }
 {
-    let body = open_text(text, b"nll-cut", b"1")?;
-    read_lines(alloc, body)
+    read_list(alloc, &CutFile, text)
 }
 
-// Reads the lines behind the header.
-fn read_lines(alloc: Global, body: Option<&[u8]>) -> Result<Vec<u16>, TextError>
-    requires long { length (lines_left body) < 2 ^ 32 }
-    ensures ok { IfOk result (λ list. MeansBody (lines_left body.entry) list.items) }
-    ensures fault { IfErr result (RefusesBody (lines_left body.entry)) }
-{
-    let mut list = Vec::new(alloc);
-    let mut number = 1;
-    let mut rest = body;
-    while let Some(text) = rest {
-        let (line, after) = next_line(text);
-        number += 1;
-        if let Err(kind) = read_line(line, &mut list) {
-            return Err(TextError::at(number, kind));
+// Cut files, version 1.
+#[derive(Clone, Copy)]
+struct CutFile;
+
+impl ListFormat for CutFile {
+    type Item = u16;
+
+    ghost listing = { λ _. owners };
+
+    ghost entry = { λ _ n. n };
+
+    ghost some_part = { λ _ n. (number_part n, [], refl) };
+
+    fn kind(&self) -> &'static [u8] {
+        b"nll-cut"
+    }
+
+    fn version(&self) -> &'static [u8] {
+        b"1"
+    }
+
+    fn item(&self, line: &[u8]) -> Result<Option<u16>, TextKind> {
+        match number(line) {
+            None => Ok(None),
+            Some(owner) if owner > 65_535 => Err(TextKind::Range),
+            Some(owner) => Ok(Some(owner as u16)),
         }
-        rest = after;
     }
-    Ok(list)
-}
-
-// Takes in a line behind the header.
-fn read_line(line: &[u8], list: &mut Vec<u16>) -> Result<(), TextKind>
-    ensures ok { OnOk result (ReadsLine list.old.items line.now list.new.items) }
-    ensures fault { IfErr result
-        (λ kind. (kind ≡ TextKind.Memory) ⊎ IsFaulty cut list.old.items line.now kind) }
-{
-    let Some(owner) = number(line) else {
-        return pass_over(line);
-    };
-    if owner > 65_535 {
-        return Err(TextKind::Range);
-    }
-    list.push(owner as u16)?;
-    Ok(())
 }

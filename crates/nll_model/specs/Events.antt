@@ -7,10 +7,10 @@ use Rattle.nll_mail.specs.declared.growth.Growth.{Growth}
 use Rattle.nll_owner.specs.Logs.{IsPrefix}
 use Rattle.nll_owner.specs.Owner.{IsSound, IsDone, part_for, given_to, with_growth}
 use Rattle.nll_model.specs.State.{Lane, Seat, State, IsAt, lane_to, with_seat, with_lane}
-use Rattle.nll_model.specs.declared.event.Event.{Event}
-use Rattle.nll_model.specs.declared.event.Event.TheVariants.{Load, Take, Owe, Clear, Push, Leave}
-use Rattle.nll_model.specs.declared.event.Step.{Step}
-use Rattle.nll_model.specs.declared.event.Step.TheVariants.{Done, Quiet, Open}
+use Rattle.nll_event.specs.declared.event.Event.{Event}
+use Rattle.nll_event.specs.declared.event.Event.TheVariants.{Load, Take, Owe, Clear, Push, Leave}
+use Rattle.nll_model.specs.declared.outcome.Step.{Step}
+use Rattle.nll_model.specs.declared.outcome.Step.TheVariants.{Done, Quiet, Open}
 use Rattle.nll_model.specs.declared.seat.Item.TheVariants.{Nothing, Fresh, Owed}
 
 -- ---- where an event is possible

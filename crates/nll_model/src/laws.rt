@@ -7,8 +7,8 @@ ghost use Rattle.nll_owner.specs.Logs.{IsCutOf};
 ghost use Rattle.nll_model.specs.State.{State, IsFirst};
 ghost use Rattle.nll_model.specs.Events.{AreSteps};
 ghost use Rattle.nll_model.specs.Soundness.{IsSoundState, IsOrderly, IsLawful, AreRanksLow};
-ghost use Rattle.nll_model.specs.declared.event.Event.{Event};
-ghost use Rattle.nll_model.specs.declared.event.Step.{Step};
+ghost use Rattle.nll_event.specs.declared.event.Event.{Event};
+ghost use Rattle.nll_model.specs.declared.outcome.Step.{Step};
 
 /// States that in a sound state the logs say only what the least values have, that at a balance of
 /// 0 nothing is under way and they say just that, and that no rank is 2^61 or above.

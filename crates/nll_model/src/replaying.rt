@@ -10,10 +10,10 @@ ghost use Rattle.nll_model.specs.Replaying.{IsReplay};
 ghost use Rattle.nll_model.specs.declared.error.ModelError.TheVariants.{Owner};
 
 use crate::error::ModelError;
-use crate::event::{Event, Step};
-use crate::outcome::Replay;
+use crate::outcome::{Replay, Step};
 use crate::world::World;
 use nll_cut::Cut;
+use nll_event::Event;
 use nll_owner::{OwnerError, Tables};
 use nll_problem::Problem;
 use std::alloc::Global;

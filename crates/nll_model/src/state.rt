@@ -9,12 +9,13 @@ ghost use Rattle.nll_owner.specs.declared.error.OwnerError.TheVariants.{Broken};
 ghost use Rattle.nll_model.specs.State.{Seat, IsAt};
 ghost use Rattle.nll_model.specs.Events.{Does, IsPossible};
 ghost use Rattle.nll_model.specs.Soundness.{IsSoundState, IsOrderly, Says};
-ghost use Rattle.nll_model.specs.declared.event.Event.TheVariants as events;
-ghost use Rattle.nll_model.specs.declared.event.Step.TheVariants.{Done};
+ghost use Rattle.nll_event.specs.declared.event.Event.TheVariants as events;
+ghost use Rattle.nll_model.specs.declared.outcome.Step.TheVariants.{Done};
 
-use crate::event::{Event, Step};
+use crate::outcome::Step;
 use crate::seat::{Item, Seat};
 use nll_core::Values;
+use nll_event::Event;
 use nll_owner::{OwnerError, enter_log};
 use nll_problem::Problem;
 use nll_sets::Memory;

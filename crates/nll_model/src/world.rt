@@ -11,12 +11,13 @@ ghost use Rattle.nll_model.specs.Soundness.{IsLawful, IsOrderly, Says};
 ghost use Rattle.nll_model.specs.declared.error.ModelError.TheVariants.{NotNow, Owner};
 
 use crate::error::ModelError;
-use crate::event::{Event, Step};
+use crate::outcome::Step;
 use crate::seat::Seat;
 use crate::starting::first_seats;
 use crate::state::State;
 use nll_core::Values;
 use nll_cut::Cut;
+use nll_event::Event;
 use nll_owner::{OwnerError, Tables};
 use nll_problem::Problem;
 use nll_sets::Memory;

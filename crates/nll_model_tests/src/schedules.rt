@@ -2,7 +2,7 @@
 use super::failure::Failure;
 use super::problems::{BY_TURNS, REACHED, Written};
 use super::telling::{compare, replayed};
-use nll_model::Event::{self, Clear, Leave, Load, Owe, Push, Take};
+use nll_event::Event::{self, Clear, Leave, Load, Owe, Push, Take};
 use std::alloc::Global;
 
 // An event of two owners, what it answers, and what each region has then, after the balance.

@@ -1,0 +1,31 @@
+use Rattle.std.proofs.lemmas.Result.{err_from_is_err_and, IfOk-weaker, IfErr-weaker}
+use Rattle.nll_text.specs.Lines.{lines_left}
+use Rattle.nll_reading.specs.Listing.{format_of}
+use Rattle.nll_reading.proofs.ReadingLemmas.{body_refused, unopened_refused}
+use Rattle.nll_list_text.proofs.list.read_list.Goals as goal
+
+pub returns-in_err-body-clause-fault : goal.returns-in_err-body-clause-fault
+returns-in_err-body-clause-fault g c =
+    let p = err_from_is_err_and c.from_residual.result c.from_residual.ensures.1 in
+    rw (p.1, p.2)
+    (unopened_refused (format_of (g.F.ListFormat.listing c.args.format.now)) _ _ (rw (c.kind.ensures, c.version.ensures) at c.in_err-body.ensures.fault))
+
+pub read_lines-requires : goal.read_lines-requires
+read_lines-requires g c = record { long = c.in_ok-body.ensures.few }
+
+pub returns-clause-ok : goal.returns-clause-ok
+returns-clause-ok g c =
+    IfOk-weaker c.read_lines.result _ _
+    (λ list says. record {
+      body = lines_left c.in_ok-body.body;
+      headed = rw (c.kind.ensures, c.version.ensures) at c.in_ok-body.ensures.ok;
+      fine = says;
+      ended = tt;
+    })
+    c.read_lines.ensures.ok
+
+pub returns-clause-fault : goal.returns-clause-fault
+returns-clause-fault g c =
+    IfErr-weaker c.read_lines.result _ _
+    (λ e wrong. body_refused (format_of (g.F.ListFormat.listing c.args.format.now)) c.args.text.now _ e (rw (c.kind.ensures, c.version.ensures) at c.in_ok-body.ensures.ok) wrong)
+    c.read_lines.ensures.fault

@@ -1,0 +1,31 @@
+-- What a reader of a text that lists items makes of a line, and of all lines.
+-- Source: project's choice. What a listing is stands in nll_reading (`Listing`).
+use Rattle.std.specs.Prelude.{◌≡◌, ℕ, ◌-◌, ◌≤◌, List, ◌∷◌, Option, None, Some, Result, Ok, Err}
+use Rattle.nll_reading.specs.Listing.{Listing}
+use Rattle.nll_reading.specs.Parts.{Part, Spells}
+use Rattle.nll_reading.specs.Text.{Format, HasFault, IsRefusal}
+use Rattle.nll_reading.specs.declared.error.TextError.{TextError}
+use Rattle.nll_reading.specs.declared.error.TextKind.{TextKind}
+
+-- The answer to a line is the item of an entry without a fault, which the line spells; or what is
+-- wrong with an entry that it spells; or none, where it spells no entry.
+abbrev pub IsItemOf : {Item : Type 0} (listing : Listing) → (Item → listing.Entry) → List ℕ
+    → Result (Option Item) TextKind → Type 0
+IsItemOf listing entry line (Ok (Some item)) =
+    Spells line (listing.parts (entry item)) × (listing.fault (entry item) ≡ None)
+IsItemOf listing entry line (Ok None) =
+    (e : listing.Entry) → Spells line (listing.parts e) → ⊥
+IsItemOf listing entry line (Err kind) =
+    (e : listing.Entry) × Spells line (listing.parts e) × (listing.fault e ≡ Some kind)
+
+-- the line of each entry has a part
+abbrev pub HasSomePart : Listing → Type 0
+HasSomePart listing = (e : listing.Entry)
+    → (first : Part) × (rest : List Part) × (listing.parts e ≡ first ∷ rest)
+
+-- ---- private contracts alone cite this
+
+-- the error tells the first fault of the lines behind the header, or that memory was refused
+abbrev pub IsBodyFault : Format → List (List ℕ) → TextError → Type 0
+IsBodyFault format body =
+    IsRefusal (λ line kind. (2 ≤ line) × HasFault format body (line - 2) kind)

@@ -1,0 +1,2 @@
+pub mod ScheduleText
+pub mod ScheduleLines
