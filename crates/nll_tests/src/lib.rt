@@ -33,6 +33,8 @@ mod naming;
 #[cfg(test)]
 mod rows;
 #[cfg(test)]
+mod schedules;
+#[cfg(test)]
 mod sets;
 #[cfg(test)]
 mod solving;

@@ -7,6 +7,7 @@ use super::frontiers::{write_frontier, write_frontier_to_end};
 use super::graphs::{Then, write_graph_then};
 use super::lines::{OfLine, write_line};
 use super::messages::{write_memory, write_messages};
+use super::schedules::write_schedule;
 use super::sets::{write_last_bit, write_runs, write_sets};
 use super::telling::OfProblem;
 use super::tokens::write_scanned;
@@ -43,6 +44,8 @@ pub enum Asked {
     Cut(u32, u16, Deal),
     /// Of a text: which owners it lists, as a cut file.
     CutFile(&'static [u8]),
+    /// Of a number of owners and a text: which events it lists, as a schedule.
+    Schedule(u16, &'static [u8]),
     /// Of a set of a length: what it tells as elements are put in, and of the next element from
     /// some numbers on.
     Sets(u32, &'static [u32], &'static [u32]),
@@ -77,6 +80,7 @@ fn write_told(out: &mut Transcript, says: &str, asked: Asked) {
         Asked::FrontierToEnd(runs) => write_frontier_to_end(out, runs),
         Asked::Cut(regions, owners, deal) => write_cut(out, (regions, owners), deal),
         Asked::CutFile(text) => write_cut_file(out, text),
+        Asked::Schedule(owners, text) => write_schedule(out, owners, text),
         Asked::Sets(len, inserted, from) => write_sets(out, len, inserted, from),
         Asked::LastBit => write_last_bit(out),
         Asked::Runs(elements) => write_runs(out, elements),
