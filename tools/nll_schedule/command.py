@@ -57,8 +57,8 @@ def words_of(arguments):
     parser.add_argument("--owners", metavar="N", type=int, choices=range(1, MOST_OWNERS + 1),
                         help="how many owners there are (otherwise as many as the schedule names)")
     dealing = parser.add_mutually_exclusive_group()
-    dealing.add_argument("--deal", choices=("round", "blocks"), default="round",
-                         help="regions go to the owners in turns, or in blocks")
+    dealing.add_argument("--deal", choices=("round", "blocks"),
+                         help="regions go to the owners in turns (as otherwise), or in blocks")
     dealing.add_argument("--cut", metavar="FILE", help="a cut file, which lists the owner of each region")
     parser.add_argument("-o", metavar="OUT.html", dest="out",
                         help="the page (otherwise SCHEDULE with .html behind it)")
@@ -80,7 +80,7 @@ def content_of(asked):
     owners = asked.owners or named_owners(read_bytes(asked.schedule))
     look_small(asked, facts, owners)
     deal = ["cut", asked.facts, asked.schedule, asked.cut] if asked.cut else \
-        [asked.deal, asked.facts, asked.schedule]
+        [asked.deal or "round", asked.facts, asked.schedule]
     printed = program.run([str(owners), *deal])
     states = read_run(printed.text, len(facts.names), facts.points + facts.universals)
     try:

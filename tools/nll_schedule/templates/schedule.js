@@ -32,6 +32,7 @@ function show(event) {
   for (const { node, asks, taken } of constraints) {
     node.classList.toggle("asks", asks.has(now));
     node.classList.toggle("asked", taken.has(now));
+    node.classList.remove("chosen");
   }
   for (const list of all(".growths")) {
     const isEmpty = ![...list.querySelectorAll(".growth")].some((one) => !one.hidden);
