@@ -15,8 +15,8 @@ say() { echo "nll-schedule: $*" >&2; }
 
 # Whether the program is there, and no source is newer.
 is_current() {
-    [ -x "$1" ] && [ -z "$(find "$root/crates" "$root/crates.txt" "$here/world_program.rattle" -name out -prune \
-        -o -newer "$1" \( -name '*.rt' -o -name '*.antt' -o -name crates.txt -o -name '*.rattle' \) -print)" ]
+    [ -x "$1" ] && [ -z "$(find "$root/crates" "$root/crates.txt" "$here/world_program.rattle" "$here/world_program.proofs" -name out -prune \
+        -o -newer "$1" \( -name '*.rt' -o -name '*.antt' -o -name crates.txt -o -name '*.rattle' -o -name '*.proofs' \) -print)" ]
 }
 
 if [ "$1" = --prove ]; then
