@@ -1,7 +1,8 @@
 #!/bin/sh
 # Prints the path of the program of world_program.rattle, which pages of schedules are made of: the one
 # that `world_program.sh --prove` proved and built, while no source is newer; else a build of the same
-# sources that nothing has proved, which is compiled once, in about a minute.
+# sources that nothing has proved, which is compiled once, in about a minute. `--prove` takes what was proved of the
+# crates below it: after `./nllc.sh --prove` some two minutes, else many more.
 here=$(cd "$(dirname "$0")" && pwd)
 root=$(dirname "$here")
 proved=$root/out/world_program/crates/world_program/out/world_program
@@ -15,8 +16,10 @@ say() { echo "nll-schedule: $*" >&2; }
 
 # Whether the program is there, and no source is newer.
 is_current() {
-    [ -x "$1" ] && [ -z "$(find "$root/crates" "$root/crates.txt" "$here/world_program.rattle" "$here/world_program.proofs" -name out -prune \
-        -o -newer "$1" \( -name '*.rt' -o -name '*.antt' -o -name crates.txt -o -name '*.rattle' -o -name '*.proofs' \) -print)" ]
+    [ -x "$1" ] && [ -z "$(find "$here"/world_program.* -newer "$1" ! -name '*.sh')" ] &&
+        [ -z "$(for crate in $below; do
+            find "$root/crates/$crate" -name out -prune -o -newer "$1" \( -name '*.rt' -o -name '*.antt' \) -print
+        done)" ]
 }
 
 if [ "$1" = --prove ]; then
@@ -24,7 +27,9 @@ if [ "$1" = --prove ]; then
     trap 'rm -rf "$small"' EXIT
     printf 'nll-facts 1\npoints 1\nend\n' > "$small/facts"
     printf 'nll-schedule 1\nload 0\n' > "$small/schedule"
-    "$root/bench/build_program.sh" "$here/world_program" "$below" "$used" 1 round "$small/facts" "$small/schedule"
+    "$root/bench/build_program.sh" "$here/world_program" "$below" "$used" \
+        1 round "$small/facts" "$small/schedule" || exit
+    rm -rf "$root"/out/world_program/crates/nll_*    # copies, of some 3 GB
 elif is_current "$proved"; then
     echo "$proved"
 elif is_current "$unproved"; then
@@ -34,7 +39,8 @@ elif ! command -v rt >/dev/null; then
     exit 127
 else
     say "compiling for about a minute; this build isn't proved; tools/world_program.sh --prove makes the proved one"
-    "$root/bench/build_program.sh" --unproved "$unproved" "$here/world_program" "$below" "$used" 1 round && echo "$unproved" && exit
+    "$root/bench/build_program.sh" --unproved "$unproved" "$here/world_program" "$below" "$used" 1 round &&
+        echo "$unproved" && exit
     say "nothing was compiled: see $root/out/compile.log"
     exit 127
 fi

@@ -76,7 +76,10 @@ def run(asked):
 
 
 def content_of(asked):
-    facts = read_facts(read_bytes(asked.facts), asked.facts)
+    text = read_bytes(asked.facts)
+    if text.split(b"\n", 1)[0].split() == [b"nll-mir", b"1"]:
+        raise Refusal(f"{asked.facts} is a MIR text; a page is made of a facts text, and `nllc replay` takes both")
+    facts = read_facts(text, asked.facts)
     owners = asked.owners or named_owners(read_bytes(asked.schedule))
     look_small(asked, facts, owners)
     deal = ["cut", asked.facts, asked.schedule, asked.cut] if asked.cut else \

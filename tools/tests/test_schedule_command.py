@@ -95,6 +95,8 @@ class Commands(unittest.TestCase):
         self.refused("no.facts can't be read", self.path("no.facts"), self.schedule)
         self.refused("no.schedule can't be read", self.facts, self.path("no.schedule"))
         self.refused("isn't a facts text", self.schedule, self.schedule)
+        self.refused("is a MIR text; a page is made of a facts text",
+                     self.write("text.mir", b"nll-mir 1\n"), self.schedule)
         self.refused("would be written over", self.facts, self.schedule, "-o", self.facts)
         self.refused("can't be written", self.facts, self.schedule, "-o", self.path("no/out.html"), status=3)
 
