@@ -26,7 +26,8 @@ room_of sender = known_free sender.producer
 -- the growths that a receiver has seen and not yet received: those that it took out of the ring
 -- before their turn, and those that it knows to be in the ring; no one but the receiver takes them
 abbrev pub seen_by : RingReceiver → List Growth
-seen_by receiver = drop receiver.count (received receiver.consumer) ++ known_items receiver.consumer
+seen_by receiver =
+    drop receiver.count (received receiver.consumer) ++ known_items receiver.consumer
 
 -- the two are the ends of one ring
 abbrev pub IsJoined : RingSender → RingReceiver → Type 0

@@ -76,14 +76,15 @@ impl Batch {
         Some(growth)
     }
 
-    /// Takes growths out of a ring: as many as were seen there, where a batch has room for them. It
-    /// looks where fewer than that are known.
+    /// Takes growths out of a ring: as many as were seen there and a batch has room for. It looks
+    /// where fewer than that are known.
     pub fn fill<P: Protocol<Growth>>(&mut self, consumer: &mut Consumer<Growth, Global, P>)
         requires { self.old ≡ [] }
         ensures ring { SameConsumer consumer.old consumer.new }
         ensures received { received consumer.new ≡ received consumer.old ++ self.new }
         ensures allowed { Allowed P.allows (received consumer.old) self.new }
-        ensures known { IsPrefix (known_items consumer.old) (self.new ++ known_items consumer.new) }
+        ensures known { IsPrefix (known_items consumer.old)
+            (self.new ++ known_items consumer.new) }
         ensures none { self.new ≡ [] → known_items consumer.new ≡ [] }
     {
         self.next = 0;

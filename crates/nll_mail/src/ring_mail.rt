@@ -38,18 +38,18 @@ type Pushing = Producer<Growth, Global, Few>;
 
 type Popping = Consumer<Growth, Global, Few>;
 
-/// Mailboxes on rings of 256 places. Each of them is full where as many growths are in the ring. The
-/// receiver holds up to 64 more, which it has taken out of the ring at once and not yet given.
+/// Mailboxes on rings of 256 places. Each of them is full where as many growths are in the ring.
+/// The receiver holds up to 64 more, which it has taken out of the ring at once and not yet given.
 ///
 /// # Threads
 /// No call holds a runtime, and none waits: an end never stands still for the other one.
 ///
 /// # Cost
-/// `pair` makes three allocations: the places, the words by which the ends meet, and the receiver's
-/// batch. No other call asks for memory. `post` and `take` are a few steps each. A `post` looks at
-/// the other end's word only where no place is known to be free; a `take` looks at it, and tells of
-/// the places that it frees, once a batch. The places are freed where both ends are gone, and with
-/// them the growths that were left.
+/// `pair` makes three allocations: the places, the words by which the ends meet, and the batch of
+/// the receiver. No other call asks for memory. `post` and `take` are a few steps each. A `post`
+/// looks at the other end's word only where no place is known to be free; a `take` looks at it, and
+/// tells of the places that it frees, once a batch. The places are freed where both ends are gone,
+/// and with them the growths that were left.
 #[derive(Clone, Copy)]
 pub struct RingMail;
 
@@ -202,9 +202,8 @@ impl Mail for RingMail {
         Ok(())
     }
 
-    /// Takes the growth at the front of the mailbox: the first of those that were seen there, where
-    /// any were. It looks only where none is left of its batch, and gives none where it then sees
-    /// none.
+    /// Takes the growth at the front of the mailbox: the first of those that were seen, where any
+    /// were. It looks only where none is left of its batch, and gives none where it then sees none.
     fn take(receiver: &mut RingReceiver) -> Option<Growth>
         ensures some { IfSome result
             (λ growth. received_by receiver.new ≡ received_by receiver.old ++ growth ∷ []) }
@@ -266,8 +265,8 @@ impl RingMail {
         RingMail
     }
 
-    /// How many posts are sure to succeed: the sender looks, and knows of so many free places, which
-    /// no one else fills. The receiver may free more at any time.
+    /// How many posts are sure to succeed: the sender looks, and knows of so many free places,
+    /// which no one else fills. The receiver may free more at any time.
     pub fn room(sender: &mut RingSender) -> u64
         ensures exact { result ≡ room_of sender.new }
         ensures least { room_of sender.old ≤ room_of sender.new }
