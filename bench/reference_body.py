@@ -51,7 +51,8 @@ class Body:
         self.points = len(said.points)
         self.universals = said.universals
         self.outlives = said.outlives
-        self.edges = {(p, q) for p in range(self.points) for q in self.successors(p)}
+        # A dictionary keeps the order of the text.
+        self.edges = {(p, q): None for p in range(self.points) for q in self.successors(p)}
         self.returns = {p for p in range(self.points) if isinstance(self.form(p), grammar.Return)}
 
     def names(self):
@@ -66,8 +67,8 @@ class Body:
 
     def successors(self, p):
         if isinstance(self.form(p), grammar.STATEMENTS):
-            return {p + 1}
-        return {self.said.firsts[block] for block in mir.targets_of(self.form(p))}
+            return [p + 1]
+        return [self.said.firsts[block] for block in mir.targets_of(self.form(p))]
 
     # Liveness
 

@@ -28,7 +28,8 @@ class Facts:
         self.universals = [b"static"]
         self.further = []
         self.outlives = set()
-        self.edges = set()
+        # A dictionary keeps the order of the lines.
+        self.edges = {}
         self.returns = set()
         self.bases = set()
         self.constraints = set()
@@ -99,7 +100,7 @@ class Facts:
     def faults_next(self, kinds, p, q):
         if p >= self.points or q >= self.points:
             kinds.add("range")
-        if len(self.edges | {(p, q)}) > text.LIMIT_EDGES:
+        if (p, q) not in self.edges and len(self.edges) + 1 > text.LIMIT_EDGES:
             kinds.add("limit edges")
 
     def faults_return(self, kinds, p):
@@ -133,7 +134,8 @@ class Facts:
             self.further.append(arguments[0])
         elif keyword == b"return":
             self.returns.add(arguments[0])
+        elif keyword == b"next":
+            self.edges[tuple(arguments)] = None
         elif keyword != b"end":
-            sets = {b"outlives": self.outlives, b"next": self.edges, b"base": self.bases,
-                    b"constraint": self.constraints}
+            sets = {b"outlives": self.outlives, b"base": self.bases, b"constraint": self.constraints}
             sets[keyword].add(tuple(arguments))
