@@ -35,14 +35,19 @@ from compare_threads import FILE, cut_of, region_count, spread_words
 from differential import ended, memory_folder
 from reference_order import ProgramOrder, RandomOrder
 from reference_owner import Wrong
+from reference_schedule import Schedule
 from reference_solve import reach, solve
 from reference_world import Asked
 
-# Options that are refused, whatever the text. Those of the first list stand beside a schedule.
+# Options that are refused beside a schedule, whatever the text.
 USAGES = [["--owners", "0"], ["--owners", "65"], ["--owners", "x"], ["--owners=01"], ["--owners"], ["--deal", "random"],
           ["--deal="], ["--owners", "1", "--owners", "1"], ["--deal=round", "--deal", "round"], ["--cut"],
-          ["--owner", "2"], ["--schedules", "x"], ["--schedule", "x"], ["--schedule=x"], ["--schedule"]]
-BARE_USAGES = [[], ["--schedule"], ["--owners", "2"], ["--schedule", "x", "--schedule", "x"]]
+          ["--cut", "x", "--deal", "round"], ["--mail", "queue"], ["--mail=ring"], ["--owner", "2"],
+          ["--schedules", "x"], ["--schedule", "x"], ["--schedule=x"], ["--schedule"]]
+
+# Words that are refused: a command and its options.
+REFUSED = [("replay", []), ("replay", ["--schedule"]), ("replay", ["--owners", "2"]), ("values", ["--schedule", "x"]),
+           ("check", ["--owners", "2", "--schedule=x"])]
 
 MOST_EVENTS = [20, 200, 2_000, 4_000]
 
@@ -71,7 +76,9 @@ class Case:
             self.cut = cut_of(rng, regions or rng.randrange(1, 9), self.owners)
         self.schedule = random_schedule.schedule(rng, self.world(), rng.choice(MOST_EVENTS))
         self.words = self.chosen_words(rng)
-        self.usage = rng.choice([["--schedule", self.schedule_path, *rng.choice(USAGES)], rng.choice(BARE_USAGES)])
+        self.refused = rng.choice(REFUSED)
+        if rng.random() < 0.8:
+            self.refused = "replay", ["--schedule", self.schedule_path, *rng.choice(USAGES)]
 
     def asked(self):
         return Asked(self.text, self.schedule, self.owners, self.deal, self.cut_path, self.cut, self.schedule_path)
@@ -162,10 +169,10 @@ class Comparison:
         if self.differs(case):
             case.shrunk(self.differs)
             return ["replay", *case.words], self.answers(case)
-        case.write(self.path)
-        out, status, err = self.ask("replay", [FILE, *case.usage])
+        command, options = case.refused
+        out, status, err = self.ask(command, [FILE, *options])
         if out or status != 2 or not err.startswith(b"usage: "):
-            return ["replay", FILE, *case.usage], {"nllc": (out, status, err), "wanted": (b"", 2, b"usage: ..")}
+            return [command, FILE, *options], {"nllc": (out, status, err), "wanted": (b"", 2, b"usage: ..")}
         return None
 
 
@@ -174,24 +181,24 @@ class ModelComparison:
 
     At random moments the state must be sound: the balance is what is under way, what one owner grew for another is
     what this one received and what is on its lane, and the logs say nothing but the least values, and all of them at
-    the balance 0. After each load and take what an owner holds must be what follows from what it received, whichever
-    the order in which owners grow. And the program's order replays as it was written down.
+    the balance 0. After a load and a take what an owner holds must be what follows from what it received, whichever
+    the order in which owners grow.
     """
 
     def __init__(self, args):
         self.folder = tempfile.TemporaryDirectory(dir=memory_folder())
         self.args = args
 
-    def faults(self, case, order, seed):
-        """What is wrong with a run in an order; what it ends with otherwise."""
+    def run(self, case, order, seed):
+        """Raises where a run in an order is wrong. A text, a cut file or a schedule that is refused has no run."""
         rng = random.Random(seed)
         world = case.world(order)
         if world is None or case.schedule is None:
-            return None
+            return
         try:
-            events = reference_text.read(case.schedule, random_schedule_of(case)).events
+            events = reference_text.read(case.schedule, Schedule(case.owners)).events
         except reference_text.Refused:
-            return None
+            return
         least = solve(world.ground.problem)
         often = min(1.0, 8 / (len(events) + 1))
         for word, owners in events:
@@ -201,21 +208,15 @@ class ModelComparison:
             if rng.random() < often:
                 world.check(least)
         world.check(least)
-        return world
 
     def difference(self, case):
         """The orders on which the model is wrong and what it says, or None."""
         for order, name in ((ProgramOrder, "program"), (functools.partial(RandomOrder, random.Random(7)), "random")):
             try:
-                self.faults(case, order, name)
+                self.run(case, order, name)
             except Wrong as wrong:
                 return [name], {"model": (b"", 1, str(wrong).encode())}
         return None
-
-
-def random_schedule_of(case):
-    """An empty schedule of the owners of a case."""
-    return random_schedule.Schedule(case.owners)
 
 
 def check_held(world, i):

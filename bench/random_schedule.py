@@ -5,8 +5,8 @@ owners grow in the order of the program, but for events that are strewn in.
 """
 
 import generate
-from reference_schedule import FORMS, Schedule
-from reference_world import FRESH, OWED
+from reference_schedule import FORMS
+from reference_world import FRESH, NOTHING
 
 # Lines of a schedule that are wrong, or seem so.
 LINES = [b"load 64", b"load 65535", b"load 65536", b"load 999999999", b"load 1000000000", b"load 4294967296",
@@ -22,18 +22,21 @@ HEADERS = [b"nll-schedule 2", b"nll-schedule", b"nll-schedule 1 1", b"nll-cut 1"
 
 # Events
 
+def events_at(world, i):
+    """The events of an owner that are possible, but for its leaving."""
+    seat = world.seats[i]
+    if not seat.owner.loaded:
+        return [(b"load", [i])]
+    events = [(b"owe" if seat.item == FRESH else b"clear", [i])] if seat.item != NOTHING else []
+    events += [(b"push", [i, j]) for j, lane in enumerate(seat.lanes) if lane.out]
+    if seat.is_free():
+        events += [(b"take", [i, j]) for j, other in enumerate(world.seats) if other.lanes[i].box]
+    return events
+
+
 def possible_events(world):
     """The events that are possible, but for the leaving of owners."""
-    events = []
-    for i, seat in enumerate(world.seats):
-        if not seat.owner.loaded:
-            events.append((b"load", [i]))
-        if seat.item in (FRESH, OWED):
-            events.append((b"owe" if seat.item == FRESH else b"clear", [i]))
-        for j, lane in enumerate(seat.lanes):
-            events += [(b"push", [i, j])] if lane.out else []
-            events += [(b"take", [j, i])] if lane.box and world.seats[j].is_free() else []
-    return events
+    return [event for i in range(len(world.seats)) for event in events_at(world, i)]
 
 
 def leaves(world):
@@ -75,27 +78,24 @@ def driven(rng, world, most):
 
 
 def worked(rng, world, most):
-    """What owners in threads might do, each turn in a row: receive or load, owe, push all, clear; or look at the
-    balance."""
-    while most > 0:
+    """What owners in threads might do, each turn in a row: load or take, owe, push all, clear. An owner to which nothing
+    was sent looks at the balance, now and then."""
+    order = [b"load", b"owe", b"push", b"clear", b"take"]
+    while most > 0 and not all(seat.left for seat in world.seats):
         me = rng.randrange(len(world.seats))
-        mine = [event for event in possible_events(world) if event[1][0] == me]
-        turn = [event for event in mine if event[0] in (b"take", b"load")]
-        if not mine and not leaves(world):
-            if not possible_events(world):
-                return
-            continue
-        events = [rng.choice(turn)] if turn else leaves(world)
-        for event in events:
-            world.step(event[0], *event[1])
-            yield event
-        most -= len(events)
-        while world.seats[me].item in (FRESH, OWED) or any(lane.out for lane in world.seats[me].lanes):
-            mine = [event for event in possible_events(world) if event[1][0] == me]
-            event = max(mine, key=lambda event: [b"clear", b"push", b"owe"].index(event[0]))
+        is_begun = False
+        while events := events_at(world, me):
+            event = min(events, key=lambda event: (order.index(event[0]), rng.random()))
+            if event[0] == b"take" and is_begun:
+                break
+            is_begun = True
             world.step(event[0], *event[1])
             most -= 1
             yield event
+        if not is_begun and world.is_possible(b"leave", me) and (world.balance == 0 or rng.random() < 0.1):
+            world.step(b"leave", me)
+            most -= 1
+            yield b"leave", [me]
 
 
 def events_of(rng, world, most):
