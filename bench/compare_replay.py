@@ -36,7 +36,7 @@ from differential import ended, memory_folder
 from reference_order import ProgramOrder, RandomOrder
 from reference_owner import Wrong
 from reference_schedule import Schedule
-from reference_solve import reach, solve
+from reference_solve import reach_by, solve
 from reference_world import Asked
 
 # Options that are refused beside a schedule, whatever the text.
@@ -229,7 +229,7 @@ def check_held(world, i):
     while True:
         before = sum(map(len, held))
         for sup, sub, at in owner.constraints:
-            held[sup] |= reach(ground.steps, at, held[sub])
+            held[sup] |= reach_by(ground.steps, at, held[sub])
         if sum(map(len, held)) == before:
             break
     if held != owner.has:
@@ -238,7 +238,7 @@ def check_held(world, i):
 
 def check_worked():
     """Raises where the model answers worked schedules otherwise than they are by hand."""
-    for table in (worked_replays.CIRCLE_EVENTS, worked_replays.NOTHING_EVENTS):
+    for table in worked_replays.TABLES:
         world = Asked(worked_replays.CIRCLE, None, 2).world()
         for number, ((word, owners), answer, balance) in enumerate(worked_replays.rows(table), 1):
             told = world.step(word, *owners)

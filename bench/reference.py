@@ -17,7 +17,7 @@ import reference_text
 from reference_body import Body
 from reference_facts import Facts
 from reference_mir import Mir
-from reference_solve import faults, solve
+from reference_solve import faults, reach, solve
 
 COMMANDS = ("read", "problem", "values", "check", "body")
 

@@ -51,8 +51,7 @@ class Body:
         self.points = len(said.points)
         self.universals = said.universals
         self.outlives = said.outlives
-        # A dictionary keeps the order of the text.
-        self.edges = {(p, q): None for p in range(self.points) for q in self.successors(p)}
+        self.edges = {(p, q) for p in range(self.points) for q in self.successors(p)}
         self.returns = {p for p in range(self.points) if isinstance(self.form(p), grammar.Return)}
 
     def names(self):
@@ -66,6 +65,7 @@ class Body:
         return self.said.points[p][2]
 
     def successors(self, p):
+        """Where a point goes on, in the order of the text."""
         if isinstance(self.form(p), grammar.STATEMENTS):
             return [p + 1]
         return [self.said.firsts[block] for block in mir.targets_of(self.form(p))]

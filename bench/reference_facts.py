@@ -28,8 +28,9 @@ class Facts:
         self.universals = [b"static"]
         self.further = []
         self.outlives = set()
-        # A dictionary keeps the order of the lines.
-        self.edges = {}
+        self.edges = set()
+        # For a point where its edges lead, in the order of their first lines.
+        self.targets = {}
         self.returns = set()
         self.bases = set()
         self.constraints = set()
@@ -39,6 +40,9 @@ class Facts:
 
     def label(self, p):
         return b"%d" % p
+
+    def successors(self, p):
+        return self.targets.get(p, [])
 
     def form_of(self, line):
         """The form of a line as (keyword, arguments), or None where it has none."""
@@ -100,7 +104,7 @@ class Facts:
     def faults_next(self, kinds, p, q):
         if p >= self.points or q >= self.points:
             kinds.add("range")
-        if (p, q) not in self.edges and len(self.edges) + 1 > text.LIMIT_EDGES:
+        if len(self.edges | {(p, q)}) > text.LIMIT_EDGES:
             kinds.add("limit edges")
 
     def faults_return(self, kinds, p):
@@ -134,8 +138,9 @@ class Facts:
             self.further.append(arguments[0])
         elif keyword == b"return":
             self.returns.add(arguments[0])
-        elif keyword == b"next":
-            self.edges[tuple(arguments)] = None
         elif keyword != b"end":
-            sets = {b"outlives": self.outlives, b"base": self.bases, b"constraint": self.constraints}
+            if keyword == b"next" and tuple(arguments) not in self.edges:
+                self.targets.setdefault(arguments[0], []).append(arguments[1])
+            sets = {b"outlives": self.outlives, b"next": self.edges, b"base": self.bases,
+                    b"constraint": self.constraints}
             sets[keyword].add(tuple(arguments))

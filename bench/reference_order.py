@@ -96,9 +96,7 @@ class Paths:
     def __init__(self, problem):
         self.points = problem.points
         self.returns = problem.returns
-        self.next = [[] for _ in range(problem.points)]
-        for p, q in problem.edges:
-            self.next[p].append(q)
+        self.next = [problem.successors(p) for p in range(problem.points)]
         self.jumps = [[q for q in targets if q != p + 1] for p, targets in enumerate(self.next)]
 
 

@@ -7,7 +7,7 @@ and that nothing that is called for is lacking at the end of a turn.
 
 from collections import namedtuple
 
-from reference_solve import base_values, reach, steps_of
+from reference_solve import base_values, reach_by, steps_of
 
 Growth = namedtuple("Growth", "region element rank")
 
@@ -68,7 +68,7 @@ class Owner:
         inside = self.has[constraint[1]]
         count, found = self.walked.get(constraint, (None, None))
         if count != len(inside):
-            found = reach(self.ground.steps, constraint[2], inside)
+            found = reach_by(self.ground.steps, constraint[2], inside)
             self.walked[constraint] = len(inside), found
         return found
 

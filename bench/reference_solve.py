@@ -16,8 +16,13 @@ def steps_of(problem):
     return [step(problem, e) for e in range(problem.points + len(problem.universals))]
 
 
-def reach(steps, at, inside):
+def reach(problem, at, inside):
     """What paths from a point reach whose elements all lie in a set."""
+    return reach_by(steps_of(problem), at, inside)
+
+
+def reach_by(steps, at, inside):
+    """The same, by the steps of the problem."""
     reached = more = {at} & inside
     while more:
         more = ({f for e in more for f in steps[e]} & inside) - reached
@@ -42,7 +47,7 @@ def solve(problem):
     while True:
         before = sum(len(value) for value in values.values())
         for a, b, p in problem.constraints:
-            values[a] |= reach(steps, p, values[b])
+            values[a] |= reach_by(steps, p, values[b])
         if sum(len(value) for value in values.values()) == before:
             return values
 

@@ -46,7 +46,18 @@ leave 0, quiet, 0
 leave 1, quiet, 0
 """
 
-# The same owners where nothing is possible, or once they have left.
+# What the same owners then can't do any more.
+LEFT_EVENTS = """
+leave 0, not now, 0
+leave 1, not now, 0
+load 0,  not now, 0
+take 1 0, not now, 0
+owe 1,   not now, 0
+clear 0, not now, 0
+push 0 1, not now, 0
+"""
+
+# The same owners where little is possible.
 NOTHING_EVENTS = """
 owe 0,    not now, 2
 clear 0,  not now, 2
@@ -73,9 +84,12 @@ take 0 1, not now, 2
 """
 
 
+TABLES = [CIRCLE_EVENTS, CIRCLE_EVENTS + LEFT_EVENTS, NOTHING_EVENTS]
+
+
 def rows(table):
     """The events of a table, each its word and its owners, with its answer and the balance behind it."""
-    for line in table.strip().splitlines():
+    for line in filter(None, table.splitlines()):
         event, answer, balance = line.split(",")
         word, *owners = event.split()
         yield (word.encode(), [int(owner) for owner in owners]), answer.strip(), int(balance)
