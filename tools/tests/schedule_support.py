@@ -5,7 +5,8 @@ import os
 from page_support import EXAMPLES, ROOT, file_bytes
 
 import reference_text  # page_support has put bench/ on the path
-import reference_world
+import reference_states
+from reference_world import dealt as dealt_by
 from reference_cut import Cut
 from reference_facts import Facts
 from reference_schedule import Schedule
@@ -14,7 +15,7 @@ from nll_page.facts import read_facts
 from nll_schedule.content import Content
 from nll_schedule.states import read_run
 
-REFERENCE = os.path.join(ROOT, "bench", "reference_world.py")
+REFERENCE = os.path.join(ROOT, "bench", "reference_states.py")
 
 # The examples, each with the number of owners.
 SCHEDULES = {"each_other": 2, "late_hole": 3, "early_leave": 3}
@@ -25,8 +26,8 @@ def printed(facts, schedule, owners, deal="round"):
     problem = reference_text.read(facts, Facts())
     events = reference_text.read(schedule, Schedule(owners)).events
     dealt = reference_text.read(deal, Cut()).owners if isinstance(deal, bytes) else \
-        reference_world.dealt_by(deal, len(problem.names()), owners)
-    lines = reference_world.states(problem, dealt, owners, events)
+        dealt_by(len(problem.names()), owners, deal, None)
+    lines = reference_states.states(problem, dealt, owners, events)
     return b"".join(line + b"\n" for line in lines).decode()
 
 
