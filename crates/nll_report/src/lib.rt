@@ -1,7 +1,7 @@
 //! The program over a text's answer: its files, its streams, its refusals and its status.
 //!
-//! Read `program` first (what is done with the words), then `owners`, `reading`, `sink`, `writing`,
-//! `messages`, `disk` and `words`. The words are read in `nll_command_line`, and a text is answered
+//! Read `program` first (what is done with the words), then `owners`, `replaying`, `reading`,
+//! `sink`, `writing`, `messages`, `disk` and `words`. The words are read in `nll_command_line`, a is answered
 //! in `nll_answer`.
 #![tactic(auto)]
 
@@ -11,6 +11,7 @@ mod messages;
 mod owners;
 mod program;
 mod reading;
+mod replaying;
 mod sink;
 mod words;
 mod writing;
