@@ -23,13 +23,12 @@ use Rattle.nll_answer.specs.declared.error.AnswerError.{AnswerError}
 use Rattle.nll_answer.specs.declared.error.AnswerError.TheVariants as answer
 use Rattle.nll_command_line.specs.Options.{Said}
 use Rattle.nll_command_line.specs.declared.options.Deal.{Deal}
-use Rattle.nll_command_line.specs.declared.task.Task.{Task}
 use Rattle.nll_report.specs.Owners.{AsksForOwners, IsAskedCut, IsCutFileRefused, IsCutRefused, IsCutTextRefused, IsFileMeaning, IsOwnersRefused, IsWorkRefused, count_of, deal_of}
-use Rattle.nll_report.specs.Run.{IsFileAnswer, IsFileRefused, IsTaskRefused, command_of}
+use Rattle.nll_report.specs.Run.{AreOwnersRefused, IsFileAnswer, IsFileRefused}
 use Rattle.nll_report.specs.Refusal.{IsCutRefusal, cut_refusal_at, refusal_of}
 use Rattle.nll_report.specs.Texts.{Holds, Lacks}
 use Rattle.nll_report.specs.declared.messages.Refusal.{Refusal}
-use Rattle.nll_report.specs.declared.messages.Refusal.TheVariants.{Usage, CannotRead, Text, Limit, CutText, CutLength, NoSuchOwner, Thread, Memory, CannotWrite}
+use Rattle.nll_report.specs.declared.messages.Refusal.TheVariants.{Usage, CannotRead, Text, Limit, CutText, CutLength, NoSuchOwner, ScheduleText, Thread, Memory, CannotWrite}
 
 -- ---- so many owners as there may be
 
@@ -196,6 +195,7 @@ cut_file_told holds lacks regions count path text (Limit counted) held h = (text
 cut_file_told holds lacks regions count path text (CutText line k) held h = (text, held, h)
 cut_file_told holds lacks regions count path text CutLength held h = (text, held, h)
 cut_file_told holds lacks regions count path text (NoSuchOwner index) held h = (text, held, h)
+cut_file_told holds lacks regions count path text (ScheduleText line k) held h = (text, held, h)
 cut_file_told holds lacks regions count path text Thread held h = (text, held, h)
 cut_file_told holds lacks regions count path text Memory held h = tt
 cut_file_told holds lacks regions count path text CannotWrite held h = (text, held, h)
@@ -212,6 +212,7 @@ cut_told holds lacks q count how path (Limit counted) h = h
 cut_told holds lacks q count how path (CutText line k) h = h
 cut_told holds lacks q count how path CutLength h = h
 cut_told holds lacks q count how path (NoSuchOwner index) h = h
+cut_told holds lacks q count how path (ScheduleText line k) h = h
 cut_told holds lacks q count how path Thread h = tt
 cut_told holds lacks q count how path Memory h = tt
 cut_told holds lacks q count how path CannotWrite h = h
@@ -233,7 +234,7 @@ may_be_asked (Some count) n lawful is = ap may_be_count is ∙ may_be count lawf
 
 pub owners_told : (holds : Holds) (lacks : Lacks) (file : List ℕ) (said : Said) (n : ℕ) (deal : Deal) (path : Option (List ℕ)) (e : Refusal)
     → n ≡ count_of said.owners → deal ≡ deal_of said.deal → path ≡ said.cut → AsksForOwners said.owners said.cut
-    → IsFileRefused holds lacks file e ⊎ IsOwnersRefused holds lacks file n deal path e → IsTaskRefused holds lacks file said e
+    → IsFileRefused holds lacks file e ⊎ IsOwnersRefused holds lacks file n deal path e → IsFileRefused holds lacks file e ⊎ AreOwnersRefused holds lacks file said e
 owners_told holds lacks file said n deal path e is_count is_deal is_path asks = ⊎_elim
     inl
     (λ h. inr (
@@ -243,15 +244,10 @@ owners_told holds lacks file said n deal path e is_count is_deal is_path asks = 
           (subst (λ p. IsOwnersRefused holds lacks file n deal p e) is_path h)),
     ))
 
-pub file_answer : (holds : Holds) (task : Task) (file : List ℕ) (command : Command) (q : Problem) (labels : Labels) (report : List ℕ) (status : ℕ) → command ≡ command_of task
-    → IsFileMeaning holds file q labels → IsProblemAnswer command q labels report status → IsFileAnswer holds task file report status
-file_answer holds task file command q labels report status is means h = record {
+pub file_answer : (holds : Holds) (file : List ℕ) (command : Command) (q : Problem) (labels : Labels) (report : List ℕ) (status : ℕ)
+    → IsFileMeaning holds file q labels → IsProblemAnswer command q labels report status → IsFileAnswer holds command file report status
+file_answer holds file command q labels report status means h = record {
   text = means.text;
   held = means.held;
-  answer = record {
-    problem = q;
-    labels = labels;
-    meaning = means.meaning;
-    answer = subst (λ k. IsProblemAnswer k q labels report status) is h;
-  };
+  answer = record { problem = q; labels = labels; meaning = means.meaning; answer = h };
 }

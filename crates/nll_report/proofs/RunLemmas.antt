@@ -11,8 +11,8 @@ use Rattle.nll_answer.specs.declared.error.AnswerError.{AnswerError}
 use Rattle.nll_answer.specs.declared.error.AnswerError.TheVariants as answer
 use Rattle.nll_report.specs.Refusal.{refusal_at, refusal_of}
 use Rattle.nll_report.specs.declared.messages.Refusal.{Refusal}
-use Rattle.nll_report.specs.declared.messages.Refusal.TheVariants.{Usage, CannotRead, Text, Limit, CutText, CutLength, NoSuchOwner, Thread, Memory, CannotWrite}
-use Rattle.nll_command_line.specs.CommandLine.{AsksPlainlyForHelp, IsNoPlainLine}
+use Rattle.nll_report.specs.declared.messages.Refusal.TheVariants.{Usage, CannotRead, Text, Limit, CutText, CutLength, NoSuchOwner, ScheduleText, Thread, Memory, CannotWrite}
+use Rattle.nll_command_line.specs.CommandLine.{AsksPlainlyForHelp, IsNoPlainLine, IsPlainLine}
 use Rattle.nll_command_line.specs.declared.task.Task.{Task}
 use Rattle.nll_command_line.specs.Options.{ArePlaced, Given, Said, behind, no_words, unread}
 use Rattle.nll_command_line.specs.declared.options.Deal.{Deal}
@@ -45,7 +45,7 @@ nothing_else _ _ _ (behind given first others rest plain h) e = cc
 no_line : AreRefused []
 no_line others said read =
     let none = nothing_else read.given others [] read.placed refl in
-    (subst IsNoPlainLine (sym none) no_plain, λ h. no_help (subst AsksPlainlyForHelp none h))
+    (λ task file plain suits. no_plain task file (subst (IsPlainLine task file) none plain), λ h. no_help (subst AsksPlainlyForHelp none h))
 
 -- words that are lost, or want of memory, are refused as no words are
 pub lost_words : (holds : Holds) (lacks : Lacks) (refusal : Refusal) → (refusal ≡ Usage) ⊎ (refusal ≡ Memory)

@@ -1,8 +1,8 @@
 //! The program over a text's answer: its files, its streams, its refusals and its status.
 //!
 //! Read `program` first (what is done with the words), then `owners`, `replaying`, `reading`,
-//! `sink`, `writing`, `messages`, `disk` and `words`. The words are read in `nll_command_line`, a is answered
-//! in `nll_answer`.
+//! `sink`, `writing`, `messages`, `disk` and `words`. The words are read in `nll_command_line`, a
+//! text is answered in `nll_answer`, and the report of a replay is made in `nll_replay`.
 #![tactic(auto)]
 
 mod disk;
