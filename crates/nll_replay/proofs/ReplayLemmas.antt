@@ -1,5 +1,5 @@
 -- What a replay prints, part by part.
-use Rattle.std.proofs.Common.{◌≡◌, ◌↔◌, ℕ, ◌+◌, Bool, List, [], ◌∷◌, ◌++◌, sym, ap, ◌∙◌, subst}
+use Rattle.std.proofs.Common.{◌≡◌, ◌↔◌, ℕ, ◌+◌, List, ◌++◌, sym, ap, ◌∙◌}
 use Rattle.std.specs.List.{flat_map, range_with_len}
 use Rattle.std.proofs.lemmas.List.{append_assoc}
 use Rattle.nll_problem.specs.Problem.{Problem}
@@ -35,5 +35,6 @@ at_0_least q labels c events text report quiet =
         let says = report.replay.says r e in
         let agree = report.replay.lawful.least (sym report.replay.ends ∙ quiet) r e in
         (λ held. agree.0 (says.0 held), λ is. says.1 (agree.1 is))
+
     same : (r e : ℕ) → IsHeld report.values r e ↔ Least q r e
     same = least
