@@ -7,7 +7,7 @@ use Rattle.std.proofs.lemmas.Option.{none-some}
 use Rattle.nll_problem.specs.Limits.{most_owners}
 use Rattle.nll_problem.specs.Problem.{Problem}
 use Rattle.nll_reading.specs.Labels.{Labels}
-use Rattle.nll_reading.specs.Text.{IsFault, IsRefusal}
+use Rattle.nll_reading.specs.Text.{Format, IsFault, IsRefusal}
 use Rattle.nll_reading.specs.declared.error.TextError.{TextError}
 use Rattle.nll_reading.specs.declared.error.TextKind.{TextKind}
 use Rattle.nll_reading.specs.declared.error.TextKind.TheVariants as kind
@@ -135,6 +135,18 @@ module _ {T : Type 0} (made : Result T CutError) (r : Result T Refusal) (ok : If
           (λ is. inl (subst (λ x. IsCutRefusal x f) is.1 err))
           h
 
+-- ---- the fault of a text
+
+abbrev pub is_memory : TextKind → Bool
+is_memory kind.Memory = true
+is_memory other = false
+
+-- the error of a text that doesn't tell of memory tells its fault
+pub fault_of : (format : Format) (text : List ℕ) (error : TextError) → IsRefusal (IsFault format text) error
+    → (k : TextKind) → is_memory k ≡ false → error.kind ≡ k → IsFault format text error.line k
+fault_of format text error refusal k other is = subst (IsFault format text error.line) is
+    (⊎_elim (λ wanting. absurd (true≢false (sym (ap (λ (e : TextError). is_memory e.kind) wanting) ∙ ap is_memory is ∙ other))) (λ found. found) refusal)
+
 -- ---- the text of a cut file
 
 module _ (regions count : ℕ) (text : List ℕ) where
@@ -151,29 +163,19 @@ module _ (regions count : ℕ) (text : List ℕ) where
       by_error (due.NoSuchOwner index) is h = subst (IsCutTextRefused regions count text) (sym h) (record { list = list; means = means; due = is })
       by_error due.Memory is h = subst (IsCutTextRefused regions count text) (sym h) refl
 
-  abbrev is_memory : TextKind → Bool
-  is_memory kind.Memory = true
-  is_memory other = false
-
   -- it has a fault
   module _ (error : TextError) (refusal : IsRefusal (IsFault cut text) error) where
-    fault : (error.kind ≡ kind.Memory → ⊥) → IsFault cut text error.line error.kind
-    fault other = ⊎_elim (λ wanting. absurd (other (ap (λ (e : TextError). e.kind) wanting))) (λ found. found) refusal
-
-    of_kind : (k : TextKind) → is_memory k ≡ false → error.kind ≡ k → IsFault cut text error.line k
-    of_kind k other is = subst (IsFault cut text error.line) is (fault (λ memory. true≢false (ap is_memory (sym memory ∙ is) ∙ other)))
-
     told_in : (k : TextKind) → error.kind ≡ k → IsCutTextRefused regions count text (cut_refusal_at error.line k)
-    told_in kind.NotUtf8 is = of_kind kind.NotUtf8 refl is
-    told_in kind.Header is = of_kind kind.Header refl is
-    told_in kind.Syntax is = of_kind kind.Syntax refl is
-    told_in kind.Unknown is = of_kind kind.Unknown refl is
-    told_in kind.Duplicate is = of_kind kind.Duplicate refl is
-    told_in kind.Range is = of_kind kind.Range refl is
-    told_in kind.Shape is = of_kind kind.Shape refl is
-    told_in kind.TypeSize is = of_kind kind.TypeSize refl is
-    told_in (kind.Limit counted) is = of_kind (kind.Limit counted) refl is
-    told_in kind.End is = of_kind kind.End refl is
+    told_in kind.NotUtf8 is = fault_of cut text error refusal kind.NotUtf8 refl is
+    told_in kind.Header is = fault_of cut text error refusal kind.Header refl is
+    told_in kind.Syntax is = fault_of cut text error refusal kind.Syntax refl is
+    told_in kind.Unknown is = fault_of cut text error refusal kind.Unknown refl is
+    told_in kind.Duplicate is = fault_of cut text error refusal kind.Duplicate refl is
+    told_in kind.Range is = fault_of cut text error refusal kind.Range refl is
+    told_in kind.Shape is = fault_of cut text error refusal kind.Shape refl is
+    told_in kind.TypeSize is = fault_of cut text error refusal kind.TypeSize refl is
+    told_in (kind.Limit counted) is = fault_of cut text error refusal (kind.Limit counted) refl is
+    told_in kind.End is = fault_of cut text error refusal kind.End refl is
     told_in kind.Memory is = refl
 
     pub cut_text_told : (e : Refusal) → e ≡ cut_refusal_at error.line error.kind → IsCutTextRefused regions count text e
