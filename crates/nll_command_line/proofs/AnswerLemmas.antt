@@ -7,7 +7,7 @@ use Rattle.nll_command_line.specs.declared.error.LineError.{LineError}
 use Rattle.nll_command_line.specs.declared.error.LineError.TheVariants.{Help, Usage, Memory}
 use Rattle.nll_command_line.specs.CommandLine.{IsLine, IsPlainLine}
 use Rattle.nll_command_line.specs.Grammar.{AsksForHelpAlone, IsHelpFor, IsLineError, IsWordsError}
-use Rattle.nll_command_line.specs.Options.{AreRead, IsNoSuitedLine, Said, Suits, said_by}
+use Rattle.nll_command_line.specs.Options.{AreRead, Said, Suits, said_by}
 use Rattle.nll_command_line.specs.Taking.{AreReadJust, AreUnreadable}
 
 abbrev Text : Type 0
