@@ -1,5 +1,5 @@
 -- What is answered to words of which the options are taken out.
-use Rattle.std.proofs.Common.{◌≡◌, ◌⊎◌, ⊎_elim, ◌∙◌, ℕ, List, Result, Ok, Err, IfErr, IfOk, IsOk, IsOkAnd, MatchResult, ap, string_bytes, sym, subst}
+use Rattle.std.proofs.Common.{◌≡◌, ◌⊎◌, ⊎_elim, ◌∙◌, ℕ, List, Result, Ok, Err, IfErr, IfOk, IsOk, IsOkAnd, MatchResult, refl, string_bytes, sym, subst}
 use Rattle.nll_command_line.specs.declared.task.Asked.{Asked}
 use Rattle.nll_command_line.specs.declared.task.Line.{Line}
 use Rattle.nll_command_line.specs.declared.task.Task.{Task}
@@ -7,7 +7,7 @@ use Rattle.nll_command_line.specs.declared.error.LineError.{LineError}
 use Rattle.nll_command_line.specs.declared.error.LineError.TheVariants.{Help, Usage, Memory}
 use Rattle.nll_command_line.specs.CommandLine.{IsLine, IsPlainLine}
 use Rattle.nll_command_line.specs.Grammar.{AsksForHelpAlone, IsHelpFor, IsLineError, IsWordsError}
-use Rattle.nll_command_line.specs.Options.{AreRead, IsNoSuitedLine, Said, Suits, said_by}
+use Rattle.nll_command_line.specs.Options.{AreRead, Said, Suits, said_by}
 use Rattle.nll_command_line.specs.Taking.{AreReadJust, AreUnreadable}
 
 abbrev Text : Type 0
@@ -95,8 +95,8 @@ module _ (said : Said) (words others : List Text) (read : AreRead words others s
       go (Err e) (Ok x) err m taken plain = ⊎_elim
           (λ same. told e (subst (λ (y : Result Asked LineError). IfErr y (IsLineError others)) same m))
           (λ h. ⊎_elim
-              (λ memory. subst (IsWordsError words) (sym memory) tt)
-              (λ unfit. subst (IsWordsError words) (sym unfit.0) (unsuited x (λ task file line. (plain task file line).0) (taken tt) unfit.1)) h)
+          (λ memory. subst (IsWordsError words) (sym memory) tt)
+          (λ unfit. subst (IsWordsError words) (sym unfit.0) (unsuited x (λ task file line. (plain task file line).0) (taken refl) unfit.1)) h)
           err
 
 -- of words that can't be read

@@ -15,7 +15,7 @@ use Rattle.nll_command_line.specs.declared.options.Key.{Key}
 use Rattle.nll_command_line.specs.declared.options.Key.TheVariants as key
 use Rattle.nll_command_line.specs.declared.task.Line.{Line}
 use Rattle.nll_command_line.specs.declared.task.Task.{Task}
-use Rattle.nll_command_line.specs.declared.task.Task.TheVariants.{Values, Check, Replay}
+use Rattle.nll_command_line.specs.declared.task.Task.TheVariants.{Replay}
 
 -- An option: a number of owners, how regions are dealt, a cut file, the kind of mailboxes, or a
 -- schedule.

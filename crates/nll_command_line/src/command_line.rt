@@ -88,7 +88,7 @@ fn with_options(
 // The path of a file, where one is given.
 fn copy_of(alloc: Global, file: Option<&str>) -> Result<Option<String>, AllocError>
     ensures { IfOk result (λ copy.
-        option_map string_bytes copy ≡ option_map (λ path. path.now) file) }
+        option_map string_bytes copy ≡ option_map (λ path. path.now) file.entry) }
 {
     match file {
         Some(path) => Ok(Some(String::from_str(alloc, path)?)),

@@ -1,6 +1,6 @@
 //! The text of help.
 ghost use Rattle.std.specs.Prelude.{◌≡◌, map};
-ghost use Rattle.nll_command_line.specs.Help.{help_for, help_of};
+ghost use Rattle.nll_command_line.specs.Help.{help_for, help_of, task_help};
 
 use crate::task::{Task, task_of};
 
@@ -90,8 +90,17 @@ fn help_of(task: Option<Task>) -> &'static str
 {
     match task {
         None => PROGRAM,
-        Some(Task::Values) => VALUES,
-        Some(Task::Check) => CHECK,
-        Some(Task::Replay) => REPLAY,
+        Some(task) => task_help(task),
+    }
+}
+
+// The help of a task.
+fn task_help(task: Task) -> &'static str
+    ensures { result.now ≡ task_help task }
+{
+    match task {
+        Task::Values => VALUES,
+        Task::Check => CHECK,
+        Task::Replay => REPLAY,
     }
 }

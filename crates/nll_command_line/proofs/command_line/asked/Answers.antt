@@ -1,4 +1,4 @@
-use Rattle.std.proofs.Common.{◌≡◌, ◌∙◌, true, map, sym, ap, subst}
+use Rattle.std.proofs.Common.{◌≡◌, ◌∙◌, true, map, sym, ap, subst, true≢false}
 use Rattle.std.proofs.lemmas.Result.{IfOk-weaker}
 use Rattle.clap.specs.Words.{HasKind, fault_of, is_simple, is_simple_and_free, kind_of, subcommand_of, subcommand_rows_of, takes}
 use Rattle.clap.specs.declared.error.kind.ErrorKind.TheVariants.{OutOfMemory}
@@ -41,6 +41,6 @@ returns-in-Err c =
       plain = λ task file h.
           memory_told texts c.refusal-refusal.result (subst (λ k. IsTold texts k c.refusal-refusal.result) (passes (takes-plain task file texts h)) told);
       help = λ h. help_given texts c.refusal-refusal.result h refused;
-      taken = λ ok asks. ok;
+      taken = λ ok asks. true≢false (sym ok);
       err = refused;
     }
