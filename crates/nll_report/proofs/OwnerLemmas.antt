@@ -23,7 +23,7 @@ use Rattle.nll_answer.specs.declared.error.AnswerError.{AnswerError}
 use Rattle.nll_answer.specs.declared.error.AnswerError.TheVariants as answer
 use Rattle.nll_command_line.specs.Options.{Said}
 use Rattle.nll_command_line.specs.declared.options.Deal.{Deal}
-use Rattle.nll_report.specs.Owners.{AsksForOwners, IsAskedCut, IsCutFileRefused, IsCutRefused, IsCutTextRefused, IsFileMeaning, IsOwnersRefused, IsWorkRefused, count_of, deal_of}
+use Rattle.nll_report.specs.Owners.{AsksForOwners, IsCutFileRefused, IsCutRefused, IsCutTextRefused, IsFileMeaning, IsOwnersRefused, IsWorkRefused, count_of, deal_of}
 use Rattle.nll_report.specs.Run.{AreOwnersRefused, IsFileAnswer, IsFileRefused}
 use Rattle.nll_report.specs.Refusal.{IsCutRefusal, cut_refusal_at, refusal_of}
 use Rattle.nll_report.specs.Texts.{Holds, Lacks}

@@ -189,8 +189,10 @@ fn solved<R: AllocGlobal + Threads + Wait + Sync, T: Texts>(
         deal,
         cut,
         mail,
-        schedule: _,
+        schedule,
     } = line;
+    // There is one for a replay alone.
+    drop(schedule);
     match owners_asked(owners, deal, mail, cut) {
         Some(owners) => answered_by_owners(rt, command, file, owners, texts),
         None => answered_by_one(rt.alloc(), command, file, texts),
