@@ -1,232 +1,279 @@
 #!/usr/bin/env python3
-"""A slow model of a run of owners, straight from the definitions, for small facts texts.
+"""A slow model of owners at work, one event after another, straight from the definitions.
 
-    reference_world.py OWNERS round|blocks|cut FILE SCHEDULE [CUT]
+    reference_world.py FILE --schedule FILE [--owners N] [--deal round|blocks] [--cut FILE] [--shuffled SEED]
 
-Prints each state of the schedule as `tools/world_program.rattle` does, and ends as it does. In a turn an
-owner grows by whole rounds over its constraints. So the growths of one turn may stand in another order
-than the program's, and have other ranks.
+Prints and ends as `nllc replay` does; it doesn't know help. Lists stand for the mailboxes, a number for the balance.
+The owners grow in the order of the program, or in any with `--shuffled`. What they hold after each load and take,
+given what they received, and all once the balance is 0, doesn't rest on it; answers and values before that may.
+
+Reading order: `reference_owner`, this file, `reference_order`. Only for small texts.
 """
 
+import argparse
+import functools
+import random
 import sys
 
+import reference
+import reference_cut
 import reference_text
-from reference import printed
+from reference_body import Body
 from reference_cut import Cut
-from reference_facts import Facts
+from reference_mir import Mir
+from reference_order import ProgramOrder, RandomOrder
+from reference_owner import Ground, Owner, demand
 from reference_schedule import Schedule
-from reference_solve import reach
+from reference_solve import solve
 
-ANSWERS = {"done": b"done", "quiet": b"quiet", "open": b"open", None: b"not now"}
+# What an owner works on.
+NOTHING, FRESH, OWED = "nothing", "fresh", "owed"
+
+DONE, QUIET, OPEN, NOT_NOW = "done", "quiet", "open", "not now"
+
+
+class Lane:
+    """What is under way from one owner to another, the oldest first: what isn't owed for yet, what is and isn't
+    sent, and what is in the box."""
+
+    def __init__(self):
+        self.fresh = []
+        self.out = []
+        self.box = []
 
 
 class Seat:
-    """An owner, what it works on, and its lanes: to each owner what is fresh, owed for and in the box."""
+    """An owner, what it works on, whether it has left, and its lane to each owner."""
 
-    def __init__(self, owners):
-        self.loaded = False
-        self.item = "nothing"
+    def __init__(self, ground, me, order):
+        self.owner = Owner(ground, me, order)
+        self.item = NOTHING
         self.left = False
-        self.log = []
-        self.clock = 0
-        self.received = [[] for _ in range(owners)]
-        self.given = [0] * owners
-        self.lanes = [{"fresh": [], "out": [], "box": []} for _ in range(owners)]
+        self.lanes = [Lane() for _ in range(ground.owners)]
+        # How many growths each owner was given.
+        self.given = [0] * ground.owners
 
     def is_free(self):
-        return self.loaded and self.item == "nothing" and not self.left
+        return self.owner.loaded and self.item == NOTHING and not self.left
+
+    def fill(self):
+        """All that the owner has for the others and hasn't given out is fresh, and so is its item."""
+        for to, lane in enumerate(self.lanes):
+            part = self.owner.parts[to]
+            lane.fresh += part[self.given[to]:]
+            self.given[to] = len(part)
+        self.item = FRESH
 
 
 class World:
-    """The owners of a problem by the list of the owners of its regions, and the balance."""
+    """The owners of a problem, what is under way between them, and the balance."""
 
-    def __init__(self, problem, dealt, owners):
-        self.problem = problem
-        self.names = problem.names()
-        self.number = {name: number for number, name in enumerate(self.names)}
-        self.dealt = dealt
-        self.seats = [Seat(owners) for _ in range(owners)]
-        self.balance = owners
+    def __init__(self, ground, order=ProgramOrder):
+        self.ground = ground
+        self.seats = [Seat(ground, me, order) for me in range(ground.owners)]
+        self.balance = ground.owners
 
-    def reads(self, owner, region):
-        """Whether an owner reads a region of another one."""
-        return self.dealt[region] != owner and any(
-            self.number[b] == region and self.dealt[self.number[a]] == owner
-            for a, b, _ in self.problem.constraints)
+    # Where an event is possible
 
-    def told(self, owner, region):
-        """The elements that an owner knows of a region."""
-        seat = self.seats[owner]
-        of = self.dealt[region]
-        known = seat.log if of == owner else seat.received[of]
-        return {e for r, e, _ in known if r == region}
+    def is_possible(self, word, i, j=None):
+        """Whether an event, its word and its owners, is possible; numbers that are no owner are possible nowhere."""
+        owners = {i} if j is None else {i, j}
+        if max(owners) >= len(self.seats) or (j is not None and i == j):
+            return False
+        seat = self.seats[i]
+        if word == b"load":
+            return not seat.owner.loaded
+        if word == b"take":
+            return seat.is_free() and bool(self.seats[j].lanes[i].box)
+        if word == b"owe":
+            return seat.item == FRESH
+        if word == b"clear":
+            return seat.item == OWED
+        if word == b"push":
+            return bool(seat.lanes[j].out)
+        return seat.is_free() and not any(lane.out for lane in seat.lanes)
 
-    def base(self, region):
-        """The base elements of a region."""
-        points = {p for name, p in self.problem.bases if name == self.names[region]}
-        if region < len(self.problem.universals):
-            points |= set(range(self.problem.points)) | {self.problem.points + region}
-        return points
+    # What an event does
 
-    # ---- events
-
-    def step(self, event):
-        """Does what an event does; its answer, or None where it isn't possible."""
-        word, numbers = event
-        return getattr(self, word.decode())(*numbers)
+    def step(self, word, i, j=None):
+        """Does what an event does, and answers it."""
+        if not self.is_possible(word, i, j):
+            return NOT_NOW
+        return getattr(self, word.decode())(*([i] if j is None else [i, j]))
 
     def load(self, i):
-        if self.seats[i].loaded:
-            return None
-        self.seats[i].loaded = True
-        self.turn(i)
-        return "done"
+        self.seats[i].owner.load()
+        self.seats[i].fill()
+        return DONE
 
     def take(self, i, j):
-        if i == j or not self.seats[i].is_free() or not self.seats[j].lanes[i]["box"]:
-            return None
-        growth = self.seats[j].lanes[i]["box"].pop(0)
-        seat = self.seats[i]
-        seat.received[j].append(growth)
-        seat.clock = max(seat.clock, growth[2])
-        self.turn(i)
-        return "done"
+        growth = self.seats[j].lanes[i].box.pop(0)
+        self.seats[i].owner.receive(j, growth)
+        self.seats[i].fill()
+        return DONE
 
     def owe(self, i):
-        seat = self.seats[i]
-        if seat.item != "fresh":
-            return None
-        for lane in seat.lanes:
-            self.balance += len(lane["fresh"])
-            lane["out"] += lane["fresh"]
-            lane["fresh"] = []
-        seat.item = "owed"
-        return "done"
+        for lane in self.seats[i].lanes:
+            self.balance += len(lane.fresh)
+            lane.out += lane.fresh
+            lane.fresh = []
+        self.seats[i].item = OWED
+        return DONE
 
     def clear(self, i):
-        if self.seats[i].item != "owed":
-            return None
-        self.seats[i].item = "nothing"
         self.balance -= 1
-        return "done"
+        self.seats[i].item = NOTHING
+        return DONE
 
     def push(self, i, j):
-        if i == j or not self.seats[i].lanes[j]["out"]:
-            return None
         lane = self.seats[i].lanes[j]
-        lane["box"].append(lane["out"].pop(0))
-        return "done"
+        lane.box.append(lane.out.pop(0))
+        return DONE
 
     def leave(self, i):
-        seat = self.seats[i]
-        if not seat.is_free() or any(lane["out"] for lane in seat.lanes):
-            return None
-        seat.left = self.balance == 0
-        return "quiet" if seat.left else "open"
+        if self.balance > 0:
+            return OPEN
+        self.seats[i].left = True
+        return QUIET
 
-    # ---- a turn
-
-    def turn(self, i):
-        """The owner grows until nothing is left to do; what the others read of it is fresh."""
-        for region in range(len(self.names)):
-            if self.dealt[region] == i:
-                self.grow(i, region, self.base(region))
-        while any(self.apply(i, constraint) for constraint in sorted(self.problem.constraints)):
-            pass
-        seat = self.seats[i]
-        seat.item = "fresh"
-        for j, lane in enumerate(seat.lanes):
-            part = [growth for growth in seat.log if self.reads(j, growth[0])]
-            lane["fresh"] = part[seat.given[j]:]
-            seat.given[j] = len(part)
-
-    def apply(self, i, constraint):
-        """What the constraint asks of an own region, by what is known; whether that is anything new."""
-        sup, sub, at = self.number[constraint[0]], self.number[constraint[1]], constraint[2]
-        return self.dealt[sup] == i and self.grow(
-            i, sup, reach(self.problem, at, self.told(i, sub)))
-
-    def grow(self, i, region, elements):
-        seat = self.seats[i]
-        more = sorted(elements - self.told(i, region))
-        for element in more:
-            seat.clock += 1
-            seat.log.append((region, element, seat.clock))
-        return bool(more)
-
-    # ---- what is printed
-
-    def state(self):
-        yield b"balance %d" % self.balance
-        for number, seat in enumerate(self.seats):
-            yield b"seat %d %s %s %s" % (number, b"loaded" if seat.loaded else b"new", seat.item.encode(),
-                                         b"left" if seat.left else b"here")
-            yield from growths(b"log", seat.log)
-            for other, received in enumerate(seat.received):
-                yield from growths(b"received %d" % other, received)
-            for region in range(len(self.names)):
-                known = sorted(self.told(number, region))
-                if known:
-                    yield b"holds %d" % region + b"".join(b" %d" % e for e in known)
-            for other, lane in enumerate(seat.lanes):
-                for part, listed in lane.items():
-                    yield from growths(b"%s %d" % (part.encode(), other), listed)
+    # What is said
 
     def values(self):
-        for region, name in enumerate(self.names):
-            held = sorted(self.told(self.dealt[region], region))
-            yield b"'%s:" % name + b"".join(printed(self.problem, e) for e in held)
+        """The values that the logs say."""
+        names = self.ground.problem.names()
+        values = {name: set() for name in names}
+        for seat in self.seats:
+            for growth in seat.owner.log:
+                values[names[growth.region]].add(growth.element)
+        return values
+
+    # What holds of each state
+
+    def under_way(self):
+        """How much is under way: what each owner holds, and what is owed for and not yet taken."""
+        held = sum(not seat.owner.loaded or seat.item != NOTHING for seat in self.seats)
+        return held + sum(len(lane.out) + len(lane.box) for seat in self.seats for lane in seat.lanes)
+
+    def check(self, least):
+        """Raises where the state isn't sound, or says something that the least values haven't."""
+        demand(self.balance == self.under_way(), "the balance isn't what is under way")
+        for i, seat in enumerate(self.seats):
+            for j, lane in enumerate(seat.lanes):
+                received = self.seats[j].owner.received[i]
+                demand(seat.owner.parts[j] == received + lane.box + lane.out + lane.fresh, f"way {i} {j}")
+        values = self.values()
+        demand(all(values[name] <= least[name] for name in least), "more than the least values")
+        if self.balance == 0:
+            demand(values == least, "less than the least values at the balance 0")
 
 
-def growths(word, listed):
-    """The line of a list of growths, each as its region, element and rank; none of an empty list."""
-    if listed:
-        yield word + b"".join(b" %d/%d/%d" % growth for growth in listed)
+# The answer to a text, a cut and a schedule
+
+def dealt(regions, owners, deal, cut):
+    """The owner of each region, by a cut file's bytes where there is one, else in turns or in blocks."""
+    if cut is not None:
+        return reference_text.read(cut, Cut()).owners
+    size = -(-regions // owners)
+    return [region % owners if deal == "round" else region // size for region in range(regions)]
 
 
-def states(problem, dealt, owners, events):
-    """The lines of all states of a schedule, and of the values at the end."""
-    world = World(problem, dealt, owners)
-    yield b"cut" + b"".join(b" %d" % owner for owner in dealt)
-    yield from world.state()
-    for number, (word, numbers) in enumerate(events, 1):
-        yield b"event " + b" ".join([word, *(b"%d" % n for n in numbers)])
-        yield b"%d %s" % (number, ANSWERS[world.step((word, numbers))])
-        yield from world.state()
-    yield b"values"
-    yield from world.values()
+def problem_of(text):
+    """The problem that a text means; raises `Refused`."""
+    said = reference.said_in(text)
+    problem = Body(said) if isinstance(said, Mir) else said
+    _ = problem.constraints
+    return problem
 
 
-def dealt_by(deal, regions, owners):
-    """The owner of each region, dealt in turns or in blocks."""
-    block = -(-regions // owners)
-    return [r % owners if deal == "round" else r // block for r in range(regions)]
-
-
-def file_bytes(path):
-    with open(path, "rb") as file:
-        return file.read()
-
-
-def main(words):
-    owners, deal, facts, schedule, *cut = words
-    owners = int(owners)
+def events_of(said, owners):
+    """The events of a schedule's bytes; raises `Refused`."""
     try:
-        problem = reference_text.read(file_bytes(facts), Facts())
+        return reference_text.read(said, Schedule(owners)).events
+    except reference_text.Refused as refused:
+        raise reference_text.Refused(str(refused).replace("nllc: line", "nllc: schedule line", 1)) from None
+
+
+def report(world, events):
+    """The lines of a replay: the answer of each event, the balance and the values at the end."""
+    lines = [b"%d %s\n" % (number, world.step(word, *owners).encode())
+             for number, (word, owners) in enumerate(events, 1)]
+    lines.append(b"balance %d\n" % world.balance)
+    return b"".join(lines + reference.value_lines(world.ground.problem, world.values()))
+
+
+class Asked:
+    """What is asked: the bytes of a text, of a schedule and of a cut file, each None where it can't be read, with
+    the paths that they have, and how the regions are dealt."""
+
+    def __init__(self, text, schedule, owners=1, deal="round", cut_path=None, cut=None, schedule_path=""):
+        self.text = text
+        self.schedule = schedule
+        self.schedule_path = schedule_path
+        self.owners = owners
+        self.deal = deal
+        self.cut_path = cut_path
+        self.cut = cut
+
+    def ground(self):
+        """The problem and its owners; raises `Refused`."""
+        problem = problem_of(self.text)
         regions = len(problem.names())
-        if deal == "cut":
-            dealt = reference_text.read(file_bytes(cut[0]), Cut()).owners
-        else:
-            dealt = dealt_by(deal, regions, owners)
-        if len(dealt) != regions or any(owner >= owners for owner in dealt):
-            raise reference_text.Refused("no cut of these regions")
-        events = reference_text.read(file_bytes(schedule), Schedule(owners)).events
-    except (OSError, reference_text.Refused) as refused:
-        sys.stderr.write(f"{refused}\n")
+        if self.cut_path is not None:
+            refusal = reference_cut.refusal(self.cut_path, self.cut, regions, self.owners)
+            if refusal is not None:
+                raise reference_text.Refused(refusal)
+        return Ground(problem, self.owners, dealt(regions, self.owners, self.deal, self.cut))
+
+    def world(self, order=ProgramOrder):
+        return World(self.ground(), order)
+
+    def answer(self, order=ProgramOrder):
+        """Standard output, status and standard error. What is wrong with the text comes before what is wrong with
+        the cut file, and that before what is wrong with the schedule."""
+        try:
+            world = self.world(order)
+            if self.schedule is None:
+                raise reference_text.Refused(f"nllc: cannot read {self.schedule_path}")
+            return report(world, events_of(self.schedule, self.owners)), 0, b""
+        except reference_text.Refused as refused:
+            return b"", 2, f"{refused}\n".encode()
+
+
+def least_values(world):
+    return solve(world.ground.problem)
+
+
+def bytes_of(path):
+    try:
+        with open(path, "rb") as file:
+            return file.read(reference_text.LIMIT_TEXT + 1)
+    except OSError:
+        return None
+
+
+def main():
+    parser = argparse.ArgumentParser(description=__doc__.split("\n", maxsplit=1)[0])
+    parser.add_argument("file")
+    parser.add_argument("--schedule", required=True)
+    parser.add_argument("--owners", type=int, default=1)
+    parser.add_argument("--deal", choices=["round", "blocks"], default="round")
+    parser.add_argument("--cut")
+    parser.add_argument("--shuffled", type=int, help="owners grow in an order of this seed")
+    args = parser.parse_args()
+    text = bytes_of(args.file)
+    if text is None:
+        sys.stderr.write(f"nllc: cannot read {args.file}\n")
         return 2
-    sys.stdout.buffer.write(b"".join(line + b"\n" for line in states(problem, dealt, owners, events)))
-    return 0
+    order = ProgramOrder
+    if args.shuffled is not None:
+        order = functools.partial(RandomOrder, random.Random(args.shuffled))
+    cut = bytes_of(args.cut) if args.cut is not None else None
+    asked = Asked(text, bytes_of(args.schedule), args.owners, args.deal, args.cut, cut, args.schedule)
+    out, status, err = asked.answer(order)
+    sys.stdout.buffer.write(out)
+    sys.stderr.buffer.write(err)
+    return status
 
 
 if __name__ == "__main__":
-    sys.exit(main(sys.argv[1:]))
+    sys.exit(main())
