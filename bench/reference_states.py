@@ -1,79 +1,79 @@
 #!/usr/bin/env python3
-"""Each state of a schedule by the slow model (`reference_world`), as `tools/world_program.rattle` prints it.
+"""Prints the states of a schedule as `tools/world_program.rattle` does, by the slow model of `reference_world`.
 
     reference_states.py OWNERS round|blocks|cut FILE SCHEDULE [CUT]
 
-Ends as that program does. Only for small texts.
+Only for small texts. It may stand in for the program where pages of schedules are made:
+
+    WORLD_PROGRAM=bench/reference_states.py tools/nll-schedule FILE SCHEDULE
 """
 
 import sys
 
 import reference
 import reference_text
-from reference_cut import Cut
-from reference_owner import Ground
-from reference_schedule import Schedule
-from reference_world import World, bytes_of, dealt, problem_of
+from reference_world import Asked, World, bytes_of, events_of
 
 
 def growths(word, listed):
-    """The line of a list of growths, each as its region, element and rank; none of an empty list."""
+    """The line of a list of growths, each as region, element and rank; none of an empty list."""
     if listed:
-        yield word + b"".join(b" %d/%d/%d" % growth for growth in listed)
+        yield b" ".join([word, *(b"%d/%d/%d" % growth for growth in listed)])
 
 
-def seat_lines(world, number, seat):
-    """An owner, what it works on and knows, and what is under way from it."""
+def seat_lines(ground, number, seat):
     owner = seat.owner
     yield b"seat %d %s %s %s" % (number, b"loaded" if owner.loaded else b"new", seat.item.encode(),
                                  b"left" if seat.left else b"here")
     yield from growths(b"log", owner.log)
-    for other, received in enumerate(owner.received):
-        yield from growths(b"received %d" % other, received)
-    for region in range(len(world.ground.bases)):
-        known = sorted(owner.has[region])
+    for sender, received in enumerate(owner.received):
+        yield from growths(b"received %d" % sender, received)
+    for region, known in enumerate(owner.has):
         if known:
-            yield b"holds %d" % region + b"".join(b" %d" % element for element in known)
-    for other, lane in enumerate(seat.lanes):
-        yield from growths(b"fresh %d" % other, lane.fresh)
-        yield from growths(b"out %d" % other, lane.out)
-        yield from growths(b"box %d" % other, lane.box)
+            yield b"holds %d" % region + b"".join(b" %d" % e for e in sorted(known))
+    for to in range(ground.owners):
+        lane = seat.lanes[to]
+        for part, listed in ((b"fresh", lane.fresh), (b"out", lane.out), (b"box", lane.box)):
+            yield from growths(b"%s %d" % (part, to), listed)
 
 
-def state(world):
+def state_lines(world):
     yield b"balance %d" % world.balance
     for number, seat in enumerate(world.seats):
-        yield from seat_lines(world, number, seat)
+        yield from seat_lines(world.ground, number, seat)
 
 
-def states(problem, owner_of, owners, events):
+def states(ground, events):
     """The lines of all states of a schedule, and of the values at the end."""
-    world = World(Ground(problem, owners, owner_of))
-    yield b"cut" + b"".join(b" %d" % owner for owner in owner_of)
-    yield from state(world)
-    for number, (word, numbers) in enumerate(events, 1):
-        yield b"event " + b" ".join([word, *(b"%d" % n for n in numbers)])
-        yield b"%d %s" % (number, world.step(word, *numbers).encode())
-        yield from state(world)
+    world = World(ground)
+    yield b"cut" + b"".join(b" %d" % owner for owner in ground.owner_of)
+    yield from state_lines(world)
+    for number, (word, owners) in enumerate(events, 1):
+        yield b"event " + b" ".join([word, *(b"%d" % owner for owner in owners)])
+        yield b"%d %s" % (number, world.step(word, *owners).encode())
+        yield from state_lines(world)
     yield b"values"
-    yield from (line.rstrip(b"\n") for line in reference.value_lines(problem, world.values()))
+    yield from b"".join(reference.value_lines(ground.problem, world.values())).splitlines()
+
+
+def printed(asked):
+    """What the program prints for what is asked; raises `Refused`."""
+    ground = asked.ground()
+    lines = states(ground, events_of(asked.schedule, asked.owners))
+    return b"".join(line + b"\n" for line in lines)
 
 
 def main(words):
-    owners, deal, facts, schedule, *cut = words
-    owners = int(owners)
+    owners, deal, file, schedule, *cut = words
+    path = cut[0] if deal == "cut" else None
+    asked = Asked(bytes_of(file), bytes_of(schedule), int(owners), deal, path,
+                  bytes_of(path) if path else None, schedule)
     try:
-        problem = problem_of(bytes_of(facts) or b"")
-        regions = len(problem.names())
-        cut = bytes_of(cut[0]) if deal == "cut" else None
-        owner_of = reference_text.read(cut, Cut()).owners if cut is not None else dealt(regions, owners, deal, None)
-        if len(owner_of) != regions or any(owner >= owners for owner in owner_of):
-            raise reference_text.Refused("no cut of these regions")
-        events = reference_text.read(bytes_of(schedule) or b"", Schedule(owners)).events
+        out = printed(asked)
     except reference_text.Refused as refused:
         sys.stderr.write(f"{refused}\n")
         return 2
-    sys.stdout.buffer.write(b"".join(line + b"\n" for line in states(problem, owner_of, owners, events)))
+    sys.stdout.buffer.write(out)
     return 0
 
 

@@ -78,7 +78,8 @@ def run(asked):
 def content_of(asked):
     text = read_bytes(asked.facts)
     if text.split(b"\n", 1)[0].split() == [b"nll-mir", b"1"]:
-        raise Refusal(f"{asked.facts} is a MIR text; a page is made of a facts text, and `nllc replay` takes both")
+        raise Refusal(f"{asked.facts} is a MIR text; a page is made of a facts text, "
+                      "and `nllc replay` takes both")
     facts = read_facts(text, asked.facts)
     owners = asked.owners or named_owners(read_bytes(asked.schedule))
     look_small(asked, facts, owners)
@@ -89,7 +90,8 @@ def content_of(asked):
     try:
         return Content(facts, states, (asked.facts, asked.schedule), printed.program, printed.standing)
     except Broken as wrong:
-        raise Refusal(f"the states of {printed.program} don't follow from {asked.facts}: {wrong}", 3) from None
+        raise Refusal(f"the states of {printed.program} don't follow from {asked.facts}: {wrong}",
+                      3) from None
 
 
 def events_in(schedule):

@@ -6,6 +6,8 @@ from nll_page.words import Code, joined, tick
 from . import reasons, telling
 from .states import under_way
 
+MOST_ROWS = 12      # of a list of what is under way, or of what grew, no more is written out
+
 
 def event_list(content):
     rows = [event_row(0, "the first state", "", content.run.states[0].balance)]
@@ -40,9 +42,17 @@ def event_part(content, number):
 
 
 def balance_part(content, state):
-    ways = [f"<li>{sentence(telling.way_words(content.facts, *way))}</li>" for way in under_way(state)]
-    listed = f'<ul>{"".join(ways)}</ul>' if ways else "<p>Nothing is under way.</p>"
-    return f"<h3>The balance counts {state.balance}</h3>{listed}"
+    rows = [sentence(telling.way_words(content.facts, *way)) for way in under_way(state)]
+    return (f"<h3>The balance counts {state.balance}</h3>"
+            f'{row_list(rows) if rows else "<p>Nothing is under way.</p>"}')
+
+
+def row_list(rows):
+    """A list; of a long one the beginning, and how many rows more there are."""
+    shown = rows
+    if len(rows) > MOST_ROWS:
+        shown = [*rows[:MOST_ROWS - 1], f"and {len(rows) - MOST_ROWS + 1} more"]
+    return f'<ul>{"".join(f"<li>{row}</li>" for row in shown)}</ul>'
 
 
 # Why growths came, and what they lead to
@@ -60,12 +70,12 @@ def taken_part(content, number):
     facts, run = content.facts, content.run
     event = run.states[number].event
     taken = run.states[number].seats[event.owner].received[event.other][-1]
-    read = [f"<li>{sentence_with_links(content, reading_words(content, one))}</li>"
+    read = [sentence_with_links(content, reading_words(content, one))
             for one in reasons.readings(facts, run, run.states[number - 1], run.states[number],
                                         event.owner, taken)]
     return (f"<h3>Why {sentence([telling.growth(facts, taken)])}</h3>"
             f"<p>{sentence_with_links(content, why_words(content, event.other, taken))}</p>"
-            f"<h3>What reads it</h3><ul>{''.join(read)}</ul>")
+            f"<h3>What reads it</h3>{row_list(read)}")
 
 
 def reading_words(content, reading):
@@ -94,12 +104,12 @@ def grown_part(content, number):
     if not grown:
         return ""
     from_start = [one for one in grown if reasons.is_base(facts, one.region, one.element)]
-    items = [f"<li>{sentence_with_links(content, base_words(facts, region, from_start))}</li>"
-             for region in sorted({one.region for one in from_start})]
-    items += [f"<li>{sentence([telling.growth(facts, one)])}: "
-              f"{sentence_with_links(content, asked_words(content, owner, one))}</li>"
-              for one in grown if one not in from_start]
-    return f"<h3>What grew</h3><ul>{''.join(items)}</ul>"
+    rows = [sentence_with_links(content, base_words(facts, region, from_start))
+            for region in sorted({one.region for one in from_start})]
+    rows += [f"{sentence([telling.growth(facts, one)])}: "
+             f"{sentence_with_links(content, asked_words(content, owner, one))}"
+             for one in grown if one not in from_start]
+    return f"<h3>What grew</h3>{row_list(rows)}"
 
 
 def base_words(facts, region, grown):

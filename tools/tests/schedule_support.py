@@ -4,12 +4,8 @@ import os
 
 from page_support import EXAMPLES, ROOT, file_bytes
 
-import reference_text  # page_support has put bench/ on the path
-import reference_states
-from reference_world import dealt as dealt_by
-from reference_cut import Cut
-from reference_facts import Facts
-from reference_schedule import Schedule
+import reference_states  # page_support has put bench/ on the path
+from reference_world import Asked
 
 from nll_page.facts import read_facts
 from nll_schedule.content import Content
@@ -23,12 +19,9 @@ SCHEDULES = {"each_other": 2, "late_hole": 3, "early_leave": 3}
 
 def printed(facts, schedule, owners, deal="round"):
     """What the slow model prints for these texts; a deal that is bytes is a cut file."""
-    problem = reference_text.read(facts, Facts())
-    events = reference_text.read(schedule, Schedule(owners)).events
-    dealt = reference_text.read(deal, Cut()).owners if isinstance(deal, bytes) else \
-        dealt_by(len(problem.names()), owners, deal, None)
-    lines = reference_states.states(problem, dealt, owners, events)
-    return b"".join(line + b"\n" for line in lines).decode()
+    asked = Asked(facts, schedule, owners, cut_path="CUT", cut=deal) if isinstance(deal, bytes) else \
+        Asked(facts, schedule, owners, deal)
+    return reference_states.printed(asked).decode()
 
 
 def schedule(*events):

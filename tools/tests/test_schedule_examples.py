@@ -1,6 +1,7 @@
 """The schedules among the examples: answers and balances found by hand from the definitions."""
 
 import os
+import re
 import subprocess
 import tempfile
 import unittest
@@ -83,6 +84,62 @@ class Examples(unittest.TestCase):
         named = {name.removesuffix(".schedule") for name in os.listdir(os.path.join(ROOT, "examples"))
                  if name.endswith(".schedule")}
         self.assertEqual(named, set(SCHEDULES))
+
+
+class Messages(unittest.TestCase):
+    """The tables of docs/MESSAGES.md."""
+
+    def setUp(self):
+        with open(os.path.join(ROOT, "docs", "MESSAGES.md"), encoding="utf-8") as file:
+            self.rows = [[cell.strip() for cell in line.strip("|\n").split("|")]
+                         for line in file if line.startswith("| ")]
+
+    def test_each_other(self):
+        states = example_content("each_other").run.states
+        rows = [row for row in self.rows if len(row) == 6]
+        self.assertEqual([row[0].split()[0] for row in rows[1:]],
+                         ["none", "1", "3", "5", "9", "12", "15", "17", "21", "24", "26"])
+        for row in rows[1:]:
+            state = states[0 if row[0] == "none" else int(row[0].split()[0])]
+            with self.subTest(row=row[0]):
+                self.assertEqual(int(row[5]), state.balance)
+                for owner, cell in ((0, row[1]), (1, row[4])):
+                    self.check_owner(state.seats[owner], cell)
+                for owner, cell in ((0, row[2]), (1, row[3])):
+                    self.check_lane(state.seats[owner], 1 - owner, cell)
+
+    def check_owner(self, seat, cell):
+        """The owner's region and its copy, of which the numbers are those of their names."""
+        if not seat.loaded or seat.left:
+            self.assertEqual(cell, "has left" if seat.left else "not loaded")
+            return
+        said = {int(name): {int(point) for point in points.split()}
+                for name, points in re.findall(r"`'(\d)`:((?: \d)*)", cell)}
+        self.assertEqual(said, {region: seat.holds.get(region, set()) for region in (1, 2)})
+
+    def check_lane(self, seat, reader, cell):
+        said = [(part, int(region), int(element), int(rank)) for part, region, element, rank
+                in re.findall(r"(fresh|owes|box): `'(\d)` (\d) \((\d)\)", cell)]
+        words = {"fresh": "fresh", "out": "owes", "box": "box"}
+        self.assertEqual(said, [(words[part], *one) for part in words for one in seat.lane(reader, part)])
+
+    def test_early_leave(self):
+        states = example_content("early_leave").run.states
+        rows = [row for row in self.rows if len(row) == 4 and row[0].split()[0].isdigit()]
+        self.assertEqual(len(rows), 9)
+        for event, answer, balance, _ in rows:
+            number, words = re.fullmatch(r"(\d+) `(.*)`", event).groups()
+            state = states[int(number)]
+            with self.subTest(event=event):
+                self.assertEqual((words_of(state.event), state.answer, state.balance),
+                                 (words, answer, int(balance)))
+
+    def test_ranks(self):
+        content = example_content("each_other")
+        logged = {f"`'{one.region}` {one.element}": one.rank for _, one in content.came if one.region}
+        said = {row[0]: int(row[1]) for row in self.rows if len(row) == 4 and row[1].isdigit()
+                and not row[2].isdigit() and row[0].startswith("`'")}
+        self.assertEqual(said, logged)
 
 
 class Programs(unittest.TestCase):

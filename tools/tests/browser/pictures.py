@@ -75,7 +75,7 @@ def take_schedule(folder):
         path = os.path.join(pages, "schedule.html")
         subprocess.run(["tools/nll-schedule", "examples/each_other.facts", "examples/each_other.schedule",
                         "-o", path], cwd=ROOT, stdout=subprocess.DEVNULL, check=True)
-        page = browser.open(path, 1280, 720, "light", "#event=18")
+        page = browser.open(path, 1280, 760, "light", "#event=18")
         save(page, os.path.join(folder, "pictures", "schedule.png"))
 
 
