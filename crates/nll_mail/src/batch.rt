@@ -12,10 +12,17 @@ use nll_problem::RegionId;
 use nll_sets::{Element, Memory};
 use rtrb::{Consumer, Protocol};
 use std::alloc::Global;
+use std::hint;
 use std::marker::Model;
 
 /// How many growths a batch has at most.
 const MOST: usize = 64;
+
+/// A batch of 2 growths up to fewer than this is small.
+const FEW: usize = 16;
+
+/// How many hints to pause the processor gets behind a small batch.
+const PAUSES: u32 = 32;
 
 /// Growths that were taken out of a ring at once, and are given one by one. A contract sees those
 /// that are left, in order.
@@ -33,6 +40,13 @@ impl Model for Batch {
 
     ghost invariant = { λ b. (b.next ≤ b.end) × (b.end ≤ vec_len b.growths)
         × (0 < vec_len b.growths) };
+}
+
+// Lets some hundred nanoseconds go by.
+fn pause() {
+    for _ in 0..PAUSES {
+        hint::spin_loop();
+    }
 }
 
 impl Batch {
@@ -78,6 +92,11 @@ impl Batch {
 
     /// Takes growths out of a ring: as many as were seen there and a batch has room for. It looks
     /// where fewer than that are known.
+    ///
+    /// # Cost
+    /// Behind a small batch it first lets some hundred nanoseconds go by. A look takes what the
+    /// sender is writing out of the cache of its processor, so looks for a few growths each slow
+    /// the sender down.
     pub fn fill<P: Protocol<Growth>>(&mut self, consumer: &mut Consumer<Growth, Global, P>)
         requires { self.old ≡ [] }
         ensures ring { SameConsumer consumer.old consumer.new }
@@ -87,6 +106,9 @@ impl Batch {
             (self.new ++ known_items consumer.new) }
         ensures none { self.new ≡ [] → known_items consumer.new ≡ [] }
     {
+        if self.end > 1 && self.end < FEW {
+            pause();
+        }
         self.next = 0;
         self.end = consumer.pop_partial_slice(&mut self.growths);
     }
