@@ -5,6 +5,7 @@ import re
 
 from nll_page import page as region_page
 from nll_page.escaping import script_data, text
+from nll_page.nllc import PROVED
 from nll_page.words import plural
 
 from .event_part import constraint_list, event_list, event_parts
@@ -80,7 +81,10 @@ def graph(facts):
 
 def provenance(content):
     standing = region_page.STANDINGS[content.standing]
-    return f"States from <code>{text(content.origin)}</code>, {standing}."
+    rest = "nothing else of this page is proved" if content.standing == PROVED else \
+        "nothing that this page says beyond them is proved"
+    return (f"States from <code>{text(content.origin)}</code>, {standing}. "
+            f'<span class="hint">Made by <code>nll-schedule</code>; {rest}.</span>')
 
 
 def data(run):
