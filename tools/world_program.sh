@@ -8,9 +8,10 @@ root=$(dirname "$here")
 proved=$root/out/world_program/crates/world_program/out/world_program
 unproved=$root/out/world_program-unproved
 below="nll_sets nll_problem nll_text nll_reading nll_facts nll_core nll_cut nll_mail nll_owner nll_event \
-    nll_model nll_list_text nll_cut_text nll_schedule_text"
-used="nll_problem nll_core nll_cut nll_mail nll_owner nll_event nll_model nll_reading nll_facts nll_cut_text \
-    nll_schedule_text anyhow"
+    nll_model nll_list_text nll_cut_text nll_schedule_text nll_types nll_statements nll_typing nll_rules \
+    nll_type_grammar nll_naming nll_mir_grammar nll_body nll_live nll_mir_text nll_body_problem"
+used="nll_problem nll_core nll_cut nll_mail nll_owner nll_event nll_model nll_text nll_reading nll_facts \
+    nll_body nll_mir_text nll_body_problem nll_cut_text nll_schedule_text anyhow"
 
 say() { echo "nll-schedule: $*" >&2; }
 
@@ -29,7 +30,7 @@ if [ "$1" = --prove ]; then
     printf 'nll-schedule 1\nload 0\n' > "$small/schedule"
     "$root/bench/build_program.sh" "$here/world_program" "$below" "$used" \
         1 round "$small/facts" "$small/schedule" || exit
-    rm -rf "$root"/out/world_program/crates/nll_*    # copies, of some 3 GB
+    rm -rf "$root"/out/world_program/crates/nll_*    # copies, of some 7 GB
 elif is_current "$proved"; then
     echo "$proved"
 elif is_current "$unproved"; then

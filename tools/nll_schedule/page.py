@@ -74,7 +74,7 @@ def graph(facts):
     edges = [(p, q) for p in range(facts.points) for q in facts.successors[p]]
     if len(edges) > MOST_EDGES:
         return f"<p>{plural(facts.points, 'point')}, {plural(len(edges), 'edge')}.</p>"
-    ways = ", ".join(f"{p} → {q}" for p, q in edges) or "no edge"
+    ways = ", ".join(f"{facts.point_name(p)} → {facts.point_name(q)}" for p, q in edges) or "no edge"
     returns = ", ".join(element_name(facts, p) for p in sorted(facts.returns))
     return f"<p>{text(ways)}; {f'return at {text(returns)}' if returns else 'no return'}.</p>"
 
