@@ -2,7 +2,8 @@
 # Prints the path of the program of world_program.rattle, which pages of schedules are made of: the one
 # that `world_program.sh --prove` proved and built, while no source is newer; else a build of the same
 # sources that nothing has proved, which is compiled once, in about a minute. `--prove` takes what was proved of the
-# crates below it: after `./nllc.sh --prove` some two minutes, else many more.
+# crates below it: after `./nllc.sh --prove` some two minutes, else many more. With `--built` nothing is compiled; where no
+# build is current, the status is 1.
 here=$(cd "$(dirname "$0")" && pwd)
 root=$(dirname "$here")
 proved=$root/out/world_program/crates/world_program/out/world_program
@@ -35,6 +36,8 @@ elif is_current "$proved"; then
     echo "$proved"
 elif is_current "$unproved"; then
     echo "$unproved"
+elif [ "$1" = --built ]; then
+    exit 1
 elif ! command -v rt >/dev/null; then
     say "rt, the command of the Rattle kit, isn't on the PATH"
     exit 127
