@@ -12,7 +12,23 @@ import sys
 
 import reference
 import reference_text
+from reference_body import Body
 from reference_world import Asked, World, bytes_of, events_of
+
+
+def problem_lines(problem):
+    """The facts text of the problem of a body, with the names of its points as remark lines."""
+    yield b"nll-facts 1"
+    yield b"points %d" % problem.points
+    yield from (b"# point %d: %s" % (p, problem.label(p)) for p in range(problem.points))
+    yield from (b"universal '%s" % name for name in problem.universals[1:])
+    yield from (b"outlives '%s '%s" % pair for pair in sorted(problem.outlives))
+    yield from (b"region '%s" % name for name in problem.names()[len(problem.universals):])
+    yield from (b"next %d %d" % edge for edge in sorted(problem.edges))
+    yield from (b"return %d" % p for p in sorted(problem.returns))
+    yield from (b"base '%s %d" % base for base in sorted(problem.bases))
+    yield from (b"constraint '%s '%s %d" % constraint for constraint in sorted(problem.constraints))
+    yield b"end"
 
 
 def growths(word, listed):
@@ -46,6 +62,8 @@ def state_lines(world):
 def states(ground, events):
     """The lines of all states of a schedule, and of the values at the end."""
     world = World(ground)
+    if isinstance(ground.problem, Body):
+        yield from problem_lines(ground.problem)
     yield b"cut" + b"".join(b" %d" % owner for owner in ground.owner_of)
     yield from state_lines(world)
     for number, (word, owners) in enumerate(events, 1):

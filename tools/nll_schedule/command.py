@@ -15,6 +15,7 @@ from .content import Content
 from .page import page
 from .states import Broken, read_run
 
+MOST_BYTES = 1024 * 1024     # of FILE
 MOST_EVENTS = 2_000
 MOST_ELEMENTS = 200
 MOST_REGIONS = 64
@@ -52,7 +53,7 @@ def words_of(arguments):
     parser = argparse.ArgumentParser(prog="nll-schedule", description=ABOUT, epilog=STATUSES,
                                      allow_abbrev=False,
                                      formatter_class=argparse.RawDescriptionHelpFormatter)
-    parser.add_argument("facts", metavar="FILE", help="a facts text")
+    parser.add_argument("facts", metavar="FILE", help="a facts text or a MIR text")
     parser.add_argument("schedule", metavar="SCHEDULE", help="a schedule of its owners")
     parser.add_argument("--owners", metavar="N", type=int, choices=range(1, MOST_OWNERS + 1),
                         help="how many owners there are (otherwise as many as the schedule names)")
@@ -76,22 +77,43 @@ def run(asked):
 
 
 def content_of(asked):
-    text = read_bytes(asked.facts)
-    if text.split(b"\n", 1)[0].split() == [b"nll-mir", b"1"]:
-        raise Refusal(f"{asked.facts} is a MIR text; a page is made of a facts text, "
-                      "and `nllc replay` takes both")
-    facts = read_facts(text, asked.facts)
-    owners = asked.owners or named_owners(read_bytes(asked.schedule))
-    look_small(asked, facts, owners)
-    deal = ["cut", asked.facts, asked.schedule, asked.cut] if asked.cut else \
-        [asked.deal or "round", asked.facts, asked.schedule]
-    printed = program.run([str(owners), *deal])
-    states = read_run(printed.text, len(facts.names), facts.points + facts.universals)
+    text, events = read_bytes(asked.facts), read_bytes(asked.schedule)
+    look_small(asked.facts, len(text), MOST_BYTES, "bytes")
+    look_small(asked.schedule, len(events_in(events)), MOST_EVENTS, "events")
+    facts = None
+    if not is_mir_text(text):
+        facts = read_facts(text, asked.facts)
+        look_small_problem(asked.facts, facts)
+    printed = program.run(words_for(asked, asked.owners or named_owners(events)))
+    told, rest = (facts, printed.text) if facts else problem_in(printed.text, asked.facts)
+    states = read_run(rest, len(told.names), told.points + told.universals)
     try:
-        return Content(facts, states, (asked.facts, asked.schedule), printed.program, printed.standing)
+        return Content(told, states, (asked.facts, asked.schedule), printed.program, printed.standing)
     except Broken as wrong:
         raise Refusal(f"the states of {printed.program} don't follow from {asked.facts}: {wrong}",
                       3) from None
+
+
+def words_for(asked, owners):
+    """The words of the program."""
+    if asked.cut:
+        return [str(owners), "cut", asked.facts, asked.schedule, asked.cut]
+    return [str(owners), asked.deal or "round", asked.facts, asked.schedule]
+
+
+def is_mir_text(text):
+    return text.split(b"\n", 1)[0].split() == [b"nll-mir", b"1"]
+
+
+def problem_in(printed, path):
+    """The problem of a MIR text, which the program prints first as a facts text, and what is behind it."""
+    head, end, rest = printed.partition("\nend\n")
+    if not end:
+        raise Refusal("world_program printed no problem of the MIR text", 3)
+    facts = read_facts((head + end).encode(), path)
+    facts.point_names = {point: remark.text for point, remark in facts.remarks.points.items()}
+    look_small_problem(path, facts)
+    return facts, rest
 
 
 def events_in(schedule):
@@ -106,15 +128,16 @@ def named_owners(schedule):
     return min(highest + 1, MOST_OWNERS)
 
 
-def look_small(asked, facts, owners):
+def look_small_problem(path, facts):
+    look_small(path, facts.points + facts.universals, MOST_ELEMENTS, "elements")
+    look_small(path, len(facts.names), MOST_REGIONS, "regions")
+
+
+def look_small(path, count, most, noun):
     """Refuses what is too large for a page."""
-    for path, count, most, noun in (
-            (asked.facts, facts.points + facts.universals, MOST_ELEMENTS, "elements"),
-            (asked.facts, len(facts.names), MOST_REGIONS, "regions"),
-            (asked.schedule, len(events_in(read_bytes(asked.schedule))), MOST_EVENTS, "events")):
-        if count > most:
-            raise Refusal(f"{path} has {count:,} {noun}, and a page of more than {most:,} is no use to "
-                          "anybody; `nllc replay` answers it")
+    if count > most:
+        raise Refusal(f"{path} has {count:,} {noun}, and a page of more than {most:,} is no use to "
+                      "anybody; `nllc replay` answers it")
 
 
 def say(line):

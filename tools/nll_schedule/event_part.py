@@ -84,11 +84,11 @@ def reading_words(content, reading):
     sup, sub, at = facts.constraints[reading.constraint]
     named = [Link(reading.constraint), ": "]
     if not reading.reached:
-        return [*named, "it asks for nothing yet, since walks begin at ", Code(str(at)), ", which ",
+        return [*named, "it asks for nothing yet, since walks begin at ", Code(facts.point_name(at)), ", which ",
                 tick(facts, sub), " lacks."]
     reached = [*named, "inside ", tick(facts, sub), " walks reach ",
                Code(telling.elements_name(facts, reading.reached))]
-    stop = [" They stop at ", Code(str(reading.hole)), ", which ", tick(facts, sub), " lacks."] \
+    stop = [" They stop at ", Code(facts.point_name(reading.hole)), ", which ", tick(facts, sub), " lacks."] \
         if reading.hole is not None else []
     if not reading.new:
         return [*reached, ", which ", tick(facts, sup), " has.", *stop]

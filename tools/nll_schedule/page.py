@@ -5,6 +5,7 @@ import re
 
 from nll_page import page as region_page
 from nll_page.escaping import script_data, text
+from nll_page.nllc import PROVED
 from nll_page.words import plural
 
 from .event_part import constraint_list, event_list, event_parts
@@ -73,14 +74,17 @@ def graph(facts):
     edges = [(p, q) for p in range(facts.points) for q in facts.successors[p]]
     if len(edges) > MOST_EDGES:
         return f"<p>{plural(facts.points, 'point')}, {plural(len(edges), 'edge')}.</p>"
-    ways = ", ".join(f"{p} → {q}" for p, q in edges) or "no edge"
+    ways = ", ".join(f"{facts.point_name(p)} → {facts.point_name(q)}" for p, q in edges) or "no edge"
     returns = ", ".join(element_name(facts, p) for p in sorted(facts.returns))
     return f"<p>{text(ways)}; {f'return at {text(returns)}' if returns else 'no return'}.</p>"
 
 
 def provenance(content):
     standing = region_page.STANDINGS[content.standing]
-    return f"States from <code>{text(content.origin)}</code>, {standing}."
+    rest = "nothing else of this page is proved" if content.standing == PROVED else \
+        "nothing that this page says beyond them is proved"
+    return (f"States from <code>{text(content.origin)}</code>, {standing}. "
+            f'<span class="hint">Made by <code>nll-schedule</code>; {rest}.</span>')
 
 
 def data(run):

@@ -5,7 +5,7 @@ from nll_page.words import Code, joined, plural, tick
 
 def element_name(facts, element):
     if element < facts.points:
-        return str(element)
+        return facts.point_name(element)
     return f"end('{facts.names[element - facts.points]})"
 
 
@@ -19,7 +19,7 @@ def growth(facts, one):
 
 def constraint_name(facts, number):
     sup, sub, at = facts.constraints[number]
-    return f"('{facts.names[sup]}: '{facts.names[sub]}) @ {at}"
+    return f"('{facts.names[sup]}: '{facts.names[sub]}) @ {facts.point_name(at)}"
 
 
 def words_of(event):

@@ -8,7 +8,7 @@ import unittest
 from contextlib import redirect_stderr, redirect_stdout
 from unittest import mock
 
-from page_support import text
+from page_support import EXAMPLES, file_bytes, text
 from schedule_support import REFERENCE, example, schedule
 
 from nll_schedule.command import main, named_owners
@@ -77,6 +77,17 @@ class Commands(unittest.TestCase):
         self.assertEqual(self.run_main(self.facts, self.schedule, "--cut", cut)[0], 0)
         self.assertIn("of owner 1</span>", self.page())
 
+    def test_a_mir_text(self):
+        body = self.write("body.mir", file_bytes(EXAMPLES, "running.mir"))
+        events = self.write("body.schedule", schedule("load 0", "owe 0", "clear 0", "load 1"))
+        self.assertEqual(self.run_main(body, events)[0], 0)
+        shown = self.page("body.schedule.html")
+        self.assertIn("bb0/0 → bb0/1, bb0/1 → bb1/0, bb0/1 → bb2/0", shown)
+        self.assertIn("(&#x27;bar: &#x27;p) @ bb1/2", shown)
+        self.assertIn("<code>&#x27;p gets bb1/2</code>", shown)
+        self.program("half", "echo nll-facts 1")
+        self.refused("printed no problem of the MIR text", body, events, world="half", status=3)
+
     def test_owners_that_a_schedule_names(self):
         for events, owners in (((), 1), (("load 0",), 1), (("take 0 4", "load 2"), 5), (("load 99999",), 64)):
             self.assertEqual(named_owners(schedule(*events)), owners)
@@ -95,8 +106,7 @@ class Commands(unittest.TestCase):
         self.refused("no.facts can't be read", self.path("no.facts"), self.schedule)
         self.refused("no.schedule can't be read", self.facts, self.path("no.schedule"))
         self.refused("isn't a facts text", self.schedule, self.schedule)
-        self.refused("is a MIR text; a page is made of a facts text",
-                     self.write("text.mir", b"nll-mir 1\n"), self.schedule)
+        self.refused("line 1: end", self.write("text.mir", b"nll-mir 1"), self.schedule)
         self.refused("would be written over", self.facts, self.schedule, "-o", self.facts)
         self.refused("can't be written", self.facts, self.schedule, "-o", self.path("no/out.html"), status=3)
 

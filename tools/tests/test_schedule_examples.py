@@ -145,20 +145,21 @@ class Messages(unittest.TestCase):
 class Programs(unittest.TestCase):
     """The program and `nllc replay`, where both are built: on each beginning of each example."""
 
-    WORLDS = (os.environ.get("WORLD_PROGRAM"), "out/world_program/crates/world_program/out/world_program",
-              "out/world_program-unproved")
-    REPLAYS = (os.environ.get("NLLC"), "crates/nllc/out/nllc", "out/nllc-unproved")
+    NLLCS = (os.environ.get("NLLC"), "crates/nllc/out/nllc", "out/nllc-unproved")
 
-    def built(self, paths):
-        found = [os.path.join(ROOT, path) for path in paths if path]
-        return next((path for path in found if os.access(path, os.X_OK)), None)
+    def programs(self):
+        """The paths of both, as far as they are built."""
+        world = os.environ.get("WORLD_PROGRAM") or self.output(
+            os.path.join(ROOT, "tools", "world_program.sh"), "--built")
+        nllcs = [os.path.join(ROOT, path) for path in self.NLLCS if path]
+        return world, next((path for path in nllcs if os.access(path, os.X_OK)), None)
 
     def output(self, *words):
         run = subprocess.run(words, stdin=subprocess.DEVNULL, capture_output=True, text=True, check=False)
-        return run.stdout if run.returncode == 0 else None
+        return run.stdout.strip("\n") if run.returncode == 0 else None
 
     def test_each_beginning(self):
-        world, nllc = self.built(self.WORLDS), self.built(self.REPLAYS)
+        world, nllc = self.programs()
         if not world or not nllc:
             self.skipTest("world_program and nllc aren't both built")
         with tempfile.TemporaryDirectory() as folder:
