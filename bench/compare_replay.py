@@ -114,13 +114,12 @@ class Case:
                     file.write(said)
 
     def shrunk(self, differs):
-        """Takes out what a difference doesn't need: the end of the schedule, then its lines, then the text's. How
-        often it is tried is limited."""
-        tries = iter(range(600))
-        for name in ("schedule", "text"):
-            said = getattr(self, name)
-            size = 1 << 20
-            while said is not None and size and next(tries, None) is not None:
+        """Takes out lines that a difference doesn't need, ever smaller pieces of the schedule and of the text. How often
+        it is tried is limited."""
+        for name in ("schedule", "text", "schedule", "text"):
+            tries = iter(range(300))
+            size = 0 if getattr(self, name) is None else 1 << 20
+            while size and next(tries, None) is not None:
                 lines = getattr(self, name).split(b"\n")
                 size = min(size, len(lines) - 1)
                 self.without(name, lines, size, differs, tries)
