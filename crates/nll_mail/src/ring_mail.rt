@@ -39,7 +39,7 @@ type Pushing = Producer<Growth, Global, Few>;
 type Popping = Consumer<Growth, Global, Few>;
 
 /// Mailboxes on rings of 256 places. Each of them is full where as many growths are in the ring.
-/// The receiver holds up to 64 more, which it has taken out of the ring at once and not yet given.
+/// The receiver holds up to 128 more, which it has taken out of the ring at once and not yet given.
 ///
 /// # Threads
 /// No call holds a runtime, and none waits: an end never stands still for the other one.
