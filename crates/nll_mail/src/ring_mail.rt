@@ -109,6 +109,7 @@ impl RingReceiver {
     }
 }
 
+#[tactic(auto, using(crate::proofs::BatchLemmas::split_at_count))]
 impl Mail for RingMail {
     ghost use Rattle.std.specs.Prelude.{◌≡◌, ◌+◌, ◌<◌, ◌++◌, [], ◌∷◌, true, length, take, drop};
     ghost use Rattle.std.specs.Prelude.{IsOk, IfOk, OnOk, IfErr, IsSome, IfSome, IfNone};
