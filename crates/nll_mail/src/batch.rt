@@ -16,13 +16,10 @@ use std::hint;
 use std::marker::Model;
 
 /// How many growths a batch has at most.
-const MOST: usize = 64;
+const MOST: usize = 128;
 
-/// A batch of 2 growths up to fewer than this is small.
-const FEW: usize = 16;
-
-/// How many hints to pause the processor gets behind a small batch.
-const PAUSES: u32 = 32;
+/// How many hints to pause the processor gets between two batches at most.
+const MOST_PAUSES: usize = 64;
 
 /// Growths that were taken out of a ring at once, and are given one by one. A contract sees those
 /// that are left, in order.
@@ -42,9 +39,9 @@ impl Model for Batch {
         × (0 < vec_len b.growths) };
 }
 
-// Lets some hundred nanoseconds go by.
-fn pause() {
-    for _ in 0..PAUSES {
+// Gives the processor so many hints to pause, of some ten nanoseconds each.
+fn pause(hints: usize) {
+    for _ in 0..hints {
         hint::spin_loop();
     }
 }
@@ -94,9 +91,9 @@ impl Batch {
     /// where fewer than that are known.
     ///
     /// # Cost
-    /// Behind a small batch it first lets some hundred nanoseconds go by. A look takes what the
-    /// sender is writing out of the cache of its processor, so looks for a few growths each slow
-    /// the sender down.
+    /// Behind a batch that had places left it first pauses, some ten nanoseconds for each growth of
+    /// that batch. A look takes what the sender is writing out of the cache of its processor, so
+    /// looks for a few growths each slow the sender down.
     pub fn fill<P: Protocol<Growth>>(&mut self, consumer: &mut Consumer<Growth, Global, P>)
         requires { self.old ≡ [] }
         ensures ring { SameConsumer consumer.old consumer.new }
@@ -106,8 +103,8 @@ impl Batch {
             (self.new ++ known_items consumer.new) }
         ensures none { self.new ≡ [] → known_items consumer.new ≡ [] }
     {
-        if self.end > 1 && self.end < FEW {
-            pause();
+        if self.end < MOST {
+            pause(self.end.min(MOST_PAUSES));
         }
         self.next = 0;
         self.end = consumer.pop_partial_slice(&mut self.growths);

@@ -39,7 +39,7 @@ type Pushing = Producer<Growth, Global, Few>;
 type Popping = Consumer<Growth, Global, Few>;
 
 /// Mailboxes on rings of 256 places. Each of them is full where as many growths are in the ring.
-/// The receiver holds up to 64 more, which it has taken out of the ring at once and not yet given.
+/// The receiver holds up to 128 more, which it has taken out of the ring at once and not yet given.
 ///
 /// # Threads
 /// No call holds a runtime, and none waits: an end never stands still for the other one.
@@ -109,6 +109,7 @@ impl RingReceiver {
     }
 }
 
+#[tactic(auto, using(crate::proofs::BatchLemmas::split_at_count))]
 impl Mail for RingMail {
     ghost use Rattle.std.specs.Prelude.{◌≡◌, ◌+◌, ◌<◌, ◌++◌, [], ◌∷◌, true, length, take, drop};
     ghost use Rattle.std.specs.Prelude.{IsOk, IfOk, OnOk, IfErr, IsSome, IfSome, IfNone};

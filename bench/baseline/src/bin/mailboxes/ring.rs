@@ -9,11 +9,9 @@ use std::sync::Arc;
 /// The places of a ring.
 const PLACES: usize = 256;
 
-/// How many values a batch has at most, below how many it is small, and how many pauses of the processor there are
-/// behind a small one: as in `nll_mail`.
-const MOST: usize = 64;
-const FEW: usize = 16;
-const PAUSES: usize = 32;
+/// How many values a batch has at most, and how many hints to pause there are between two batches: as in `nll_mail`.
+const MOST: usize = 128;
+const MOST_PAUSES: usize = 64;
 
 /// By which steps an end tells the other one how far it is.
 pub trait Order: 'static {
@@ -148,8 +146,8 @@ impl<T: Copy + Send, O: Order> BatchReceiver<T, O> {
 
     /// Takes values out of the ring: whether there were any.
     fn fill(&mut self) -> bool {
-        if (2..FEW).contains(&self.end) {
-            (0..PAUSES).for_each(|_| std::hint::spin_loop());
+        if self.end < MOST {
+            (0..self.end.min(MOST_PAUSES)).for_each(|_| std::hint::spin_loop());
         }
         let Receiver { shared, head, seen_tail, order: PhantomData } = &mut self.receiver;
         if seen_tail.wrapping_sub(*head) < MOST {
