@@ -23,9 +23,8 @@ use Rattle.nll_worker.specs.declared.ending.Ending.{Ending}
 use Rattle.nll_worker.specs.declared.ending.Ending.TheVariants.{Quiet, Stopped, Stray}
 use Rattle.nll_worker.specs.declared.ending.Ending.TheVariants as endings
 use Rattle.nll_worker.proofs.RunLemmas.{concludes, not_stray}
-use Rattle.nll_run.specs.Settling.{ArePostsOf, InRows, sent_by, got_by, IsCalm, error_of}
-use Rattle.nll_run.specs.declared.error.RunError.{RunError}
-use Rattle.nll_run.specs.declared.error.RunError.TheVariants as errors
+use Rattle.nll_run.specs.Settling.{ArePostsOf, InRows, sent_by, got_by}
+use Rattle.nll_run.specs.Refusing.{IsCalm}
 use Rattle.nll_run.proofs.PlaceLemmas.{place, within, read_place, map_place, map_from, map_size, mapped, contains_place, contained}
 
 -- the rest of a list behind one that begins it
@@ -73,6 +72,7 @@ no_error_cases endings.Quiet t = inl refl
 no_error_cases endings.Stopped t = inr (inl refl)
 no_error_cases endings.Stray t = inr (inr refl)
 no_error_cases endings.Memory t = absurd t
+no_error_cases endings.Forbidden t = absurd t
 no_error_cases endings.Unstarted t = absurd t
 no_error_cases endings.NoOwner t = absurd t
 
@@ -81,6 +81,7 @@ made endings.Quiet t = tt
 made endings.Stopped t = tt
 made endings.Stray t = tt
 made endings.Memory t = absurd t
+made endings.Forbidden t = absurd t
 made endings.Unstarted t = absurd t
 made endings.NoOwner t = absurd t
 
@@ -90,6 +91,7 @@ error_bad endings.Quiet t e = absurd e
 error_bad endings.Stopped t e = absurd e
 error_bad endings.Stray t e = refl
 error_bad endings.Memory t e = absurd t
+error_bad endings.Forbidden t e = absurd t
 error_bad endings.Unstarted t e = absurd t
 error_bad endings.NoOwner t e = absurd t
 
@@ -283,37 +285,3 @@ module _ {D M S R C P L B H E : Type 0} (m : Mail.Ghosts M S R C P) (b : Ledger.
           least = λ r e. ((λ h. (law.2 r e).0 ((logged r e).0 h)), λ h. (logged r e).1 ((law.2 r e).1 h));
           logged = λ r e. law.2 r e;
         }
-
--- ---- the error of the lowest owner that had one
-
-pub calm_or : (e : Ending) (error : RunError) → IsCalm e → error_of e ≡ Some error → ⊥
-calm_or Quiet error calm is = cc
-calm_or Stopped error calm is = cc
-calm_or Stray error calm is = cc
-calm_or endings.Memory error calm is = calm
-calm_or endings.NoOwner error calm is = calm
-calm_or endings.Unstarted error calm is = calm
-
-module _ {D : Type 0} (ending : D → Ending) (ds : List D) where
-  abbrev pub IsLowest : ℕ → RunError → Type 0
-  IsLowest k error = (d : D) × (slice_get ds k ≡ Some d) × (error_of (ending d) ≡ Some error)
-      × ((j : ℕ) (b : D) → j < k → slice_get ds j ≡ Some b → IsCalm (ending b))
-
-  pub one_lowest : (k l : ℕ) (x y : RunError) → IsLowest k x → IsLowest l y → x ≡ y
-  one_lowest k l x y a b = ⊎_elim
-      (λ (h : k < l). absurd (calm_or (ending a.0) x (b.3 k a.0 h a.1) a.2))
-      (λ (h : l ≤ k). ⊎_elim
-      (λ (low : l < k). absurd (calm_or (ending b.0) y (a.3 l b.0 low b.1) b.2))
-      (λ (high : k ≤ l).
-      let same : k ≡ l = omega (arith, h, high) in
-      let one : a.0 ≡ b.0 = same_get a.0 b.0 (subst (λ i. slice_get ds i ≡ Some a.0) same a.1) b.1 in
-      let error : error_of (ending b.0) ≡ Some x = subst (λ d. error_of (ending d) ≡ Some x) one a.2 in
-      same_error (error_of (ending b.0)) error b.2)
-      (cases_lt l k))
-      (cases_lt k l)
-    where
-      same_get : {o : _} (d e : D) → o ≡ Some d → o ≡ Some e → d ≡ e
-      same_get d e p q = cc
-
-      same_error : (o : _) → o ≡ Some x → o ≡ Some y → x ≡ y
-      same_error o p q = cc

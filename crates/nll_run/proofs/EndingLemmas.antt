@@ -2,7 +2,10 @@
 use Rattle.std.proofs.Common.{◌≡◌, ◌<◌, ◌≤◌, ℕ, zero, suc, List, [], ◌∷◌, length, map, slice_index_or, slice_get, Some, refl, ap, sym, ◌∙◌, subst, ⊎_elim, arith}
 use Rattle.nll_mail.specs.declared.mail.Mail as Mail
 use Rattle.nll_run.specs.Table.{list_at, AreNewEnds, IsCell, IsTable}
-use Rattle.std.specs.Prelude.{Result, Ok, IfOk}
+use Rattle.std.specs.Prelude.{Bool, true, Result, Ok, Err, IfOk}
+use Rattle.nll_worker.specs.Finishing.{WasStarted, IsAnswered}
+use Rattle.nll_worker.specs.declared.ending.Ending.{Ending}
+use Rattle.nll_worker.specs.declared.ending.Ending.TheVariants as endings
 use Rattle.std.proofs.lemmas.Bool.{cases_lt}
 use Rattle.nll_worker.specs.Mailboxes.{Alike, Keeps}
 use Rattle.nll_run.proofs.PlaceLemmas.{place, mapped, map_size, alike_place}
@@ -86,5 +89,16 @@ module _ {M S R C P : Type 0} (m : Mail.Ghosts M S R C P) (owners : ℕ) (rows :
         (cases_lt i owners),
   )
 
-pub if_ok_is : {T E : Type 0} (r : Result T E) (v : T) (P : T → Type 0) → r ≡ Ok v → IfOk r P → P v
-if_ok_is {T} {E} r v P is h = let Q : Result T E → Type 0 = λ x. IfOk x P in subst Q is h
+pub if_ok_map : {T E : Type 0} (r : Result T E) (P Q : T → Type 0) → ((v : T) → P v → Q v) → IfOk r P → IfOk r Q
+if_ok_map (Ok v) P Q f h = f v h
+if_ok_map (Err e) P Q f h = tt
+
+-- the permit lets each worker be started that was started
+pub started_answer : (P : Bool → Type 0) (e : Ending) → WasStarted e → IsAnswered P e → P true
+started_answer P endings.Quiet t a = a
+started_answer P endings.Stopped t a = a
+started_answer P endings.Stray t a = a
+started_answer P endings.Memory t a = a
+started_answer P endings.NoOwner t a = a
+started_answer P endings.Forbidden t a = absurd t
+started_answer P endings.Unstarted t a = absurd t

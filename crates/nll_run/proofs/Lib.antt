@@ -4,3 +4,4 @@ pub mod SettlingLemmas
 pub mod FillingLemmas
 pub mod EndingLemmas
 pub mod ConcludingLemmas
+pub mod ReasonLemmas

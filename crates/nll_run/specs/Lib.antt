@@ -1,3 +1,4 @@
 pub mod Outcome
 pub mod Table
 pub mod Settling
+pub mod Refusing

@@ -2,16 +2,11 @@
 -- file.
 -- Source: project's choice.
 use Rattle.std.specs.Prelude.{◌≡◌, ◌≢◌, ℕ, ◌<◌, List, ◌∷◌, ◌++◌, length, map, drop, slice_get}
-use Rattle.std.specs.Prelude.{Option, Some, None, Contains, AllPairs}
+use Rattle.std.specs.Prelude.{Some, Contains, AllPairs}
 use Rattle.nll_mail.specs.declared.growth.Growth.{Growth}
 use Rattle.nll_mail.specs.declared.mail.Mail as Mail
 use Rattle.nll_owner.specs.Logs.{IsPrefix, log_of}
 use Rattle.nll_owner.specs.Delivery.{IsPairBefore}
-use Rattle.nll_worker.specs.declared.ending.Ending.{Ending}
-use Rattle.nll_worker.specs.declared.ending.Ending.TheVariants.{Quiet, Stopped, Stray}
-use Rattle.nll_worker.specs.declared.ending.Ending.TheVariants as endings
-use Rattle.nll_run.specs.declared.error.RunError.{RunError}
-use Rattle.nll_run.specs.declared.error.RunError.TheVariants as errors
 use Rattle.nll_run.specs.Table.{list_at}
 
 module _ {M S R C P : Type 0} (mail : Mail.Ghosts M S R C P) (out into : ℕ → ℕ → List Growth)
@@ -70,18 +65,3 @@ sent_by all_sent rows i j = log_of (map all_sent (list_at rows i)) j
 -- what the receiver at each place has received
 abbrev pub got_by : {R : Type 0} → (R → List Growth) → List (List R) → ℕ → ℕ → List Growth
 got_by received columns i j = log_of (map received (list_at columns j)) i
-
--- the worker found all quiet, was stopped by another, or took what can't be its sender's: none of
--- these is an error of a run by itself
-abbrev pub IsCalm : Ending → Type 0
-IsCalm Quiet = Unit {0}
-IsCalm Stopped = Unit {0}
-IsCalm Stray = Unit {0}
-IsCalm _ = ⊥
-
--- the error that a run answers for a worker that ended so, if any
-abbrev pub error_of : Ending → Option RunError
-error_of endings.Memory = Some errors.Memory
-error_of endings.NoOwner = Some errors.Memory
-error_of endings.Unstarted = Some errors.Thread
-error_of _ = None

@@ -1,35 +1,35 @@
 //! One run, from the problem to its outcome.
 
-ghost use Rattle.std.specs.Prelude.{◌≡◌, ◌<◌, ◌≤◌, ℕ, [], length, map, slice_get, Some, Err};
+ghost use Rattle.std.specs.Prelude.{◌≡◌, ◌<◌, ◌≤◌, ℕ, true, [], length, map, slice_get, Some, Err};
 ghost use Rattle.std.specs.Prelude.{IfOk, vec_len, vec_capacity};
 ghost use Rattle.std.specs.VecDeque.{deque_len};
 ghost use Rattle.nll_problem.specs.Limits.{most_owners};
 ghost use Rattle.nll_problem.specs.Problem.{IsSound};
 ghost use Rattle.nll_owner.specs.Logs.{IsCutOf, log_of};
 ghost use Rattle.nll_owner.specs.Tables.{AreTables};
-ghost use Rattle.nll_worker.specs.Finishing.{IsFresh, Leaves, WasMade, FinishedAs};
+ghost use Rattle.nll_worker.specs.Finishing.{IsFresh, Leaves, WasMade, WasStarted, FinishedAs};
 ghost use Rattle.nll_run.specs.Outcome.{IsOutcome};
-ghost use Rattle.nll_run.specs.Settling.{IsCalm, error_of};
+ghost use Rattle.nll_run.specs.Refusing.{IsReason};
 ghost use Rattle.nll_run.specs.Table.{AreNewEnds, IsTable};
+ghost use Rattle.nll_run.specs.declared.error.RunError.TheVariants.{Thread};
 
 use crate::error::RunError;
 use crate::filling::values_of;
 use crate::mailboxes::{make_columns, make_rows, make_workers};
 use crate::outcome::Outcome;
-use crate::parts::{Parts, first_error, take_apart};
+use crate::parts::{Parts, reason_of, take_apart};
 use crate::settling::settle_all;
-use crate::starting::start_all;
 use nll_cut::Cut;
 use nll_ledger::Ledger;
 use nll_mail::Mail;
 use nll_owner::Tables;
 use nll_problem::Problem;
 use nll_sets::Memory;
-use nll_worker::{Finished, Gate, Given, Worker};
-use std::alloc::{AllocError, Global};
+use nll_worker::{AlwaysStart, Finished, Gate, Permit, Worker, run_all};
+use std::alloc::Global;
 use std::collections::VecDeque;
 use std::sync::Wait;
-use std::thread::{PromisedHandle, Threads};
+use std::thread::Threads;
 
 /// Runs the owners of a cut, each in a thread of its own, until nothing is left to do anywhere.
 ///
@@ -57,14 +57,42 @@ pub fn run<M: Mail, L: Ledger, G: Gate, R: Threads + Wait + Sync>(
     ensures ok { IfOk result (λ o. IsOutcome M.Mail problem.now cut.now o.values
         (map (λ list. list.items) o.grown.items) o.posts.items) }
 {
+    let permit = AlwaysStart;
+    run_with::<M, L, G, AlwaysStart, R>(rt, alloc, problem, cut, mail, ledger, gate, &permit)
+}
+
+/// As `run`, where a permit is asked before each start. It is asked once for each owner, in the
+/// order of their numbers; a start that it refuses counts as one that failed.
+///
+/// # Errors
+/// As those of `run`.
+/// - `Thread`: the permit refused a start, or a thread couldn't be started.
+/// - `Memory`, where no start failed.
+pub fn run_with<M: Mail, L: Ledger, G: Gate, P: Permit, R: Threads + Wait + Sync>(
+    rt: &R,
+    alloc: Global,
+    problem: &Problem,
+    cut: &Cut,
+    mail: &M,
+    ledger: &L,
+    gate: &G,
+    permit: &P,
+) -> Result<Outcome<M::Post>, RunError>
+    requires { length cut.now.list ≡ problem.now.regions }
+    ensures ok { IfOk result (λ o. IsOutcome M.Mail problem.now cut.now o.values
+        (map (λ list. list.items) o.grown.items) o.posts.items) }
+    ensures permitted { IfOk result (λ _. (owner : ℕ) → owner < cut.now.owners
+        → P.permits permit.now owner true) }
+{
     let tables = Tables::of(alloc, problem, cut)?;
-    let outcome = run_on::<M, L, G, R>(rt, alloc, problem, cut, &tables, mail, ledger, gate);
+    let outcome =
+        run_on::<M, L, G, P, R>(rt, alloc, problem, cut, &tables, mail, ledger, gate, permit);
     drop(tables);
     outcome
 }
 
 // The same on tables that are lent to all workers.
-fn run_on<M: Mail, L: Ledger, G: Gate, R: Threads + Wait + Sync>(
+fn run_on<M: Mail, L: Ledger, G: Gate, P: Permit, R: Threads + Wait + Sync>(
     rt: &R,
     alloc: Global,
     problem: &Problem,
@@ -73,23 +101,24 @@ fn run_on<M: Mail, L: Ledger, G: Gate, R: Threads + Wait + Sync>(
     mail: &M,
     ledger: &L,
     gate: &G,
+    permit: &P,
 ) -> Result<Outcome<M::Post>, RunError>
     requires cut { length cut.now.list ≡ problem.now.regions }
     requires tables { AreTables problem.now cut.now tables.now }
     ensures ok { IfOk result (λ o. IsOutcome M.Mail problem.now cut.now o.values
         (map (λ list. list.items) o.grown.items) o.posts.items) }
+    ensures permitted { IfOk result (λ _. (owner : ℕ) → owner < cut.now.owners
+        → P.permits permit.now owner true) }
 {
     // No effect at run time. The proof reads from this call that the problem is sound.
     let _regions = problem.regions();
     let owners = cut.owners();
     let (book, workers) = prepare::<M, L>(alloc, mail, ledger, owners)?;
-    let handles = room_for::<M, L>(alloc, owners)?;
-    let (book, finished) = start_all::<M, L, G, R>(
-        rt, alloc, problem, cut, tables, gate, book, workers, handles,
-    );
-    match finished {
+    match run_all::<M, L, G, P, R>(
+        rt, alloc, problem, cut, tables, gate, permit, &book, workers,
+    ) {
         Ok(finished) => conclude::<M, L>(alloc, problem, cut, book, finished),
-        Err(error) => Err(error),
+        Err(error) => Err(RunError::from(error)),
     }
 }
 
@@ -124,16 +153,6 @@ fn prepare<M: Mail, L: Ledger>(
     Ok((book, VecDeque::from(workers)))
 }
 
-// Room for a handle of each worker.
-fn room_for<M: Mail, L: Ledger>(
-    alloc: Global,
-    owners: u16,
-) -> Result<Vec<PromisedHandle<Finished<M, L>, Given<M, L>>>, AllocError>
-    ensures { IfOk result (λ v. (v.items ≡ []) × (vec_capacity v ≡ owners)) }
-{
-    Vec::with_capacity(alloc, owners as usize)
-}
-
 // Settles the mailboxes, gathers the ledger and fills the values.
 fn conclude<M: Mail, L: Ledger>(
     alloc: Global,
@@ -156,12 +175,14 @@ fn conclude<M: Mail, L: Ledger>(
         d.ending d.log.items }
     ensures ok { IfOk result (λ o. IsOutcome M.Mail problem.now cut.now o.values
         (map (λ list. list.items) o.grown.items) o.posts.items) }
-    ensures first { (k : ℕ) (d : _) (error : RunError) → slice_get finished.items k ≡ Some d
-        → error_of d.ending ≡ Some error
-        → ((j : ℕ) (b : _) → j < k → slice_get finished.items j ≡ Some b → IsCalm b.ending)
+    ensures refused { (error : RunError) → IsReason (map (λ d. d.ending) finished.items) (Some error)
         → result ≡ Err error }
+    ensures thread { result ≡ Err Thread → (k : ℕ) × (d : _)
+        × (slice_get finished.items k ≡ Some d) × (WasStarted d.ending → ⊥) }
+    ensures started { IfOk result (λ _. (k : ℕ) (d : _) → slice_get finished.items k ≡ Some d
+        → WasStarted d.ending) }
 {
-    if let Some(error) = first_error::<M, L>(&finished) {
+    if let Some(error) = reason_of::<M, L>(&finished) {
         return Err(error);
     }
     let owners = cut.owners();

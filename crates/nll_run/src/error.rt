@@ -4,14 +4,13 @@ use nll_sets::Memory;
 use std::alloc::{AllocError, AllocFailed};
 use thiserror::Error;
 
-/// Why a run is refused. Where there are several reasons, the first of these is told: a thread that
-/// wasn't started; else the reason of the lowest owner that had one; else that of the run itself.
+/// Why a run is refused. Where there are several reasons, a start that failed is told.
 #[derive(Clone, Copy, Debug, PartialEq, Eq, Error)]
 pub enum RunError {
-    /// A thread couldn't be started.
+    /// A thread couldn't be started, or a permit refused it.
     #[error("a thread couldn't be started")]
     Thread,
-    /// A growth of memory was refused.
+    /// A growth of memory was refused, to a worker or to the run itself.
     #[error("out of memory")]
     Memory,
 }

@@ -1,7 +1,8 @@
 //! Runs: the owners of a cut, each in a thread of its own, until nothing is left to do anywhere.
 //!
-//! Read `coordinator` first, then `mailboxes`, `starting`, `settling`, `parts` and `filling`. What a
-//! worker does is in `nll_worker`. The definitions are in specs/: `Outcome` has what a run answers.
+//! Read `coordinator` first, then `mailboxes`, `settling`, `parts` and `filling`. What a worker does,
+//! and how workers are started and joined, is in `nll_worker`. The definitions are in specs/:
+//! `Outcome` has what a run answers.
 #![tactic(auto)]
 
 mod coordinator;
@@ -11,8 +12,7 @@ mod mailboxes;
 mod outcome;
 mod parts;
 mod settling;
-mod starting;
 
-pub use coordinator::run;
+pub use coordinator::{run, run_with};
 pub use error::RunError;
 pub use outcome::Outcome;

@@ -1,7 +1,7 @@
 //! What the workers gave back, taken apart.
 
-ghost use Rattle.std.specs.Prelude.{◌≡◌, ◌<◌, ℕ, map, slice_get, Some, IfOk, IfNone, IfSome};
-ghost use Rattle.nll_run.specs.Settling.{IsCalm, error_of};
+ghost use Rattle.std.specs.Prelude.{◌≡◌, map, IfOk};
+ghost use Rattle.nll_run.specs.Refusing.{IsReason};
 
 use crate::error::RunError;
 use nll_ledger::Ledger;
@@ -20,25 +20,24 @@ pub struct Parts<M: Mail, L: Ledger> {
     pub columns: Vec<VecDeque<M::R>>,
 }
 
-/// The error of the lowest owner that had one.
-pub fn first_error<M: Mail, L: Ledger>(finished: &[Finished<M, L>]) -> Option<RunError>
-    ensures none { IfNone result ((k : ℕ) (d : _) → slice_get finished.now k ≡ Some d
-        → IsCalm d.ending) }
-    ensures first { IfSome result (λ error. (k : ℕ) × (d : _)
-        × (slice_get finished.now k ≡ Some d) × (error_of d.ending ≡ Some error)
-        × ((j : ℕ) (b : _) → j < k → slice_get finished.now j ≡ Some b → IsCalm b.ending)) }
+/// Why the run is refused, if it is: since a worker wasn't started; or else since one was out of
+/// memory.
+pub fn reason_of<M: Mail, L: Ledger>(finished: &[Finished<M, L>]) -> Option<RunError>
+    ensures { IsReason (map (λ d. d.ending) finished.now) result }
 {
+    let mut reason = None;
     for done in finished {
         match done.ending {
-            Ending::Memory => return Some(RunError::Memory),
-            Ending::NoOwner => return Some(RunError::Memory),
+            Ending::Forbidden => return Some(RunError::Thread),
             Ending::Unstarted => return Some(RunError::Thread),
+            Ending::Memory => reason = Some(RunError::Memory),
+            Ending::NoOwner => reason = Some(RunError::Memory),
             Ending::Stray => {}
             Ending::Stopped => {}
             Ending::Quiet => {}
         }
     }
-    None
+    reason
 }
 
 /// Takes apart what the workers gave back.

@@ -6,3 +6,4 @@ pub mod PostLemmas
 pub mod TurnLemmas
 pub mod FinishLemmas
 pub mod JoiningLemmas
+pub mod StartLemmas

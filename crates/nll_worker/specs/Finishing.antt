@@ -1,6 +1,7 @@
 -- What a worker is given, and what it gives back.
 -- Source: project's choice.
-use Rattle.std.specs.Prelude.{◌≡◌, ◌≢◌, ℕ, ◌+◌, ◌<◌, ◌≤◌, true, false, List, [], length, map, Contains}
+use Rattle.std.specs.Prelude.{◌≡◌, ◌≢◌, ℕ, ◌+◌, ◌<◌, ◌≤◌, Bool, true, false}
+use Rattle.std.specs.Prelude.{List, [], length, map, Contains}
 use Rattle.nll_problem.specs.Limits.{most_owners}
 use Rattle.nll_problem.specs.Problem.{Problem}
 use Rattle.nll_cut.specs.Partition.{Cut}
@@ -13,7 +14,7 @@ use Rattle.nll_worker.specs.Mailboxes.{Alike, AreAllEmpty, Keeps}
 use Rattle.nll_worker.specs.Sums.{sum_to}
 use Rattle.nll_worker.specs.declared.ending.Ending.{Ending}
 use Rattle.nll_worker.specs.declared.ending.Ending.TheVariants.{Quiet, Stopped, Unstarted, NoOwner}
-use Rattle.nll_worker.specs.declared.ending.Ending.TheVariants.{Stray}
+use Rattle.nll_worker.specs.declared.ending.Ending.TheVariants.{Stray, Forbidden}
 
 -- The owner is of this problem, cut and number.
 pub record IsOwnerOf (q : Problem) (c : Cut) (i : ℕ) (o : Owner) : Type 0 where
@@ -48,8 +49,20 @@ pub record Finishes (q : Problem) (c : Cut) (i : ℕ) (o : Owner) (sent got : �
   pub owes : ending ≡ Quiet → owed ≡ 1 + sum_to c.owners (λ j. length (sent j))
   pub clears : ending ≡ Quiet → cleared ≡ 1 + sum_to c.owners (λ j. length (got j))
 
+-- the worker was started
+abbrev pub WasStarted : Ending → Type 0
+WasStarted Forbidden = ⊥
+WasStarted Unstarted = ⊥
+WasStarted _ = Unit {0}
+
+-- what the permit answered of a worker that ended so
+abbrev pub IsAnswered : (Bool → Type 0) → Ending → Type 0
+IsAnswered permits Forbidden = permits false
+IsAnswered permits _ = permits true
+
 -- the worker could make its owner
 abbrev pub WasMade : Ending → Type 0
+WasMade Forbidden = ⊥
 WasMade Unstarted = ⊥
 WasMade NoOwner = ⊥
 WasMade _ = Unit {0}

@@ -1,8 +1,8 @@
 //! Workers: each owner of a run at work in a thread of its own.
 //!
-//! Read `gate`, `ending`, `receiving` and `posting` (what a worker does at its mailboxes), `tally`,
-//! `turn`, `working` (one worker from its start to its end), `outbox`, `worker` and `threads`; `laws`
-//! says what follows of all workers together.
+//! Read `gate`, `permit`, `ending`, `receiving` and `posting` (what a worker does at its mailboxes),
+//! `tally`, `turn`, `working` (one worker from its start to its end), `outbox`, `worker`, `starts` and
+//! `threads`; `laws` says what follows of all workers together.
 //! The definitions are in specs/: `Finishing` first, which has what a worker promises.
 #![tactic(auto)]
 
@@ -10,8 +10,10 @@ mod ending;
 mod gate;
 mod laws;
 mod outbox;
+mod permit;
 mod posting;
 mod receiving;
+mod starts;
 mod tally;
 mod threads;
 mod turn;
@@ -22,6 +24,7 @@ pub use ending::Ending;
 pub use gate::{Gate, NoGate};
 pub use laws::{all_quiet, never_stray};
 pub use outbox::Outbox;
+pub use permit::{AlwaysStart, Permit};
 pub use receiving::Heard;
 pub use threads::run_all;
 pub use worker::{Finished, Given, Worker};

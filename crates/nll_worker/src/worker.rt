@@ -2,7 +2,7 @@
 
 ghost use Rattle.std.specs.Prelude.{◌≡◌, length, vec_capacity};
 ghost use Rattle.nll_owner.specs.Tables.{AreTables};
-ghost use Rattle.nll_worker.specs.Finishing.{IsGiven, IsEnded};
+ghost use Rattle.nll_worker.specs.Finishing.{IsGiven, IsEnded, WasStarted};
 
 use crate::ending::Ending;
 use crate::gate::Gate;
@@ -16,7 +16,6 @@ use nll_problem::Problem;
 use std::alloc::Global;
 use std::snapshot::Snapshot;
 use std::sync::Wait;
-use std::sync::atomic::AtomicBool;
 use std::thread::Promise;
 
 /// What a worker owns: its number, its share of the ledger's book, the ends of its mailboxes, and
@@ -50,13 +49,19 @@ pub struct Given<M: Mail, L: Ledger> {
     pub cut: Snapshot<Cut>,
 }
 
-impl<M: Mail, L: Ledger> Promise<Finished<M, L>> for Given<M, L> {
-    ghost use Rattle.nll_worker.specs.Finishing.{IsEnded};
+/// What the thread of a worker returns: what the worker gives back, or the worker as it was.
+pub type Back<M: Mail, L: Ledger> = Result<Finished<M, L>, Worker<M, L>>;
 
-    ghost kept_by = { λ given back. IsEnded L.Ledger M.Mail given.problem.value given.cut.value
-        given.book.value given.worker.value.me given.worker.value.outbox.senders.items
-        given.worker.value.receivers.items back.log.items back.left back.closed.items
-        back.receivers.items back.ending };
+impl<M: Mail, L: Ledger> Promise<Back<M, L>> for Given<M, L> {
+    ghost use Rattle.std.specs.Prelude.{◌≡◌, IfErr, IfOk};
+    ghost use Rattle.nll_worker.specs.Finishing.{IsEnded, WasStarted};
+
+    ghost kept_by = { λ given back. IfOk back (λ done. IsEnded L.Ledger M.Mail
+        given.problem.value given.cut.value given.book.value given.worker.value.me
+        given.worker.value.outbox.senders.items given.worker.value.receivers.items
+        done.log.items done.left done.closed.items done.receivers.items done.ending
+        × WasStarted done.ending)
+        × IfErr back (λ worker. worker ≡ given.worker.value) };
 }
 
 /// Runs one worker from its start to its end.
@@ -68,7 +73,6 @@ pub fn work<M: Mail, L: Ledger, G: Gate, R: Wait>(
     tables: &Tables,
     gate: &G,
     book: &L::Book,
-    refused: &AtomicBool,
     worker: Worker<M, L>,
 ) -> Finished<M, L>
     requires given { IsGiven L.Ledger M.Mail cut.now book.now worker.me worker.share
@@ -76,9 +80,10 @@ pub fn work<M: Mail, L: Ledger, G: Gate, R: Wait>(
         (vec_capacity worker.room) }
     requires cut { length cut.now.list ≡ problem.now.regions }
     requires tables { AreTables problem.now cut.now tables.now }
-    ensures { IsEnded L.Ledger M.Mail problem.now cut.now book.now worker.me
+    ensures ended { IsEnded L.Ledger M.Mail problem.now cut.now book.now worker.me
         worker.outbox.senders.items worker.receivers.items result.log.items result.left
         result.closed.items result.receivers.items result.ending }
+    ensures started { WasStarted result.ending }
 {
     let Worker {
         me,
@@ -97,7 +102,6 @@ pub fn work<M: Mail, L: Ledger, G: Gate, R: Wait>(
         tables,
         gate,
         book,
-        refused,
         share,
         &mut outbox.senders,
         &mut receivers,

@@ -8,6 +8,7 @@ ghost use Rattle.nll_owner.specs.Owner.{IsSound, first_owner};
 ghost use Rattle.nll_owner.specs.Tables.{AreTables};
 ghost use Rattle.nll_worker.specs.Mailboxes.{Alike, AreAllEmpty, Stays, Keeps};
 ghost use Rattle.nll_worker.specs.Finishing.{Finishes, Leaves, WasMade, FinishedAs, IsFresh};
+ghost use Rattle.nll_worker.specs.Finishing.{WasStarted};
 ghost use Rattle.nll_worker.specs.Turning.{HasPosted, ComesTo};
 
 use crate::ending::Ending;
@@ -24,13 +25,12 @@ use nll_owner::{Owner, Tables};
 use nll_problem::Problem;
 use std::alloc::Global;
 use std::sync::Wait;
-use std::sync::atomic::{AtomicBool, Ordering};
 
 /// How many turns a worker takes, where it can, before it tries again to post into a full mailbox.
 const PATIENCE: u64 = 16;
 
-// Sets the stop flag, and leaves.
-fn halt<L: Ledger>(book: &L::Book, share: L::Share) -> L::Left
+/// Sets the stop flag, and leaves.
+pub fn halt<L: Ledger>(book: &L::Book, share: L::Share) -> L::Left
     requires { L.belongs book.now share }
     ensures left { L.left_belongs book.now result × (L.left_number result ≡ L.number share) }
     ensures stopped { L.left_quiet result ≡ false }
@@ -118,6 +118,7 @@ fn go_on<M: Mail, L: Ledger, G: Gate, R: Wait>(
         (L.owed share) (L.cleared share) tally.old heard }
     requires posts { HasPosted owner.old (map M.sent senders.old.items) }
     ensures leaves { Leaves L.Ledger book.now me result.0 result.1 }
+    ensures started { WasStarted result.1 }
     ensures finishes { Finishes owner.old.problem owner.old.cut me owner.new
         (log_of (map M.sent senders.new.items)) (log_of (map M.received receivers.new.items))
         (L.left_owed result.0) (L.left_cleared result.0) result.1 }
@@ -171,6 +172,7 @@ fn work_on<M: Mail, L: Ledger, G: Gate, R: Wait>(
     requires posts { AreAllEmpty cut.now.owners (map M.sent senders.old.items) }
     requires taken { AreAllEmpty cut.now.owners (map M.received receivers.old.items) }
     ensures leaves { Leaves L.Ledger book.now me result.0 result.1 }
+    ensures started { WasStarted result.1 }
     ensures finishes { Finishes problem.now cut.now me owner.new
         (log_of (map M.sent senders.new.items)) (log_of (map M.received receivers.new.items))
         (L.left_owed result.0) (L.left_cleared result.0) result.1 }
@@ -190,7 +192,7 @@ fn work_on<M: Mail, L: Ledger, G: Gate, R: Wait>(
     )
 }
 
-/// Makes the owner and works, where every worker so far was started; else stops at once.
+/// Makes the owner and works.
 pub fn begin<M: Mail, L: Ledger, G: Gate, R: Wait>(
     rt: &R,
     alloc: Global,
@@ -199,7 +201,6 @@ pub fn begin<M: Mail, L: Ledger, G: Gate, R: Wait>(
     tables: &Tables,
     gate: &G,
     book: &L::Book,
-    refused: &AtomicBool,
     share: L::Share,
     senders: &mut Vec<M::S>,
     receivers: &mut Vec<M::R>,
@@ -213,15 +214,13 @@ pub fn begin<M: Mail, L: Ledger, G: Gate, R: Wait>(
     requires posts { AreAllEmpty cut.now.owners (map M.sent senders.old.items) }
     requires taken { AreAllEmpty cut.now.owners (map M.received receivers.old.items) }
     ensures leaves { Leaves L.Ledger book.now me result.0 result.1 }
+    ensures started { WasStarted result.1 }
     ensures finishes { WasMade result.1 → FinishedAs problem.now cut.now me
         (log_of (map M.sent senders.new.items)) (log_of (map M.received receivers.new.items))
         (L.left_owed result.0) (L.left_cleared result.0) result.1 result.2.items }
     ensures pairs { Alike (Stays M.Mail) senders.old.items senders.new.items }
     ensures keeps { Alike (Keeps M.Mail) receivers.old.items receivers.new.items }
 {
-    if refused.load(Ordering::SeqCst) {
-        return (halt::<L>(book, share), Ending::Unstarted, Vec::new(alloc));
-    }
     match Owner::on(alloc, problem, cut, tables, me) {
         Ok(owner) => with_owner::<M, L, G, R>(
             rt, problem, cut, gate, book, share, owner, senders, receivers, me,
@@ -249,6 +248,7 @@ fn with_owner<M: Mail, L: Ledger, G: Gate, R: Wait>(
     requires posts { AreAllEmpty cut.now.owners (map M.sent senders.old.items) }
     requires taken { AreAllEmpty cut.now.owners (map M.received receivers.old.items) }
     ensures leaves { Leaves L.Ledger book.now me result.0 result.1 }
+    ensures started { WasStarted result.1 }
     ensures finishes { WasMade result.1 → FinishedAs problem.now cut.now me
         (log_of (map M.sent senders.new.items)) (log_of (map M.received receivers.new.items))
         (L.left_owed result.0) (L.left_cleared result.0) result.1 result.2.items }

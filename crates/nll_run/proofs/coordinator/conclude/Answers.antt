@@ -1,9 +1,14 @@
+use Rattle.std.specs.Prelude.{None}
 use Rattle.std.proofs.Common.{◌≡◌, ◌<◌, ℕ, List, Err, length, map, slice_get, Some, Contains, sym, subst, ap, ◌∙◌, arith}
 use Rattle.std.specs.List.{sum_by}
 use Rattle.nll_run.specs.Outcome.{IsOutcome}
 use Rattle.nll_run.specs.Settling.{ArePostsOf, InRows, sent_by, got_by}
-use Rattle.nll_run.proofs.PlaceLemmas.{map_from, within}
-use Rattle.nll_run.proofs.ConcludingLemmas.{calm_or, in_range, one_lowest, says_least}
+use Rattle.nll_run.specs.Refusing.{IsReason}
+use Rattle.nll_run.specs.declared.error.RunError.TheVariants.{Thread}
+use Rattle.nll_worker.specs.Finishing.{WasStarted}
+use Rattle.nll_run.proofs.PlaceLemmas.{map_from, map_place, within}
+use Rattle.nll_run.proofs.ReasonLemmas.{calm_started, none_or, one_reason}
+use Rattle.nll_run.proofs.ConcludingLemmas.{in_range, says_least}
 use Rattle.nll_run.proofs.coordinator.conclude.Goals as goal
 
 pub gather-requires-clause-each : goal.gather-requires-clause-each
@@ -22,7 +27,7 @@ values_of-requires g c =
       range = λ log x h at.
           in_range m b c.args.book
           (λ d. d.log.items) (λ d. d.left) (λ d. d.closed.items) (λ d. d.receivers.items) (λ d. d.ending) c.args.problem.now c.args.cut.now c.requires.cut c.args.finished.items count c.requires.leaves c.requires.finishes
-          (λ k d e. c.in_default.ensures.none k d (subst (λ xs. slice_get xs k ≡ Some d) (sym c.deref.ensures.value) e))
+          (λ k d e. subst (λ xs. IsReason (map (λ d. d.ending) xs) None) c.deref.ensures.value c.in_default.ensures k d.ending (map_place (λ d. d.ending) c.args.finished.items k d e))
           log x (subst (λ ls. Contains ls log) grown h) at;
     }
 
@@ -41,7 +46,7 @@ returns-clause-ok g c =
     subst (λ ls. IsOutcome m c.args.problem.now c.args.cut.now c.in_ok-values.values ls c.settle_all.new.posts.items) (sym grown)
     (says_least m b c.args.book
     (λ d. d.log.items) (λ d. d.left) (λ d. d.closed.items) (λ d. d.receivers.items) (λ d. d.ending) c.args.problem.now c.args.cut.now c.requires.cut ds count c.requires.leaves c.requires.finishes
-    (λ k d e. c.in_default.ensures.none k d (subst (λ xs. slice_get xs k ≡ Some d) (sym c.deref.ensures.value) e))
+    (λ k d e. subst (λ xs. IsReason (map (λ d. d.ending) xs) None) c.deref.ensures.value c.in_default.ensures k d.ending (map_place (λ d. d.ending) c.args.finished.items k d e))
     c.settle_all.new.posts.items settled
     c.gather.result.owed c.gather.result.cleared (c.gather.ensures.owed ∙ ap (sum_by b.left_owed) lefts) (c.gather.ensures.cleared ∙ ap (sum_by b.left_cleared) lefts)
     (λ f. c.gather.ensures.quiet (λ k l e. f k l (subst (λ xs. slice_get xs k ≡ Some l) lefts e)))
@@ -50,25 +55,35 @@ returns-clause-ok g c =
     (λ r e. (λ h. let x = (c.in_ok-values.ensures.held r e).0 h in (x.0, subst (λ ls. Contains ls x.0) values x.1, x.2), λ x. (c.in_ok-values.ensures.held r e).1 (x.0, subst (λ ls. Contains ls x.0) (sym values) x.1, x.2)))
     c.in_ok-settle_all.ensures.order)
 
-pub returns-in-Some-clause-first : goal.returns-in-Some-clause-first
-returns-in-Some-clause-first g c = λ k d error at is below.
-    let x = c.in-Some.ensures.first in
-    ap Err (one_lowest (λ b. b.ending) c.args.finished.items x.0 k c.in-Some.error error
-    (x.1, subst (λ xs. slice_get xs x.0 ≡ Some x.1) c.deref.ensures.value x.2, x.3, λ j b low e. x.4 j b low (subst (λ xs. slice_get xs j ≡ Some b) (sym c.deref.ensures.value) e))
-    (d, at, is, below))
+pub returns-in-Some-clause-refused : goal.returns-in-Some-clause-refused
+returns-in-Some-clause-refused g c = λ error is.
+    ap Err (one_reason (map (λ d. d.ending) c.args.finished.items) c.in-Some.error error
+    (subst (λ xs. IsReason (map (λ d. d.ending) xs) (Some c.in-Some.error)) c.deref.ensures.value c.in-Some.ensures) is)
 
-pub returns-in_err-lefts-clause-first : goal.returns-in_err-lefts-clause-first
-returns-in_err-lefts-clause-first g c = λ k d error at is below.
-    absurd (calm_or d.ending error (c.in_default.ensures.none k d (subst (λ xs. slice_get xs k ≡ Some d) (sym c.deref.ensures.value) at)) is)
+pub returns-in-Some-clause-thread : goal.returns-in-Some-clause-thread
+returns-in-Some-clause-thread g c = λ is.
+    let error : c.in-Some.error ≡ Thread = cc in
+    let x = subst (λ e. IsReason (map (λ d. d.ending) c.args.finished.items) (Some e)) error
+        (subst (λ xs. IsReason (map (λ d. d.ending) xs) (Some c.in-Some.error)) c.deref.ensures.value c.in-Some.ensures) in
+    let d = map_from (λ d. d.ending) c.args.finished.items x.0 x.1 x.2 in
+    (x.0, d.0, d.1, λ started. x.3 (subst WasStarted d.2 started))
 
-pub returns-in_err-settle_all-clause-first : goal.returns-in_err-settle_all-clause-first
-returns-in_err-settle_all-clause-first g c = λ k d error at is below.
-    absurd (calm_or d.ending error (c.in_default.ensures.none k d (subst (λ xs. slice_get xs k ≡ Some d) (sym c.deref.ensures.value) at)) is)
+pub returns-in_err-lefts-clause-refused : goal.returns-in_err-lefts-clause-refused
+returns-in_err-lefts-clause-refused g c = λ error is.
+    absurd (none_or (map (λ d. d.ending) c.args.finished.items) error (subst (λ xs. IsReason (map (λ d. d.ending) xs) None) c.deref.ensures.value c.in_default.ensures) is)
 
-pub returns-in_err-values-clause-first : goal.returns-in_err-values-clause-first
-returns-in_err-values-clause-first g c = λ k d error at is below.
-    absurd (calm_or d.ending error (c.in_default.ensures.none k d (subst (λ xs. slice_get xs k ≡ Some d) (sym c.deref.ensures.value) at)) is)
+pub returns-in_err-settle_all-clause-refused : goal.returns-in_err-settle_all-clause-refused
+returns-in_err-settle_all-clause-refused g c = λ error is.
+    absurd (none_or (map (λ d. d.ending) c.args.finished.items) error (subst (λ xs. IsReason (map (λ d. d.ending) xs) None) c.deref.ensures.value c.in_default.ensures) is)
 
-pub returns-clause-first : goal.returns-clause-first
-returns-clause-first g c = λ k d error at is below.
-    absurd (calm_or d.ending error (c.in_default.ensures.none k d (subst (λ xs. slice_get xs k ≡ Some d) (sym c.deref.ensures.value) at)) is)
+pub returns-in_err-values-clause-refused : goal.returns-in_err-values-clause-refused
+returns-in_err-values-clause-refused g c = λ error is.
+    absurd (none_or (map (λ d. d.ending) c.args.finished.items) error (subst (λ xs. IsReason (map (λ d. d.ending) xs) None) c.deref.ensures.value c.in_default.ensures) is)
+
+pub returns-clause-refused : goal.returns-clause-refused
+returns-clause-refused g c = λ error is.
+    absurd (none_or (map (λ d. d.ending) c.args.finished.items) error (subst (λ xs. IsReason (map (λ d. d.ending) xs) None) c.deref.ensures.value c.in_default.ensures) is)
+
+pub returns-clause-started : goal.returns-clause-started
+returns-clause-started g c = λ k d e.
+    calm_started d.ending (subst (λ xs. IsReason (map (λ d. d.ending) xs) None) c.deref.ensures.value c.in_default.ensures k d.ending (map_place (λ d. d.ending) c.args.finished.items k d e))

@@ -1,13 +1,13 @@
-use Rattle.std.proofs.Common.{◌<◌, [], map, sym, subst, ◌∙◌, arith, vec_capacity}
+use Rattle.std.proofs.Common.{◌<◌, true, [], map, sym, subst, ◌∙◌, arith, vec_capacity}
 use Rattle.nll_owner.specs.Logs.{log_of}
 use Rattle.nll_worker.specs.Finishing.{IsGiven, IsFresh, Leaves, FinishedAs}
 use Rattle.nll_run.specs.Table.{IsTable}
 use Rattle.nll_run.proofs.PlaceLemmas.{place, within, mapped, map_size, all_of}
-use Rattle.nll_run.proofs.EndingLemmas.{table_then, empty_row, empty_column, if_ok_is}
+use Rattle.nll_run.proofs.EndingLemmas.{table_then, empty_row, empty_column, if_ok_map, started_answer}
 use Rattle.nll_run.proofs.coordinator.run_on.Goals as goal
 
-pub start_all-book-requires-clause-given : goal.start_all-book-requires-clause-given
-start_all-book-requires-clause-given g c κs within' =
+pub run_all-requires-clause-given : goal.run_all-requires-clause-given
+run_all-requires-clause-given g c κs within' =
     let m = g.M.Mail in let b = g.L.Ledger in
     let p = c.in_ok-book.ensures in
     let n = c.owners-owners.ensures.value in
@@ -30,7 +30,7 @@ start_all-book-requires-clause-given g c κs within' =
 pub conclude-requires-clause-table : goal.conclude-requires-clause-table
 conclude-requires-clause-table g c κs within' =
     let m = g.M.Mail in
-    let each = if_ok_is c.start_all-book.result.1 c.in-Ok.finished _ c.in-Ok.is c.start_all-book.ensures.each in
+    let each = c.in-Ok.ensures.ended in
     let table = table_then m (λ w. w.outbox.senders.items) (λ w. w.receivers.items) (λ d. d.closed.items) (λ d. d.receivers.items)
     c.in_ok-book.workers.items c.in-Ok.finished.items c.owners-owners.result each.len (λ k w d a z. (each.at k w d a z).shuts) (λ k w d a z. (each.at k w d a z).keeps) c.in_ok-book.ensures.table in
     subst (λ n. IsTable m.closes m.ends n n (map (λ d. d.closed.items) c.in-Ok.finished.items) (map (λ d. d.receivers.items) c.in-Ok.finished.items)) c.owners-owners.ensures.value table
@@ -38,15 +38,24 @@ conclude-requires-clause-table g c κs within' =
 pub conclude-requires-clause-leaves : goal.conclude-requires-clause-leaves
 conclude-requires-clause-leaves g c κs within' = λ k d e.
     let b = g.L.Ledger in
-    let each = if_ok_is c.start_all-book.result.1 c.in-Ok.finished _ c.in-Ok.is c.start_all-book.ensures.each in
+    let each = c.in-Ok.ensures.ended in
     let w = place c.in_ok-book.workers.items k (let h = within c.in-Ok.finished.items k d e in omega (arith, h, each.len)) in
-    subst (λ x. Leaves b x k d.left d.ending) (sym c.start_all-book.ensures.book)
-    (subst (λ i. Leaves b c.in_ok-book.book i d.left d.ending) (c.in_ok-book.ensures.each k w.0 w.1).0 (each.at k w.0 d w.1 e).leaves)
+    subst (λ i. Leaves b c.in_ok-book.book i d.left d.ending) (c.in_ok-book.ensures.each k w.0 w.1).0 (each.at k w.0 d w.1 e).leaves
 
 pub conclude-requires-clause-finishes : goal.conclude-requires-clause-finishes
 conclude-requires-clause-finishes g c κs within' = λ k d e made.
     let m = g.M.Mail in let b = g.L.Ledger in
-    let each = if_ok_is c.start_all-book.result.1 c.in-Ok.finished _ c.in-Ok.is c.start_all-book.ensures.each in
+    let each = c.in-Ok.ensures.ended in
     let w = place c.in_ok-book.workers.items k (let h = within c.in-Ok.finished.items k d e in omega (arith, h, each.len)) in
     subst (λ i. FinishedAs c.args.problem.now c.args.cut.now i (log_of (map m.all_sent d.closed.items)) (log_of (map m.received d.receivers.items)) (b.left_owed d.left) (b.left_cleared d.left) d.ending d.log.items)
     (c.in_ok-book.ensures.each k w.0 w.1).0 ((each.at k w.0 d w.1 e).finishes made)
+
+pub returns-in-Ok-clause-permitted : goal.returns-in-Ok-clause-permitted
+returns-in-Ok-clause-permitted g c =
+    let answered = c.in-Ok.ensures.answered in
+    if_ok_map c.conclude.result _ _ (λ _ started k l.
+    let w = place c.in_ok-book.workers.items k (let n = c.owners-owners.ensures.value in let z = c.in_ok-book.ensures.count in omega (arith, l, n, z)) in
+    let d = place c.in-Ok.finished.items k (let h = within c.in_ok-book.workers.items k w.0 w.1 in omega (arith, h, answered.len)) in
+    subst (λ i. g.P.Permit.permits c.args.permit.now i true) (c.in_ok-book.ensures.each k w.0 w.1).0
+    (started_answer (g.P.Permit.permits c.args.permit.now w.0.me) d.0.ending (started k d.0 d.1) (answered.at k w.0 d.0 w.1 d.1)))
+    c.conclude.ensures.started

@@ -1,6 +1,8 @@
-use Rattle.std.proofs.Common.{rules}
-use denote.Param.Send.{sendable}
+use Rattle.nll_worker.proofs.StartLemmas.{alike_each, each_map, ok_says}
 use Rattle.nll_worker.proofs.threads.run_all.Goals as goal
 
-pub scoped-requires : goal.scoped-requires
-scoped-requires g c = let t = c.type_bounds in record { at = λ a. ((c.requires.given, c.requires.room.0, c.requires.room.1, c.requires.cut, c.requires.tables), (search (sendable, rules), search (sendable, rules), search (sendable, rules), search (sendable, rules), search (sendable, rules), search (sendable, rules), search (sendable, rules), search (sendable, rules), search (sendable, rules), search (sendable, rules), search (sendable, rules))) }
+pub returns-clause-ended : goal.returns-clause-ended
+returns-clause-ended g c = ok_says _ _ c.run_marked.result (λ all a. each_map _ _ c.args.workers.items all.items (λ w done e. e.0) (alike_each _ c.args.workers.items all.items a)) c.run_marked.ensures
+
+pub returns-clause-answered : goal.returns-clause-answered
+returns-clause-answered g c = ok_says _ _ c.run_marked.result (λ all a. each_map _ _ c.args.workers.items all.items (λ w done e. e.1) (alike_each _ c.args.workers.items all.items a)) c.run_marked.ensures

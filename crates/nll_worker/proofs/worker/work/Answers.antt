@@ -10,8 +10,8 @@ close_all-closed-requires-after_bounds g c κs within =
     let same = alike_length (Stays g.M.Mail) _ _ c.begin-left.ensures.pairs in
     (c.requires.given.none_kept, omega (arith, same, c.requires.given.space))
 
-pub returns : goal.returns
-returns g c =
+pub returns-clause-ended : goal.returns-clause-ended
+returns-clause-ended g c =
     let m = g.M.Mail in
     let b = c.begin-left in
     let lists = shut_lists m b.new.senders.items c.close_all-closed.result.items c.close_all-closed.ensures in

@@ -3,12 +3,6 @@ use Rattle.nll_worker.specs.Mailboxes.{Stays, Keeps}
 use Rattle.nll_worker.proofs.ListLemmas.{alike_refl}
 use Rattle.nll_worker.proofs.working.begin.Goals as goal
 
-pub returns-then-load-clause-pairs : goal.returns-then-load-clause-pairs
-returns-then-load-clause-pairs g c = alike_refl (Stays g.M.Mail) (λ s r p. p) c.args.senders.now.items
-
-pub returns-then-load-clause-keeps : goal.returns-then-load-clause-keeps
-returns-then-load-clause-keeps g c = alike_refl (Keeps g.M.Mail) (λ r. ((λ s p. p), (λ s p. p), refl)) c.args.receivers.now.items
-
 pub returns-in-Err-clause-pairs : goal.returns-in-Err-clause-pairs
 returns-in-Err-clause-pairs g c = alike_refl (Stays g.M.Mail) (λ s r p. p) c.args.senders.now.items
 
