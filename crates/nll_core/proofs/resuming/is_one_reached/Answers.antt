@@ -6,7 +6,7 @@ use Rattle.nll_sets.specs.ElementSet.{flag}
 use Rattle.nll_core.specs.Lines.{IsJump}
 use Rattle.nll_core.specs.declared.landing.Landing.{Landing}
 use Rattle.nll_core.proofs.FrontierLemmas.{no_landing, landing_at, jump_from, jump_return}
-use Rattle.nll_core.proofs.resuming.has_return.Goals as goal
+use Rattle.nll_core.proofs.resuming.is_one_reached.Goals as goal
 
 pub has-requires : goal.has-requires
 has-requires c =
