@@ -20,8 +20,8 @@ abbrev pub IsListedSchedule : Holds → List ℕ → ℕ → List Event → Type
 IsListedSchedule holds path count events =
     (text : List ℕ) × holds path text × Means count text events
 
--- The cut of the problem's regions is the one that is asked for, a text of the schedule's file lists
--- events of so many owners, and the report is that of their replay.
+-- The cut of the problem's regions is the one that is asked for, a text of the schedule's file
+-- lists events of so many owners, and the report is that of their replay.
 pub record IsAskedReplay (holds : Holds) (problem : Problem) (labels : Labels) (count : ℕ)
     (how : Deal) (path : Option (List ℕ)) (schedule report : List ℕ) : Type 0 where
   pub cut : Cut

@@ -130,8 +130,8 @@ AreOwnersRefused holds lacks file said refusal =
     AsksForOwners said.owners said.cut × IsOwnersRefused holds lacks file
     (count_of said.owners) (deal_of said.deal) said.cut refusal
 
--- behind the file, the refusal tells the truth of owners that are asked for; or, of a replay, of the
--- cut or of the schedule
+-- behind the file, the refusal tells the truth of owners that are asked for; or, of a replay, of
+-- the cut or of the schedule
 abbrev pub IsRefusedBehindFile : Holds → Lacks → Task → List ℕ → Said → Refusal → Type 0
 IsRefusedBehindFile holds lacks Values file said refusal =
     AreOwnersRefused holds lacks file said refusal

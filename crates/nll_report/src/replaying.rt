@@ -82,8 +82,8 @@ fn told_of_file<T: Texts>(
     Ok((told?, 0))
 }
 
-// The report of a replay over a problem and its labels. The cut file is dealt with wholly before the
-// schedule is opened.
+// The report of a replay over a problem and its labels. The cut file is dealt with wholly before
+// the schedule is opened.
 fn told_of_problem<T: Texts>(
     alloc: Global,
     facts: &Facts,
