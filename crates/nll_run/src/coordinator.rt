@@ -85,8 +85,9 @@ pub fn run_with<M: Mail, L: Ledger, G: Gate, P: Permit, R: Threads + Wait + Sync
         → P.permits permit.now owner true) }
 {
     let tables = Tables::of(alloc, problem, cut)?;
-    let outcome =
-        run_on::<M, L, G, P, R>(rt, alloc, problem, cut, &tables, mail, ledger, gate, permit);
+    let outcome = run_on::<M, L, G, P, R>(
+        rt, alloc, problem, cut, &tables, mail, ledger, gate, permit,
+    );
     drop(tables);
     outcome
 }

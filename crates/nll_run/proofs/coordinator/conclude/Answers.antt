@@ -1,12 +1,12 @@
 use Rattle.std.specs.Prelude.{None}
-use Rattle.std.proofs.Common.{◌≡◌, ◌<◌, ℕ, List, Err, length, map, slice_get, Some, Contains, sym, subst, ap, ◌∙◌, arith}
+use Rattle.std.proofs.Common.{◌≡◌, ℕ, List, Err, length, map, slice_get, Some, Contains, sym, subst, ap, ◌∙◌, arith}
 use Rattle.std.specs.List.{sum_by}
 use Rattle.nll_run.specs.Outcome.{IsOutcome}
 use Rattle.nll_run.specs.Settling.{ArePostsOf, InRows, sent_by, got_by}
 use Rattle.nll_run.specs.Refusing.{IsReason}
 use Rattle.nll_run.specs.declared.error.RunError.TheVariants.{Thread}
 use Rattle.nll_worker.specs.Finishing.{WasStarted}
-use Rattle.nll_run.proofs.PlaceLemmas.{map_from, map_place, within}
+use Rattle.nll_run.proofs.PlaceLemmas.{map_from, map_place}
 use Rattle.nll_run.proofs.ReasonLemmas.{calm_started, none_or, one_reason}
 use Rattle.nll_run.proofs.ConcludingLemmas.{in_range, says_least}
 use Rattle.nll_run.proofs.coordinator.conclude.Goals as goal
@@ -64,7 +64,7 @@ pub returns-in-Some-clause-thread : goal.returns-in-Some-clause-thread
 returns-in-Some-clause-thread g c = λ is.
     let error : c.in-Some.error ≡ Thread = cc in
     let x = subst (λ e. IsReason (map (λ d. d.ending) c.args.finished.items) (Some e)) error
-        (subst (λ xs. IsReason (map (λ d. d.ending) xs) (Some c.in-Some.error)) c.deref.ensures.value c.in-Some.ensures) in
+    (subst (λ xs. IsReason (map (λ d. d.ending) xs) (Some c.in-Some.error)) c.deref.ensures.value c.in-Some.ensures) in
     let d = map_from (λ d. d.ending) c.args.finished.items x.0 x.1 x.2 in
     (x.0, d.0, d.1, λ started. x.3 (subst WasStarted d.2 started))
 

@@ -1,4 +1,4 @@
-use Rattle.std.proofs.Common.{◌+◌, map, sym, subst, arith, slice_get, Some, ◌≡◌}
+use Rattle.std.proofs.Common.{◌+◌, map, sym, subst, arith}
 use Rattle.nll_worker.specs.declared.ending.Ending.{Ending}
 use Rattle.nll_worker.specs.Finishing.{WasStarted}
 use Rattle.nll_run.specs.Refusing.{IsCalm, IsOutOfMemory}
