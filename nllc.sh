@@ -3,6 +3,7 @@
 # Until then a build of the same sources that nothing has proved, with checks at run time and not optimised: it is
 # compiled once, in about a minute, and kept in out/; each run says so in one line on standard error.
 # `nllc.sh rust FILE.rs` is another program: tools/nll-rust, which has this one answer what it makes of FILE.rs.
+# So is `nllc.sh schedule FILE SCHEDULE`: tools/nll-schedule, which writes a page of a schedule.
 here=$(dirname -- "$(readlink -f -- "$0")")
 proved=$here/crates/nllc/out/nllc
 unproved=$here/out/nllc-unproved
@@ -21,22 +22,14 @@ needs_rt() {
     exit 127
 }
 
-# Compiles without proofs. `rt try` does that, but runs what it compiled once, in a folder that it then removes,
-# and hands on no more than 1 MiB of output after at most 60 seconds. So it gets a pipe to read, which opens
-# when it runs and holds it up until it is copied; the copy has no such limits.
-compile() (
-    mkdir -p "$here/out" && room=$(mktemp -d "$here/out/compile.XXXXXX") || exit
-    trap 'kill $! 2>/dev/null; rm -rf "$room"' EXIT
-    trap 'exit 130' HUP INT TERM
-    touch "$room/began" && mkfifo "$room/pipe" && cd "$here/crates/nllc" || exit
-    (exec 3>"$room/pipe" && cp "$room"/*/*/program "$room/nllc") &
-    TMPDIR=$room rt try -- check "$room/pipe" </dev/null >"$here/out/compile.log" 2>&1
-    [ -x "$room/nllc" ] && touch -r "$room/began" "$room/nllc" && mv "$room/nllc" "$unproved"
-)
+compile() { "$here/tools/compile_unproved.sh" "$here/crates/nllc" "$unproved" check; }
 
 if [ "$1" = rust ]; then
     shift
     exec python3 "$here/tools/nll-rust" "$@"
+elif [ "$1" = schedule ]; then
+    shift
+    exec python3 "$here/tools/nll-schedule" "$@"
 elif [ "$#" = 1 ] && [ "$1" = --prove ]; then
     needs_rt
     say "proving the program and what it stands on takes some 35 minutes on four processors;" \

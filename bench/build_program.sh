@@ -1,36 +1,54 @@
 #!/bin/sh
-# Proves and builds a program of this folder that is there for measurements and comparisons alone, runs
-# it once, and prints its path.
+# Proves and builds a program that no crate of the gate has, as those of this folder, which are there for
+# measurements and comparisons alone, runs it once, and prints its path.
 #
-#   build_program.sh NAME BELOW USED WORD..
+#   build_program.sh [--unproved PROGRAM] NAME BELOW USED WORD..
 #
-# The source is NAME.rattle; NAME.proofs, if there is one, has its written proofs, each behind a line `== PATH`. BELOW are the crates that it stands on, directly or not, and USED those that
-# it names, the kit's among them; the words are those of the run.
+# The source is NAME.rattle in this folder, or in that of NAME where it is a path; NAME.proofs, if there is one,
+# has its written proofs, each behind a line `== PATH`. BELOW are the crates that it stands on, directly or not,
+# and USED those that it names, the kit's among them; the words are those of the run. With `--unproved` nothing
+# is proved, and the program is compiled to PROGRAM; it has to read a file that the words don't name, as its next
+# word (tools/compile_unproved.sh).
 # Such a program is no crate of the gate, which takes no `.rt` file outside of one. It is built in
 # out/NAME, over copies of the crates below it with what was built of them, so that none of these is
 # proved again where it was proved before.
 set -eu
-name=$1 below=$2 used=$3
-shift 3
 here=$(cd "$(dirname "$0")" && pwd)
 root=$(dirname "$here")
-room=$root/out/$name
+to=
+if [ "$1" = --unproved ]; then
+    to=$2
+    shift 2
+fi
+name=$(basename "$1") below=$2 used=$3
+case $1 in */*) folder=$(cd "$(dirname "$1")" && pwd) ;; *) folder=$here ;; esac
+shift 3
+room=$root/out/$name${to:+-unproved.$$}
 rm -rf "$room"
 mkdir -p "$room/crates/$name/src"
 for crate in $below; do
-    cp -a "$root/crates/$crate" "$room/crates/$crate"
+    if [ "$to" ]; then
+        tar -C "$root/crates" --exclude="$crate/out" -cf - "$crate" | tar -C "$room/crates" -xf -
+    else
+        cp -a "$root/crates/$crate" "$room/crates/$crate"
+    fi
     grep "^$crate:" "$root/crates.txt"
 done > "$room/crates.txt"
 echo "$name: $used" >> "$room/crates.txt"
 cp "$root/HANDLES" "$room/HANDLES"
-cp "$here/$name.rattle" "$room/crates/$name/src/main.rt"
+cp "$folder/$name.rattle" "$room/crates/$name/src/main.rt"
 cd "$room/crates/$name"
-if [ -f "$here/$name.proofs" ]; then
+if [ -f "$folder/$name.proofs" ]; then
     mkdir -p proofs && : > proofs/Lib.antt
-    sed -n 's/^== //p' "$here/$name.proofs" | while read -r path; do
+    sed -n 's/^== //p' "$folder/$name.proofs" | while read -r path; do
         mkdir -p "$(dirname "$path")"
-        awk -v path="$path" '/^== /{here = $2 == path; next} here' "$here/$name.proofs" > "$path"
+        awk -v path="$path" '/^== /{here = $2 == path; next} here' "$folder/$name.proofs" > "$path"
     done
+fi
+if [ "$to" ]; then
+    trap 'rm -rf "$room"' EXIT
+    "$root/tools/compile_unproved.sh" . "$to" "$@"
+    exit
 fi
 rt run -- "$@" > "$room/build.log" 2>&1 || { cat "$room/build.log" >&2; exit 1; }
 echo "$room/crates/$name/out/$name"

@@ -103,6 +103,14 @@ def cut_of(rng, regions, owners):
 FILE = "FILE"
 
 
+def spread_words(rng, pairs):
+    """The words of some options and FILE: in random order, some options one word."""
+    pairs = [["=".join(pair)] if rng.random() < 0.2 else pair for pair in pairs]
+    rng.shuffle(pairs)
+    pairs.insert(rng.choice([0, 0, rng.randrange(len(pairs) + 1)]), [FILE])
+    return sum(pairs, [])
+
+
 class Case:
     """A text, and with which owners it is asked for."""
 
@@ -133,10 +141,7 @@ class Case:
             pairs.append(["--owners", str(self.owners)])
         if rng.random() < 0.6:
             pairs.append(["--mail", rng.choice(["queue", "ring", "ring"])])
-        pairs = [["=".join(pair)] if rng.random() < 0.2 else pair for pair in pairs]
-        rng.shuffle(pairs)
-        pairs.insert(rng.choice([0, 0, rng.randrange(len(pairs) + 1)]), [FILE])
-        return sum(pairs, [])
+        return spread_words(rng, pairs)
 
     def refusal(self):
         """For what the cut is refused, or None; it counts where the text has no fault."""

@@ -241,6 +241,22 @@ def islands_family(rng, islands=4, size=64, points=500):
     return problem_text(points, 0, islands * size - 1, facts)
 
 
+def joins_family(rng, points=400_000):
+    """A value of many runs, of which a path joins the first half at once."""
+    half = points // 2
+    facts = [b"next %d %d" % (p, p + 1) for p in range(half)] + [b"return %d" % (points - 1)]
+    facts += [b"base 'r0 %d" % p for p in range(0, points, 2)] + [b"base 'r1 %d" % p for p in range(half)]
+    return problem_text(points, 0, 2, facts + [asks(0, 1, 0)])
+
+
+def ends_family(rng, regions=1_000, points=50_000, universals=255):
+    """Many return points, none of which the walks of many regions come to, and many ends in the region that they read."""
+    facts = [b"return %d" % p for p in range(1, points)] + [b"base 'r0 0"]
+    facts += [b"constraint 'r0 'u%d %d" % (number, points - 1) for number in range(universals)]
+    facts += [asks(region, 0, 0) for region in range(1, regions)]
+    return problem_text(points, universals, regions, facts)
+
+
 FAMILIES = {
     "chain": lambda rng: chain(1_000_000, 3),
     "dense": dense_family,
@@ -252,6 +268,8 @@ FAMILIES = {
     "trickle": trickle_family,
     "full": full_family,
     "islands": islands_family,
+    "joins": joins_family,
+    "ends": ends_family,
 }
 
 

@@ -5,7 +5,8 @@
 #
 # PATH is what mail_program.sh builds. Beside it run a ring on std's atomics, the same ring with sequentially consistent
 # steps alone, and a channel of std (`baseline/src/bin/mailboxes`). Prints a Markdown table, and how many growths of memory
-# a short run and one ten times as long ask for: as many, where posts and takes ask for none. Status 1 where they differ.
+# runs ask for: a short one as many as one ten times as long, where posts and takes ask for none; and one that settles its
+# mailboxes as many as one that lets their ends go, where `settle` asks for none. Status 1 where they differ.
 set -eu
 here=$(cd "$(dirname "$0")" && pwd)
 [ $# -ge 2 ] && [ "$1" = --program ] || { sed -n '4s/^# *//p' "$0" >&2; exit 2; }
@@ -13,4 +14,5 @@ cargo build --release --offline --quiet --manifest-path "$here/baseline/Cargo.to
 commit=$(git -C "$here" rev-parse --short HEAD 2>/dev/null || echo none)
 python3 "$here/measure_rates.py" mailboxes "$@" --commit "$commit" \
     --baseline "$here/baseline/target/release/mailboxes"
-python3 "$here/asked_memory.py" --program "$2" ring 1000 10000
+python3 "$here/asked_memory.py" --program "$2" "ring 1000" "ring 10000"
+python3 "$here/asked_memory.py" --program "$2" "ring-apart 1000" "ring-settled 1000"

@@ -54,7 +54,9 @@ def mailboxes(args):
         "RingMail": [args.program, "ring"],
         "QueueMail": [args.program, "queue"],
         "plain ring": [args.baseline, "ring"],
+        "plain ring, batches": [args.baseline, "ring-batches"],
         "plain ring, one order": [args.baseline, "one-order"],
+        "plain ring, one order, batches": [args.baseline, "one-order-batches"],
         "plain channel": [args.baseline, "channel"],
     }
     count = str(args.count or 10_000_000)

@@ -47,6 +47,12 @@ def printed(problem, e):
     return b" end('%s)" % problem.universals[e - problem.points]
 
 
+def value_lines(problem, values):
+    """A line a region: its name, a colon, then its elements."""
+    return [b"'%s:" % name + b"".join(printed(problem, e) for e in sorted(values[name])) + b"\n"
+            for name in problem.names()]
+
+
 def report(command, said):
     """Standard output and status of a command on what a text says; raises `Refused`."""
     is_body = isinstance(said, Mir)
@@ -59,9 +65,7 @@ def report(command, said):
         return counts(problem), 0
     values = solve(problem)
     if command == "values":
-        lines = [b"'%s:" % name + b"".join(printed(problem, e) for e in sorted(values[name]))
-                 + b"\n" for name in problem.names()]
-        return b"".join(lines), 0
+        return b"".join(value_lines(problem, values)), 0
     found = faults(problem, values)
     lines = [b"fault '%s must outlive '%s\n" % pair for pair in found]
     return b"".join(lines) or b"ok\n", 1 if found else 0

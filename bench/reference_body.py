@@ -65,9 +65,10 @@ class Body:
         return self.said.points[p][2]
 
     def successors(self, p):
+        """Where a point goes on, in the order of the text."""
         if isinstance(self.form(p), grammar.STATEMENTS):
-            return {p + 1}
-        return {self.said.firsts[block] for block in mir.targets_of(self.form(p))}
+            return [p + 1]
+        return [self.said.firsts[block] for block in mir.targets_of(self.form(p))]
 
     # Liveness
 

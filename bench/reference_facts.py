@@ -29,6 +29,8 @@ class Facts:
         self.further = []
         self.outlives = set()
         self.edges = set()
+        # For a point where its edges lead, in the order of their first lines.
+        self.targets = {}
         self.returns = set()
         self.bases = set()
         self.constraints = set()
@@ -38,6 +40,9 @@ class Facts:
 
     def label(self, p):
         return b"%d" % p
+
+    def successors(self, p):
+        return self.targets.get(p, [])
 
     def form_of(self, line):
         """The form of a line as (keyword, arguments), or None where it has none."""
@@ -134,6 +139,8 @@ class Facts:
         elif keyword == b"return":
             self.returns.add(arguments[0])
         elif keyword != b"end":
+            if keyword == b"next" and tuple(arguments) not in self.edges:
+                self.targets.setdefault(arguments[0], []).append(arguments[1])
             sets = {b"outlives": self.outlives, b"next": self.edges, b"base": self.bases,
                     b"constraint": self.constraints}
             sets[keyword].add(tuple(arguments))

@@ -24,14 +24,14 @@ GROUPS |= {form: BODY for form in STATEMENTS + TERMINATORS}
 
 
 def targets_of(form):
-    """The blocks to which a terminator goes."""
+    """The blocks to which a terminator goes, in the order of the text, each once."""
     if isinstance(form, Switch):
-        return set(form.targets)
+        return list(dict.fromkeys(form.targets))
     if isinstance(form, Goto):
-        return {form.target}
+        return [form.target]
     if isinstance(form, (Drop, Call)):
-        return {form.target} | ({form.unwind} - {None})
-    return set()
+        return [block for block in dict.fromkeys([form.target, form.unwind]) if block is not None]
+    return []
 
 
 class Mir:

@@ -11,27 +11,43 @@ def step(problem, e):
     return targets
 
 
+def steps_of(problem):
+    """For each element those that a step from it leads to."""
+    return [step(problem, e) for e in range(problem.points + len(problem.universals))]
+
+
 def reach(problem, at, inside):
     """What paths from a point reach whose elements all lie in a set."""
-    reached = {at} & inside
-    while True:
-        more = {f for e in reached for f in step(problem, e)} & inside
-        if more <= reached:
-            return reached
-        reached |= more
+    return reach_by(steps_of(problem), at, inside)
 
 
-def solve(problem):
-    """The least values: rounds over all constraints until a whole round adds nothing."""
+def reach_by(steps, at, inside):
+    """The same, by the steps of the problem."""
+    reached = more = {at} & inside
+    while more:
+        more = ({f for e in more for f in steps[e]} & inside) - reached
+        reached = reached | more
+    return reached
+
+
+def base_values(problem):
+    """The values of just the base elements."""
     values = {name: set() for name in problem.names()}
     for index, name in enumerate(problem.universals):
         values[name] = set(range(problem.points)) | {problem.points + index}
     for name, p in problem.bases:
         values[name].add(p)
+    return values
+
+
+def solve(problem):
+    """The least values: rounds over all constraints until a whole round adds nothing."""
+    steps = steps_of(problem)
+    values = base_values(problem)
     while True:
         before = sum(len(value) for value in values.values())
         for a, b, p in problem.constraints:
-            values[a] |= reach(problem, p, values[b])
+            values[a] |= reach_by(steps, p, values[b])
         if sum(len(value) for value in values.values()) == before:
             return values
 

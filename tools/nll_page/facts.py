@@ -43,6 +43,7 @@ class Facts:
     bases: list = field(default_factory=lambda: [set()])
     constraints: list = field(default_factory=list)
     remarks: Remarks = field(default_factory=Remarks)
+    point_names: dict = field(default_factory=dict)     # of points that aren't named by their numbers
 
     @cached_property
     def live(self):
@@ -71,6 +72,9 @@ class Facts:
 
     def is_universal(self, region):
         return region < self.universals
+
+    def point_name(self, point):
+        return self.point_names.get(point, str(point))
 
 
 def grouped(pairs):

@@ -53,7 +53,7 @@ def page(content):
     rows = len(all_rows(facts))
     return fill("page.html", {
         "title": text(name_of(content)),
-        "css": template("page.css"),
+        "css": template("look.css") + template("page.css"),
         "js": "\n".join(map(template, SCRIPTS)),
         "name": text(name_of(content)),
         "about": about(content),

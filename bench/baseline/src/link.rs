@@ -33,15 +33,12 @@ impl Link {
             self.enter_part(ground, known, part, found);
             returned = self.spread(ground, known, found);
         }
-        if returned && !self.returned {
+        if returned || (self.returned && run.last >= points) {
             self.returned = true;
             for &end in &known.0[known.ends_from(points)..] {
                 let end = Run { first: end.first.max(points), last: end.last };
                 self.reached.insert_new(end, found);
             }
-        } else if self.returned && run.last >= points {
-            let end = Run { first: run.first.max(points), last: run.last };
-            self.reached.insert_new(end, found);
         }
     }
 

@@ -2,7 +2,7 @@
 //! written by hand without any proof: the partner of `nllc` in measurements and in differential
 //! tests. Reading order: `main`, `text` (lines, tokens, which fault is told), `tables`, `facts`,
 //! `problem`, `solve`, `runs`, `report`; for MIR texts `shapes`, `body`, `mir`, `rules`; for owners `cut`,
-//! `ground`, `link`, `owner`, `owners`, `threads`.
+//! `ground`, `link`, `owner`, `owners`, `threads`; for their events `schedule`, `world`, `driving`.
 //!
 //! `baseline read FILE` and `baseline problem FILE` print one line of counts, of what is read and
 //! of the problem that it means; `baseline bases FILE` prints those of a body with its base
@@ -10,11 +10,13 @@
 //! `nllc` prints; with `--runs` before the command, by the algorithm that `nllc` has. `baseline owners
 //! COUNT FILE` solves by so many owners that one thread drives, and prints what that took. Behind `baseline
 //! threads` stand the words of `nllc`, and owners work in threads of their own; `counts` in place of `values`
-//! prints how much grew and was received. Status: 0 answered, 1 `check` found faults or owners other values,
-//! 2 words, file or text refused, 3 output failed.
+//! prints how much grew and was received. `baseline replay` with the words of `nllc replay` prints what that prints,
+//! and `baseline schedule COUNT FILE` a schedule of so many events. Status: 0 answered, 1 `check` found faults or owners
+//! other values, 2 words, file or text refused, 3 output failed.
 
 mod body;
 mod cut;
+mod driving;
 mod facts;
 mod ground;
 mod link;
@@ -25,12 +27,14 @@ mod problem;
 mod report;
 mod rules;
 mod runs;
+mod schedule;
 mod shapes;
 mod solve;
 mod tables;
 mod text;
 mod threads;
 mod words;
+mod world;
 
 use cut::Cut;
 use facts::Facts;
@@ -38,10 +42,11 @@ use ground::Ground;
 use mir::Reader;
 use problem::Problem;
 use std::fs::File;
-use std::io::{self, Read, Write};
+use std::io::{self, BufWriter, Read, Write};
 use std::process::exit;
 use text::Fault;
 use words::{Deal, Solver, USAGE};
+use world::{Step, World};
 
 /// The greatest length of a text in bytes.
 const TEXT_LIMIT: u64 = 67_108_864;
@@ -120,6 +125,27 @@ fn threads_answer(
     report(command, problem, &threads::values(&ground, &owners), out)
 }
 
+/// Writes what the events of a schedule answer, the balance and the values at the end.
+fn replay(problem: &Problem, cut: Cut, path: &str, out: &mut impl Write) -> io::Result<i32> {
+    let ground = Ground::of(problem, cut);
+    let text = text_of(path, "schedule line");
+    let events = schedule::read(&text, ground.cut.owners)
+        .unwrap_or_else(|fault| refuse_fault("schedule line", &fault));
+    drop(text);
+    let mut world = World::of(&ground);
+    let answers: Vec<Step> = events.iter().map(|&event| world.step(event)).collect();
+    report::answers(&answers, out)?;
+    writeln!(out, "balance {}", world.balance)?;
+    report("values", problem, &world.values(&ground), out)
+}
+
+/// Writes a schedule of so many events.
+fn make_schedule(problem: &Problem, cut: Cut, count: usize, out: &mut impl Write) -> io::Result<i32> {
+    let mut out = BufWriter::new(out);
+    driving::write(&Ground::of(problem, cut), count, &mut out)?;
+    out.flush().map(|()| 0)
+}
+
 /// Writes the answer of a command and gives the status.
 fn answer(command: &str, solver: Solver, problem: &Problem) -> io::Result<i32> {
     let mut out = io::stdout().lock();
@@ -131,6 +157,14 @@ fn answer(command: &str, solver: Solver, problem: &Problem) -> io::Result<i32> {
         (_, Solver::Threads(owners, deal)) => {
             let cut = cut_of(deal, owners, problem.regions());
             threads_answer(command, problem, cut, &mut out)
+        }
+        (_, Solver::Replay(owners, deal, path)) => {
+            let cut = cut_of(deal, owners, problem.regions());
+            replay(problem, cut, path, &mut out)
+        }
+        (_, Solver::Schedule(owners, deal, count)) => {
+            let cut = cut_of(deal, owners, problem.regions());
+            make_schedule(problem, cut, count, &mut out)
         }
     }?;
     out.flush().map(|()| status)

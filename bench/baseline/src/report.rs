@@ -4,6 +4,7 @@ use crate::body::Body;
 use crate::problem::{Labels, Problem, Universals};
 use crate::runs::Runs;
 use crate::solve::Row;
+use crate::world::Step;
 use std::io::{self, Write};
 
 /// One line of counts; bases and constraints are counted as distinct facts of the text.
@@ -143,6 +144,25 @@ pub fn values<V: Value>(
             }
         }
         text.push(b'\n');
+    }
+    out.write_all(&text)
+}
+
+/// A line an event: its number from 1 and its answer.
+pub fn answers(answers: &[Step], out: &mut impl Write) -> io::Result<()> {
+    let mut text = Vec::with_capacity(CHUNK + 32);
+    for (number, answer) in (1..).zip(answers) {
+        push_number(&mut text, number);
+        text.extend_from_slice(match answer {
+            Step::Done => b" done\n",
+            Step::Quiet => b" quiet\n",
+            Step::Open => b" open\n",
+            Step::NotNow => b" not now\n",
+        });
+        if text.len() >= CHUNK {
+            out.write_all(&text)?;
+            text.clear();
+        }
     }
     out.write_all(&text)
 }

@@ -1,7 +1,9 @@
 //! The words of the command line.
 
 pub const USAGE: &str = "usage: baseline [--runs] read|bases|problem|values|check|owners COUNT FILE, or \
-     baseline threads values|check|counts FILE [--owners N] [--deal round|blocks] [--cut FILE] [--mail queue]";
+     baseline threads values|check|counts FILE [--owners N] [--deal round|blocks] [--cut FILE] [--mail queue], or \
+     baseline replay FILE --schedule FILE [--owners N] [--deal round|blocks] [--cut FILE], or \
+     baseline schedule COUNT FILE [--owners N] [--deal round|blocks] [--cut FILE]";
 
 /// The commands that a file alone follows.
 const COMMANDS: [&str; 5] = ["read", "bases", "problem", "values", "check"];
@@ -29,6 +31,10 @@ pub enum Solver<'w> {
     Turns(u16),
     /// So many owners in threads of their own.
     Threads(u16, Deal<'w>),
+    /// So many owners that do what the schedule of this path says.
+    Replay(u16, Deal<'w>, &'w str),
+    /// So many owners for which a schedule of so many events is made.
+    Schedule(u16, Deal<'w>, usize),
 }
 
 /// What is asked.
@@ -53,6 +59,7 @@ struct Said<'w> {
     deal: Option<&'w str>,
     cut: Option<&'w str>,
     mail: Option<&'w str>,
+    schedule: Option<&'w str>,
 }
 
 impl<'w> Said<'w> {
@@ -72,6 +79,7 @@ impl<'w> Said<'w> {
                 "--deal" => &mut said.deal,
                 "--cut" => &mut said.cut,
                 "--mail" => &mut said.mail,
+                "--schedule" => &mut said.schedule,
                 _ => return None,
             };
             if place.replace(value).is_some() {
@@ -81,22 +89,43 @@ impl<'w> Said<'w> {
         Some(said)
     }
 
-    /// The solver that is asked for: one thread where there is no number of owners and no cut file.
-    fn solver(&self) -> Option<Solver<'w>> {
+    /// How many owners there are, and how regions are dealt to them.
+    fn dealt(&self) -> Option<(u16, Deal<'w>)> {
         let count = owner_count(self.owners.unwrap_or("1"))?;
-        let dealt = match self.deal.unwrap_or("round") {
+        let deal = match self.deal.unwrap_or("round") {
             "round" => Deal::Round,
             "blocks" => Deal::Blocks,
             _ => return None,
         };
-        if self.mail.is_some_and(|mail| mail != "queue") {
+        if self.deal.is_some() && self.cut.is_some() {
             return None;
         }
-        Some(match self.cut {
-            None if self.owners.is_none() => Solver::Runs,
-            None => Solver::Threads(count, dealt),
-            Some(path) => Solver::Threads(count, Deal::Listed(path)),
-        })
+        Some((count, self.cut.map_or(deal, Deal::Listed)))
+    }
+
+    /// The solver that is asked for: one thread where there is no number of owners and no cut file.
+    fn solver(&self) -> Option<Solver<'w>> {
+        let (count, deal) = self.dealt()?;
+        if self.schedule.is_some() || self.mail.is_some_and(|mail| mail != "queue") {
+            return None;
+        }
+        if self.owners.is_none() && self.cut.is_none() {
+            return Some(Solver::Runs);
+        }
+        Some(Solver::Threads(count, deal))
+    }
+
+    /// The replay of a schedule, or the making of one of so many events.
+    fn events(&self, made: Option<usize>) -> Option<Solver<'w>> {
+        let (count, deal) = self.dealt()?;
+        if self.mail.is_some() {
+            return None;
+        }
+        match (self.schedule, made) {
+            (Some(schedule), None) => Some(Solver::Replay(count, deal, schedule)),
+            (None, Some(events)) => Some(Solver::Schedule(count, deal, events)),
+            _ => None,
+        }
     }
 }
 
@@ -118,6 +147,14 @@ pub fn asked(words: &[String]) -> Option<Asked<'_>> {
         {
             let said = Said::of(rest)?;
             Some(Asked { command, path: said.file?, solver: said.solver()? })
+        }
+        [command, rest @ ..] if command == "replay" => {
+            let said = Said::of(rest)?;
+            Some(Asked { command, path: said.file?, solver: said.events(None)? })
+        }
+        [command, count, rest @ ..] if command == "schedule" => {
+            let said = Said::of(rest)?;
+            Some(Asked { command, path: said.file?, solver: said.events(Some(count.parse().ok()?))? })
         }
         _ => None,
     }

@@ -10,9 +10,8 @@ use crate::constraints::add_constraints;
 use crate::error::{RuleError, told_of};
 use crate::facts::{add_bases, add_outlives, add_regions};
 use nll_body::Body;
-use nll_live::{bases, liveness};
-use nll_problem::{BuildError, Problem, ProblemBuilder, RegionId};
-use nll_sets::Memory;
+use nll_live::live_bases;
+use nll_problem::{BuildError, Problem, ProblemBuilder};
 use std::alloc::Global;
 
 /// The problem of a body: its graph and its regions, the base elements that the liveness of its
@@ -98,21 +97,8 @@ fn add_live(alloc: Global, body: &Body, builder: &mut ProblemBuilder) -> Result<
         ((r p : ℕ) → Contains builder.new.bases (r, p) ↔ IsBaseOf body.now r p) }
     ensures err { IfErr result (λ e. e ≡ BuildError.Memory) }
 {
-    let live = live_pairs(alloc, body)?;
+    let live = live_bases(alloc, body)?;
     let told = add_bases(builder, live.as_slice());
     drop(live);
     told
-}
-
-// The base elements that the liveness of variables gives regions.
-fn live_pairs(alloc: Global, body: &Body) -> Result<Vec<(RegionId, u32)>, Memory>
-    ensures each { IfOk result
-        (λ v. (r p : ℕ) → Contains v.items (r, p) ↔ IsBaseOf body.now r p) }
-    ensures within { IfOk result (λ v. (r p : ℕ) → Contains v.items (r, p)
-        → (r < length body.now.names) × (p < length body.now.points)) }
-{
-    let sets = liveness(alloc, body)?;
-    let pairs = bases(alloc, body, &sets);
-    drop(sets);
-    pairs
 }

@@ -10,7 +10,7 @@ use Rattle.clap.specs.declared.error.kind.ErrorKind.TheVariants.{DisplayHelp}
 use Rattle.clap.proofs.FaultLemmas.{stopped_fault}
 use Rattle.clap.proofs.OnLiterals.{clap_on_literals}
 use Rattle.nll_command_line.specs.declared.task.Task.{Task}
-use Rattle.nll_command_line.specs.declared.task.Task.TheVariants.{Values, Check}
+use Rattle.nll_command_line.specs.declared.task.Task.TheVariants.{Values, Check, Replay}
 use Rattle.nll_command_line.specs.declared.error.LineError.{LineError}
 use Rattle.nll_command_line.specs.declared.error.LineError.TheVariants.{Help, Usage, Memory}
 use Rattle.nll_command_line.specs.CommandLine.{AsksPlainlyForHelp, IsHelpWord, MayStandBeforeHelp, begins_as_option, name_of}
@@ -45,6 +45,7 @@ top_walks : (task : Task) (rest : List Text) → walk_fault top names start (nam
 unfolding clap_on_literals
 top_walks Values rest = stopped_fault top names start (codes "values", []) rest
 top_walks Check rest = stopped_fault top names start (codes "check", []) rest
+top_walks Replay rest = stopped_fault top names start (codes "replay", []) rest
 
 -- so what the command finds is told
 below : (task : Task) (rest : List Text) → level (name_of task) rest ≡ DisplayHelp ∷ [] → AsksForHelpAlone (name_of task ∷ rest)
@@ -56,11 +57,13 @@ long_second : (task : Task) (rest : List Text) → level (name_of task) (codes "
 unfolding clap_on_literals
 long_second Values rest = refl
 long_second Check rest = refl
+long_second Replay rest = refl
 
 short_second : (task : Task) (rest : List Text) → level (name_of task) (codes "-h" ∷ rest) ≡ DisplayHelp ∷ []
 unfolding clap_on_literals
 short_second Values rest = refl
 short_second Check rest = refl
+short_second Replay rest = refl
 
 second : (task : Task) (word : Text) (rest : List Text) → IsHelpWord word → level (name_of task) (word ∷ rest) ≡ DisplayHelp ∷ []
 second task word rest asks = elim asks [
@@ -75,30 +78,38 @@ unfolding clap_on_literals
 long_byte Values b rest true e = simp e
 long_byte Values b rest false e = simp e
 long_byte Check b rest true e = simp e
+long_byte Replay b rest true e = simp e
 long_byte Check b rest false e = simp e
+long_byte Replay b rest false e = simp e
 
 long_third : (task : Task) (file : Text) (rest : List Text) → begins_as_option file ≡ false → level (name_of task) (file ∷ codes "--help" ∷ rest) ≡ DisplayHelp ∷ []
 unfolding clap_on_literals
 long_third Values [] rest h = refl
 long_third Check [] rest h = refl
+long_third Replay [] rest h = refl
 long_third task (b ∷ []) rest h = long_byte task b rest (nat_eq b 45) refl
 long_third Values (b ∷ c ∷ more) rest h = simp h
 long_third Check (b ∷ c ∷ more) rest h = simp h
+long_third Replay (b ∷ c ∷ more) rest h = simp h
 
 short_byte : (task : Task) (b : ℕ) (rest : List Text) (x : Bool) → nat_eq b 45 ≡ x → level (name_of task) ((b ∷ []) ∷ codes "-h" ∷ rest) ≡ DisplayHelp ∷ []
 unfolding clap_on_literals
 short_byte Values b rest true e = simp e
 short_byte Values b rest false e = simp e
 short_byte Check b rest true e = simp e
+short_byte Replay b rest true e = simp e
 short_byte Check b rest false e = simp e
+short_byte Replay b rest false e = simp e
 
 short_third : (task : Task) (file : Text) (rest : List Text) → begins_as_option file ≡ false → level (name_of task) (file ∷ codes "-h" ∷ rest) ≡ DisplayHelp ∷ []
 unfolding clap_on_literals
 short_third Values [] rest h = refl
 short_third Check [] rest h = refl
+short_third Replay [] rest h = refl
 short_third task (b ∷ []) rest h = short_byte task b rest (nat_eq b 45) refl
 short_third Values (b ∷ c ∷ more) rest h = simp h
 short_third Check (b ∷ c ∷ more) rest h = simp h
+short_third Replay (b ∷ c ∷ more) rest h = simp h
 
 third : (task : Task) (file word : Text) (rest : List Text) → begins_as_option file ≡ false → IsHelpWord word → level (name_of task) (file ∷ word ∷ rest) ≡ DisplayHelp ∷ []
 third task file word rest plain asks = elim asks [
@@ -118,9 +129,13 @@ behind (name ∷ file ∷ other ∷ more) word rest before asks = absurd before
 asks_alone : (words : List Text) → AsksPlainlyForHelp words → AsksForHelpAlone words
 asks_alone words h = subst AsksForHelpAlone (sym h.are) (behind h.front h.word h.rest h.before h.asks)
 
--- words that ask for help are not taken
+-- words that the parser answers with nothing but help are not taken
+pub help_alone_is_not_taken : (words : List Text) → fault_of program words ≡ [] → AsksForHelpAlone words → ⊥
+help_alone_is_not_taken words none asks = let bad : ◌≡◌ {A = Kinds} [] (DisplayHelp ∷ []) = sym none ∙ asks in cc
+
+-- nor are words that ask for help
 pub help_is_not_taken : (words : List Text) → fault_of program words ≡ [] → AsksPlainlyForHelp words → ⊥
-help_is_not_taken words none h = let bad : ◌≡◌ {A = Kinds} [] (DisplayHelp ∷ []) = sym none ∙ asks_alone words h in cc
+help_is_not_taken words none h = help_alone_is_not_taken words none (asks_alone words h)
 
 -- the error of words that ask for help
 pub help_given : (words : List Text) (e : LineError) → AsksPlainlyForHelp words → IsLineError words e → IsHelpFor words e

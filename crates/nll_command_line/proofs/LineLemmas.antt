@@ -5,7 +5,7 @@ use Rattle.clap.specs.Walk.{Text, rows_after, stop_after}
 use Rattle.clap.specs.Simple.{built}
 use Rattle.clap.specs.Faults.{entered_fault, fault_of, walk_fault}
 use Rattle.nll_command_line.specs.declared.task.Task.{Task}
-use Rattle.nll_command_line.specs.declared.task.Task.TheVariants.{Check, Values}
+use Rattle.nll_command_line.specs.declared.task.Task.TheVariants.{Check, Replay, Values}
 use Rattle.nll_command_line.specs.CommandLine.{IsLine, name_of}
 use Rattle.nll_command_line.specs.Grammar.{line_by_grammar, line_of_matches, program}
 use Rattle.nll_command_line.proofs.FileWordLemmas.{file_in, level, takes_file}
@@ -14,6 +14,7 @@ use Rattle.nll_command_line.proofs.TaskWordLemmas.{is_none, names, or_else-left,
 pub entered_fault-named : (task : Task) (rest : List Text) → entered_fault (built program) (Some (name_of task, rest)) ≡ level (name_of task) rest
 entered_fault-named Values rest = refl
 entered_fault-named Check rest = refl
+entered_fault-named Replay rest = refl
 
 -- where the program takes the words, the command takes those after its name
 taken_below : (task : Task) (rest : List Text) → is_none (fault_of program (name_of task ∷ rest)) ≡ true → is_none (level (name_of task) rest) ≡ true
@@ -33,6 +34,7 @@ line_of_found-named : (task : Task) (rest : List Text) (file : Text) → file_in
     → line_of_matches (Some (name_of task, rows_after rules_for [] rest)) ≡ Some (task, file)
 line_of_found-named Values rest file h = ap (option_map (λ (f : Text). (Values, f))) h
 line_of_found-named Check rest file h = ap (option_map (λ (f : Text). (Check, f))) h
+line_of_found-named Replay rest file h = ap (option_map (λ (f : Text). (Replay, f))) h
 
 abbrev pair_or : Task × Text → Option (Task × Text) → Task × Text
 pair_or pair o = unwrap_or o pair

@@ -6,7 +6,7 @@ use Rattle.std.specs.Fmt.{decimal}
 use Rattle.std.proofs.lemmas.Fmt.{decimal_injective}
 use Rattle.std.proofs.lemmas.List.{append-nil}
 use Rattle.std.proofs.lemmas.List.Elements.{filter_map-append}
-use Rattle.nll_command_line.specs.Options.{Given, owners, deal, cut, mail, IsLawful, Said, Says, key_of, value_of, owners_in, deal_in, cut_in, mail_in}
+use Rattle.nll_command_line.specs.Options.{Given, owners, deal, cut, mail, schedule, IsLawful, Said, Says, key_of, value_of, owners_in, deal_in, cut_in, mail_in, schedule_in}
 use Rattle.nll_command_line.specs.Taking.{IsUnfit}
 use Rattle.nll_command_line.specs.declared.options.Deal.{Deal}
 use Rattle.nll_command_line.specs.declared.options.Deal.TheVariants.{Round, Blocks}
@@ -60,6 +60,7 @@ module _ (given : List Given) (said : Said) (s : Says given said) where
     deal = same deal_in given (owners n) _ refl s.deal;
     cut = same cut_in given (owners n) _ refl s.cut;
     mail = same mail_in given (owners n) _ refl s.mail;
+    schedule = same schedule_in given (owners n) _ refl s.schedule;
   }
 
   pub more_deal : (how : Deal) → said.deal ≡ None → Says (given ++ deal how ∷ []) (record said { deal = Some how })
@@ -68,6 +69,7 @@ module _ (given : List Given) (said : Said) (s : Says given said) where
     deal = more deal_in given (deal how) how said.deal refl empty s.deal;
     cut = same cut_in given (deal how) _ refl s.cut;
     mail = same mail_in given (deal how) _ refl s.mail;
+    schedule = same schedule_in given (deal how) _ refl s.schedule;
   }
 
   pub more_cut : (file : List ℕ) → said.cut ≡ None → Says (given ++ cut file ∷ []) (record said { cut = Some file })
@@ -76,6 +78,7 @@ module _ (given : List Given) (said : Said) (s : Says given said) where
     deal = same deal_in given (cut file) _ refl s.deal;
     cut = more cut_in given (cut file) file said.cut refl empty s.cut;
     mail = same mail_in given (cut file) _ refl s.mail;
+    schedule = same schedule_in given (cut file) _ refl s.schedule;
   }
 
   pub more_mail : (kind : MailKind) → said.mail ≡ None → Says (given ++ mail kind ∷ []) (record said { mail = Some kind })
@@ -84,6 +87,16 @@ module _ (given : List Given) (said : Said) (s : Says given said) where
     deal = same deal_in given (mail kind) _ refl s.deal;
     cut = same cut_in given (mail kind) _ refl s.cut;
     mail = more mail_in given (mail kind) kind said.mail refl empty s.mail;
+    schedule = same schedule_in given (mail kind) _ refl s.schedule;
+  }
+
+  pub more_schedule : (file : List ℕ) → said.schedule ≡ None → Says (given ++ schedule file ∷ []) (record said { schedule = Some file })
+  more_schedule file empty = record {
+    owners = same owners_in given (schedule file) _ refl s.owners;
+    deal = same deal_in given (schedule file) _ refl s.deal;
+    cut = same cut_in given (schedule file) _ refl s.cut;
+    mail = same mail_in given (schedule file) _ refl s.mail;
+    schedule = more schedule_in given (schedule file) file said.schedule refl empty s.schedule;
   }
 
   -- ---- an option that is there already, or of a value that is none
@@ -94,6 +107,7 @@ module _ (given : List Given) (said : Said) (s : Says given said) where
   no_more_owners value there (deal how) later all is_key is_value lawful says = cc
   no_more_owners value there (cut file) later all is_key is_value lawful says = cc
   no_more_owners value there (mail kind) later all is_key is_value lawful says = cc
+  no_more_owners value there (schedule file) later all is_key is_value lawful says = cc
 
   pub no_more_deal : (value : List ℕ) → ((how : Deal) → value ≡ value_of (deal how) → (d : Deal) × (said.deal ≡ Some d)) → IsUnfit given key.Deal value
   no_more_deal value there (owners n) later all is_key is_value lawful says = cc
@@ -101,12 +115,14 @@ module _ (given : List Given) (said : Said) (s : Says given said) where
       let m = there how (sym is_value) in two deal_in given (deal how) later m.0 how said.deal all.deal refl m.1 s.deal says.deal
   no_more_deal value there (cut file) later all is_key is_value lawful says = cc
   no_more_deal value there (mail kind) later all is_key is_value lawful says = cc
+  no_more_deal value there (schedule file) later all is_key is_value lawful says = cc
 
   pub no_more_cut : (value file : List ℕ) → said.cut ≡ Some file → IsUnfit given key.Cut value
   no_more_cut value there is (owners n) later all is_key is_value lawful says = cc
   no_more_cut value there is (deal how) later all is_key is_value lawful says = cc
   no_more_cut value there is (cut file) later all is_key is_value lawful says = two cut_in given (cut file) later there file said.cut all.cut refl is s.cut says.cut
   no_more_cut value there is (mail kind) later all is_key is_value lawful says = cc
+  no_more_cut value there is (schedule file) later all is_key is_value lawful says = cc
 
   pub no_more_mail : (value : List ℕ) → ((kind : MailKind) → value ≡ value_of (mail kind) → (k : MailKind) × (said.mail ≡ Some k)) → IsUnfit given key.Mail value
   no_more_mail value there (owners n) later all is_key is_value lawful says = cc
@@ -114,6 +130,15 @@ module _ (given : List Given) (said : Said) (s : Says given said) where
   no_more_mail value there (cut file) later all is_key is_value lawful says = cc
   no_more_mail value there (mail kind) later all is_key is_value lawful says =
       let m = there kind (sym is_value) in two mail_in given (mail kind) later m.0 kind said.mail all.mail refl m.1 s.mail says.mail
+  no_more_mail value there (schedule file) later all is_key is_value lawful says = cc
+
+  pub no_more_schedule : (value file : List ℕ) → said.schedule ≡ Some file → IsUnfit given key.Schedule value
+  no_more_schedule value there is (owners n) later all is_key is_value lawful says = cc
+  no_more_schedule value there is (deal how) later all is_key is_value lawful says = cc
+  no_more_schedule value there is (cut file) later all is_key is_value lawful says = cc
+  no_more_schedule value there is (mail kind) later all is_key is_value lawful says = cc
+  no_more_schedule value there is (schedule file) later all is_key is_value lawful says =
+      two schedule_in given (schedule file) later there file said.schedule all.schedule refl is s.schedule says.schedule
 
 -- ---- what is pinned
 
@@ -129,6 +154,7 @@ same_option (mail Queue) (mail Queue) a b k v = refl
 same_option (mail Queue) (mail Ring) a b k v = cc
 same_option (mail Ring) (mail Queue) a b k v = cc
 same_option (mail Ring) (mail Ring) a b k v = refl
+same_option (schedule file) (schedule other) a b k v = ap schedule v
 same_option (owners m) (deal how) a b k v = cc
 same_option (owners m) (cut file) a b k v = cc
 same_option (owners m) (mail kind) a b k v = cc
@@ -141,6 +167,14 @@ same_option (cut file) (mail kind) a b k v = cc
 same_option (mail kind) (owners n) a b k v = cc
 same_option (mail kind) (deal how) a b k v = cc
 same_option (mail kind) (cut file) a b k v = cc
+same_option (owners m) (schedule other) a b k v = cc
+same_option (deal how) (schedule other) a b k v = cc
+same_option (cut file) (schedule other) a b k v = cc
+same_option (mail kind) (schedule other) a b k v = cc
+same_option (schedule file) (owners n) a b k v = cc
+same_option (schedule file) (deal how) a b k v = cc
+same_option (schedule file) (cut other) a b k v = cc
+same_option (schedule file) (mail kind) a b k v = cc
 
 one_list : {X : Type 0} (o p : Option X) → option_to_list o ≡ option_to_list p → o ≡ p
 one_list None None e = refl
@@ -148,13 +182,14 @@ one_list None (Some y) e = cc
 one_list (Some x) None e = cc
 one_list (Some x) (Some y) e = cc
 
-abbrev said_with : Option ℕ → Option Deal → Option (List ℕ) → Option MailKind → Said
-said_with o d c m = record { owners = o; deal = d; cut = c; mail = m }
+abbrev said_with : Option ℕ → Option Deal → Option (List ℕ) → Option MailKind → Option (List ℕ) → Said
+said_with o d c m s = record { owners = o; deal = d; cut = c; mail = m; schedule = s }
 
 -- what options give is pinned
 pub same_said : (given : List Given) (a b : Said) → Says given a → Says given b → a ≡ b
 same_said given a b s t =
-    ap (λ o. said_with o a.deal a.cut a.mail) (one_list a.owners b.owners (sym s.owners ∙ t.owners))
-    ∙ (ap (λ d. said_with b.owners d a.cut a.mail) (one_list a.deal b.deal (sym s.deal ∙ t.deal))
-    ∙ (ap (λ c. said_with b.owners b.deal c a.mail) (one_list a.cut b.cut (sym s.cut ∙ t.cut))
-    ∙ ap (λ m. said_with b.owners b.deal b.cut m) (one_list a.mail b.mail (sym s.mail ∙ t.mail))))
+    ap (λ o. said_with o a.deal a.cut a.mail a.schedule) (one_list a.owners b.owners (sym s.owners ∙ t.owners))
+    ∙ (ap (λ d. said_with b.owners d a.cut a.mail a.schedule) (one_list a.deal b.deal (sym s.deal ∙ t.deal))
+    ∙ (ap (λ c. said_with b.owners b.deal c a.mail a.schedule) (one_list a.cut b.cut (sym s.cut ∙ t.cut))
+    ∙ (ap (λ m. said_with b.owners b.deal b.cut m a.schedule) (one_list a.mail b.mail (sym s.mail ∙ t.mail))
+    ∙ ap (λ f. said_with b.owners b.deal b.cut b.mail f) (one_list a.schedule b.schedule (sym s.schedule ∙ t.schedule)))))

@@ -3,7 +3,7 @@ use Rattle.std.proofs.Common.{◌≡◌, ◌≢◌, ◌⊎◌, inl, inr, ⊎_eli
 use Rattle.std.specs.Str.{bytes_eq}
 use Rattle.std.proofs.lemmas.Slice.Eq.{bytes_eq-Decides}
 use Rattle.nll_command_line.specs.declared.task.Task.{Task}
-use Rattle.nll_command_line.specs.declared.task.Task.TheVariants.{Values, Check}
+use Rattle.nll_command_line.specs.declared.task.Task.TheVariants.{Values, Check, Replay}
 use Rattle.nll_command_line.specs.declared.options.Key.{Key}
 use Rattle.nll_command_line.specs.declared.options.Key.TheVariants as key
 use Rattle.nll_command_line.specs.CommandLine.{IsPlainLine, name_of, begins_as_option, AsksPlainlyForHelp, IsHelpWord, MayStandBeforeHelp}
@@ -108,18 +108,21 @@ differ a b e same = true≢false (sym ((bytes_eq-Decides a b).1 same) ∙ e)
 named : (task : Task) → begins_as_option (name_of task) ≡ false
 named Values = refl
 named Check = refl
+named Replay = refl
 
 no_key : (k : Key) → codes "--" ≡ word_of k → ⊥
 no_key key.Owners e = cc
 no_key key.Deal e = cc
 no_key key.Cut e = cc
 no_key key.Mail e = cc
+no_key key.Schedule e = cc
 
 no_joined : (k : Key) (v : Text) → codes "--" ≡ word_of k ++ 61 ∷ v → ⊥
 no_joined key.Owners v e = cc
 no_joined key.Deal v e = cc
 no_joined key.Cut v e = cc
 no_joined key.Mail v e = cc
+no_joined key.Schedule v e = cc
 
 dashes : EndsOptions (codes "--")
 dashes = record { begins = refl; alone = no_key; joined = no_joined }
@@ -134,20 +137,24 @@ help_key w (inl h) key.Owners e = differ (codes "--help") (word_of key.Owners) r
 help_key w (inl h) key.Deal e = differ (codes "--help") (word_of key.Deal) refl (sym h ∙ e)
 help_key w (inl h) key.Cut e = differ (codes "--help") (word_of key.Cut) refl (sym h ∙ e)
 help_key w (inl h) key.Mail e = differ (codes "--help") (word_of key.Mail) refl (sym h ∙ e)
+help_key w (inl h) key.Schedule e = differ (codes "--help") (word_of key.Schedule) refl (sym h ∙ e)
 help_key w (inr h) key.Owners e = differ (codes "-h") (word_of key.Owners) refl (sym h ∙ e)
 help_key w (inr h) key.Deal e = differ (codes "-h") (word_of key.Deal) refl (sym h ∙ e)
 help_key w (inr h) key.Cut e = differ (codes "-h") (word_of key.Cut) refl (sym h ∙ e)
 help_key w (inr h) key.Mail e = differ (codes "-h") (word_of key.Mail) refl (sym h ∙ e)
+help_key w (inr h) key.Schedule e = differ (codes "-h") (word_of key.Schedule) refl (sym h ∙ e)
 
 help_joined : (w : Text) → IsHelpWord w → (k : Key) (v : Text) → w ≡ word_of k ++ 61 ∷ v → ⊥
 help_joined w (inl h) key.Owners v e = differ (codes "--help") (word_of key.Owners ++ 61 ∷ v) refl (sym h ∙ e)
 help_joined w (inl h) key.Deal v e = differ (codes "--help") (word_of key.Deal ++ 61 ∷ v) refl (sym h ∙ e)
 help_joined w (inl h) key.Cut v e = differ (codes "--help") (word_of key.Cut ++ 61 ∷ v) refl (sym h ∙ e)
 help_joined w (inl h) key.Mail v e = differ (codes "--help") (word_of key.Mail ++ 61 ∷ v) refl (sym h ∙ e)
+help_joined w (inl h) key.Schedule v e = differ (codes "--help") (word_of key.Schedule ++ 61 ∷ v) refl (sym h ∙ e)
 help_joined w (inr h) key.Owners v e = differ (codes "-h") (word_of key.Owners ++ 61 ∷ v) refl (sym h ∙ e)
 help_joined w (inr h) key.Deal v e = differ (codes "-h") (word_of key.Deal ++ 61 ∷ v) refl (sym h ∙ e)
 help_joined w (inr h) key.Cut v e = differ (codes "-h") (word_of key.Cut ++ 61 ∷ v) refl (sym h ∙ e)
 help_joined w (inr h) key.Mail v e = differ (codes "-h") (word_of key.Mail ++ 61 ∷ v) refl (sym h ∙ e)
+help_joined w (inr h) key.Schedule v e = differ (codes "-h") (word_of key.Schedule ++ 61 ∷ v) refl (sym h ∙ e)
 
 help_begins : (w : Text) → IsHelpWord w → begins_as_option w ≡ true
 help_begins w (inl h) = rw h refl
@@ -166,7 +173,7 @@ help_placed : (words : List Text) → AsksPlainlyForHelp words → ArePlaced [] 
 help_placed words h = rw h.are (by_front h.front h.word h.rest h.before h.asks)
 
 nothing_said : Says [] no_options
-nothing_said = record { owners = refl; deal = refl; cut = refl; mail = refl }
+nothing_said = record { owners = refl; deal = refl; cut = refl; mail = refl; schedule = refl }
 
 pub plain_read : (task : Task) (file : Text) (words : List Text) → IsPlainLine task file words → AreRead words words no_options
 plain_read task file words h = record { given = []; placed = plain_placed task file words h; says = nothing_said; one_cut = inl refl }

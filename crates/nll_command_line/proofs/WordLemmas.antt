@@ -28,12 +28,14 @@ begins_alone key.Owners = refl
 begins_alone key.Deal = refl
 begins_alone key.Cut = refl
 begins_alone key.Mail = refl
+begins_alone key.Schedule = refl
 
 begins_joined : (k : Key) (value : Text) → begins_as_option (word_of k ++ 61 ∷ value) ≡ true
 begins_joined key.Owners value = refl
 begins_joined key.Deal value = refl
 begins_joined key.Cut value = refl
 begins_joined key.Mail value = refl
+begins_joined key.Schedule value = refl
 
 abbrev third : Text → ℕ
 third [] = 0
@@ -43,19 +45,23 @@ third (a ∷ b ∷ c ∷ rest) = c
 
 -- the option that has this third character
 abbrev key_at : ℕ → Key
-key_at c = if c == 111 then key.Owners else (if c == 100 then key.Deal else (if c == 99 then key.Cut else key.Mail))
+key_at c =
+    if c == 111 then key.Owners else (if c == 100 then key.Deal
+    else (if c == 99 then key.Cut else (if c == 109 then key.Mail else key.Schedule)))
 
 read_alone : (k : Key) → key_at (third (word_of k)) ≡ k
 read_alone key.Owners = refl
 read_alone key.Deal = refl
 read_alone key.Cut = refl
 read_alone key.Mail = refl
+read_alone key.Schedule = refl
 
 read_joined : (k : Key) (value : Text) → key_at (third (word_of k ++ 61 ∷ value)) ≡ k
 read_joined key.Owners value = refl
 read_joined key.Deal value = refl
 read_joined key.Cut value = refl
 read_joined key.Mail value = refl
+read_joined key.Schedule value = refl
 
 key_alone : (w : Text) (k l : Key) → w ≡ word_of k → w ≡ word_of l → k ≡ l
 key_alone w k l a b = sym (read_alone k) ∙ (ap (λ (x : Text). key_at (third x)) (sym a ∙ b) ∙ read_alone l)

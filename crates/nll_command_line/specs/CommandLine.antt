@@ -4,18 +4,20 @@ use Rattle.std.specs.Prelude.{◌≡◌, ◌⊎◌, ◌==◌, ℕ, Bool, false, 
 use Rattle.std.specs.Prelude.{Option, None, Some, if◌then◌else◌}
 use Rattle.std.specs.Str.{bytes_eq}
 use Rattle.nll_command_line.specs.declared.task.Task.{Task}
-use Rattle.nll_command_line.specs.declared.task.Task.TheVariants.{Values, Check}
+use Rattle.nll_command_line.specs.declared.task.Task.TheVariants.{Values, Check, Replay}
 
 -- the word that names a task
 abbrev pub name_of : Task → List ℕ
 name_of Values = codes "values"
 name_of Check = codes "check"
+name_of Replay = codes "replay"
 
 -- the task that a word names
 abbrev pub task_named : List ℕ → Option Task
 task_named word =
     if bytes_eq word (codes "values") then Some Values
-    else (if bytes_eq word (codes "check") then Some Check else None)
+    else (if bytes_eq word (codes "check") then Some Check
+    else (if bytes_eq word (codes "replay") then Some Replay else None))
 
 -- a hyphen (45) and more: an option, or the end of the options
 abbrev pub begins_as_option : List ℕ → Bool

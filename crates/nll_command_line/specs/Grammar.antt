@@ -11,10 +11,10 @@ use Rattle.clap.specs.declared.error.kind.ErrorKind.TheVariants.{DisplayHelp, Ou
 use Rattle.nll_command_line.specs.declared.error.LineError.{LineError}
 use Rattle.nll_command_line.specs.declared.error.LineError.TheVariants.{Help, Usage, Memory}
 use Rattle.nll_command_line.specs.declared.task.Task.{Task}
-use Rattle.nll_command_line.specs.declared.task.Task.TheVariants.{Values, Check}
+use Rattle.nll_command_line.specs.declared.task.Task.TheVariants.{Values, Check, Replay}
 use Rattle.nll_command_line.specs.CommandLine.{IsNoPlainLine, name_of, task_named}
 use Rattle.nll_command_line.specs.Help.{help_for}
-use Rattle.nll_command_line.specs.Options.{AreRead, Said}
+use Rattle.nll_command_line.specs.Options.{AreRead, IsNoSuitedLine, Said}
 
 -- the place of the file among the words of a command
 abbrev pub file_rule : Rule
@@ -34,10 +34,14 @@ bare_program = record (new_app (codes "nllc")) {
   };
 }
 
--- the program with its two commands
-abbrev pub program : App
-program =
+-- the program with two of its commands
+abbrev pub solving_program : App
+solving_program =
     with_subcommand (with_subcommand bare_program (command_of Values).top) (command_of Check).top
+
+-- the program with its three commands
+abbrev pub program : App
+program = with_subcommand solving_program (command_of Replay).top
 
 -- the line of a command and what was found for it
 abbrev pub line_of_found : Text × List Row → Option (Task × Text)
@@ -67,13 +71,14 @@ IsLineError words (Help text) =
 IsLineError words Usage = IsNoPlainLine words × (AsksForHelpAlone words → ⊥)
 IsLineError words Memory = Unit {0}
 
--- the error tells why the words are no line, with the options among them or without; want of memory
--- says nothing of them
+-- The error tells why the words are no line. Help is told of the words without their options. Usage
+-- says that in whatever way the words can be read, the others are no plain line of a task that the
+-- options suit, and the parser has more than help for them. Want of memory says nothing.
 abbrev pub IsWordsError : List Text → LineError → Type 0
 IsWordsError words (Help text) = (others : List Text) × (said : Said) × AreRead words others said
     × IsLineError others (Help text)
 IsWordsError words Usage = (others : List Text) (said : Said) → AreRead words others said
-    → IsLineError others Usage
+    → IsNoSuitedLine others said × (AsksForHelpAlone others → ⊥)
 IsWordsError words Memory = Unit {0}
 
 -- the error is the help for the words, or want of memory

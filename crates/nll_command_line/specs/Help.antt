@@ -1,8 +1,8 @@
--- The text of help. It is the one that the crate `clap` makes of the two commands with their options.
+-- The text of help. It is the one that the crate `clap` makes of the three commands with their options.
 -- Source: project's choice.
 use Rattle.std.specs.Prelude.{ℕ, List, [], ◌∷◌, ◌++◌, Option, None, Some, codes}
 use Rattle.nll_command_line.specs.declared.task.Task.{Task}
-use Rattle.nll_command_line.specs.declared.task.Task.TheVariants.{Values, Check}
+use Rattle.nll_command_line.specs.declared.task.Task.TheVariants.{Values, Check, Replay}
 use Rattle.nll_command_line.specs.CommandLine.{task_named}
 
 -- the help of the program
@@ -15,19 +15,21 @@ program_help =
     ++ codes "Commands:\n"
     ++ codes "  values  Prints the values of the regions of FILE\n"
     ++ codes "  check   Checks the universal regions of FILE\n"
+    ++ codes "  replay  Replays a schedule of messages between owners of the regions of FILE\n"
     ++ codes "\n"
     ++ codes "Options:\n"
     ++ codes "  -h, --help  Print help\n"
     ++ codes "\n"
     ++ codes "Statuses:\n"
-    ++ codes "  0  the values are printed, or check found no fault, or this help\n"
+    ++ codes "  0  the values are printed, or check found no fault, or the schedule is replayed, "
+    ++ codes "or this help\n"
     ++ codes "  1  check found a fault\n"
-    ++ codes "  2  the words, the file or its text are refused, and standard error says why\n"
+    ++ codes "  2  the words, a file or its text are refused, and standard error says why\n"
     ++ codes "  3  memory or a thread was refused, or standard output did not take the whole "
     ++ codes "report\n"
     ++ codes "\n"
-    ++ codes "docs/FORMATS.md says how facts texts and MIR texts are written, and how the "
-    ++ codes "reports are.\n"
+    ++ codes "docs/FORMATS.md says how facts texts, MIR texts and schedules are written, and "
+    ++ codes "how the reports are.\n"
     ++ codes "With /dev/stdin for FILE the text is read from standard input.\n"
 
 -- how the help of a task begins
@@ -36,6 +38,39 @@ help_begin Values = codes "Prints the values of the regions of FILE\n\n"
     ++ codes "Usage: nllc values [OPTIONS] <FILE>\n"
 help_begin Check = codes "Checks the universal regions of FILE\n\n"
     ++ codes "Usage: nllc check [OPTIONS] <FILE>\n"
+help_begin Replay =
+    codes "Replays a schedule of messages between owners of the regions of FILE\n\n"
+    ++ codes "Usage: nllc replay [OPTIONS] --schedule <SCHEDULE> <FILE>\n"
+
+-- the lines of the options that say how the regions are dealt
+abbrev pub deal_help : List ℕ
+deal_help =
+    codes "      --deal <round|blocks>  Deals the regions to the owners in "
+    ++ codes "turns, or in blocks of neighbours\n"
+    ++ codes "      --cut <CUT>            Deals the regions to the owners as the "
+    ++ codes "cut file CUT lists\n"
+
+-- the lines of the options of a task that owners in threads may answer
+abbrev pub thread_help : List ℕ
+thread_help =
+    codes "      --owners <N>           Has 1 to 64 owners of regions find the "
+    ++ codes "answer, each in a thread of its own\n"
+    ++ deal_help
+    ++ codes "      --mail <queue|ring>    Has the owners tell each other through "
+    ++ codes "queues or through rings\n"
+
+-- the lines of the options of a replay
+abbrev pub replay_help : List ℕ
+replay_help =
+    codes "      --schedule <SCHEDULE>  Takes the events from the schedule SCHEDULE\n"
+    ++ codes "      --owners <N>           Has 1 to 64 owners of regions, and not one\n"
+    ++ deal_help
+
+-- the lines of the options of a task
+abbrev pub options_help : Task → List ℕ
+options_help Values = thread_help
+options_help Check = thread_help
+options_help Replay = replay_help
 
 -- the help of a task
 abbrev pub task_help : Task → List ℕ
@@ -45,14 +80,7 @@ task_help task = help_begin task
     ++ codes "  <FILE>  The facts text or MIR text, or /dev/stdin for standard input\n"
     ++ codes "\n"
     ++ codes "Options:\n"
-    ++ codes "      --owners <N>           Has 1 to 64 owners of regions find the "
-    ++ codes "answer, each in a thread of its own\n"
-    ++ codes "      --deal <round|blocks>  Deals the regions to the owners in "
-    ++ codes "turns, or in blocks of neighbours\n"
-    ++ codes "      --cut <CUT>            Deals the regions to the owners as the "
-    ++ codes "cut file CUT lists\n"
-    ++ codes "      --mail <queue|ring>    Has the owners tell each other through "
-    ++ codes "queues or through rings\n"
+    ++ options_help task
     ++ codes "  -h, --help                 Print help\n"
 
 -- the help of a task where there is one, else that of the program

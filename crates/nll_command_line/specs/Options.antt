@@ -6,7 +6,7 @@ use Rattle.std.specs.List.{filter_map}
 use Rattle.std.specs.Option.{option_to_list}
 use Rattle.std.specs.Fmt.{decimal}
 use Rattle.nll_problem.specs.Limits.{most_owners}
-use Rattle.nll_command_line.specs.CommandLine.{begins_as_option}
+use Rattle.nll_command_line.specs.CommandLine.{IsPlainLine, begins_as_option}
 use Rattle.nll_command_line.specs.declared.options.Deal.{Deal}
 use Rattle.nll_command_line.specs.declared.options.Deal.TheVariants.{Round, Blocks}
 use Rattle.nll_command_line.specs.declared.options.MailKind.{MailKind}
@@ -14,13 +14,17 @@ use Rattle.nll_command_line.specs.declared.options.MailKind.TheVariants.{Queue, 
 use Rattle.nll_command_line.specs.declared.options.Key.{Key}
 use Rattle.nll_command_line.specs.declared.options.Key.TheVariants as key
 use Rattle.nll_command_line.specs.declared.task.Line.{Line}
+use Rattle.nll_command_line.specs.declared.task.Task.{Task}
+use Rattle.nll_command_line.specs.declared.task.Task.TheVariants.{Replay}
 
--- An option: a number of owners, how regions are dealt, a cut file, or the kind of mailboxes.
+-- An option: a number of owners, how regions are dealt, a cut file, the kind of mailboxes, or a
+-- schedule.
 pub data Given : Type 0 where
   owners : ℕ → Given
   deal : Deal → Given
   cut : List ℕ → Given
   mail : MailKind → Given
+  schedule : List ℕ → Given
 
 -- which option it is
 abbrev pub key_of : Given → Key
@@ -28,6 +32,7 @@ key_of (owners n) = key.Owners
 key_of (deal how) = key.Deal
 key_of (cut file) = key.Cut
 key_of (mail kind) = key.Mail
+key_of (schedule file) = key.Schedule
 
 -- the word of an option
 abbrev pub word_of : Key → List ℕ
@@ -35,6 +40,7 @@ word_of key.Owners = codes "--owners"
 word_of key.Deal = codes "--deal"
 word_of key.Cut = codes "--cut"
 word_of key.Mail = codes "--mail"
+word_of key.Schedule = codes "--schedule"
 
 -- how what it gives is written
 abbrev pub value_of : Given → List ℕ
@@ -44,6 +50,7 @@ value_of (deal Blocks) = codes "blocks"
 value_of (cut file) = file
 value_of (mail Queue) = codes "queue"
 value_of (mail Ring) = codes "ring"
+value_of (schedule file) = file
 
 -- there are 1 to 64 owners; what other options give is always lawful
 abbrev pub IsLawful : Given → Type 0
@@ -103,16 +110,21 @@ abbrev pub mail_in : Given → Option MailKind
 mail_in (mail kind) = Some kind
 mail_in _ = None
 
+abbrev pub schedule_in : Given → Option (List ℕ)
+schedule_in (schedule file) = Some file
+schedule_in _ = None
+
 -- What options give: of each option its value, where it is given.
 pub record Said : Type 0 where
   pub owners : Option ℕ
   pub deal : Option Deal
   pub cut : Option (List ℕ)
   pub mail : Option MailKind
+  pub schedule : Option (List ℕ)
 
 -- no option is given
 abbrev pub no_options : Said
-no_options = record { owners = None; deal = None; cut = None; mail = None }
+no_options = record { owners = None; deal = None; cut = None; mail = None; schedule = None }
 
 -- No option is given twice, and this is what they give.
 pub record Says (given : List Given) (said : Said) : Type 0 where
@@ -120,6 +132,7 @@ pub record Says (given : List Given) (said : Said) : Type 0 where
   pub deal : filter_map deal_in given ≡ option_to_list said.deal
   pub cut : filter_map cut_in given ≡ option_to_list said.cut
   pub mail : filter_map mail_in given ≡ option_to_list said.mail
+  pub schedule : filter_map schedule_in given ≡ option_to_list said.schedule
 
 -- The words are those others, with options among them that give this. The regions are not both dealt
 -- and cut by a file.
@@ -136,4 +149,17 @@ said_by line = record {
   deal = line.deal;
   cut = option_map string_bytes line.cut;
   mail = line.mail;
+  schedule = option_map string_bytes line.schedule;
 }
+
+-- ---- which options suit a task
+
+-- a schedule is given just for a replay, which has no mailboxes
+abbrev pub Suits : Task → Said → Type 0
+Suits Replay said = (said.schedule ≢ None) × (said.mail ≡ None)
+Suits _ said = said.schedule ≡ None
+
+-- no task that the options suit, and no file, make a plain line of the words
+abbrev pub IsNoSuitedLine : List (List ℕ) → Said → Type 0
+IsNoSuitedLine words said = (task : Task) (file : List ℕ) → IsPlainLine task file words
+    → Suits task said → ⊥

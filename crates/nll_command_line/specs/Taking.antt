@@ -23,6 +23,7 @@ said_of o = record {
   deal = o.deal;
   cut = option_map (λ file. file.now) o.cut;
   mail = o.mail;
+  schedule = option_map (λ file. file.now) o.schedule;
 }
 
 -- what the options that are held give is what those give

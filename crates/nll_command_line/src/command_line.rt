@@ -1,21 +1,23 @@
 //! What the words of the command line ask for.
 ghost use Rattle.std.specs.Prelude.{◌≡◌, ◌≢◌, ◌⊎◌, ℕ, List, None, Some, false, map, string_bytes};
 ghost use Rattle.std.specs.Prelude.{Err, IfErr, IfOk, IsOk, IsOkAnd, MatchResult, OnErr};
-ghost use Rattle.nll_command_line.specs.Options.{AreRead, Said, said_by};
+ghost use Rattle.std.specs.Prelude.{option_map};
+ghost use Rattle.nll_command_line.specs.Options.{AreRead, Said, Suits, said_by};
 ghost use Rattle.nll_command_line.specs.declared.task.Task.{Task};
 ghost use Rattle.nll_command_line.specs.Taking.{said_of};
 ghost use Rattle.nll_command_line.specs.CommandLine.{AsksPlainlyForHelp, IsLine, IsPlainLine};
 ghost use Rattle.clap.specs.Words.{app_of, found_of, rows_of, rule_of};
 ghost use Rattle.clap.specs.Words.{new_app, subcommand_rows_of, with_rule, with_subcommand};
 ghost use Rattle.clap.specs.declared.builder.Command.TheViews.{out-Command};
-ghost use Rattle.nll_command_line.specs.Grammar.{IsHelpFor, IsLineError, IsTold, IsWordsError};
+ghost use Rattle.nll_command_line.specs.Grammar.{AsksForHelpAlone, IsHelpFor, IsLineError};
+ghost use Rattle.nll_command_line.specs.Grammar.{IsTold, IsWordsError};
 ghost use Rattle.nll_command_line.specs.Grammar.{bare_program, file_rule, program};
 ghost use Rattle.nll_command_line.specs.Grammar.{line_of_found, line_of_matches};
 
 use crate::error::LineError;
 use crate::help::help_for;
 use crate::options::{Options, part_words};
-use crate::task::{Asked, CHECK, Line, VALUES, task_of};
+use crate::task::{Asked, CHECK, Line, REPLAY, VALUES, task_of};
 use clap::error::ErrorKind;
 use clap::{Arg, ArgAction, ArgMatches, Command};
 use std::alloc::{AllocError, Global};
@@ -27,15 +29,15 @@ const FILE: &str = "FILE";
 /// # Errors
 /// - `Help`: `-h` or `--help` stands before the first word that is refused. The text is that of the
 ///   command that the first word names, or of the program.
-/// - `Usage`: a word is refused, or one is missing.
+/// - `Usage`: a word is refused, or one is missing, or an option isn't one of the task's.
 /// - `Memory`: an allocation was refused.
 pub fn line(alloc: Global, words: &[String]) -> Result<Line, LineError>
     ensures ok { IfOk result (λ l. (others : List (List ℕ))
         × AreRead (map string_bytes words.now) others (said_by l)
-        × IsLine l.task (string_bytes l.file) others) }
+        × IsLine l.task (string_bytes l.file) others × Suits l.task (said_by l)) }
     ensures plain { (task : Task) (file : List ℕ) (others : List (List ℕ)) (said : Said)
         → AreRead (map string_bytes words.now) others said → IsPlainLine task file others
-        → MatchResult result (λ l. (l.task ≡ task) × (string_bytes l.file ≡ file)
+        → Suits task said → MatchResult result (λ l. (l.task ≡ task) × (string_bytes l.file ≡ file)
         × (said_by l ≡ said)) (λ e. e ≡ LineError.Memory) }
     ensures help { (others : List (List ℕ)) (said : Said)
         → AreRead (map string_bytes words.now) others said → AsksPlainlyForHelp others
@@ -53,21 +55,25 @@ pub fn line(alloc: Global, words: &[String]) -> Result<Line, LineError>
     with_options(alloc, asked, options)
 }
 
-// What is asked, with what the options give.
+// What is asked, with what the options give, where they are those of the task.
 fn with_options(
     alloc: Global,
     asked: Result<Asked, LineError>,
     options: Options<'_>,
 ) -> Result<Line, LineError>
     ensures ok { IfOk result (λ l. IsOkAnd asked (λ a. (l.task ≡ a.task)
-        × (string_bytes l.file ≡ string_bytes a.file) × (said_by l ≡ said_of options.entry))) }
-    ensures err { IfErr result (λ e. (asked ≡ Err e) ⊎ (IsOk asked × (e ≡ LineError.Memory))) }
+        × (string_bytes l.file ≡ string_bytes a.file) × (said_by l ≡ said_of options.entry)
+        × Suits a.task (said_of options.entry))) }
+    ensures err { IfErr result (λ e. (asked ≡ Err e) ⊎ IsOkAnd asked (λ a.
+        (e ≡ LineError.Memory)
+        ⊎ ((e ≡ LineError.Usage) × (Suits a.task (said_of options.entry) → ⊥)))) }
 {
     let asked = asked?;
-    let cut = match options.cut {
-        Some(file) => Some(String::from_str(alloc, file)?),
-        None => None,
-    };
+    if !options.suit(asked.task) {
+        return Err(LineError::Usage);
+    }
+    let cut = copy_of(alloc, options.cut)?;
+    let schedule = copy_of(alloc, options.schedule)?;
     Ok(Line {
         task: asked.task,
         file: asked.file,
@@ -75,7 +81,19 @@ fn with_options(
         deal: options.deal,
         cut,
         mail: options.mail,
+        schedule,
     })
+}
+
+// The path of a file, where one is given.
+fn copy_of(alloc: Global, file: Option<&str>) -> Result<Option<String>, AllocError>
+    ensures { IfOk result (λ copy.
+        option_map string_bytes copy ≡ option_map (λ path. path.now) file.entry) }
+{
+    match file {
+        Some(path) => Ok(Some(String::from_str(alloc, path)?)),
+        None => Ok(None),
+    }
 }
 
 // What words without options ask for.
@@ -88,6 +106,7 @@ fn asked(alloc: Global, words: &[&str]) -> Result<Asked, LineError>
         (λ e. e ≡ LineError.Memory) }
     ensures help { AsksPlainlyForHelp (map (λ word. word.now) words.now)
         → MatchResult result (λ _. ⊥) (IsHelpFor (map (λ word. word.now) words.now)) }
+    ensures taken { IsOk result → AsksForHelpAlone (map (λ word. word.now) words.now) → ⊥ }
     ensures err { IfErr result (IsLineError (map (λ word. word.now) words.now)) }
 {
     match grammar(alloc)?.try_get_matches_from(words) {
@@ -110,7 +129,8 @@ fn grammar<'a>(alloc: Global) -> Result<Command<'a>, AllocError>
 {
     let bare = bare_program(alloc)?;
     let with_values = with_command(alloc, bare, VALUES)?;
-    with_command(alloc, with_values, CHECK)
+    let with_check = with_command(alloc, with_values, CHECK)?;
+    with_command(alloc, with_check, REPLAY)
 }
 
 // The program with one more command.

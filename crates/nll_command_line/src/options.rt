@@ -1,14 +1,15 @@
 //! The options among the words behind a command.
 ghost use Rattle.std.specs.Prelude.{◌≡◌, ◌≢◌, ◌⊎◌, ◌++◌, ◌∷◌, [], ℕ, List, map, string_bytes};
-ghost use Rattle.std.specs.Prelude.{MatchOption, OnOk, IfOk, IfErr, None, false};
+ghost use Rattle.std.specs.Prelude.{MatchOption, OnOk, IfOk, IfErr, None, true, false};
 ghost use Rattle.nll_command_line.specs.CommandLine as lines;
 ghost use Rattle.nll_command_line.specs.CommandLine.{begins_as_option};
 ghost use Rattle.nll_command_line.specs.Options.{AreRead, Given, HasOptions, IsLawful, key_of};
-ghost use Rattle.nll_command_line.specs.Options.{value_of, word_of};
+ghost use Rattle.nll_command_line.specs.Options.{Suits, value_of, word_of};
 ghost use Rattle.nll_command_line.specs.Taking.{AreReadJust, AreUnreadable, HasJust, HasNone};
 ghost use Rattle.nll_command_line.specs.Taking.{IsKind, IsUnfit, IsUnfitBefore, SaysBy, said_of};
 
 use crate::error::LineError;
+use crate::task::Task;
 use nll_text::number_of;
 
 /// How regions are dealt to owners.
@@ -36,6 +37,7 @@ pub(crate) enum Key {
     Deal,
     Cut,
     Mail,
+    Schedule,
 }
 
 /// What the options give.
@@ -45,6 +47,7 @@ pub(crate) struct Options<'a> {
     pub(crate) deal: Option<Deal>,
     pub(crate) cut: Option<&'a str>,
     pub(crate) mail: Option<MailKind>,
+    pub(crate) schedule: Option<&'a str>,
 }
 
 /// What a word is.
@@ -70,6 +73,7 @@ impl<'a> Options<'a> {
             deal: None,
             cut: None,
             mail: None,
+            schedule: None,
         }
     }
 
@@ -86,6 +90,7 @@ impl<'a> Options<'a> {
             Key::Deal => self.give_deal(value),
             Key::Cut => self.give_cut(value),
             Key::Mail => self.give_mail(value),
+            Key::Schedule => self.give_schedule(value),
         }
     }
 
@@ -161,6 +166,32 @@ impl<'a> Options<'a> {
         self.mail = Some(mail);
         Ok(())
     }
+
+    fn give_schedule(&mut self, value: &'a str) -> Result<(), LineError>
+        ensures ok { OnOk result ((given : List Given) → SaysBy given self.old
+            → (g : Given) × (key_of g ≡ Key.Schedule) × (value_of g ≡ value.now) × IsLawful g
+            × SaysBy (given ++ g ∷ []) self.new) }
+        ensures err { IfErr result (λ e. (e ≡ LineError.Usage)
+            × ((given : List Given) → SaysBy given self.old
+            → IsUnfit given Key.Schedule value.now)) }
+    {
+        if self.schedule.is_some() {
+            return Err(LineError::Usage);
+        }
+        self.schedule = Some(value);
+        Ok(())
+    }
+
+    /// Whether the options are those of the task.
+    pub(crate) fn suit(&self, task: Task) -> bool
+        ensures suited { result ≡ true → Suits task (said_of self.now) }
+        ensures unsuited { result ≡ false → Suits task (said_of self.now) → ⊥ }
+    {
+        match task {
+            Task::Values | Task::Check => self.schedule.is_none(),
+            Task::Replay => self.schedule.is_some() && self.mail.is_none(),
+        }
+    }
 }
 
 fn begins_as_option(word: &str) -> bool
@@ -179,6 +210,7 @@ fn key_named(word: &str) -> Option<Key>
         "--deal" => Some(Key::Deal),
         "--cut" => Some(Key::Cut),
         "--mail" => Some(Key::Mail),
+        "--schedule" => Some(Key::Schedule),
         _ => None,
     }
 }

@@ -8,6 +8,8 @@ pub(crate) const VALUES: &str = "values";
 
 pub(crate) const CHECK: &str = "check";
 
+pub(crate) const REPLAY: &str = "replay";
+
 /// What is asked of the file.
 #[derive(Clone, Copy, Debug, PartialEq, Eq)]
 pub enum Task {
@@ -15,6 +17,8 @@ pub enum Task {
     Values,
     /// The faults of the universal regions.
     Check,
+    /// What a schedule of messages between owners comes to.
+    Replay,
 }
 
 /// A command line that is taken.
@@ -30,6 +34,8 @@ pub struct Line {
     pub cut: Option<String>,
     /// What carries what owners tell each other, where that is said.
     pub mail: Option<MailKind>,
+    /// The file of the schedule, of a replay alone.
+    pub schedule: Option<String>,
 }
 
 /// What the words ask for that are no options.
@@ -46,6 +52,7 @@ pub(crate) fn task_of(name: &str) -> Option<Task>
     match name {
         VALUES => Some(Task::Values),
         CHECK => Some(Task::Check),
+        REPLAY => Some(Task::Replay),
         _ => None,
     }
 }

@@ -12,4 +12,5 @@ pub mod WorklistLemmas
 pub mod OrderLemmas
 pub mod ListingLemmas
 pub mod StartLemmas
+pub mod ReturnLemmas
 pub mod FrontierLemmas

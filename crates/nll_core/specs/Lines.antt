@@ -1,7 +1,7 @@
 -- The lines of a graph: the points that follow each other by number, and the steps that leave them.
 -- Source: project's choice. Private contracts alone cite this file.
 use Rattle.std.specs.Prelude.{◌≡◌, ◌≢◌, ◌⊎◌, ◌↔◌, ℕ, ◌+◌, ◌≤◌, ◌<◌, List, length}
-use Rattle.std.specs.Prelude.{slice_index, slice_index_or, Contains}
+use Rattle.std.specs.Prelude.{slice_index, slice_index_or, Contains, Option, Some, None}
 use Rattle.nll_problem.specs.Graph.{Graph, IsNext, IsReturn, IsSound}
 use Rattle.nll_core.specs.declared.landing.Landing.{Landing}
 
@@ -61,6 +61,15 @@ pub record AreLandings (g : Graph) (list : List Landing) (starts : List ℕ) : T
   pub each : (l : Landing) → Contains list l ↔ IsJump g l.from l.to
   pub sized : length starts ≡ g.points + 2
   pub start : (t : ℕ) → t < g.points + 2 → IsLandingStart list t (slice_index starts t)
+
+-- the number is one of the list, where there is a list
+abbrev pub IsListed : Option (List ℕ) → ℕ → Type 0
+IsListed (Some list) x = Contains list x
+IsListed None x = ⊥
+
+-- the list has just the return points of the graph; where there is no list it has none
+abbrev pub AreReturns : Graph → Option (List ℕ) → Type 0
+AreReturns g points = (x : ℕ) → IsListed points x ↔ IsReturn g x
 
 -- These are the points, the ends of lines and the jumps of the graph.
 pub record AreLinesOf (g : Graph) (points universals : ℕ) (ends starts targets : List ℕ)

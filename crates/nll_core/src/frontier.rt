@@ -19,8 +19,9 @@ use std::marker::Model;
 /// set. (It isn't the worklist of a breadth-first search, which has that name too.)
 ///
 /// # Cost
-/// A call looks at the jumps that land in the run, and goes on through what it newly
-/// reaches alone, by stretches of lines (not proved).
+/// A call looks at the jumps that land in the run, and goes on through what it newly reaches alone,
+/// by stretches of lines. Where the run has an end, it looks at the return points or at the reached
+/// runs, whichever are fewer (not proved).
 #[derive(Drop)]
 pub struct Frontier {
     starts: Starts,

@@ -2,12 +2,15 @@
 
 ghost use Rattle.std.specs.Prelude.{◌≡◌, ◌↔◌, ◌≤◌, ◌<◌, ℕ, Contains, AllPairs, length, OnOk, IfOk};
 ghost use Rattle.std.specs.Prelude.{◌⊎◌, ◌+◌, ◌^◌, nat_lt, slice_index, slice_index_or};
-ghost use Rattle.std.specs.Prelude.{slice_range};
+ghost use Rattle.std.specs.Prelude.{slice_range, true};
+ghost use Rattle.nll_problem.specs.Graph.{IsReturn};
+ghost use Rattle.nll_sets.specs.Runs.{IsWithin};
 ghost use Rattle.nll_core.specs.Lines.{IsJump, IsLandingStart};
 ghost use Rattle.nll_core.specs.declared.landing.Landing.{Landing};
 
 use crate::landing::Landing;
 use crate::lines::Lines;
+use crate::returns::Returns;
 use nll_problem::Graph;
 use nll_sets::{Memory, Run};
 use std::alloc::Global;
@@ -17,7 +20,7 @@ use std::snapshot::Snapshot;
 /// The jumps of a graph by where they land, made once and lent. Contracts see it as the graph.
 ///
 /// # Cost
-/// Eight bytes a jump, and eight a point (not proved).
+/// Eight bytes a jump, eight a point, and four a return point (not proved).
 #[derive(Drop)]
 pub struct Landings {
     // For contracts alone.
@@ -25,9 +28,11 @@ pub struct Landings {
     list: Vec<Landing>,
     // Where those that land at each number start, and where all end.
     starts: Vec<usize>,
+    returns: Returns,
 }
 
 impl Model for Landings {
+    ghost use Rattle.std.specs.Prelude.{◌≡◌};
     ghost use Rattle.nll_problem.specs.Graph as spec;
     ghost use Rattle.nll_core.specs.Lines.{AreLandings};
 
@@ -36,7 +41,7 @@ impl Model for Landings {
     ghost view = { λ landings. landings.graph.value };
 
     ghost invariant = { λ landings. AreLandings landings.graph.value
-        landings.list.items landings.starts.items };
+        landings.list.items landings.starts.items × (landings.returns ≡ landings.graph.value) };
 }
 
 impl Landings {
@@ -50,11 +55,20 @@ impl Landings {
     {
         let list = sorted_landings(alloc, lines)?;
         let starts = starts_of(alloc, list.as_slice(), lines.points())?;
+        let returns = Returns::of(alloc, graph)?;
         Ok(Landings {
             graph: Snapshot::of(graph),
             list,
             starts,
+            returns,
         })
+    }
+
+    /// Whether a point of a run is a return point.
+    pub fn has_return_in(&self, run: Run) -> bool
+        ensures { (result ≡ true) ↔ ((x : ℕ) × IsWithin run x × IsReturn self.now x) }
+    {
+        self.returns.has_one_in(run)
     }
 
     /// The jumps that land at a number of a run.

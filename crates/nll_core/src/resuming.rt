@@ -256,8 +256,39 @@ fn is_ended(lines: &Lines, landings: &Landings, run: Run, reached: &RunSet, ende
     has_return(lines, landings, reached)
 }
 
-// Whether a return point is reached.
+// Whether a return point is reached. It looks at the return points or at the reached runs,
+// whichever are fewer.
 fn has_return(lines: &Lines, landings: &Landings, reached: &RunSet) -> bool
+    requires landings { landings.now ≡ lines.now }
+    requires width { lines.now.points ≤ length reached.now }
+    ensures { (result ≡ true) ↔ ((x : ℕ) × IsIn reached.now x × IsReturn lines.now x) }
+{
+    let points = lines.points();
+    let ends = Run {
+        first: points,
+        last: points,
+    };
+    if landings.landing_in(ends).len() > reached.runs() {
+        has_return_within(landings, reached)
+    } else {
+        is_one_reached(lines, landings, reached)
+    }
+}
+
+// The same; it looks at the reached runs.
+fn has_return_within(landings: &Landings, reached: &RunSet) -> bool
+    ensures { (result ≡ true) ↔ ((x : ℕ) × IsIn reached.now x × IsReturn landings.now x) }
+{
+    for run in reached.as_runs() {
+        if landings.has_return_in(*run) {
+            return true;
+        }
+    }
+    false
+}
+
+// The same; it looks at the return points.
+fn is_one_reached(lines: &Lines, landings: &Landings, reached: &RunSet) -> bool
     requires landings { landings.now ≡ lines.now }
     requires width { lines.now.points ≤ length reached.now }
     ensures { (result ≡ true) ↔ ((x : ℕ) × IsIn reached.now x × IsReturn lines.now x) }

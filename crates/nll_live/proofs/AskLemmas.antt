@@ -15,7 +15,7 @@ use Rattle.nll_live.specs.Live.{UsesAt, DropsAt, AsksForUse, AsksForDrop, IsBase
 use Rattle.nll_live.specs.LiveSets.{AreSetsOf}
 use Rattle.nll_live.specs.Stretches.{Covers, Gains}
 use Rattle.nll_live.specs.declared.stretch.Stretch.{Stretch}
-use Rattle.nll_live.proofs.StretchLemmas.{gains_as}
+use Rattle.nll_live.proofs.StretchLemmas.{gains_none, gains_append, gains_as}
 use Rattle.nll_live.proofs.GatheringLemmas.{contains_none}
 
 -- each variable has a type
@@ -35,6 +35,17 @@ asked body x regions runs wants live old new within each in_runs =
     gains_as (λ r p. Contains regions r × IsInRuns runs p) (λ r p. (t : TypeTree) × HasType body x t × live p × wants t r) old new (λ r p. (
       λ h. let t = some_type body x within in (t.0, t.1, (in_runs p).0 h.1, ((each t.0 t.1) r).0 h.0),
       λ h. (((each h.0 h.1) r).1 h.3, (in_runs p).1 h.2),
+    ))
+
+-- a variable asks for its regions at the points of these walks, which are those where it is live
+pub asked_of : (body : BodyText) (x : ℕ) (regions : List ℕ) (wants : TypeTree → ℕ → Type 0) (walks live : ℕ → Type 0) (old new : List Stretch) → x < length body.variables
+    → ((t : TypeTree) → HasType body x t → (r : ℕ) → Contains regions r ↔ wants t r) → ((p : ℕ) → walks p ↔ live p)
+    → Gains (λ r p. Contains regions r × walks p) old new
+    → Gains (λ r p. (t : TypeTree) × HasType body x t × live p × wants t r) old new
+asked_of body x regions wants walks live old new within each same =
+    gains_as (λ r p. Contains regions r × walks p) (λ r p. (t : TypeTree) × HasType body x t × live p × wants t r) old new (λ r p. (
+      λ h. let t = some_type body x within in (t.0, t.1, (same p).0 h.1, ((each t.0 t.1) r).0 h.0),
+      λ h. (((each h.0 h.1) r).1 h.3, (same p).1 h.2),
     ))
 
 -- the runs of a set are of the points that it has
@@ -97,3 +108,54 @@ base_within body sound r p h = by h.0 h.1
       drop_region_within body.structs sound.in_order (length body.names) (omega (arith, sound.some_universal, sound.all_universals)) a.0 (good_type body sound x a.0 a.1) r a.3,
       live_within body (DropsAt body x) x (λ q d. slice_get_within body.points q d.0 d.1) p a.2,
     )
+
+-- ---- a loop over the variables, of one kind
+
+module _ (asks : ℕ → ℕ → ℕ → Type 0) (first : List Stretch) where
+  -- the stretches got those that the first variables ask for
+  abbrev pub AreAskedTo : ℕ → List Stretch → Type 0
+  AreAskedTo n now = Gains (λ r p. (x : ℕ) × (x < n) × asks x r p) first now
+
+  pub asked_to_first : AreAskedTo 0 first
+  asked_to_first = gains_none (λ r p. (x : ℕ) × (x < 0) × asks x r p) first (λ r p h. omega (arith, h.1))
+
+  pub asked_to_step : (n : ℕ) (mid new : List Stretch) → AreAskedTo n mid → Gains (asks n) mid new → AreAskedTo (n + 1) new
+  asked_to_step n mid new before more =
+      gains_as (λ r p. ((x : ℕ) × (x < n) × asks x r p) ⊎ asks n r p) (λ r p. (x : ℕ) × (x < n + 1) × asks x r p) first new (λ r p. (
+        ⊎_elim (λ h. (h.0, omega (arith, h.1), h.2)) (λ h. (n, omega arith, h)),
+        λ h. ⊎_elim
+            (λ low. inl (h.0, low, h.2))
+            (λ high. inr (subst (λ x. asks x r p) (omega (arith, high, h.1)) h.2))
+            (cases_lt h.0 n),
+      ))
+      (gains_append (λ r p. (x : ℕ) × (x < n) × asks x r p) (asks n) first mid new before more)
+
+  pub asked_to_last : (n : ℕ) (now : List Stretch) → ((x r p : ℕ) → asks x r p → x < n) → AreAskedTo n now → Gains (λ r p. (x : ℕ) × asks x r p) first now
+  asked_to_last n now all =
+      gains_as (λ r p. (x : ℕ) × (x < n) × asks x r p) (λ r p. (x : ℕ) × asks x r p) first now (λ r p. (
+        λ h. (h.0, h.2),
+        λ h. (h.0, all h.0 r p h.1, h.1),
+      ))
+
+-- only variables of the body ask
+pub use_declared : (body : BodyText) (x r p : ℕ) → AsksForUse body x r p → x < length body.variables
+use_declared body x r p h = slice_get_within body.variables x h.0 h.1
+
+pub drop_declared : (body : BodyText) (x r p : ℕ) → AsksForDrop body x r p → x < length body.variables
+drop_declared body x r p h = slice_get_within body.variables x h.0 h.1
+
+-- what uses and drops ask for together are the base elements
+pub both_asked : (body : BodyText) (mid new : List Stretch) → Gains (λ r p. (x : ℕ) × AsksForUse body x r p) [] mid → Gains (λ r p. (x : ℕ) × AsksForDrop body x r p) mid new → (r p : ℕ) → Covers new r p ↔ IsBaseOf body r p
+both_asked body mid new uses drops r p = (
+  λ h. ⊎_elim
+      (λ before. ⊎_elim
+      (λ none. absurd (contains_none none.0 none.1))
+      (λ u. (u.0, inl u.1))
+      ((uses r p).0 before))
+      (λ d. (d.0, inr d.1))
+      ((drops r p).0 h),
+  λ h. ⊎_elim
+      (λ u. (drops r p).1 (inl ((uses r p).1 (inr (h.0, u)))))
+      (λ d. (drops r p).1 (inr (h.0, d)))
+      h.1,
+)

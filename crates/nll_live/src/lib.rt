@@ -1,11 +1,12 @@
 //! Liveness: where the value of a variable may still be used or dropped, and the base elements of
 //! regions that come of it. It knows no text.
 //!
-//! Reading order: `live_sets`, `live_points`, `base_elements`; `gathering`, `search`, `stretch`,
-//! `stretches`. The definitions are in specs/.
+//! Reading order: `live_sets`, `live_points`, `base_elements`, `base_search`; `gathering`, `search`,
+//! `stretch`, `stretches`. The definitions are in specs/.
 #![tactic(auto)]
 
 mod base_elements;
+mod base_search;
 mod gathering;
 mod live_points;
 mod live_sets;
@@ -14,5 +15,6 @@ mod stretch;
 mod stretches;
 
 pub use base_elements::bases;
+pub use base_search::live_bases;
 pub use live_points::liveness;
 pub use live_sets::LiveSets;

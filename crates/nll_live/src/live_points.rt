@@ -141,9 +141,9 @@ fn find_sets(
     Ok(())
 }
 
-// The points from which a walk leads to one of the list, for a variable. Marks and points are for
-// its own use; the marks are of earlier variables.
-fn find_set(
+/// The points from which a walk leads to one of the list, for a variable. Marks and points are for
+/// its own use; the marks are of earlier variables.
+pub(crate) fn find_set(
     alloc: Global,
     body: &Body,
     previous: &Predecessors<'_>,

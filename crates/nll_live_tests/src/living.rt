@@ -5,7 +5,7 @@ ghost use Rattle.nll_live.specs.LiveSets.{AreLiveSets};
 
 use crate::live_rounds::{is_flagged, live_by_rounds};
 use nll_body::Body;
-use nll_live::{LiveSets, bases, liveness};
+use nll_live::{LiveSets, bases, live_bases, liveness};
 use nll_mir_text::read_mir;
 use nll_problem::RegionId;
 use nll_reading::{TextError, TextKind};
@@ -74,15 +74,34 @@ fn write_variables(out: &mut String, body: &Body, sets: &LiveSets) -> Result<(),
     Ok(())
 }
 
+// Writes the base elements of a body that are found without sets, where they are others than these.
+fn write_others(
+    alloc: Global,
+    out: &mut String,
+    body: &Body,
+    pairs: &[(RegionId, u32)],
+) -> Result<(), Memory> {
+    let found = live_bases(alloc, body)?;
+    let written = if found.as_slice() == pairs {
+        Ok(())
+    } else {
+        write_pairs(out, found.as_slice())
+    };
+    drop(found);
+    written?;
+    Ok(())
+}
+
 // Writes the base elements of a body.
 fn write_bases(alloc: Global, out: &mut String, body: &Body, sets: &LiveSets) -> Result<(), Memory>
     requires { AreLiveSets body.now sets.now }
 {
     let pairs = bases(alloc, body, sets)?;
     let written = write_pairs(out, pairs.as_slice());
+    let others = write_others(alloc, out, body, pairs.as_slice());
     drop(pairs);
     written?;
-    Ok(())
+    others
 }
 
 // Where the variables of a body are live, and its base elements.

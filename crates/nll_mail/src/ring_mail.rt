@@ -4,12 +4,16 @@
 //! for memory once the ring is made. The rule of the ring tells the receiver of each growth that
 //! fewer were sent before it than a mailbox may carry.
 //!
+//! The receiver takes growths out of the ring by batches, since each step that the other end sees
+//! costs far more than a step of its own. The sender tells of each growth at once.
+//!
 //! Source: the ring of one producer and one consumer of the Rust crate `rtrb`, as the kit has it.
 
-ghost use Rattle.std.specs.Prelude.{◌≡◌, length};
+ghost use Rattle.std.specs.Prelude.{◌≡◌, ◌+◌, ◌≤◌, length, drop};
 ghost use Rattle.rtrb.specs.Ring.{producer_capacity, received as popped};
-ghost use Rattle.nll_problem.specs.Limits.{most_places};
+ghost use Rattle.nll_problem.specs.Limits.{most_places, most_posts};
 
+use crate::batch::Batch;
 use crate::growth::Growth;
 use crate::mail::{Mail, PostError};
 use nll_sets::Memory;
@@ -34,16 +38,18 @@ type Pushing = Producer<Growth, Global, Few>;
 
 type Popping = Consumer<Growth, Global, Few>;
 
-/// Mailboxes on rings of 256 places. Each of them is full where as many growths are in it.
+/// Mailboxes on rings of 256 places. Each of them is full where as many growths are in the ring.
+/// The receiver holds up to 128 more, which it has taken out of the ring at once and not yet given.
 ///
 /// # Threads
 /// No call holds a runtime, and none waits: an end never stands still for the other one.
 ///
 /// # Cost
-/// `pair` makes two allocations, the places and the words by which the ends meet. No other call
-/// asks for memory: `post` and `take` are a few steps each, and look at the other end's word only
-/// where the places or growths that they know are used up. The places are freed where both ends
-/// are gone, and with them the growths that were left.
+/// `pair` makes three allocations: the places, the words by which the ends meet, and the batch of
+/// the receiver. No other call asks for memory. `post` and `take` are a few steps each. A `post`
+/// looks at the other end's word only where no place is known to be free; a `take` looks at it, and
+/// tells of the places that it frees, once a batch. The places are freed where both ends are gone,
+/// and with them the growths that were left.
 #[derive(Clone, Copy)]
 pub struct RingMail;
 
@@ -60,7 +66,10 @@ pub struct RingReceiver {
     to: u16,
     count: u64,
     consumer: Popping,
-    ghost counted: { count ≡ length (popped consumer) },
+    batch: Batch,
+    ghost held: { drop count (popped consumer) ≡ batch },
+    ghost counted: { count + length batch ≡ length (popped consumer) },
+    ghost few: { length (popped consumer) ≤ most_posts },
 }
 
 /// A sender that posts no more.
@@ -77,11 +86,32 @@ pub struct RingPost {
     count: u64,
     producer: Pushing,
     consumer: Popping,
-    ghost counted: { count ≡ length (popped consumer) },
+    ghost counted: { count ≤ length (popped consumer) },
 }
 
+impl RingReceiver {
+    ghost use Rattle.std.specs.Prelude.{◌≡◌, []};
+    ghost use mathlib.Core.List.{IsPrefix};
+    ghost use Rattle.rtrb.specs.Ring.{SameConsumer};
+    ghost use Rattle.nll_mail.specs.Rings.{received_by, ends_of, seen_by};
+
+    // Takes a batch out of the ring, where nothing is left of the last one.
+    fn refill(&mut self)
+        ensures ring { SameConsumer self.old.consumer self.new.consumer }
+        ensures received { received_by self.new ≡ received_by self.old }
+        ensures ends { ends_of self.new ≡ ends_of self.old }
+        ensures seen { IsPrefix (seen_by self.old) (seen_by self.new) }
+        ensures none { self.new.batch ≡ [] → seen_by self.new ≡ [] }
+    {
+        if self.batch.is_empty() {
+            self.batch.fill(&mut self.consumer);
+        }
+    }
+}
+
+#[tactic(auto, using(crate::proofs::BatchLemmas::split_at_count))]
 impl Mail for RingMail {
-    ghost use Rattle.std.specs.Prelude.{◌≡◌, ◌+◌, ◌<◌, ◌++◌, [], ◌∷◌, true, length};
+    ghost use Rattle.std.specs.Prelude.{◌≡◌, ◌+◌, ◌<◌, ◌++◌, [], ◌∷◌, true, length, take, drop};
     ghost use Rattle.std.specs.Prelude.{IsOk, IfOk, OnOk, IfErr, IsSome, IfSome, IfNone};
     ghost use mathlib.Core.List.{IsPrefix};
     ghost use Rattle.rtrb.specs.Ring.{sent as pushed, received as popped, known_items};
@@ -119,9 +149,10 @@ impl Mail for RingMail {
 
     ghost post_sent = { λ post. pushed post.producer };
 
-    ghost post_received = { λ post. popped post.consumer };
+    ghost post_received = { λ post. take post.count (popped post.consumer) };
 
-    ghost post_rest = { λ post. known_items post.consumer };
+    ghost post_rest = { λ post.
+        drop post.count (popped post.consumer) ++ known_items post.consumer };
 
     /// The two ends of a new ring. All its places are free, and the sender knows it.
     ///
@@ -134,6 +165,7 @@ impl Mail for RingMail {
         ensures received { IfOk result (λ both. received_by both.1 ≡ []) }
         ensures room { IfOk result (λ both. room_of both.0 ≡ most_places) }
     {
+        let batch = Batch::new(alloc)?;
         let (producer, consumer) = RingBuffer::with_protocol::<Global, Few>(alloc, PLACES)?;
         let sender = RingSender { producer };
         let receiver = RingReceiver {
@@ -141,6 +173,7 @@ impl Mail for RingMail {
             to,
             count: 0,
             consumer,
+            batch,
         };
         Ok((sender, receiver))
     }
@@ -170,8 +203,8 @@ impl Mail for RingMail {
         Ok(())
     }
 
-    /// Takes the growth at the front of the ring: the first of those that were seen there, where
-    /// any were. It looks only where none is left of those, and gives none where it then sees none.
+    /// Takes the growth at the front of the mailbox: the first of those that were seen, where any
+    /// were. It looks only where none is left of its batch, and gives none where it then sees none.
     fn take(receiver: &mut RingReceiver) -> Option<Growth>
         ensures some { IfSome result
             (λ growth. received_by receiver.new ≡ received_by receiver.old ++ growth ∷ []) }
@@ -187,13 +220,10 @@ impl Mail for RingMail {
             (λ growth. IsPrefix (seen_by receiver.old) (growth ∷ seen_by receiver.new)) }
         ensures empty { IfNone result (seen_by receiver.new ≡ []) }
     {
-        match receiver.consumer.pop() {
-            Ok(growth) => {
-                receiver.count += 1;
-                Some(growth)
-            }
-            Err(_) => None,
-        }
+        receiver.refill();
+        let growth = receiver.batch.next()?;
+        receiver.count += 1;
+        Some(growth)
     }
 
     fn close(sender: RingSender) -> RingClosed {
@@ -208,6 +238,7 @@ impl Mail for RingMail {
             to,
             count,
             mut consumer,
+            batch: _,
         } = receiver;
         consumer.slots_beside(&mut producer);
         RingPost {
@@ -235,8 +266,8 @@ impl RingMail {
         RingMail
     }
 
-    /// How many posts are sure to succeed: the sender looks, and knows of so many free places, which
-    /// no one else fills. The receiver may free more at any time.
+    /// How many posts are sure to succeed: the sender looks, and knows of so many free places,
+    /// which no one else fills. The receiver may free more at any time.
     pub fn room(sender: &mut RingSender) -> u64
         ensures exact { result ≡ room_of sender.new }
         ensures least { room_of sender.old ≤ room_of sender.new }

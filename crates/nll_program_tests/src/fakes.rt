@@ -54,11 +54,26 @@ constraint 'a 'b 0
 end
 ";
 
+// Two regions that ask each other. Dealt in turns among two owners, '1 is the second one's.
+const CIRCLE: &[u8] = b"nll-facts 1
+points 2
+region '1
+region '2
+next 0 1
+return 1
+base '1 0
+base '2 1
+constraint '2 '1 0
+constraint '1 '2 0
+end
+";
+
 // The texts by their paths.
 const TEXTS: &[(&str, &[u8])] = &[
     ("chain", CHAIN),
     ("fault", FAULT),
     ("healed", HEALED),
+    ("circle", CIRCLE),
     ("empty", b""),
     ("utf", b"nll-facts 1\npoints 1\n# \xc3\n\xa9\nend\n"),
     ("syntax", b"nll-facts 1\n\npoints one\n"),
@@ -86,6 +101,14 @@ const TEXTS: &[(&str, &[u8])] = &[
     ("none", b"nll-cut 1\n"),
     ("faulty", b"nll-cut 1\n0\none\n"),
     ("wide", b"nll-cut 1\n65536\n"),
+    // Schedules.
+    ("still", b"nll-schedule 1\n"),
+    ("first", b"nll-schedule 1\n# the first owner\nload 0"),
+    ("second", b"nll-schedule 1\n\nload 0\nload 1\n"),
+    ("other", b"nll-schedule 2\nload 0\n"),
+    ("vague", b"nll-schedule 1\nload 0\nload\n"),
+    ("signed", b"nll-schedule 1\nload -1\nload 2\n"),
+    ("latin", b"nll-schedule 1\n# \xe9\nload 0\n"),
 ];
 
 /// The texts of the table above; the text `large` wants memory.
@@ -110,6 +133,26 @@ impl Texts for Shelf {
         } else {
             Unread::Cannot
         })
+    }
+}
+
+/// The texts of the shelf, and one more at the path `sheet`.
+#[derive(Drop)]
+pub struct Desk<'a> {
+    pub shelf: Shelf,
+    pub text: &'a [u8],
+}
+
+impl Texts for Desk<'_> {
+    ghost holds = { λ _. holds_anything };
+
+    ghost lacks = { λ _. lacks_anything };
+
+    fn get(&self, path: &str) -> Result<Vec<u8>, Unread> {
+        if path == "sheet" {
+            return self.text.to_vec(self.shelf.alloc).or(Err(Unread::Memory));
+        }
+        self.shelf.get(path)
     }
 }
 

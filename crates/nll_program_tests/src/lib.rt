@@ -43,6 +43,8 @@ mod reading;
 #[cfg(test)]
 mod refusals;
 #[cfg(test)]
+mod replays;
+#[cfg(test)]
 mod rows;
 #[cfg(test)]
 mod saying;

@@ -104,7 +104,7 @@ fn compare_line<R: Abort + AllocGlobal>(rt: &R, refusal: &Refusal, want: &[u8]) 
     compare(rt, "a refusal", out, want);
 }
 
-// Refusals of cuts and of runs.
+// Refusals of cuts, of schedules and of runs.
 #[test]
 fn prints_refusals_of_owners(rt: HostRuntime) {
     let refusal = Refusal::CutText(65_538, TextKind::Syntax);
@@ -114,6 +114,9 @@ fn prints_refusals_of_owners(rt: HostRuntime) {
     compare_line(&rt, &Refusal::CutLength, want);
     let want = b"2, nllc: cut: no such owner at 0, nllc: cut: no such owner at 0\ntrue";
     compare_line(&rt, &Refusal::NoSuchOwner(0), want);
+    let refusal = Refusal::ScheduleText(65_538, TextKind::Range);
+    let want = b"2, nllc: schedule line 65538: range, nllc: schedule line 65538: range\ntrue";
+    compare_line(&rt, &refusal, want);
     compare_refusal(&rt, AnswerError::Run(RunError::Thread), b"3, nllc: thread");
     compare_refusal(&rt, AnswerError::Run(RunError::Memory), b"3, nllc: memory");
 }

@@ -1,6 +1,6 @@
 //! The program over texts and writers of the tests.
 use super::comparing::compare;
-use super::fakes::{Fault, Faulty, Shelf, words_of};
+use super::fakes::{Desk, Fault, Faulty, Shelf, words_of};
 use super::known::{Sheet, on_pages};
 use super::page::Page;
 use super::rows::{ALONE, Asked, compare_row, compare_rows, compare_same};
@@ -45,11 +45,32 @@ pub fn run<R: Abort + AllocGlobal + Threads + Wait + Sync>(
     of_out: FaultAt,
     of_err: FaultAt,
 ) -> String {
-    let words = words_of(rt, rt.alloc(), words);
     let shelf = Shelf { alloc: rt.alloc() };
+    run_over(rt, words, &shelf, of_out, of_err)
+}
+
+/// What the program does with words over the texts of the shelf and one at the path `sheet`.
+pub fn run_at_desk<R: Abort + AllocGlobal + Threads + Wait + Sync>(
+    rt: &R,
+    words: &str,
+    text: &[u8],
+) -> String {
+    let shelf = Shelf { alloc: rt.alloc() };
+    run_over(rt, words, &Desk { shelf, text }, NEVER, NEVER)
+}
+
+// What the program does with words over texts, where its streams have these faults.
+fn run_over<R: Abort + AllocGlobal + Threads + Wait + Sync, T: Texts>(
+    rt: &R,
+    words: &str,
+    texts: &T,
+    of_out: FaultAt,
+    of_err: FaultAt,
+) -> String {
+    let words = words_of(rt, rt.alloc(), words);
     let mut out = Faulty::new(rt.alloc(), of_out);
     let mut err = Faulty::new(rt.alloc(), of_err);
-    let status = drive(rt, words.as_slice(), &shelf, &mut out, &mut err);
+    let status = drive(rt, words.as_slice(), texts, &mut out, &mut err);
     streams_told(
         rt.alloc(),
         status,
@@ -118,7 +139,7 @@ check|end ~ 2>>nllc: line 4: end|
 const NO_LINES: &str = "
  ~ usage
 values
-replay|chain|--schedule|s
+replay|chain
 values|a|b
 ";
 
@@ -136,6 +157,7 @@ const HELP_END: &str = "With /dev/stdin for FILE the text is read from standard 
 const COMMAND_HELPED: &str = "
 values|--help
 check|-h
+replay|--help
 ";
 
 const COMMAND_HELP_END: &str = "-h, --help                 Print help\n>";

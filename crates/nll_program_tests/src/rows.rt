@@ -2,7 +2,7 @@
 //! empty row, or one that begins with `//`, says nothing.
 use super::answers::{answer_handed, answer_to};
 use super::comparing::compare;
-use super::program::{FaultAt, help_told, run, run_on};
+use super::program::{FaultAt, help_told, run, run_at_desk, run_on};
 use super::reading::said;
 use super::words::line_told;
 use nll_report::Command;
@@ -21,6 +21,9 @@ pub enum Asked {
     Handed(Command),
     /// What the program does with these words over the text.
     Run(&'static str),
+    /// What the program does with these words over the texts of the shelf and the text, which is at
+    /// the path `sheet`.
+    Desk(&'static str),
     /// Which line the words are. They stand between bars.
     Line,
     /// What the program does with the words, over the texts of the shelf, where standard output and
@@ -80,6 +83,7 @@ pub fn told<R: Abort + AllocGlobal + Threads + Wait + Sync>(
         Asked::Answer(command) => answer_to(rt.alloc(), command, text),
         Asked::Handed(command) => answer_handed(rt, rt.alloc(), command, text),
         Asked::Run(words) => run_on(rt, words, text),
+        Asked::Desk(words) => run_at_desk(rt, words, text),
         Asked::Line => line_told(rt, rt.alloc(), words),
         Asked::Program(of_out, of_err) => run(rt, words, of_out, of_err),
         Asked::Help(end) => help_told(rt, words, end),

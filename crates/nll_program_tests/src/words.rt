@@ -32,6 +32,10 @@ fn write_line(out: &mut String, line: &Line) {
         say(out, ", ");
         show(out, mail);
     }
+    if let Some(schedule) = &line.schedule {
+        say(out, ", schedule ");
+        say(out, schedule.as_str());
+    }
 }
 
 /// The task and the file that words between bars ask for, the help, or why they are refused.
@@ -84,6 +88,11 @@ values|--owners|2|--|--owners ~ Values --owners, 2 owners
 values|--cut|values|values ~ Values values, cut values
 values|a|--mail=queue|--deal|blocks|--owners=7 ~ Values a, 7 owners, Blocks, Queue
 check|a|--owners|2|--mail=ring ~ Check a, 2 owners, Ring
+replay|a|--schedule|s ~ Replay a, schedule s
+replay|--schedule=s|a|--owners|3 ~ Replay a, 3 owners, schedule s
+replay|--schedule|replay|replay|-- ~ Replay replay, schedule replay
+replay|a|--deal|blocks|--schedule=-s ~ Replay a, Blocks, schedule -s
+replay|a|--cut|c|--schedule= ~ Replay a, cut c, schedule\x20
 ";
 
 // Whatever is not of that form, options that there are not, and help behind a word that is refused.
@@ -101,8 +110,22 @@ help|values
 val|a
 Values|a
 values |a
+replay
 replay|a
-replay|a|--schedule|s
+replay|a|--owners|2
+replay|a|--schedule
+replay|a|--schedule|-s
+replay|--schedule|a
+replay|a|--schedule|s|--schedule|s
+replay|a|--schedule|s|--mail|queue
+replay|a|--mail=ring|--schedule|s
+replay|a|--schedule|s|--deal|round|--cut|c
+replay|a|--|--schedule|s
+replay|a|b|--schedule|s
+replay|a|--schedule|s|--owners|0
+values|a|--schedule|s
+check|a|--schedule|s
+check|--schedule=s|a|--owners|2
 a
 |a
 -
@@ -141,7 +164,8 @@ values|a|-owners|2
 values|--owners|--help
 values|a|--|--owners|2
 --owners=2|values|a
-values|a|--schedule|s
+--schedule=s|replay|a
+values|a|--schedul|s
 values|-a
 values|-1
 values|---
@@ -149,7 +173,6 @@ values|a|--hel
 values|a|--help=1
 values|a|--x
 values|a|b|--help
-replay|--help
 ";
 
 const HELP: &str = "Solves the region constraints of location-aware non-lexical lifetimes
@@ -159,17 +182,18 @@ Usage: nllc <COMMAND>
 Commands:
   values  Prints the values of the regions of FILE
   check   Checks the universal regions of FILE
+  replay  Replays a schedule of messages between owners of the regions of FILE
 
 Options:
   -h, --help  Print help
 
 Statuses:
-  0  the values are printed, or check found no fault, or this help
+  0  the values are printed, or check found no fault, or the schedule is replayed, or this help
   1  check found a fault
-  2  the words, the file or its text are refused, and standard error says why
+  2  the words, a file or its text are refused, and standard error says why
   3  memory or a thread was refused, or standard output did not take the whole report
 
-docs/FORMATS.md says how facts texts and MIR texts are written, and how the reports are.
+docs/FORMATS.md says how facts texts, MIR texts and schedules are written, and how the reports are.
 With /dev/stdin for FILE the text is read from standard input.
 ";
 
@@ -203,6 +227,21 @@ Options:
   -h, --help                 Print help
 ";
 
+const REPLAY_HELP: &str = "Replays a schedule of messages between owners of the regions of FILE
+
+Usage: nllc replay [OPTIONS] --schedule <SCHEDULE> <FILE>
+
+Arguments:
+  <FILE>  The facts text or MIR text, or /dev/stdin for standard input
+
+Options:
+      --schedule <SCHEDULE>  Takes the events from the schedule SCHEDULE
+      --owners <N>           Has 1 to 64 owners of regions, and not one
+      --deal <round!blocks>  Deals the regions to the owners in turns, or in blocks of neighbours
+      --cut <CUT>            Deals the regions to the owners as the cut file CUT lists
+  -h, --help                 Print help
+";
+
 // Words that ask for help of the program, or of a command where they stand behind it.
 const ASK_HELP: &str = "
 --help
@@ -224,6 +263,13 @@ const ASK_CHECK_HELP: &str = "
 check|-h
 ";
 
+const ASK_REPLAY_HELP: &str = "
+replay|--help
+replay|a|-h
+replay|--schedule|s|--help
+replay|a|--help|--mail|queue
+";
+
 // Ends the test unless that is told of each of the words.
 fn compare_words<R: Abort + AllocGlobal + Threads + Wait + Sync>(rt: &R, same: &str, rows: &str) {
     compare_same(rt, Asked::Line, ALONE, same, rows);
@@ -239,18 +285,19 @@ fn reads_words(rt: HostRuntime) {
     compare_words(&rt, HELP, ASK_HELP);
     compare_words(&rt, VALUES_HELP, ASK_VALUES_HELP);
     compare_words(&rt, CHECK_HELP, ASK_CHECK_HELP);
+    compare_words(&rt, REPLAY_HELP, ASK_REPLAY_HELP);
 }
 
 const ABOUT: &str = "Solves the region constraints of location-aware non-lexical lifetimes";
 
 const STATUSES: &str = "\
 Statuses:
-  0  the values are printed, or check found no fault, or this help
+  0  the values are printed, or check found no fault, or the schedule is replayed, or this help
   1  check found a fault
-  2  the words, the file or its text are refused, and standard error says why
+  2  the words, a file or its text are refused, and standard error says why
   3  memory or a thread was refused, or standard output did not take the whole report
 
-docs/FORMATS.md says how facts texts and MIR texts are written, and how the reports are.
+docs/FORMATS.md says how facts texts, MIR texts and schedules are written, and how the reports are.
 With /dev/stdin for FILE the text is read from standard input.";
 
 // An option with its value, for `clap`.
@@ -271,26 +318,51 @@ const CUT_ABOUT: &str = "Deals the regions to the owners as the cut file CUT lis
 
 const MAIL_ABOUT: &str = "Has the owners tell each other through queues or through rings";
 
+const SCHEDULE_ABOUT: &str = "Takes the events from the schedule SCHEDULE";
+
+const REPLAY_OWNERS_ABOUT: &str = "Has 1 to 64 owners of regions, and not one";
+
+// A command with the options that say how the regions are dealt, for `clap`.
+fn with_deal<'a>(rt: &impl Abort, alloc: Global, command: Command<'a>) -> Command<'a> {
+    let deal = option(alloc, "deal", "round|blocks", DEAL_ABOUT);
+    let cut = option(alloc, "cut", "CUT", CUT_ABOUT);
+    let command = command.arg(deal).expect(rt, "memory");
+    command.arg(cut).expect(rt, "memory")
+}
+
 // A command with its options, for `clap`.
 fn with_options<'a>(rt: &impl Abort, alloc: Global, command: Command<'a>) -> Command<'a> {
     let owners = option(alloc, "owners", "N", OWNERS_ABOUT);
-    let deal = option(alloc, "deal", "round|blocks", DEAL_ABOUT);
-    let cut = option(alloc, "cut", "CUT", CUT_ABOUT);
     let mail = option(alloc, "mail", "queue|ring", MAIL_ABOUT);
     let command = command.arg(owners).expect(rt, "memory");
-    let command = command.arg(deal).expect(rt, "memory");
-    let command = command.arg(cut).expect(rt, "memory");
+    let command = with_deal(rt, alloc, command);
     command.arg(mail).expect(rt, "memory")
 }
 
-// A command with its file and its options, for `clap`.
+// A command with its file, for `clap`.
 fn command<'a>(rt: &impl Abort, alloc: Global, name: &'a str, about: &'a str) -> Command<'a> {
     let file = Arg::new(alloc, "FILE")
         .help("The facts text or MIR text, or /dev/stdin for standard input")
         .action(ArgAction::Set)
         .required(true);
     let command = Command::new(alloc, name).about(about);
-    with_options(rt, alloc, command.arg(file).expect(rt, "memory"))
+    command.arg(file).expect(rt, "memory")
+}
+
+const VALUES_ABOUT: &str = "Prints the values of the regions of FILE";
+
+const CHECK_ABOUT: &str = "Checks the universal regions of FILE";
+
+const REPLAY_ABOUT: &str = "Replays a schedule of messages between owners of the regions of FILE";
+
+// The command that replays a schedule, for `clap`.
+fn replay<'a>(rt: &impl Abort, alloc: Global) -> Command<'a> {
+    let schedule = option(alloc, "schedule", "SCHEDULE", SCHEDULE_ABOUT).required(true);
+    let owners = option(alloc, "owners", "N", REPLAY_OWNERS_ABOUT);
+    let command = command(rt, alloc, "replay", REPLAY_ABOUT);
+    let command = command.arg(schedule).expect(rt, "memory");
+    let command = command.arg(owners).expect(rt, "memory");
+    with_deal(rt, alloc, command)
 }
 
 // The program without its commands, for `clap`.
@@ -306,16 +378,15 @@ fn bare_program<'a>(rt: &impl Abort, alloc: Global) -> Command<'a> {
 
 // The program with its commands, for `clap`.
 fn program<'a>(rt: &impl Abort, alloc: Global) -> Command<'a> {
-    let values = command(
-        rt,
-        alloc,
-        "values",
-        "Prints the values of the regions of FILE",
-    );
-    let check = command(rt, alloc, "check", "Checks the universal regions of FILE");
-    let with_values = bare_program(rt, alloc).subcommand(values);
-    let with_both = with_values.expect(rt, "memory").subcommand(check);
-    with_both.expect(rt, "memory")
+    let values = command(rt, alloc, "values", VALUES_ABOUT);
+    let values = with_options(rt, alloc, values);
+    let check = command(rt, alloc, "check", CHECK_ABOUT);
+    let check = with_options(rt, alloc, check);
+    let replay = replay(rt, alloc);
+    let program = bare_program(rt, alloc).subcommand(values);
+    let program = program.expect(rt, "memory").subcommand(check);
+    let program = program.expect(rt, "memory").subcommand(replay);
+    program.expect(rt, "memory")
 }
 
 // The text that `clap` answers words with where it has no matches.
@@ -338,4 +409,5 @@ fn help_is_that_of_clap(rt: HostRuntime) {
     compare_with_clap(&rt, "--help", &["--help"]);
     compare_with_clap(&rt, "values|-h", &["values", "-h"]);
     compare_with_clap(&rt, "check|a|--help", &["check", "a", "--help"]);
+    compare_with_clap(&rt, "replay|-h", &["replay", "-h"]);
 }

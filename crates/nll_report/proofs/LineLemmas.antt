@@ -5,7 +5,7 @@ use Rattle.std.specs.Option.{option_to_list}
 use Rattle.nll_problem.specs.Limits.{most_owners}
 use Rattle.nll_command_line.specs.CommandLine.{AsksPlainlyForHelp, IsLine}
 use Rattle.nll_command_line.specs.Grammar.{IsHelpFor, IsWordsError}
-use Rattle.nll_command_line.specs.Options.{Given, owners, deal, cut, mail, HasOptions, none, ends, other as plain_word, option, ArePlaced, no_words, unread, behind, AreRead, Said, owners_in}
+use Rattle.nll_command_line.specs.Options.{Given, owners, deal, cut, mail, schedule, HasOptions, none, ends, other as plain_word, option, ArePlaced, no_words, unread, behind, AreRead, Said, Suits, owners_in}
 use Rattle.nll_command_line.specs.declared.error.LineError.{LineError}
 use Rattle.nll_command_line.specs.declared.error.LineError.TheVariants as line
 use Rattle.nll_command_line.specs.declared.task.Task.{Task}
@@ -30,6 +30,7 @@ lawful_in _ _ _ (option (owners m) given front others words written lawful h) n 
 lawful_in _ _ _ (option (deal how) given front others words written lawful h) n ns e = lawful_in given others words h n ns e
 lawful_in _ _ _ (option (cut file) given front others words written lawful h) n ns e = lawful_in given others words h n ns e
 lawful_in _ _ _ (option (mail kind) given front others words written lawful h) n ns e = lawful_in given others words h n ns e
+lawful_in _ _ _ (option (schedule file) given front others words written lawful h) n ns e = lawful_in given others words h n ns e
 
 lawful_placed : (given : List Given) (others words : Words) → ArePlaced given others words → (n : ℕ) (ns : List ℕ) → filter_map owners_in given ≡ n ∷ ns → IsLawfulCount n
 lawful_placed _ _ _ no_words n ns e = cc
@@ -66,6 +67,6 @@ words_told holds lacks words line.Memory refusal h help is = subst (IsRefused ho
 
 -- ---- words that are a line
 
-pub asked_line : (words : Words) (task : Task) (file : List ℕ) (said : Said) → ((others : Words) × AreRead words others said × IsLine task file others)
+pub asked_line : (words : Words) (task : Task) (file : List ℕ) (said : Said) → ((others : Words) × AreRead words others said × IsLine task file others × Suits task said)
     → ((others : Words) (s : Said) → AreRead words others s → AsksPlainlyForHelp others → ⊥) → IsAsked words task file said
-asked_line words task file said ok other = record { others = ok.0; read = ok.1; line = ok.2; other = other ok.0 said ok.1 }
+asked_line words task file said ok other = record { others = ok.0; read = ok.1; line = ok.2; suits = ok.3; other = other ok.0 said ok.1 }

@@ -7,7 +7,7 @@ use Rattle.std.proofs.lemmas.Option.{none-some}
 use Rattle.nll_problem.specs.Limits.{most_owners}
 use Rattle.nll_problem.specs.Problem.{Problem}
 use Rattle.nll_reading.specs.Labels.{Labels}
-use Rattle.nll_reading.specs.Text.{IsFault, IsRefusal}
+use Rattle.nll_reading.specs.Text.{Format, IsFault, IsRefusal}
 use Rattle.nll_reading.specs.declared.error.TextError.{TextError}
 use Rattle.nll_reading.specs.declared.error.TextKind.{TextKind}
 use Rattle.nll_reading.specs.declared.error.TextKind.TheVariants as kind
@@ -23,13 +23,12 @@ use Rattle.nll_answer.specs.declared.error.AnswerError.{AnswerError}
 use Rattle.nll_answer.specs.declared.error.AnswerError.TheVariants as answer
 use Rattle.nll_command_line.specs.Options.{Said}
 use Rattle.nll_command_line.specs.declared.options.Deal.{Deal}
-use Rattle.nll_command_line.specs.declared.task.Task.{Task}
-use Rattle.nll_report.specs.Owners.{AsksForOwners, IsAskedCut, IsCutFileRefused, IsCutRefused, IsCutTextRefused, IsFileMeaning, IsOwnersRefused, IsWorkRefused, count_of, deal_of}
-use Rattle.nll_report.specs.Run.{IsFileAnswer, IsFileRefused, IsTaskRefused, command_of}
+use Rattle.nll_report.specs.Owners.{AsksForOwners, IsCutFileRefused, IsCutRefused, IsCutTextRefused, IsFileMeaning, IsOwnersRefused, IsWorkRefused, count_of, deal_of}
+use Rattle.nll_report.specs.Run.{AreOwnersRefused, IsFileAnswer, IsFileRefused}
 use Rattle.nll_report.specs.Refusal.{IsCutRefusal, cut_refusal_at, refusal_of}
 use Rattle.nll_report.specs.Texts.{Holds, Lacks}
 use Rattle.nll_report.specs.declared.messages.Refusal.{Refusal}
-use Rattle.nll_report.specs.declared.messages.Refusal.TheVariants.{Usage, CannotRead, Text, Limit, CutText, CutLength, NoSuchOwner, Thread, Memory, CannotWrite}
+use Rattle.nll_report.specs.declared.messages.Refusal.TheVariants.{Usage, CannotRead, Text, Limit, CutText, CutLength, NoSuchOwner, ScheduleText, Thread, Memory, CannotWrite}
 
 -- ---- so many owners as there may be
 
@@ -136,6 +135,18 @@ module _ {T : Type 0} (made : Result T CutError) (r : Result T Refusal) (ok : If
           (λ is. inl (subst (λ x. IsCutRefusal x f) is.1 err))
           h
 
+-- ---- the fault of a text
+
+abbrev pub is_memory : TextKind → Bool
+is_memory kind.Memory = true
+is_memory other = false
+
+-- the error of a text that doesn't tell of memory tells its fault
+pub fault_of : (format : Format) (text : List ℕ) (error : TextError) → IsRefusal (IsFault format text) error
+    → (k : TextKind) → is_memory k ≡ false → error.kind ≡ k → IsFault format text error.line k
+fault_of format text error refusal k other is = subst (IsFault format text error.line) is
+    (⊎_elim (λ wanting. absurd (true≢false (sym (ap (λ (e : TextError). is_memory e.kind) wanting) ∙ ap is_memory is ∙ other))) (λ found. found) refusal)
+
 -- ---- the text of a cut file
 
 module _ (regions count : ℕ) (text : List ℕ) where
@@ -152,29 +163,19 @@ module _ (regions count : ℕ) (text : List ℕ) where
       by_error (due.NoSuchOwner index) is h = subst (IsCutTextRefused regions count text) (sym h) (record { list = list; means = means; due = is })
       by_error due.Memory is h = subst (IsCutTextRefused regions count text) (sym h) refl
 
-  abbrev is_memory : TextKind → Bool
-  is_memory kind.Memory = true
-  is_memory other = false
-
   -- it has a fault
   module _ (error : TextError) (refusal : IsRefusal (IsFault cut text) error) where
-    fault : (error.kind ≡ kind.Memory → ⊥) → IsFault cut text error.line error.kind
-    fault other = ⊎_elim (λ wanting. absurd (other (ap (λ (e : TextError). e.kind) wanting))) (λ found. found) refusal
-
-    of_kind : (k : TextKind) → is_memory k ≡ false → error.kind ≡ k → IsFault cut text error.line k
-    of_kind k other is = subst (IsFault cut text error.line) is (fault (λ memory. true≢false (ap is_memory (sym memory ∙ is) ∙ other)))
-
     told_in : (k : TextKind) → error.kind ≡ k → IsCutTextRefused regions count text (cut_refusal_at error.line k)
-    told_in kind.NotUtf8 is = of_kind kind.NotUtf8 refl is
-    told_in kind.Header is = of_kind kind.Header refl is
-    told_in kind.Syntax is = of_kind kind.Syntax refl is
-    told_in kind.Unknown is = of_kind kind.Unknown refl is
-    told_in kind.Duplicate is = of_kind kind.Duplicate refl is
-    told_in kind.Range is = of_kind kind.Range refl is
-    told_in kind.Shape is = of_kind kind.Shape refl is
-    told_in kind.TypeSize is = of_kind kind.TypeSize refl is
-    told_in (kind.Limit counted) is = of_kind (kind.Limit counted) refl is
-    told_in kind.End is = of_kind kind.End refl is
+    told_in kind.NotUtf8 is = fault_of cut text error refusal kind.NotUtf8 refl is
+    told_in kind.Header is = fault_of cut text error refusal kind.Header refl is
+    told_in kind.Syntax is = fault_of cut text error refusal kind.Syntax refl is
+    told_in kind.Unknown is = fault_of cut text error refusal kind.Unknown refl is
+    told_in kind.Duplicate is = fault_of cut text error refusal kind.Duplicate refl is
+    told_in kind.Range is = fault_of cut text error refusal kind.Range refl is
+    told_in kind.Shape is = fault_of cut text error refusal kind.Shape refl is
+    told_in kind.TypeSize is = fault_of cut text error refusal kind.TypeSize refl is
+    told_in (kind.Limit counted) is = fault_of cut text error refusal (kind.Limit counted) refl is
+    told_in kind.End is = fault_of cut text error refusal kind.End refl is
     told_in kind.Memory is = refl
 
     pub cut_text_told : (e : Refusal) → e ≡ cut_refusal_at error.line error.kind → IsCutTextRefused regions count text e
@@ -196,6 +197,7 @@ cut_file_told holds lacks regions count path text (Limit counted) held h = (text
 cut_file_told holds lacks regions count path text (CutText line k) held h = (text, held, h)
 cut_file_told holds lacks regions count path text CutLength held h = (text, held, h)
 cut_file_told holds lacks regions count path text (NoSuchOwner index) held h = (text, held, h)
+cut_file_told holds lacks regions count path text (ScheduleText line k) held h = (text, held, h)
 cut_file_told holds lacks regions count path text Thread held h = (text, held, h)
 cut_file_told holds lacks regions count path text Memory held h = tt
 cut_file_told holds lacks regions count path text CannotWrite held h = (text, held, h)
@@ -212,6 +214,7 @@ cut_told holds lacks q count how path (Limit counted) h = h
 cut_told holds lacks q count how path (CutText line k) h = h
 cut_told holds lacks q count how path CutLength h = h
 cut_told holds lacks q count how path (NoSuchOwner index) h = h
+cut_told holds lacks q count how path (ScheduleText line k) h = h
 cut_told holds lacks q count how path Thread h = tt
 cut_told holds lacks q count how path Memory h = tt
 cut_told holds lacks q count how path CannotWrite h = h
@@ -233,7 +236,7 @@ may_be_asked (Some count) n lawful is = ap may_be_count is ∙ may_be count lawf
 
 pub owners_told : (holds : Holds) (lacks : Lacks) (file : List ℕ) (said : Said) (n : ℕ) (deal : Deal) (path : Option (List ℕ)) (e : Refusal)
     → n ≡ count_of said.owners → deal ≡ deal_of said.deal → path ≡ said.cut → AsksForOwners said.owners said.cut
-    → IsFileRefused holds lacks file e ⊎ IsOwnersRefused holds lacks file n deal path e → IsTaskRefused holds lacks file said e
+    → IsFileRefused holds lacks file e ⊎ IsOwnersRefused holds lacks file n deal path e → IsFileRefused holds lacks file e ⊎ AreOwnersRefused holds lacks file said e
 owners_told holds lacks file said n deal path e is_count is_deal is_path asks = ⊎_elim
     inl
     (λ h. inr (
@@ -243,15 +246,10 @@ owners_told holds lacks file said n deal path e is_count is_deal is_path asks = 
           (subst (λ p. IsOwnersRefused holds lacks file n deal p e) is_path h)),
     ))
 
-pub file_answer : (holds : Holds) (task : Task) (file : List ℕ) (command : Command) (q : Problem) (labels : Labels) (report : List ℕ) (status : ℕ) → command ≡ command_of task
-    → IsFileMeaning holds file q labels → IsProblemAnswer command q labels report status → IsFileAnswer holds task file report status
-file_answer holds task file command q labels report status is means h = record {
+pub file_answer : (holds : Holds) (file : List ℕ) (command : Command) (q : Problem) (labels : Labels) (report : List ℕ) (status : ℕ)
+    → IsFileMeaning holds file q labels → IsProblemAnswer command q labels report status → IsFileAnswer holds command file report status
+file_answer holds file command q labels report status means h = record {
   text = means.text;
   held = means.held;
-  answer = record {
-    problem = q;
-    labels = labels;
-    meaning = means.meaning;
-    answer = subst (λ k. IsProblemAnswer k q labels report status) is h;
-  };
+  answer = record { problem = q; labels = labels; meaning = means.meaning; answer = h };
 }

@@ -11,13 +11,15 @@ use Rattle.nll_answer.specs.declared.error.AnswerError.{AnswerError}
 use Rattle.nll_answer.specs.declared.error.AnswerError.TheVariants as answer
 use Rattle.nll_report.specs.Refusal.{refusal_at, refusal_of}
 use Rattle.nll_report.specs.declared.messages.Refusal.{Refusal}
-use Rattle.nll_report.specs.declared.messages.Refusal.TheVariants.{Usage, CannotRead, Text, Limit, CutText, CutLength, NoSuchOwner, Thread, Memory, CannotWrite}
-use Rattle.nll_command_line.specs.CommandLine.{AsksPlainlyForHelp, IsNoPlainLine}
+use Rattle.nll_report.specs.declared.messages.Refusal.TheVariants.{Usage, CannotRead, Text, Limit, CutText, CutLength, NoSuchOwner, ScheduleText, Thread, Memory, CannotWrite}
+use Rattle.nll_command_line.specs.CommandLine.{AsksPlainlyForHelp, IsNoPlainLine, IsPlainLine}
 use Rattle.nll_command_line.specs.declared.task.Task.{Task}
+use Rattle.nll_command_line.specs.declared.task.Task.TheVariants.{Values, Check, Replay}
 use Rattle.nll_command_line.specs.Options.{ArePlaced, Given, Said, behind, no_words, unread}
 use Rattle.nll_command_line.specs.declared.options.Deal.{Deal}
 use Rattle.nll_report.specs.Owners.{IsCutFileRefused, IsCutRefused, count_of, deal_of}
-use Rattle.nll_report.specs.Run.{Words, AreRefused, IsAsked, IsBegun, IsFileFault, IsFileRefused, IsLineRefused, IsRefused, IsRun, IsTaskRefused}
+use Rattle.nll_report.specs.Replays.{IsReplayRefused, IsScheduleRefused}
+use Rattle.nll_report.specs.Run.{Words, AreOwnersRefused, AreRefused, IsAsked, IsBegun, IsFileFault, IsFileRefused, IsLineRefused, IsRefused, IsRefusedBehindFile, IsRun, IsTaskRefused}
 use Rattle.nll_report.specs.Texts.{Holds, Lacks}
 use Rattle.nll_report.proofs.OwnerLemmas.{is_wanting}
 use Rattle.nll_report.specs.Sink.{IsCut, MayRefuse}
@@ -45,7 +47,7 @@ nothing_else _ _ _ (behind given first others rest plain h) e = cc
 no_line : AreRefused []
 no_line others said read =
     let none = nothing_else read.given others [] read.placed refl in
-    (subst IsNoPlainLine (sym none) no_plain, λ h. no_help (subst AsksPlainlyForHelp none h))
+    (λ task file plain suits. no_plain task file (subst (IsPlainLine task file) none plain), λ h. no_help (subst AsksPlainlyForHelp none h))
 
 -- words that are lost, or want of memory, are refused as no words are
 pub lost_words : (holds : Holds) (lacks : Lacks) (refusal : Refusal) → (refusal ≡ Usage) ⊎ (refusal ≡ Memory)
@@ -68,14 +70,14 @@ begun_by holds words status room old new bytes slice written run is begun refuse
     cut_slice : IsCut room old new slice
     cut_slice = record { count = written; begun = begun; refused = refused }
 
--- owners at work refuse no words, and nothing of standard output
-module _ (holds : Holds) (lacks : Lacks) (file : List ℕ) (count : ℕ) (how : Deal) (refusal : Refusal) where
-  unwanted : (regions : ℕ) (path : Option (List ℕ)) → (refusal ≡ Usage) ⊎ (refusal ≡ CannotWrite) → IsCutRefused holds lacks regions count path refusal → ⊥
-  unwanted regions None is h = ⊎_elim
+-- neither a cut nor a schedule is why words are refused, or why standard output failed
+module _ (holds : Holds) (lacks : Lacks) (count : ℕ) (how : Deal) (refusal : Refusal) (is : (refusal ≡ Usage) ⊎ (refusal ≡ CannotWrite)) where
+  unwanted : (regions : ℕ) (path : Option (List ℕ)) → IsCutRefused holds lacks regions count path refusal → ⊥
+  unwanted regions None h = ⊎_elim
       (λ usage. true≢false (sym (ap is_wanting (sym usage ∙ h))))
       (λ write. true≢false (sym (ap is_wanting (sym write ∙ h))))
       is
-  unwanted regions (Some path) is h = ⊎_elim
+  unwanted regions (Some path) h = ⊎_elim
       (λ usage.
       let at : IsCutFileRefused holds lacks regions count path Usage = subst (λ r. IsCutFileRefused holds lacks regions count path r) usage h in
       true≢false (sym (ap is_wanting at.2)))
@@ -84,28 +86,55 @@ module _ (holds : Holds) (lacks : Lacks) (file : List ℕ) (count : ℕ) (how : 
       true≢false (sym (ap is_wanting at.2)))
       is
 
--- the refusal of what a line asks for
-module _ (holds : Holds) (lacks : Lacks) (words : Words) (task : Task) (file : List ℕ) (said : Said) (asked : IsAsked words task file said) where
-  line_refused : (refusal : Refusal) → IsTaskRefused holds lacks file said refusal → IsLineRefused holds lacks words refusal
-  line_refused refusal h = record { task = task; file = file; said = said; asked = asked; refused = h }
+  unscheduled : (schedule : List ℕ) → IsScheduleRefused holds lacks count schedule refusal → ⊥
+  unscheduled schedule h = ⊎_elim
+      (λ usage.
+      let at : IsScheduleRefused holds lacks count schedule Usage = subst (λ r. IsScheduleRefused holds lacks count schedule r) usage h in
+      true≢false (sym (ap is_wanting at.2)))
+      (λ write.
+      let at : IsScheduleRefused holds lacks count schedule CannotWrite = subst (λ r. IsScheduleRefused holds lacks count schedule r) write h in
+      true≢false (sym (ap is_wanting at.2)))
+      is
 
-  pub line_told : (refusal : Refusal) → IsTaskRefused holds lacks file said refusal → IsRefused holds lacks words refusal
-  line_told Usage h = absurd (⊎_elim
-      (λ none. none)
-      (λ owners. unwanted holds lacks file (count_of said.owners) (deal_of said.deal) Usage owners.1.problem.regions said.cut (inl refl) owners.1.refused)
-      h)
-  line_told (CannotRead other) h = line_refused (CannotRead other) h
-  line_told (Text line kind) h = line_refused (Text line kind) h
-  line_told (Limit counted) h = line_refused (Limit counted) h
-  line_told (CutText line kind) h = line_refused (CutText line kind) h
-  line_told CutLength h = line_refused CutLength h
-  line_told (NoSuchOwner index) h = line_refused (NoSuchOwner index) h
-  line_told Thread h = line_refused Thread h
-  line_told Memory h = tt
-  line_told CannotWrite h = absurd (⊎_elim
-      (λ none. none)
-      (λ owners. unwanted holds lacks file (count_of said.owners) (deal_of said.deal) CannotWrite owners.1.problem.regions said.cut (inr refl) owners.1.refused)
-      h)
+  unreplayed : (regions : ℕ) (path : Option (List ℕ)) (schedule : List ℕ) → IsReplayRefused holds lacks regions count how path schedule refusal → ⊥
+  unreplayed regions path schedule = ⊎_elim (unwanted regions path) (λ h. unscheduled schedule h.2)
+
+-- the refusal of what a line asks for
+module _ (holds : Holds) (lacks : Lacks) (words : Words) (file : List ℕ) (said : Said) where
+  line_refused : (task : Task) (asked : IsAsked words task file said) (refusal : Refusal) → IsTaskRefused holds lacks task file said refusal
+      → IsLineRefused holds lacks words refusal
+  line_refused task asked refusal h = record { task = task; file = file; said = said; asked = asked; refused = h }
+
+  -- nothing of words or of standard output is told behind the file
+  owners_silent : (refusal : Refusal) → (refusal ≡ Usage) ⊎ (refusal ≡ CannotWrite) → AreOwnersRefused holds lacks file said refusal → ⊥
+  owners_silent refusal is h = ⊎_elim
+      (λ usage.
+      let at : AreOwnersRefused holds lacks file said Usage = subst (AreOwnersRefused holds lacks file said) usage h in
+      unwanted holds lacks (count_of said.owners) (deal_of said.deal) Usage (inl refl) at.1.problem.regions said.cut at.1.refused)
+      (λ write.
+      let at : AreOwnersRefused holds lacks file said CannotWrite = subst (AreOwnersRefused holds lacks file said) write h in
+      unwanted holds lacks (count_of said.owners) (deal_of said.deal) CannotWrite (inr refl) at.1.problem.regions said.cut at.1.refused)
+      is
+
+  silent : (task : Task) (refusal : Refusal) → (refusal ≡ Usage) ⊎ (refusal ≡ CannotWrite) → IsRefusedBehindFile holds lacks task file said refusal → ⊥
+  silent Values refusal is h = owners_silent refusal is h
+  silent Check refusal is h = owners_silent refusal is h
+  silent Replay refusal is h =
+      unreplayed holds lacks (count_of said.owners) (deal_of said.deal) refusal is h.2.problem.regions said.cut h.0 h.2.refused
+
+  pub line_told : (task : Task) (asked : IsAsked words task file said) (refusal : Refusal) → IsTaskRefused holds lacks task file said refusal
+      → IsRefused holds lacks words refusal
+  line_told task asked Usage h = absurd (⊎_elim (λ none. none) (silent task Usage (inl refl)) h)
+  line_told task asked (CannotRead other) h = line_refused task asked (CannotRead other) h
+  line_told task asked (Text line kind) h = line_refused task asked (Text line kind) h
+  line_told task asked (Limit counted) h = line_refused task asked (Limit counted) h
+  line_told task asked (CutText line kind) h = line_refused task asked (CutText line kind) h
+  line_told task asked CutLength h = line_refused task asked CutLength h
+  line_told task asked (NoSuchOwner index) h = line_refused task asked (NoSuchOwner index) h
+  line_told task asked (ScheduleText line kind) h = line_refused task asked (ScheduleText line kind) h
+  line_told task asked Thread h = line_refused task asked Thread h
+  line_told task asked Memory h = tt
+  line_told task asked CannotWrite h = absurd (⊎_elim (λ none. none) (silent task CannotWrite (inr refl)) h)
 
 -- ---- a text that has no answer
 

@@ -12,7 +12,8 @@ use Rattle.nll_answer.specs.declared.error.AnswerError.TheVariants as answer
 use Rattle.nll_report.specs.declared.messages.Refusal.{Refusal}
 use Rattle.nll_report.specs.declared.messages.Refusal.TheVariants.{Usage, CannotRead, Text}
 use Rattle.nll_report.specs.declared.messages.Refusal.TheVariants.{Limit, CutText, CutLength}
-use Rattle.nll_report.specs.declared.messages.Refusal.TheVariants.{NoSuchOwner, Thread}
+use Rattle.nll_report.specs.declared.messages.Refusal.TheVariants.{NoSuchOwner, ScheduleText}
+use Rattle.nll_report.specs.declared.messages.Refusal.TheVariants.{Thread}
 use Rattle.nll_report.specs.declared.messages.Refusal.TheVariants.{Memory, CannotWrite}
 use Rattle.nll_cut.specs.declared.error.CutError.{CutError}
 use Rattle.nll_cut.specs.declared.error.CutError.TheVariants as cut
@@ -28,6 +29,7 @@ status_of (Limit counted) = 2
 status_of (CutText line kind) = 2
 status_of CutLength = 2
 status_of (NoSuchOwner index) = 2
+status_of (ScheduleText line kind) = 2
 status_of Thread = 3
 status_of Memory = 3
 status_of CannotWrite = 3
@@ -54,6 +56,11 @@ refusal_of answer.Memory = Memory
 abbrev pub cut_refusal_at : ℕ → TextKind → Refusal
 cut_refusal_at line kind.Memory = Memory
 cut_refusal_at line other = CutText line other
+
+-- the refusal of a schedule for a fault at this line
+abbrev pub schedule_refusal_at : ℕ → TextKind → Refusal
+schedule_refusal_at line kind.Memory = Memory
+schedule_refusal_at line other = ScheduleText line other
 
 -- the refusal follows from why a list is no cut; that the number of owners is none is refused
 -- among the words
@@ -99,6 +106,8 @@ refusal_text (CutText line kind) =
     codes "nllc: cut line " ++ decimal line ++ codes ": " ++ kind_text kind
 refusal_text CutLength = codes "nllc: cut: length"
 refusal_text (NoSuchOwner index) = codes "nllc: cut: no such owner at " ++ decimal index
+refusal_text (ScheduleText line kind) =
+    codes "nllc: schedule line " ++ decimal line ++ codes ": " ++ kind_text kind
 refusal_text Thread = codes "nllc: thread"
 refusal_text Memory = codes "nllc: memory"
 refusal_text CannotWrite = codes "nllc: cannot write"

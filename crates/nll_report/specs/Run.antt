@@ -1,6 +1,6 @@
 -- What the program makes of its words, over the texts that are held at paths.
 -- Source: project's choice.
-use Rattle.std.specs.Prelude.{◌≡◌, ◌⊎◌, ℕ, List, Option, string_bytes}
+use Rattle.std.specs.Prelude.{◌≡◌, ◌⊎◌, ℕ, List, Option, Some, string_bytes}
 use Rattle.std.specs.Io.KnownBytes.{Appends}
 use Rattle.nll_reading.specs.declared.error.TextKind.{TextKind}
 use Rattle.nll_answer.specs.declared.answers.Command.{Command}
@@ -8,22 +8,23 @@ use Rattle.nll_answer.specs.declared.answers.Command.TheVariants as command
 use Rattle.nll_report.specs.declared.messages.Refusal.{Refusal}
 use Rattle.nll_report.specs.declared.messages.Refusal.TheVariants.{Usage, CannotRead, Text}
 use Rattle.nll_report.specs.declared.messages.Refusal.TheVariants.{Limit, CutText, CutLength}
-use Rattle.nll_report.specs.declared.messages.Refusal.TheVariants.{NoSuchOwner, Thread}
-use Rattle.nll_report.specs.declared.messages.Refusal.TheVariants.{Memory, CannotWrite}
+use Rattle.nll_report.specs.declared.messages.Refusal.TheVariants.{NoSuchOwner, ScheduleText}
+use Rattle.nll_report.specs.declared.messages.Refusal.TheVariants.{Thread, Memory, CannotWrite}
 use Rattle.nll_problem.specs.declared.error.Kind.{Kind}
 use Rattle.nll_body_problem.specs.declared.error.RuleError.TheVariants as rule
 use Rattle.nll_answer.specs.declared.error.AnswerError.TheVariants as answer
 use Rattle.nll_command_line.specs.declared.task.Task.{Task}
-use Rattle.nll_command_line.specs.declared.task.Task.TheVariants.{Values, Check}
+use Rattle.nll_command_line.specs.declared.task.Task.TheVariants.{Values, Check, Replay}
 use Rattle.nll_answer.specs.Answer.{IsAnswer}
 use Rattle.nll_answer.specs.Texts.{IsTextFault, IsAnswerError}
 use Rattle.nll_command_line.specs.CommandLine.{AsksPlainlyForHelp, IsLine, IsNoPlainLine}
-use Rattle.nll_command_line.specs.Options.{AreRead, Said}
+use Rattle.nll_command_line.specs.Options.{AreRead, IsNoSuitedLine, Said, Suits}
 use Rattle.nll_command_line.specs.Help.{help_for}
 use Rattle.nll_command_line.specs.declared.error.LineError.{LineError}
 use Rattle.nll_command_line.specs.declared.error.LineError.TheVariants as line
 use Rattle.nll_command_line.specs.Grammar.{AsksForHelp}
 use Rattle.nll_report.specs.Owners.{AsksForOwners, IsOwnersRefused, count_of, deal_of}
+use Rattle.nll_report.specs.Replays.{IsFileReplay, IsFileReplayRefused}
 use Rattle.nll_report.specs.Sink.{IsCut}
 use Rattle.nll_report.specs.Texts.{Holds, Lacks}
 
@@ -31,34 +32,41 @@ use Rattle.nll_report.specs.Texts.{Holds, Lacks}
 abbrev pub Words : Type 0
 Words = List (List ℕ)
 
--- what a task asks of a text
-abbrev pub command_of : Task → Command
-command_of Values = command.Values
-command_of Check = command.Check
-
--- A text of the file has the report and the status as the answer to the task.
-pub record IsFileAnswer (holds : Holds) (task : Task) (file report : List ℕ) (status : ℕ)
+-- A text of the file has the report and the status as the answer to the command.
+pub record IsFileAnswer (holds : Holds) (asked : Command) (file report : List ℕ) (status : ℕ)
     : Type 0 where
   pub text : List ℕ
   pub held : holds file text
-  pub answer : IsAnswer (command_of task) text report status
+  pub answer : IsAnswer asked text report status
 
--- The words are a line of this task and file, with options among them that give this, and do not
--- plainly ask for help.
+-- the report and the status answer the task on the file: its values or faults, or the replay of the
+-- schedule that the options give, by the owners that they ask for
+abbrev pub IsTaskAnswer : Holds → Task → List ℕ → Said → List ℕ → ℕ → Type 0
+IsTaskAnswer holds Values file said report status =
+    IsFileAnswer holds command.Values file report status
+IsTaskAnswer holds Check file said report status =
+    IsFileAnswer holds command.Check file report status
+IsTaskAnswer holds Replay file said report status =
+    (path : List ℕ) × (said.schedule ≡ Some path) × IsFileReplay holds file
+    (count_of said.owners) (deal_of said.deal) said.cut path report status
+
+-- The words are a line of this task and file, with options among them that give this and suit the
+-- task, and do not plainly ask for help.
 pub record IsAsked (words : Words) (task : Task) (file : List ℕ) (said : Said) : Type 0 where
   pub others : Words
   pub read : AreRead words others said
   pub line : IsLine task file others
+  pub suits : Suits task said
   pub other : AsksPlainlyForHelp others → ⊥
 
 -- The words are a line and do not plainly ask for help, and the report and the status answer its
--- task on its file, with owners as without.
+-- task on its file; those of values and of faults with owners as without.
 pub record IsReport (holds : Holds) (words : Words) (report : List ℕ) (status : ℕ) : Type 0 where
   pub task : Task
   pub file : List ℕ
   pub said : Said
   pub asked : IsAsked words task file said
-  pub answer : IsFileAnswer holds task file report status
+  pub answer : IsTaskAnswer holds task file said report status
 
 -- The words, but for options among them, are no plain line and ask for help, which the bytes are,
 -- with status 0.
@@ -111,17 +119,33 @@ IsFileRefused holds lacks file (Limit counted) = IsFileLimit holds file counted
 IsFileRefused holds lacks file (CutText line kind) = ⊥
 IsFileRefused holds lacks file CutLength = ⊥
 IsFileRefused holds lacks file (NoSuchOwner index) = ⊥
+IsFileRefused holds lacks file (ScheduleText line kind) = ⊥
 IsFileRefused holds lacks file Thread = ⊥
 IsFileRefused holds lacks file Memory = Unit {0}
 IsFileRefused holds lacks file CannotWrite = ⊥
 
--- the refusal tells the truth of a text of the file; or owners are asked for, and it tells the
--- truth of the cut file or of the owners at work
-abbrev pub IsTaskRefused : Holds → Lacks → List ℕ → Said → Refusal → Type 0
-IsTaskRefused holds lacks file said refusal =
+-- owners are asked for, and the refusal tells the truth of the cut file or of the owners at work
+abbrev pub AreOwnersRefused : Holds → Lacks → List ℕ → Said → Refusal → Type 0
+AreOwnersRefused holds lacks file said refusal =
+    AsksForOwners said.owners said.cut × IsOwnersRefused holds lacks file
+    (count_of said.owners) (deal_of said.deal) said.cut refusal
+
+-- behind the file, the refusal tells the truth of owners that are asked for; or, of a replay, of the
+-- cut or of the schedule
+abbrev pub IsRefusedBehindFile : Holds → Lacks → Task → List ℕ → Said → Refusal → Type 0
+IsRefusedBehindFile holds lacks Values file said refusal =
+    AreOwnersRefused holds lacks file said refusal
+IsRefusedBehindFile holds lacks Check file said refusal =
+    AreOwnersRefused holds lacks file said refusal
+IsRefusedBehindFile holds lacks Replay file said refusal =
+    (path : List ℕ) × (said.schedule ≡ Some path) × IsFileReplayRefused holds lacks file
+    (count_of said.owners) (deal_of said.deal) said.cut path refusal
+
+-- the refusal tells the truth of a text of the file, or of what the task asks for behind it
+abbrev pub IsTaskRefused : Holds → Lacks → Task → List ℕ → Said → Refusal → Type 0
+IsTaskRefused holds lacks task file said refusal =
     IsFileRefused holds lacks file refusal
-    ⊎ (AsksForOwners said.owners said.cut × IsOwnersRefused holds lacks file
-    (count_of said.owners) (deal_of said.deal) said.cut refusal)
+    ⊎ IsRefusedBehindFile holds lacks task file said refusal
 
 -- The words are a line and do not plainly ask for help, and the refusal tells the truth of what it
 -- asks for.
@@ -131,13 +155,13 @@ pub record IsLineRefused (holds : Holds) (lacks : Lacks) (words : Words) (refusa
   pub file : List ℕ
   pub said : Said
   pub asked : IsAsked words task file said
-  pub refused : IsTaskRefused holds lacks file said refusal
+  pub refused : IsTaskRefused holds lacks task file said refusal
 
--- however the words are read, with options among them or without, the others are no plain line and
--- do not plainly ask for help
+-- however the words are read, with options among them or without, the others are no plain line of a
+-- task that the options suit, and do not plainly ask for help
 abbrev pub AreRefused : Words → Type 0
 AreRefused words = (others : Words) (said : Said) → AreRead words others said
-    → IsNoPlainLine others × (AsksPlainlyForHelp others → ⊥)
+    → IsNoSuitedLine others said × (AsksPlainlyForHelp others → ⊥)
 
 -- the refusal tells the truth of the words and the texts; want of memory says nothing of them
 abbrev pub IsRefused : Holds → Lacks → Words → Refusal → Type 0
@@ -150,6 +174,8 @@ IsRefused holds lacks words (CutText line kind) =
 IsRefused holds lacks words CutLength = IsLineRefused holds lacks words CutLength
 IsRefused holds lacks words (NoSuchOwner index) =
     IsLineRefused holds lacks words (NoSuchOwner index)
+IsRefused holds lacks words (ScheduleText line kind) =
+    IsLineRefused holds lacks words (ScheduleText line kind)
 IsRefused holds lacks words Thread = IsLineRefused holds lacks words Thread
 IsRefused holds lacks words Memory = Unit {0}
 IsRefused holds lacks words CannotWrite = ⊥

@@ -1,8 +1,8 @@
 //! The program over a text's answer: its files, its streams, its refusals and its status.
 //!
-//! Read `program` first (what is done with the words), then `owners`, `reading`, `sink`, `writing`,
-//! `messages`, `disk` and `words`. The words are read in `nll_command_line`, and a text is answered
-//! in `nll_answer`.
+//! Read `program` first (what is done with the words), then `owners`, `replaying`, `reading`,
+//! `sink`, `writing`, `messages`, `disk` and `words`. The words are read in `nll_command_line`, a
+//! text is answered in `nll_answer`, and the report of a replay is made in `nll_replay`.
 #![tactic(auto)]
 
 mod disk;
@@ -11,6 +11,7 @@ mod messages;
 mod owners;
 mod program;
 mod reading;
+mod replaying;
 mod sink;
 mod words;
 mod writing;

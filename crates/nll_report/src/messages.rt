@@ -5,7 +5,8 @@ ghost use Rattle.nll_report.specs.Refusal.{kind_text, limit_text, refusal_line, 
 ghost use Rattle.nll_report.specs.Refusal.{refusal_of_text, refusal_text, status_of};
 ghost use Rattle.nll_report.specs.declared.messages.Refusal.TheVariants.{CannotRead, CutText};
 ghost use Rattle.nll_report.specs.declared.messages.Refusal.TheVariants.{Limit, NoSuchOwner};
-ghost use Rattle.nll_report.specs.declared.messages.Refusal.TheVariants.{Memory, Text};
+ghost use Rattle.nll_report.specs.declared.messages.Refusal.TheVariants.{Memory, ScheduleText};
+ghost use Rattle.nll_report.specs.declared.messages.Refusal.TheVariants.{Text};
 ghost use Rattle.nll_report.specs.Sink.{IsCut};
 
 use crate::error::Unwritten;
@@ -42,6 +43,8 @@ pub enum Refusal {
     CutLength,
     /// The entry of the list at this index, counted from 0, is the first that names no owner.
     NoSuchOwner(u32),
+    /// The text of the schedule is faulty at this line.
+    ScheduleText(u64, TextKind),
     /// A thread couldn't be started.
     Thread,
     /// An allocation was refused.
@@ -59,6 +62,7 @@ impl Refusal {
             Refusal::Usage | Refusal::CannotRead(_) | Refusal::Text(_, _) => 2,
             Refusal::Limit(_) | Refusal::CutText(_, _) => 2,
             Refusal::CutLength | Refusal::NoSuchOwner(_) => 2,
+            Refusal::ScheduleText(_, _) => 2,
             Refusal::Thread => 3,
             Refusal::Memory | Refusal::CannotWrite => 3,
         }
@@ -82,6 +86,7 @@ impl Refusal {
             Refusal::CutText(line, kind) => print_cut_fault(to, *line, *kind),
             Refusal::CutLength => put_pieces(to, &["nllc: cut: length", "\n"]),
             Refusal::NoSuchOwner(index) => print_stranger(to, *index),
+            Refusal::ScheduleText(line, kind) => print_schedule_fault(to, *line, *kind),
             Refusal::Thread => put_pieces(to, &["nllc: thread", "\n"]),
             Refusal::Memory => put_pieces(to, &["nllc: memory", "\n"]),
             Refusal::CannotWrite => put_pieces(to, &["nllc: cannot write", "\n"]),
@@ -145,6 +150,21 @@ fn print_stranger<S: Sink>(to: &mut S, index: u32) -> Result<(), Unwritten>
     put_pieces(to, &["nllc: cut: no such owner at ", index, "\n"])
 }
 
+// Puts the line of a schedule's fault.
+fn print_schedule_fault<S: Sink>(to: &mut S, line: u64, kind: TextKind) -> Result<(), Unwritten>
+    ensures all { OnOk result
+        (Appends (S.contents to.old) (S.contents to.new) (refusal_line (ScheduleText line kind))) }
+    ensures cut { OnErr result (IsCut (S.room to.old) (S.contents to.old) (S.contents to.new)
+        (refusal_line (ScheduleText line kind))) }
+{
+    let mut digits = Buffer::new();
+    let line = digits.format(line);
+    put_pieces(
+        to,
+        &["nllc: schedule line ", line, ": ", kind_text(kind), "\n"],
+    )
+}
+
 impl From<AllocError> for Refusal {
     ghost from_gives = { λ _ refusal. refusal ≡ Memory };
 
@@ -193,6 +213,9 @@ impl fmt::Display for Refusal {
             }
             Refusal::CutLength => f.write_str("nllc: cut: length"),
             Refusal::NoSuchOwner(index) => write!(f, "nllc: cut: no such owner at {index}"),
+            Refusal::ScheduleText(line, kind) => {
+                write!(f, "nllc: schedule line {line}: {}", kind_text(*kind))
+            }
             Refusal::Thread => f.write_str("nllc: thread"),
             Refusal::Memory => f.write_str("nllc: memory"),
             Refusal::CannotWrite => f.write_str("nllc: cannot write"),

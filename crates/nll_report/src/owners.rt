@@ -1,4 +1,4 @@
-//! The report that owners at work in threads find, and the cut of the regions among them.
+//! The report that owners at work in threads find, and the cut of the regions among owners.
 ghost use Rattle.std.specs.Prelude.{◌≡◌, ◌≢◌, ◌⊎◌, ◌≤◌, true, length, option_map, string_bytes};
 ghost use Rattle.std.specs.Prelude.{Err, IfErr, IfOk, IsErrAnd, MatchOption, None, Ok, Some};
 ghost use Rattle.nll_cut.specs.Partition.{cut_of, list_error, may_be_count};
@@ -13,10 +13,10 @@ ghost use Rattle.nll_report.specs.Refusal.{IsCutRefusal, cut_refusal_at};
 ghost use Rattle.nll_report.specs.Run.{IsFileAnswer, IsFileRefused};
 
 use crate::messages::Refusal;
-use crate::program::{Texts, command_of};
+use crate::program::Texts;
 use crate::reading::{facts_of, without_text};
 use nll_answer::{AnswerError, Command, answer_run};
-use nll_command_line::{Deal, MailKind, Task};
+use nll_command_line::{Deal, MailKind};
 use nll_cut::{Cut, CutError};
 use nll_cut_text::read_cut;
 use nll_facts::Facts;
@@ -28,17 +28,36 @@ use std::alloc::Global;
 use std::sync::Wait;
 use std::thread::Threads;
 
-/// The owners that a line asks for.
+/// The cut that a line asks for.
 #[derive(Drop)]
-pub(crate) struct Owners {
-    /// How many.
+pub(crate) struct AskedCut {
+    /// How many owners there are.
     pub(crate) count: u16,
     /// How the regions are dealt to them where there is no cut file.
     pub(crate) deal: Deal,
+    /// The path of the cut file.
+    pub(crate) path: Option<String>,
+}
+
+/// The owners that a line asks for.
+#[derive(Drop)]
+pub(crate) struct Owners {
+    /// How the regions are cut among them.
+    pub(crate) cut: AskedCut,
     /// What carries what they tell each other.
     pub(crate) mail: MailKind,
-    /// The path of the cut file.
-    pub(crate) cut: Option<String>,
+}
+
+/// The cut that options ask for: among 1 owner and in turns, where nothing is said.
+pub(crate) fn cut_asked(owners: Option<u16>, deal: Option<Deal>, path: Option<String>) -> AskedCut
+    ensures { (result.count ≡ count_of owners) × (result.deal ≡ deal_of deal)
+        × (result.path ≡ path) }
+{
+    AskedCut {
+        count: owners.unwrap_or(1),
+        deal: deal.unwrap_or(Deal::Round),
+        path,
+    }
 }
 
 /// The owners that options ask for: none where neither their number is given nor a cut file, else 1
@@ -51,40 +70,38 @@ pub(crate) fn owners_asked(
 ) -> Option<Owners>
     ensures { MatchOption result ((owners ≡ None) × (cut ≡ None))
         (λ o. AsksForOwners owners (option_map string_bytes cut)
-        × (o.count ≡ count_of owners) × (o.deal ≡ deal_of deal) × (o.mail ≡ mail_of mail)
-        × (o.cut ≡ cut)) }
+        × (o.cut.count ≡ count_of owners) × (o.cut.deal ≡ deal_of deal)
+        × (o.cut.path ≡ cut) × (o.mail ≡ mail_of mail)) }
 {
     if owners.is_none() && cut.is_none() {
         return None;
     }
     Some(Owners {
-        count: owners.unwrap_or(1),
-        deal: deal.unwrap_or(Deal::Round),
+        cut: cut_asked(owners, deal, cut),
         mail: mail.unwrap_or(MailKind::Queue),
-        cut,
     })
 }
 
-/// The answer to a task on the text of its file, found by owners at work in threads. The file is
+/// The answer to a command on the text of its file, found by owners at work in threads. The file is
 /// dealt with wholly before the cut file is opened.
 pub(crate) fn answered_by_owners<R: AllocGlobal + Threads + Wait + Sync, T: Texts>(
     rt: &R,
-    task: Task,
+    command: Command,
     file: String,
     owners: Owners,
     texts: &T,
 ) -> Result<(Vec<u8>, u8), Refusal>
-    requires { may_be_count owners.count ≡ true }
+    requires { may_be_count owners.cut.count ≡ true }
     ensures ok { IfOk result (λ r.
-        IsFileAnswer (T.holds texts.now) task (string_bytes file) r.0.items r.1) }
+        IsFileAnswer (T.holds texts.now) command (string_bytes file) r.0.items r.1) }
     ensures status { IfOk result (λ r. r.1 ≤ 1) }
     ensures err { IfErr result (λ e.
         IsFileRefused (T.holds texts.now) (T.lacks texts.now) (string_bytes file) e
         ⊎ IsOwnersRefused (T.holds texts.now) (T.lacks texts.now) (string_bytes file)
-        owners.count owners.deal (option_map string_bytes owners.cut) e) }
+        owners.cut.count owners.cut.deal (option_map string_bytes owners.cut.path) e) }
 {
     let facts = facts_of(rt.alloc(), file, texts)?;
-    let told = told_by_owners(rt, command_of(task), &facts, owners, texts);
+    let told = told_by_owners(rt, command, &facts, owners, texts);
     drop(facts);
     told
 }
@@ -98,15 +115,16 @@ fn told_by_owners<R: AllocGlobal + Threads + Wait + Sync, T: Texts>(
     texts: &T,
 ) -> Result<(Vec<u8>, u8), Refusal>
     requires named { length facts.now.labels.names ≡ facts.now.problem.regions }
-    requires lawful { may_be_count owners.count ≡ true }
+    requires lawful { may_be_count owners.cut.count ≡ true }
     ensures ok { IfOk result (λ r.
         IsProblemAnswer command facts.now.problem facts.now.labels r.0.items r.1) }
     ensures status { IfOk result (λ r. r.1 ≤ 1) }
     ensures err { IfErr result (IsWorkRefused (T.holds texts.now) (T.lacks texts.now)
-        facts.now.problem owners.count owners.deal (option_map string_bytes owners.cut)) }
+        facts.now.problem owners.cut.count owners.cut.deal
+        (option_map string_bytes owners.cut.path)) }
 {
-    let mail = owners.mail;
-    let cut = asked_cut(rt.alloc(), facts.problem.regions(), owners, texts)?;
+    let Owners { cut, mail } = owners;
+    let cut = asked_cut(rt.alloc(), facts.problem.regions(), cut, texts)?;
     let told = told_by_cut(rt, command, facts, &cut, mail);
     drop(cut);
     Ok(told?)
@@ -161,27 +179,22 @@ fn told_over<R: AllocGlobal + Threads + Wait + Sync, M: Mail>(
     )
 }
 
-// The cut that is asked for, of so many regions.
-fn asked_cut<T: Texts>(
+/// The cut that is asked for, of so many regions.
+pub(crate) fn asked_cut<T: Texts>(
     alloc: Global,
     regions: u32,
-    owners: Owners,
+    asked: AskedCut,
     texts: &T,
 ) -> Result<Cut, Refusal>
-    requires { may_be_count owners.count ≡ true }
+    requires { may_be_count asked.count ≡ true }
     ensures regions { IfOk result (λ cut. length cut.list ≡ regions) }
-    ensures asked { IfOk result (IsAskedCut (T.holds texts.now) regions owners.count owners.deal
-        (option_map string_bytes owners.cut)) }
+    ensures asked { IfOk result (IsAskedCut (T.holds texts.now) regions asked.count asked.deal
+        (option_map string_bytes asked.path)) }
     ensures err { IfErr result (IsCutRefused (T.holds texts.now) (T.lacks texts.now)
-        regions owners.count (option_map string_bytes owners.cut)) }
+        regions asked.count (option_map string_bytes asked.path)) }
 {
-    let Owners {
-        count,
-        deal,
-        mail: _,
-        cut,
-    } = owners;
-    match cut {
+    let AskedCut { count, deal, path } = asked;
+    match path {
         Some(path) => listed_cut(alloc, regions, count, path, texts),
         None => dealt_cut(alloc, regions, count, deal),
     }

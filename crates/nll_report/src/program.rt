@@ -1,14 +1,14 @@
 //! The whole program, over whatever holds its files and takes its lines.
-ghost use Rattle.std.specs.Prelude.{◌≡◌, ◌⊎◌, ◌<◌, ◌≤◌, ℕ, List, map};
+ghost use Rattle.std.specs.Prelude.{◌≡◌, ◌⊎◌, ◌<◌, ◌≤◌, ℕ, List, map, option_map};
 ghost use Rattle.std.specs.Prelude.{IfErr, IfOk, IfSome, MatchResult, string_bytes};
 ghost use Rattle.std.specs.Io.KnownBytes.{Appends};
-ghost use Rattle.nll_command_line.specs.Options.{said_by};
+ghost use Rattle.nll_command_line.specs.Options.{Suits, said_by};
 ghost use Rattle.nll_problem.specs.Limits.{most_owners};
 ghost use Rattle.nll_report.specs.declared.messages.Refusal.{Refusal};
 ghost use Rattle.nll_report.specs.Refusal.{refusal_line, status_of};
-ghost use Rattle.nll_report.specs.Run.{IsBegun, IsFileAnswer, IsFileRefused, IsPrinted};
-ghost use Rattle.nll_report.specs.Run.{IsHelpOf, IsRefusalOf, IsRefused, IsRun, command_of};
-ghost use Rattle.nll_report.specs.Run.{IsTaskRefused, Words};
+ghost use Rattle.nll_report.specs.Run.{AreOwnersRefused, IsBegun, IsFileAnswer, IsFileRefused};
+ghost use Rattle.nll_report.specs.Run.{IsHelpOf, IsPrinted, IsRefusalOf, IsRefused, IsRun};
+ghost use Rattle.nll_report.specs.Run.{IsTaskAnswer, IsTaskRefused, Words};
 ghost use Rattle.nll_report.specs.Sink.{IsCut, IsPut};
 ghost use Rattle.nll_report.specs.Texts.{holds_anything, lacks_anything};
 
@@ -17,6 +17,7 @@ use crate::error::Unread;
 use crate::messages::Refusal;
 use crate::owners::{answered_by_owners, owners_asked};
 use crate::reading::without_text;
+use crate::replaying::replayed;
 use crate::sink::Sink;
 use crate::words::words_of;
 use nll_answer::{Command, answer_text};
@@ -144,59 +145,76 @@ fn without_line(error: LineError) -> Result<(Vec<u8>, u8), Refusal>
     }
 }
 
-// What the text of the line's file comes to, with owners where they are asked for.
+// What the line's task comes to on the text of its file.
 fn answered<R: AllocGlobal + Threads + Wait + Sync, T: Texts>(
     rt: &R,
     line: Line,
     texts: &T,
 ) -> Result<(Vec<u8>, u8), Refusal>
-    requires { IfSome line.owners (λ n. (0 < n) × (n ≤ most_owners)) }
-    ensures ok { IfOk result (λ r.
-        IsFileAnswer (T.holds texts.now) line.task (string_bytes line.file) r.0.items r.1) }
+    requires owners { IfSome line.owners (λ n. (0 < n) × (n ≤ most_owners)) }
+    requires suits { Suits line.task (said_by line) }
+    ensures ok { IfOk result (λ r. IsTaskAnswer (T.holds texts.now) line.task
+        (string_bytes line.file) (said_by line) r.0.items r.1) }
     ensures status { IfOk result (λ r. r.1 ≤ 1) }
     ensures err { IfErr result (IsTaskRefused (T.holds texts.now) (T.lacks texts.now)
-        (string_bytes line.file) (said_by line)) }
+        line.task (string_bytes line.file) (said_by line)) }
+{
+    match line.task {
+        Task::Values => solved(rt, Command::Values, line, texts),
+        Task::Check => solved(rt, Command::Check, line, texts),
+        Task::Replay => replayed(rt.alloc(), line, texts),
+    }
+}
+
+// The answer to a command on the text of the line's file, with owners where they are asked for.
+fn solved<R: AllocGlobal + Threads + Wait + Sync, T: Texts>(
+    rt: &R,
+    command: Command,
+    line: Line,
+    texts: &T,
+) -> Result<(Vec<u8>, u8), Refusal>
+    requires { IfSome line.owners (λ n. (0 < n) × (n ≤ most_owners)) }
+    ensures ok { IfOk result (λ r.
+        IsFileAnswer (T.holds texts.now) command (string_bytes line.file) r.0.items r.1) }
+    ensures status { IfOk result (λ r. r.1 ≤ 1) }
+    ensures err { IfErr result (λ e.
+        IsFileRefused (T.holds texts.now) (T.lacks texts.now) (string_bytes line.file) e
+        ⊎ AreOwnersRefused (T.holds texts.now) (T.lacks texts.now) (string_bytes line.file)
+        (said_by line) e) }
 {
     let Line {
-        task,
+        task: _,
         file,
         owners,
         deal,
         cut,
         mail,
+        schedule,
     } = line;
+    // There is one for a replay alone.
+    drop(schedule);
     match owners_asked(owners, deal, mail, cut) {
-        Some(owners) => answered_by_owners(rt, task, file, owners, texts),
-        None => answered_by_one(rt.alloc(), task, file, texts),
+        Some(owners) => answered_by_owners(rt, command, file, owners, texts),
+        None => answered_by_one(rt.alloc(), command, file, texts),
     }
 }
 
-// The answer to a task on the text of its file, found by one thread.
+// The answer to a command on the text of its file, found by one thread.
 fn answered_by_one<T: Texts>(
     alloc: Global,
-    task: Task,
+    command: Command,
     file: String,
     texts: &T,
 ) -> Result<(Vec<u8>, u8), Refusal>
     ensures ok { IfOk result (λ r.
-        IsFileAnswer (T.holds texts.now) task (string_bytes file) r.0.items r.1) }
+        IsFileAnswer (T.holds texts.now) command (string_bytes file) r.0.items r.1) }
     ensures status { IfOk result (λ r. r.1 ≤ 1) }
     ensures err { IfErr result
         (IsFileRefused (T.holds texts.now) (T.lacks texts.now) (string_bytes file)) }
 {
     match texts.get(file.as_str()) {
-        Ok(text) => Ok(answer_text(alloc, command_of(task), text)?),
+        Ok(text) => Ok(answer_text(alloc, command, text)?),
         Err(unread) => Err(without_text(unread, file)),
-    }
-}
-
-/// What a task asks of a text.
-pub(crate) fn command_of(task: Task) -> Command
-    ensures { result ≡ command_of task }
-{
-    match task {
-        Task::Values => Command::Values,
-        Task::Check => Command::Check,
     }
 }
 

@@ -124,11 +124,9 @@ fn remove_between(runs: &mut SmallVec<Run, 2>, from: usize, to: usize)
     requires to { to ≤ length runs.old.items }
     ensures { Removes runs.old.items runs.new.items from to }
 {
-    let mut end = to;
-    while end > from {
-        end -= 1;
-        runs.remove(end);
-    }
+    let len = runs.len();
+    runs.as_mut_slice().copy_within(to..len, from);
+    runs.truncate(len - (to - from));
 }
 
 // Puts one run in the place of those from one place up to another, of which there is one at least.

@@ -9,6 +9,7 @@ ghost use Rattle.nll_owner.specs.Owner.{Owner, IsSound, first_owner};
 ghost use Rattle.nll_worker.specs.Mailboxes.{Alike, AreAllEmpty, Keeps};
 ghost use Rattle.nll_worker.specs.Finishing.{IsFresh};
 ghost use Rattle.nll_worker.specs.Tallies.{HasGrown, IsCounted, due_of};
+ghost use Rattle.nll_worker.specs.declared.tally.Tally.{Tally as TheTally};
 ghost use Rattle.nll_worker.specs.Turning.{IsAtRest, ComesTo};
 
 use crate::gate::Gate;
@@ -17,6 +18,9 @@ use crate::tally::{Tally, count_new};
 use nll_ledger::Ledger;
 use nll_mail::Mail;
 use nll_owner::Owner;
+
+// How many rounds follow each other at most.
+const MOST_ROUNDS: u64 = 32;
 
 // Owes for what the log got in this turn, and then clears the turn's item.
 fn keep_book<L: Ledger>(
@@ -152,4 +156,56 @@ pub fn round<M: Mail, L: Ledger, G: Gate>(
         }
     }
     if any { Heard::One } else { Heard::Nothing }
+}
+
+// What rounds come to where the last one heard this, and those before it growths.
+fn behind_a_growth(heard: Heard) -> Heard
+    ensures { (o : Owner) (taken : List (List Growth)) (owed cleared : ℕ) (t : TheTally)
+        → ComesTo o taken owed cleared t heard → ComesTo o taken owed cleared t result }
+{
+    match heard {
+        Heard::Nothing => Heard::One,
+        _ => heard,
+    }
+}
+
+/// Looks into each mailbox, and again as long as growths are heard and there were fewer turns than
+/// `until`: whether the owner received a growth, or why the worker has to end.
+pub fn rounds<M: Mail, L: Ledger, G: Gate>(
+    gate: &G,
+    book: &L::Book,
+    share: &mut L::Share,
+    owner: &mut Owner<'_>,
+    owners: u16,
+    tally: &mut Tally,
+    receivers: &mut Vec<M::R>,
+    me: u16,
+    until: u64,
+) -> Heard
+    requires owners { owners ≡ owner.old.cut.owners }
+    requires few { owners ≤ most_owners }
+    requires book { L.belongs book.now share.old }
+    requires rests { IsAtRest owner.old (map M.received receivers.old.items)
+        (L.owed share.old) (L.cleared share.old) tally.old }
+    ensures grows { HasGrown owner.old owner.new }
+    ensures sound { IsSound owner.new }
+    ensures book { L.belongs book.now share.new × (L.number share.new ≡ L.number share.old)
+        × (L.called share.new ≡ L.called share.old) }
+    ensures comes { ComesTo owner.new (map M.received receivers.new.items)
+        (L.owed share.new) (L.cleared share.new) tally.new result }
+    ensures keeps { Alike (Keeps M.Mail) receivers.old.items receivers.new.items }
+{
+    let mut heard = round::<M, L, G>(gate, book, share, owner, owners, tally, receivers, me);
+    for _ in 1..MOST_ROUNDS {
+        match heard {
+            Heard::One => {}
+            _ => return heard,
+        }
+        if tally.turns >= until {
+            return heard;
+        }
+        let next = round::<M, L, G>(gate, book, share, owner, owners, tally, receivers, me);
+        heard = behind_a_growth(next);
+    }
+    heard
 }

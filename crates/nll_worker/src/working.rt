@@ -16,7 +16,7 @@ use crate::gate::Gate;
 use crate::posting::share_out;
 use crate::receiving::Heard;
 use crate::tally::Tally;
-use crate::turn::{first_turn, round};
+use crate::turn::{first_turn, rounds};
 use crossbeam_utils::Backoff;
 use nll_cut::Cut;
 use nll_ledger::{Leave, Ledger};
@@ -25,6 +25,9 @@ use nll_owner::{Owner, Tables};
 use nll_problem::Problem;
 use std::alloc::Global;
 use std::sync::Wait;
+
+/// How many turns a worker takes, where it can, before it tries again to post into a full mailbox.
+const PATIENCE: u64 = 16;
 
 /// Sets the stop flag, and leaves.
 pub fn halt<L: Ledger>(book: &L::Book, share: L::Share) -> L::Left
@@ -138,7 +141,14 @@ fn go_on<M: Mail, L: Ledger, G: Gate, R: Wait>(
             Leave::Stopped(left) => return (left, Ending::Stopped),
             Leave::Open(back) => share = back,
         }
-        heard = round::<M, L, G>(gate, book, &mut share, owner, owners, tally, receivers, me);
+        let until = if tally.waiting > 0 {
+            tally.turns.saturating_add(PATIENCE)
+        } else {
+            0
+        };
+        heard = rounds::<M, L, G>(
+            gate, book, &mut share, owner, owners, tally, receivers, me, until,
+        );
     }
     unreachable!()
 }

@@ -1,10 +1,13 @@
 #!/usr/bin/env python3
-"""Makes what docs/ shows of pages: the pictures of docs/FROM-RUST.md, and docs/LEARNING.md's pages.
+"""Makes what docs/ shows of pages: the pictures of docs/FROM-RUST.md, and docs/LEARNING.md's pages;
+and the picture of docs/MESSAGES.md.
 
-    pictures.py [FOLDER]
+    pictures.py [--schedule] [FOLDER]
 
-The pictures are of examples/three.rs in a headless Chromium. Needs rustc, Chromium and an `nllc`.
-Run by hand where the page's look or an example has changed; FOLDER is docs/ otherwise.
+The pictures are of examples/three.rs in a headless Chromium, and of one of its schedules. Needs rustc,
+Chromium and an `nllc`; with `--schedule` it makes the last picture alone, for which Chromium and a
+`world_program` suffice. Run by hand where the page's look or an example has changed; FOLDER is docs/
+otherwise.
 """
 
 import os
@@ -65,13 +68,28 @@ def main(folder):
             take(browser, pages, os.path.join(folder, "pictures"), *picture)
 
 
+def take_schedule(folder):
+    """The picture of a schedule."""
+    os.makedirs(os.path.join(folder, "pictures"), exist_ok=True)
+    with tempfile.TemporaryDirectory() as pages, Browser() as browser:
+        path = os.path.join(pages, "schedule.html")
+        subprocess.run(["tools/nll-schedule", "examples/each_other.facts", "examples/each_other.schedule",
+                        "-o", path], cwd=ROOT, stdout=subprocess.DEVNULL, check=True)
+        page = browser.open(path, 1280, 760, "light", "#event=18")
+        save(page, os.path.join(folder, "pictures", "schedule.png"))
+
+
 def take(browser, pages, folder, name, function, scheme, chosen):
-    """One picture. Its colours are made fewer where pngquant is there, for a third of the size."""
+    """One picture."""
     with open(os.path.join(pages, f"{function}.facts"), "rb") as file:
         text = file.read()
     path = os.path.join(pages, f"{function}.html")
     page = browser.open(path, *SIZE, scheme, fragment(text, chosen))
-    picture = os.path.join(folder, f"{name}.png")
+    save(page, os.path.join(folder, f"{name}.png"))
+
+
+def save(page, picture):
+    """Its colours are made fewer where pngquant is there, for a third of the size."""
     page.screenshot(picture)
     if shutil.which("pngquant"):
         subprocess.run(["pngquant", "--force", "--ext", ".png", "--quality", "80-100", picture],
@@ -79,4 +97,9 @@ def take(browser, pages, folder, name, function, scheme, chosen):
 
 
 if __name__ == "__main__":
-    main(os.path.abspath(sys.argv[1] if len(sys.argv) > 1 else os.path.join(ROOT, "docs")))
+    words = sys.argv[1:]
+    alone = words[:1] == ["--schedule"]
+    where = os.path.abspath((words[alone:] or [os.path.join(ROOT, "docs")])[0])
+    if not alone:
+        main(where)
+    take_schedule(where)

@@ -1,10 +1,10 @@
-use Rattle.std.proofs.Common.{◌≡◌, ◌∙◌, true, map, sym, ap, subst}
+use Rattle.std.proofs.Common.{◌≡◌, ◌∙◌, true, map, sym, ap, subst, true≢false}
 use Rattle.std.proofs.lemmas.Result.{IfOk-weaker}
 use Rattle.clap.specs.Words.{HasKind, fault_of, is_simple, is_simple_and_free, kind_of, subcommand_of, subcommand_rows_of, takes}
 use Rattle.clap.specs.declared.error.kind.ErrorKind.TheVariants.{OutOfMemory}
 use Rattle.nll_command_line.specs.Grammar.{IsTold, line_of_matches, program}
 use Rattle.nll_command_line.proofs.GrammarLemmas.{is_simple-program, is_simple_and_free-program, plain_result}
-use Rattle.nll_command_line.proofs.HelpLemmas.{help_given, help_is_not_taken}
+use Rattle.nll_command_line.proofs.HelpLemmas.{help_alone_is_not_taken, help_given, help_is_not_taken}
 use Rattle.nll_command_line.proofs.LineErrorLemmas.{matches_without_line, memory_told, words_without_matches}
 use Rattle.nll_command_line.proofs.LineLemmas.{line_is}
 use Rattle.nll_command_line.proofs.PlainLineLemmas.{line_by_grammar-plain, takes-plain}
@@ -22,6 +22,7 @@ returns-in-Ok c =
       plain = λ task file h.
           plain_result c.line_of-line.result task file (sym (line_by_grammar-plain task file _ h) ∙ ap line_of_matches (sym read)) c.line_of-line.ensures.ok c.line_of-line.ensures.err;
       help = λ h. absurd (help_is_not_taken texts none h);
+      taken = λ ok asks. help_alone_is_not_taken texts none asks;
       err = matches_without_line texts c.line_of-line.result none (ap line_of_matches (sym read)) c.line_of-line.ensures.err;
     }
 
@@ -40,5 +41,6 @@ returns-in-Err c =
       plain = λ task file h.
           memory_told texts c.refusal-refusal.result (subst (λ k. IsTold texts k c.refusal-refusal.result) (passes (takes-plain task file texts h)) told);
       help = λ h. help_given texts c.refusal-refusal.result h refused;
+      taken = λ ok asks. true≢false (sym ok);
       err = refused;
     }

@@ -13,8 +13,8 @@ pub returns-in-Err-clause-err : goal.returns-in-Err-clause-err
 returns-in-Err-clause-err c = unread_words _ c.in-Err.error c.in-Err.ensures.err
 
 pub returns-clause-plain : goal.returns-clause-plain
-returns-clause-plain c = λ task file others said read plain.
-    line_plain _ _ _ c.in_default.ensures.ok c.in_default.ensures.just c.with_options.result c.asked-asked.result c.with_options.ensures.ok c.with_options.ensures.err task file others said read
+returns-clause-plain c = λ task file others said read plain suits.
+    line_plain _ _ _ c.in_default.ensures.ok c.in_default.ensures.just c.with_options.result c.asked-asked.result c.with_options.ensures.ok c.with_options.ensures.err task file others said read suits
     (λ same. c.asked-asked.ensures.plain task file (rw c.as_slice.ensures.value (subst (IsPlainLine task file) same plain)))
 
 pub returns-clause-help : goal.returns-clause-help
@@ -28,3 +28,5 @@ pub returns-clause-err : goal.returns-clause-err
 returns-clause-err c =
     line_err _ _ _ c.in_default.ensures.ok c.in_default.ensures.just c.with_options.result c.asked-asked.result c.with_options.ensures.ok c.with_options.ensures.err
     (rw c.as_slice.ensures.value at c.asked-asked.ensures.err)
+    (rw c.as_slice.ensures.value at c.asked-asked.ensures.taken)
+    (rw c.as_slice.ensures.value at c.asked-asked.ensures.plain)

@@ -5,8 +5,8 @@ use Rattle.nll_report.proofs.LineLemmas.{asked_line, help_told, lawful_count, wo
 use Rattle.nll_report.proofs.RunLemmas.{line_told}
 use Rattle.nll_report.proofs.program.report.Goals as goal
 
-pub answered-requires-after_bounds : goal.answered-requires-after_bounds
-answered-requires-after_bounds g c = λ κs bounds. let ok = c.in-Ok.ensures.ok in lawful_count _ ok.0 (said_by c.in-Ok.line) ok.1
+pub answered-requires-clause-owners : goal.answered-requires-clause-owners
+answered-requires-clause-owners g c = λ κs bounds. let ok = c.in-Ok.ensures.ok in lawful_count _ ok.0 (said_by c.in-Ok.line) ok.1
 
 pub returns-in-Ok-clause-ok : goal.returns-in-Ok-clause-ok
 returns-in-Ok-clause-ok g c =
@@ -23,7 +23,7 @@ returns-in-Ok-clause-ok g c =
 pub returns-in-Ok-clause-err : goal.returns-in-Ok-clause-err
 returns-in-Ok-clause-err g c =
     IfErr-weaker c.answered.result _ _
-    (λ e h. line_told _ _ _ c.in-Ok.line.task _ _ (asked_line _ _ _ _ c.in-Ok.ensures.ok c.in-Ok.ensures.help) e h)
+    (λ e h. line_told _ _ _ _ _ c.in-Ok.line.task (asked_line _ _ _ _ c.in-Ok.ensures.ok c.in-Ok.ensures.help) e h)
     c.answered.ensures.err
 
 pub returns-in-Err-clause-ok : goal.returns-in-Err-clause-ok

@@ -59,8 +59,8 @@ returns-in-Quiet-clause-pairs g c = stays_on g.M.Mail _ _ _ c.loop.invariant.7 c
 pub returns-in-Stopped-clause-pairs : goal.returns-in-Stopped-clause-pairs
 returns-in-Stopped-clause-pairs g c = stays_on g.M.Mail _ _ _ c.loop.invariant.7 c.share_out-heard.ensures.pairs
 
-pub round-heard-requires-clause-rests : goal.round-heard-requires-clause-rests
-round-heard-requires-clause-rests g c κs within =
+pub rounds-heard-requires-clause-rests : goal.rounds-heard-requires-clause-rests
+rounds-heard-requires-clause-rests g c κs within =
     let l = c.loop.invariant in
     let s = c.share_out-heard in
     let rest : IsAtRest s.new.owner (map g.M.Mail.received c.loop.receivers.items) (g.L.Ledger.owed c.loop.share) (g.L.Ledger.cleared c.loop.share) s.new.tally = elim c.match-heard.branch [
@@ -73,15 +73,15 @@ pub loop-preserved : goal.loop-preserved
 loop-preserved g c =
     let l = c.loop.invariant in
     let s = c.share_out-heard in
-    let f = c.round-heard.ensures in
+    let f = c.rounds-heard.ensures in
     let back = c.in-Open.ensures.back in (
       tt,
       tt,
-      is_grown _ _ _ s.new.owner c.round-heard.new.owner f.grows (is_given _ _ _ c.loop.owner s.new.owner s.ensures.others l.2),
+      is_grown _ _ _ s.new.owner c.rounds-heard.new.owner f.grows (is_given _ _ _ c.loop.owner s.new.owner s.ensures.others l.2),
       f.sound,
       (f.book.0, f.book.1 ∙ (back.1 ∙ l.4.1), f.book.2 ∙ (back.4 ∙ l.4.2)),
       f.comes,
-      posts_grown s.new.owner c.round-heard.new.owner _ f.grows s.ensures.sound s.ensures.posts,
+      posts_grown s.new.owner c.rounds-heard.new.owner _ f.grows s.ensures.sound s.ensures.posts,
       stays_on g.M.Mail _ _ _ l.7 s.ensures.pairs,
       keeps_on g.M.Mail _ _ _ l.8 f.keeps,
     )

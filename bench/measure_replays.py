@@ -1,0 +1,137 @@
+#!/usr/bin/env python3
+"""Times `replay` of long schedules over one text, beside the partner's, and prints Markdown tables.
+
+    measure_replays.py --nllc PATH --baseline PATH --text FILE --schedules FOLDER [--owners "COUNT .."]
+                       [--events "COUNT .."] [--deal DEAL] [--runs N]
+
+replays.sh calls it. The folder has for each number of owners and of events a schedule, and the same one with a last
+line that is refused; outputs go there too. Times are best wall times of some runs, for which all schedules and
+programs take turns. Words may stand behind PATH.
+"""
+
+import argparse
+import collections
+import filecmp
+import math
+import os
+import shlex
+import sys
+
+from measure import machine, run
+
+# What is wanted of the longest schedule: seconds, and MiB.
+MOST_SECONDS = 3.0
+MOST_MEMORY = 1024
+
+HEAD = ("| owners | events | done | `nllc` s | reading s | events s | ns an event | partner s | partner's events s "
+        "| ratio | `nllc` MiB | partner MiB |\n"
+        "|---|---|---|---|---|---|---|---|---|---|---|---|")
+
+
+class Failed(Exception):
+    """A run that didn't end as it should."""
+
+
+class Row:
+    """The best times and the peaks of a schedule, by program and by whether it is refused."""
+
+    def __init__(self, args, owners, events):
+        self.args = args
+        self.owners = owners
+        self.events = events
+        self.best = collections.defaultdict(lambda: math.inf)
+        self.peak = collections.Counter()
+
+    def path(self, suffix):
+        return os.path.join(self.args.schedules, f"{self.owners}-{self.events}.{suffix}")
+
+    def take(self, who, suffix):
+        """One run of a program. Its output is kept."""
+        dealt = ["--owners", str(self.owners), "--deal", self.args.deal]
+        command = [*self.args.programs[who], "replay", self.args.text, "--schedule", self.path(suffix), *dealt]
+        found = run(command, self.args.seconds, self.path(f"{suffix}-{who}"))
+        line = f"nllc: schedule line {self.events + 2}: range"
+        wanted = (0, "") if suffix == "schedule" else (2, line)
+        if (found.status, found.err) != wanted:
+            raise Failed(f"{' '.join(command)}: status {found.status} {found.err}")
+        self.best[who, suffix] = min(self.best[who, suffix], found.wall)
+        self.peak[who] = max(self.peak[who], found.peak)
+
+    def check(self):
+        """Raises where the outputs of the programs differ; else lets them go. Counts the events that were done."""
+        first, *others = [self.path(f"schedule-{who}") for who in self.args.programs]
+        if not all(filecmp.cmp(first, other, shallow=False) for other in others):
+            raise Failed(f"UNLIKE outputs {first}")
+        with open(first, "rb") as file:
+            self.done = sum(line.endswith(b" done\n") for line in file)
+        for path in (first, *others):
+            os.remove(path)
+
+    def print(self):
+        whole = {who: self.best[who, "schedule"] for who in self.args.programs}
+        beyond = {who: whole[who] - self.best[who, "refused"] for who in whole}
+        each = f"{beyond['nllc'] / self.events * 1e9:.0f}" if self.events else ""
+        ratio = f"{beyond['nllc'] / beyond['partner']:.2f}" if self.events and beyond["partner"] > 0 else ""
+        print(f"| {self.owners} | {self.events:,} | {self.done:,} | {whole['nllc']:.3f} "
+              f"| {self.best['nllc', 'refused']:.3f} | {beyond['nllc']:.3f} | {each} | {whole['partner']:.3f} "
+              f"| {beyond['partner']:.3f} | {ratio} | {self.peak['nllc']:.1f} | {self.peak['partner']:.1f} |", flush=True)
+
+
+def print_values(args):
+    """Prints what `values` of the text takes."""
+    command = [*args.programs["nllc"], "values", args.text]
+    found = [run(command, args.seconds) for _ in range(args.runs)]
+    if any(one.status != 0 for one in found):
+        raise Failed(f"{' '.join(command)}: {found}")
+    print(f"\n`values` of the same text: {min(one.wall for one in found):.3f} s, "
+          f"{max(one.peak for one in found):.1f} MiB.")
+
+
+def print_wanted(rows):
+    """Prints whether the longest schedules take no more than is wanted."""
+    most = max(row.events for row in rows)
+    rows = [row for row in rows if row.events == most]
+    seconds = all(row.best["nllc", "schedule"] < MOST_SECONDS for row in rows)
+    memory = all(row.peak["nllc"] < MOST_MEMORY for row in rows)
+    print(f"{most:,} events below {MOST_SECONDS:.0f} s: {'yes' if seconds else 'no'}; below {MOST_MEMORY} MiB: "
+          f"{'yes' if memory else 'no'}.")
+
+
+def main():
+    parser = argparse.ArgumentParser(description=__doc__.split("\n", maxsplit=1)[0])
+    parser.add_argument("--nllc", required=True)
+    parser.add_argument("--baseline", required=True)
+    parser.add_argument("--text", required=True)
+    parser.add_argument("--schedules", required=True, help="folder of the schedules, and for outputs")
+    parser.add_argument("--owners", default="2 16")
+    parser.add_argument("--events", default="0 250000 500000 1000000")
+    parser.add_argument("--deal", choices=["round", "blocks"], default="round")
+    parser.add_argument("--runs", type=int, default=3)
+    parser.add_argument("--seconds", type=float, default=60.0, help="time limit of a run")
+    parser.add_argument("--commit", default="none", help="told beside the figures")
+    args = parser.parse_args()
+    args.programs = {"nllc": shlex.split(args.nllc), "partner": shlex.split(args.baseline)}
+    print(f"`replay` of `{os.path.basename(args.text)}`, {os.path.getsize(args.text) / (1 << 20):.2f} MiB, best wall "
+          f"seconds of {args.runs} runs of each program in turn; {machine(args)}")
+    rows = [Row(args, int(owners), int(events)) for owners in args.owners.split() for events in args.events.split()]
+    try:
+        for _ in range(args.runs):
+            for row in rows:
+                for suffix in ("schedule", "refused"):
+                    for who in args.programs:
+                        row.take(who, suffix)
+        print(HEAD)
+        for row in rows:
+            row.check()
+            row.print()
+        print_values(args)
+    except Failed as failed:
+        print(failed, file=sys.stderr)
+        return 1
+    print_wanted(rows)
+    print(f"Load at the end {os.getloadavg()[0]:.1f}.")
+    return 0
+
+
+if __name__ == "__main__":
+    sys.exit(main())

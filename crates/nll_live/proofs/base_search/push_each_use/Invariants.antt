@@ -1,0 +1,11 @@
+use Rattle.std.proofs.Common.{◌≡◌, ◌≤◌, ℕ, length, slice_index}
+use Rattle.nll_live.specs.Live.{AsksForUse}
+use Rattle.nll_live.proofs.AskLemmas.{AreAskedTo}
+use Rattle.nll_live.proofs.base_search.push_each_use.Given as goal
+
+abbrev pub invariant-loop-variable : goal.invariant-loop-variable
+invariant-loop-variable l = record {
+  width : length l.room.marks.items ≡ length l.body.points;
+  fresh : (p : ℕ) → slice_index l.room.marks.items p ≤ l.variable;
+  asked : AreAskedTo (AsksForUse l.body) l.fn.stretches.items l.variable l.stretches.items;
+}

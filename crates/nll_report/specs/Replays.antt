@@ -1,0 +1,74 @@
+-- The replay that a line asks for, and why there is none.
+-- Source: project's choice.
+use Rattle.std.specs.Prelude.{◌≡◌, ◌⊎◌, ℕ, List, Option, string_bytes}
+use Rattle.nll_problem.specs.Problem.{Problem}
+use Rattle.nll_reading.specs.Labels.{Labels}
+use Rattle.nll_reading.specs.Text.{IsFault}
+use Rattle.nll_cut.specs.Partition.{Cut}
+use Rattle.nll_event.specs.declared.event.Event.{Event}
+use Rattle.nll_schedule_text.specs.ScheduleText.{schedule, Means}
+use Rattle.nll_replay.specs.ReplayReport.{IsReplayReport}
+use Rattle.nll_command_line.specs.declared.options.Deal.{Deal}
+use Rattle.nll_report.specs.Owners.{IsAskedCut, IsCutRefused, IsFileMeaning}
+use Rattle.nll_report.specs.Texts.{Holds, Lacks}
+use Rattle.nll_report.specs.declared.messages.Refusal.{Refusal}
+use Rattle.nll_report.specs.declared.messages.Refusal.TheVariants.{CannotRead, ScheduleText}
+use Rattle.nll_report.specs.declared.messages.Refusal.TheVariants.{Memory}
+
+-- a text of the schedule's file lists these events of so many owners
+abbrev pub IsListedSchedule : Holds → List ℕ → ℕ → List Event → Type 0
+IsListedSchedule holds path count events =
+    (text : List ℕ) × holds path text × Means count text events
+
+-- The cut of the problem's regions is the one that is asked for, a text of the schedule's file lists
+-- events of so many owners, and the report is that of their replay.
+pub record IsAskedReplay (holds : Holds) (problem : Problem) (labels : Labels) (count : ℕ)
+    (how : Deal) (path : Option (List ℕ)) (schedule report : List ℕ) : Type 0 where
+  pub cut : Cut
+  pub asked : IsAskedCut holds problem.regions count how path cut
+  pub events : List Event
+  pub listed : IsListedSchedule holds schedule count events
+  pub replayed : IsReplayReport problem labels cut events report
+
+-- A text of the file means a problem, and the report is that of the replay that is asked for; the
+-- status is 0.
+pub record IsFileReplay (holds : Holds) (file : List ℕ) (count : ℕ) (how : Deal)
+    (path : Option (List ℕ)) (schedule report : List ℕ) (status : ℕ) : Type 0 where
+  pub problem : Problem
+  pub labels : Labels
+  pub meaning : IsFileMeaning holds file problem labels
+  pub replay : IsAskedReplay holds problem labels count how path schedule report
+  pub told : status ≡ 0
+
+-- ---- why there is no replay
+
+-- the refusal tells the fault of a text as a schedule of so many owners, or that memory was refused
+abbrev pub IsScheduleTextRefused : ℕ → List ℕ → Refusal → Type 0
+IsScheduleTextRefused count text (ScheduleText line kind) = IsFault (schedule count) text line kind
+IsScheduleTextRefused count text other = other ≡ Memory
+
+-- the refusal tells the truth of a text of the schedule's file, or that there is none
+abbrev pub IsScheduleRefused : Holds → Lacks → ℕ → List ℕ → Refusal → Type 0
+IsScheduleRefused holds lacks count path (CannotRead other) =
+    (string_bytes other ≡ path) × lacks path
+IsScheduleRefused holds lacks count path Memory = Unit {0}
+IsScheduleRefused holds lacks count path other =
+    (text : List ℕ) × holds path text × IsScheduleTextRefused count text other
+
+-- the refusal tells why there is no cut; or the cut that is asked for is there, and it tells why
+-- there is no schedule: so the cut file is dealt with wholly before the schedule
+abbrev pub IsReplayRefused : Holds → Lacks → ℕ → ℕ → Deal → Option (List ℕ) → List ℕ → Refusal
+    → Type 0
+IsReplayRefused holds lacks regions count how path schedule refusal =
+    IsCutRefused holds lacks regions count path refusal
+    ⊎ ((cut : Cut) × IsAskedCut holds regions count how path cut
+    × IsScheduleRefused holds lacks count schedule refusal)
+
+-- A text of the file means a problem, and the refusal tells the truth of the cut of its regions or
+-- of the schedule. So the file is dealt with wholly before both.
+pub record IsFileReplayRefused (holds : Holds) (lacks : Lacks) (file : List ℕ) (count : ℕ)
+    (how : Deal) (path : Option (List ℕ)) (schedule : List ℕ) (refusal : Refusal) : Type 0 where
+  pub problem : Problem
+  pub labels : Labels
+  pub meaning : IsFileMeaning holds file problem labels
+  pub refused : IsReplayRefused holds lacks problem.regions count how path schedule refusal
