@@ -1,5 +1,5 @@
 /* Refuses one growth of memory of the program that it is preloaded to: that of number REFUSE_AT,
-   counted from 1. At the end of the program it writes how many growths were asked for to the file
+   counted from 1 over all its threads. At the end of the program it writes how many growths were asked for to the file
    REFUSE_COUNT. */
 #include <errno.h>
 #include <fcntl.h>
@@ -40,10 +40,10 @@ void _exit(int status)
 
 static int is_refused(void)
 {
-    asked++;
-    if (asked == at)
+    unsigned long number = __atomic_add_fetch(&asked, 1, __ATOMIC_SEQ_CST);
+    if (number == at)
         errno = ENOMEM;
-    return asked == at;
+    return number == at;
 }
 
 void *malloc(size_t size)
