@@ -14,6 +14,8 @@ With `--options` the words of each of them stand before FILE in place of none; w
 these words are run alone, `replay FILE --schedule FILE` say. With `--spread` so many growths are
 refused, spread over the run.
 
+No run may keep more blocks of memory to its end than the one that is refused nothing.
+
 Prints each run that ends otherwise, a line for each command, and last `N runs, M refused, W
 wrong`; status 1 where W isn't 0 or a command has no run that is refused.
 """
@@ -33,9 +35,12 @@ OWNERS = ("--owners", "--cut")
 
 
 class Allocator:
-    """The library that refuses, and the file of its counts."""
+    """The library that refuses, and the file of its counts.
+
+    `left` has how many blocks of memory the last run didn't give back."""
 
     def __init__(self, folder):
+        self.left = 0
         self.library = os.path.join(folder, "refuse.so")
         self.counts = os.path.join(folder, "count")
         source = os.path.join(HERE, "refuse.c")
@@ -56,7 +61,8 @@ class Allocator:
         if not os.path.exists(self.counts):
             return answer, 0
         with open(self.counts, encoding="ascii") as file:
-            return answer, int(file.read())
+            asked, self.left = map(int, file.read().split())
+        return answer, asked
 
 
 def tried(growths, most):
@@ -71,6 +77,7 @@ def refuse_each(allocator, command, seconds, most):
     has_owners = any(word in OWNERS for word in command)
     refusals = (REFUSED, UNSTARTED) if has_owners else (REFUSED,)
     usual, growths = allocator.run(command, 0, seconds)
+    left = allocator.left
     refused = wrong = 0
     numbers = tried(growths, most)
     for at in numbers:
@@ -80,6 +87,9 @@ def refuse_each(allocator, command, seconds, most):
         elif answer != usual or (asked < at and not has_owners):
             wrong += 1
             print(f"growth {at} of {' '.join(command)}: {answer!r}")
+        if allocator.left > left:
+            wrong += 1
+            print(f"growth {at} of {' '.join(command)}: {allocator.left - left} blocks left")
     print(f"{' '.join(command[1:])}: {growths} growths, {refused} refused, {wrong} wrong",
           flush=True)
     return len(numbers), refused, wrong
