@@ -85,7 +85,9 @@ fn told_twice<M: Mail, L: Ledger, R: Threads + Wait + Sync>(
         watch: &refusals,
     };
     let mut out = String::new(alloc);
-    let error = match run_with(rt, alloc, problem, cut, &watched, ledger, &NoGate, &refusals) {
+    let error = match run_with(
+        rt, alloc, problem, cut, &watched, ledger, &NoGate, &refusals,
+    ) {
         Ok(outcome) => {
             drop(outcome);
             None

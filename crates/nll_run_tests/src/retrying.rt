@@ -30,11 +30,7 @@ const ROWS: &[(Written, Deal, &str)] = &[
         Deal::Round(2),
         "0: 0 1 2 3|1: 1 2|2: 1 2|2: 0 6 1 2|2: 1-0 2",
     ),
-    (
-        BY_TURNS,
-        Deal::Round(1),
-        "0: 0 1 2|1: 0 1|2: 0 1|1: 0 7|0:",
-    ),
+    (BY_TURNS, Deal::Round(1), "0: 0 1 2|1: 0 1|2: 0 1|1: 0 7|0:"),
     (
         BY_TURNS,
         Deal::Round(2),
@@ -188,9 +184,25 @@ fn compare_many<M: Mail, L: Ledger, R: AllocGlobal + Abort + Threads + Wait + Sy
 ) {
     let problem = problem_again(rt, rt.alloc(), MANY);
     let alone = filled_again(rt, rt.alloc(), "1: 0 901|0:");
-    compare_dealt(rt, rt.alloc(), &problem, Deal::Round(1), mail, ledger, &alone);
+    compare_dealt(
+        rt,
+        rt.alloc(),
+        &problem,
+        Deal::Round(1),
+        mail,
+        ledger,
+        &alone,
+    );
     let both = filled_again(rt, rt.alloc(), "2: 0 601 1 300|2: 1-0 300");
-    compare_dealt(rt, rt.alloc(), &problem, Deal::Round(2), mail, ledger, &both);
+    compare_dealt(
+        rt,
+        rt.alloc(),
+        &problem,
+        Deal::Round(2),
+        mail,
+        ledger,
+        &both,
+    );
     drop(problem);
 }
 
