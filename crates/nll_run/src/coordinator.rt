@@ -1,7 +1,7 @@
 //! One run, from the problem to its outcome.
 
-ghost use Rattle.std.specs.Prelude.{◌≡◌, ◌<◌, ◌≤◌, ℕ, Bool, true, [], length, map, slice_get, Some, Err};
-ghost use Rattle.std.specs.Prelude.{IfOk, vec_len, vec_capacity};
+ghost use Rattle.std.specs.Prelude.{◌≡◌, ◌<◌, ◌≤◌, ℕ, Bool, true, [], length, map, slice_get};
+ghost use Rattle.std.specs.Prelude.{Some, Err, IfOk, vec_len, vec_capacity};
 ghost use Rattle.std.specs.VecDeque.{deque_len};
 ghost use Rattle.nll_problem.specs.Limits.{most_owners};
 ghost use Rattle.nll_problem.specs.Problem.{IsSound};
@@ -181,8 +181,8 @@ fn conclude<M: Mail, L: Ledger>(
         d.ending d.log.items }
     ensures ok { IfOk result (λ o. IsOutcome M.Mail problem.now cut.now o.values
         (map (λ list. list.items) o.grown.items) o.posts.items) }
-    ensures refused { (error : RunError) → IsReason (map (λ d. d.ending) finished.items) (Some error)
-        → result ≡ Err error }
+    ensures refused { (error : RunError)
+        → IsReason (map (λ d. d.ending) finished.items) (Some error) → result ≡ Err error }
     ensures thread { result ≡ Err Thread → (k : ℕ) × (d : _)
         × (slice_get finished.items k ≡ Some d) × (WasStarted d.ending → ⊥) }
     ensures started { IfOk result (λ _. (k : ℕ) (d : _) → slice_get finished.items k ≡ Some d
