@@ -52,7 +52,8 @@ pub fn run_all<M: Mail, L: Ledger, G: Gate, P: Permit, R: Threads + Wait + Sync>
     requires tables { AreTables problem.now cut.now tables.now }
     ensures ended { IfOk result (λ all. Each workers.items all.items (λ w done.
         IsEnded L.Ledger M.Mail problem.now cut.now book.now w.me w.outbox.senders.items
-        w.receivers.items done.log.items done.left done.closed.items done.receivers.items done.ending)) }
+        w.receivers.items done.log.items done.left done.closed.items done.receivers.items
+        done.ending)) }
     ensures answered { IfOk result (λ all. Each workers.items all.items (λ w done.
         IsAnswered (P.permits permit.now w.me) done.ending)) }
 {
