@@ -17,7 +17,7 @@ use Rattle.nll_worker.specs.Finishing.{Finishes}
 use Rattle.nll_mail.specs.declared.mail.Mail as Mail
 use Rattle.nll_ledger.specs.declared.ledger.Ledger as Ledger
 use Rattle.nll_owner.specs.Delivery.{IsPair, IsPairBefore}
-use Rattle.nll_run.specs.Outcome.{IsOutcome}
+use Rattle.nll_run.specs.Outcome.{AreRanked, IsOutcome}
 use Rattle.nll_worker.specs.Finishing.{Leaves, WasMade, FinishedAs, IsError}
 use Rattle.nll_worker.specs.declared.ending.Ending.{Ending}
 use Rattle.nll_worker.specs.declared.ending.Ending.TheVariants.{Quiet, Stopped, Stray}
@@ -25,6 +25,7 @@ use Rattle.nll_worker.specs.declared.ending.Ending.TheVariants as endings
 use Rattle.nll_worker.proofs.RunLemmas.{concludes, not_stray}
 use Rattle.nll_run.specs.Settling.{ArePostsOf, InRows, sent_by, got_by}
 use Rattle.nll_run.specs.Refusing.{IsCalm}
+use Rattle.nll_run.proofs.RankingLemmas.{are_ranked}
 use Rattle.nll_run.proofs.PlaceLemmas.{place, within, read_place, map_place, map_from, map_size, mapped, contains_place, contained}
 
 -- the rest of a list behind one that begins it
@@ -252,6 +253,12 @@ module _ {D M S R C P L B H E : Type 0} (m : Mail.Ghosts M S R C P) (b : Ledger.
               (cases_lt (owner_of c r) (length logs))),
         )
 
+        ranked : AreRanked q c logs
+        ranked = are_ranked q c cut owner logs (λ i l. (ends i l).sound) (λ i l. (ends i l).cut) (λ i l. (ends i l).me) log_is
+            (λ i j li lj differ.
+            let l = law.0 j i lj li (λ e. differ (sym e)) in
+            sym ((ends i li).heard (quiet i li) j lj) ∙ (l.1 ∙ l.0))
+
         -- what is said of one post
         said : (p : P) → Contains posts p → (m.post_sent p ≡ part q c (m.post_ends p).1 (log_of logs (m.post_ends p).0)) × (m.post_received p ≡ m.post_sent p) × (m.post_rest p ≡ [])
         said p h =
@@ -281,6 +288,7 @@ module _ {D M S R C P L B H E : Type 0} (m : Mail.Ghosts M S R C P) (b : Ledger.
           in_order = in_order;
           none_left = λ p h. (said p h).2;
           sound = law.1;
+          ranked = ranked;
           shaped = shaped;
           least = λ r e. ((λ h. (law.2 r e).0 ((logged r e).0 h)), λ h. (logged r e).1 ((law.2 r e).1 h));
           logged = λ r e. law.2 r e;

@@ -5,3 +5,4 @@ pub mod FillingLemmas
 pub mod EndingLemmas
 pub mod ConcludingLemmas
 pub mod ReasonLemmas
+pub mod RankingLemmas

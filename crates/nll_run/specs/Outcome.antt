@@ -1,6 +1,7 @@
 -- What a run answers.
 -- Source: project's choice, after RFC 2094, "Solving constraints".
-use Rattle.std.specs.Prelude.{◌≡◌, ◌↔◌, ℕ, Bool, List, [], map, Contains, AllPairs}
+use Rattle.std.specs.Prelude.{◌≡◌, ◌≢◌, ◌↔◌, ◌⊎◌, ℕ, ◌+◌, ◌^◌, ◌<◌, Bool}
+use Rattle.std.specs.Prelude.{List, [], map, Contains, AllPairs}
 use Rattle.nll_problem.specs.Problem.{Problem}
 use Rattle.nll_problem.specs.Solution.{Least}
 use Rattle.nll_core.specs.Values.{IsHeld, IsShaped}
@@ -9,6 +10,23 @@ use Rattle.nll_mail.specs.declared.growth.Growth.{Growth}
 use Rattle.nll_mail.specs.declared.mail.Mail as Mail
 use Rattle.nll_owner.specs.Logs.{AreSound, log_of, part}
 use Rattle.nll_owner.specs.Delivery.{AreDelivered, IsPairBefore, SayLeast}
+
+-- the growth's rank comes next after that of a growth which stands in the log of owner i, or in what
+-- i received from another
+abbrev pub ComesNext : Problem → Cut → List (List Growth) → ℕ → Growth → Type 0
+ComesNext q c grown i g =
+    (h : Growth)
+    × (Contains (log_of grown i) h
+    ⊎ ((j : ℕ) × (j < c.owners) × (j ≢ i) × Contains (part q c i (log_of grown j)) h))
+    × (h.rank + 1 ≡ g.rank)
+
+-- No rank is left out: each growth of a rank above 1 comes next after another. So there are as many
+-- growths as the highest rank says, and no rank is 2^61 or above.
+pub record AreRanked (q : Problem) (c : Cut) (grown : List (List Growth)) : Type 0 where
+  pub next :
+      (i : ℕ) (g : Growth) → i < c.owners → Contains (log_of grown i) g → 1 < g.rank
+      → ComesNext q c grown i g
+  pub low : (i : ℕ) (g : Growth) → i < c.owners → Contains (log_of grown i) g → g.rank < 2 ^ 61
 
 -- Each owner received from each other just the growths of the regions that it reads, once each and
 -- in the order in which they grew, and none was left in a mailbox. The values are the least.
@@ -21,6 +39,8 @@ pub record IsOutcome {M S R C P : Type 0} (mail : Mail.Ghosts M S R C P) (q : Pr
   pub none_left : (p : P) → Contains posts p → mail.post_rest p ≡ []
   -- each owner's log is well-formed, and well-supported by it and what the owner received
   pub sound : AreSound q c grown (λ i j. part q c i (log_of grown j))
+  -- no rank is left out, and none is 2^61 or above
+  pub ranked : AreRanked q c grown
   -- the values are the least, and the log of each region's owner says the same
   pub shaped : IsShaped q values
   pub least : (r e : ℕ) → IsHeld values r e ↔ Least q r e
