@@ -1,8 +1,8 @@
 //! Mailboxes on rings.
 //!
-//! A ring of fixed room, with one end that pushes and one that pops. No call waits, and none asks
-//! for memory once the ring is made. The rule of the ring tells the receiver of each growth that
-//! fewer were sent before it than a mailbox may carry.
+//! A ring of fixed room, with one end that pushes and one that pops. No call waits for the other
+//! end, and none asks for memory once the ring is made. The rule of the ring tells the receiver of
+//! each growth that fewer were sent before it than a mailbox may carry.
 //!
 //! The receiver takes growths out of the ring by batches, since each step that the other end sees
 //! costs far more than a step of its own. The sender tells of each growth at once.
@@ -42,7 +42,9 @@ type Popping = Consumer<Growth, Global, Few>;
 /// The receiver holds up to 128 more, which it has taken out of the ring at once and not yet given.
 ///
 /// # Threads
-/// No call holds a runtime, and none waits: an end never stands still for the other one.
+/// No call holds a runtime, and none waits for the other end. A `take` that looks into the ring may
+/// pause first, for at most 64 of the processor's hints, below a microsecond, whatever the other
+/// end does.
 ///
 /// # Cost
 /// `pair` makes three allocations: the places, the words by which the ends meet, and the batch of
