@@ -71,32 +71,8 @@ const COUNTED: &[(&[Piece], &[Piece])] = &[
         &[("2>>nllc: line 258: limit universals|", 0, 1)],
     ),
     (
-        &[(" ", 0, 67_108_864)],
-        &[("2>>nllc: line 1: header|", 0, 1)],
-    ),
-    (
-        &[(" ", 0, 67_108_865)],
-        &[("2>>nllc: line 1: limit text|", 0, 1)],
-    ),
-    (
         &[("nll-mir 1|", 0, 1), ("struct S#()|", 0, 1_025)],
         &[("2>>nllc: line 1026: limit structs|", 0, 1)],
-    ),
-    (
-        &[
-            ("nll-facts 1|points 1048576|region '1|", 0, 1),
-            ("constraint '1 '1 #|", 0, 1_048_576),
-            ("end|", 0, 1),
-        ],
-        OK,
-    ),
-    (
-        &[
-            ("nll-facts 1|points 1048576|region '1|", 0, 1),
-            ("constraint '1 '1 #|", 0, 1_048_576),
-            ("constraint '1 'static 0|end|", 0, 1),
-        ],
-        &[("2>>nllc: line 1048580: limit constraints|", 0, 1)],
     ),
     (
         &[
@@ -116,14 +92,6 @@ const COUNTED: &[(&[Piece], &[Piece])] = &[
     ),
     (
         &[
-            ("nll-mir 1|let _0: int|blocks 1|block bb0|", 0, 1),
-            ("nop|", 0, 1_048_576),
-            ("return|end|", 0, 1),
-        ],
-        &[("2>>nllc: line 1048581: limit points|", 0, 1)],
-    ),
-    (
-        &[
             ("nll-mir 1|", 0, 1),
             ("let _#: int|", 0, 65_536),
             ("blocks 1|block bb0|return|end|", 0, 1),
@@ -140,6 +108,42 @@ const COUNTED: &[(&[Piece], &[Piece])] = &[
     ),
 ];
 
+// The same of long texts.
+const LONG: &[(&[Piece], &[Piece])] = &[
+    (
+        &[(" ", 0, 67_108_864)],
+        &[("2>>nllc: line 1: header|", 0, 1)],
+    ),
+    (
+        &[(" ", 0, 67_108_865)],
+        &[("2>>nllc: line 1: limit text|", 0, 1)],
+    ),
+    (
+        &[
+            ("nll-facts 1|points 1048576|region '1|", 0, 1),
+            ("constraint '1 '1 #|", 0, 1_048_576),
+            ("end|", 0, 1),
+        ],
+        OK,
+    ),
+    (
+        &[
+            ("nll-facts 1|points 1048576|region '1|", 0, 1),
+            ("constraint '1 '1 #|", 0, 1_048_576),
+            ("constraint '1 'static 0|end|", 0, 1),
+        ],
+        &[("2>>nllc: line 1048580: limit constraints|", 0, 1)],
+    ),
+    (
+        &[
+            ("nll-mir 1|let _0: int|blocks 1|block bb0|", 0, 1),
+            ("nop|", 0, 1_048_576),
+            ("return|end|", 0, 1),
+        ],
+        &[("2>>nllc: line 1048581: limit points|", 0, 1)],
+    ),
+];
+
 // Ends the test unless that is what `check` does with a text, both of pieces.
 fn compare_pieces<R: Abort + AllocGlobal + Threads + Wait + Sync>(
     rt: &R,
@@ -151,11 +155,24 @@ fn compare_pieces<R: Abort + AllocGlobal + Threads + Wait + Sync>(
     compare_run(rt, "check|sheet", (text.as_str(), ""), want.as_str());
 }
 
+// The same of each row.
+fn compare_each<R: Abort + AllocGlobal + Threads + Wait + Sync>(
+    rt: &R,
+    rows: &[(&[Piece], &[Piece])],
+) {
+    for (text, want) in rows {
+        compare_pieces(rt, text, want);
+    }
+}
+
 #[test]
 fn limits_are_kept(rt: HostRuntime) {
-    for (text, want) in COUNTED {
-        compare_pieces(&rt, text, want);
-    }
+    compare_each(&rt, COUNTED);
+}
+
+#[test]
+fn limits_of_long_texts_are_kept(rt: HostRuntime) {
+    compare_each(&rt, LONG);
 }
 
 // Two tuples of 2,047 references each, and as many assignments of one to the other as ask for
