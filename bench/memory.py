@@ -1,31 +1,46 @@
 #!/usr/bin/env python3
 """Refuses each growth of memory of nllc in turn.
 
-    memory.py --nllc PATH [FILE..]
+    memory.py --nllc PATH [--options WORDS].. [--spread N] [FILE..]
+    memory.py --nllc PATH [--spread N] --command WORDS..
 
 Runs `PATH values FILE`, `PATH check FILE` and `PATH --help` again and again, on the examples
 where no FILE is given, and has `refuse.c` refuse the first growth of memory, then the second, to
 the last one that the run asks for. Each run is to end by itself, either as ever, or with status
-3, nothing on standard output and the line `nllc: memory` on standard error. Prints each run that
-ends otherwise, a line for each command, and last `N runs, M refused, W wrong`; status 1 where W
-isn't 0 or a command has no run that is refused.
+3, nothing on standard output and the line `nllc: memory` on standard error. Where owners are
+asked for, it may be the line `nllc: thread`: the C library asks for memory to start a thread.
+
+With `--options` the words of each of them stand before FILE in place of none; with `--command`
+these words are run alone, `replay FILE --schedule FILE` say. With `--spread` so many growths are
+refused, spread over the run.
+
+No run may keep more blocks of memory to its end than the one that is refused nothing.
+
+Prints each run that ends otherwise, a line for each command, and last `N runs, M refused, W
+wrong`; status 1 where W isn't 0 or a command has no run that is refused.
 """
 
 import argparse
 import glob
 import os
+import shlex
 import subprocess
 import sys
 import tempfile
 
 HERE = os.path.dirname(os.path.abspath(__file__))
 REFUSED = (3, b"", b"nllc: memory\n")
+UNSTARTED = (3, b"", b"nllc: thread\n")
+OWNERS = ("--owners", "--cut")
 
 
 class Allocator:
-    """The library that refuses, and the file of its counts."""
+    """The library that refuses, and the file of its counts.
+
+    `left` has how many blocks of memory the last run didn't give back."""
 
     def __init__(self, folder):
+        self.left = 0
         self.library = os.path.join(folder, "refuse.so")
         self.counts = os.path.join(folder, "count")
         source = os.path.join(HERE, "refuse.c")
@@ -46,44 +61,72 @@ class Allocator:
         if not os.path.exists(self.counts):
             return answer, 0
         with open(self.counts, encoding="ascii") as file:
-            return answer, int(file.read())
+            asked, self.left = map(int, file.read().split())
+        return answer, asked
 
 
-def refuse_each(allocator, command, seconds):
+def tried(growths, most):
+    """The numbers of the growths that are refused, spread over all of them."""
+    if most is None or growths <= most:
+        return list(range(1, growths + 1))
+    return sorted({1 + step * (growths - 1) // (most - 1) for step in range(most)})
+
+
+def refuse_each(allocator, command, seconds, most):
     """How many runs there were, how many were refused, and how many ended wrongly."""
+    has_owners = any(word in OWNERS for word in command)
+    refusals = (REFUSED, UNSTARTED) if has_owners else (REFUSED,)
     usual, growths = allocator.run(command, 0, seconds)
+    left = allocator.left
     refused = wrong = 0
-    for at in range(1, growths + 1):
+    numbers = tried(growths, most)
+    for at in numbers:
         answer, asked = allocator.run(command, at, seconds)
-        if answer == REFUSED:
+        if answer in refusals:
             refused += 1
-        elif answer != usual or asked < at:
+        elif answer != usual or (asked < at and not has_owners):
             wrong += 1
             print(f"growth {at} of {' '.join(command)}: {answer!r}")
+        if allocator.left > left:
+            wrong += 1
+            print(f"growth {at} of {' '.join(command)}: {allocator.left - left} blocks left")
     print(f"{' '.join(command[1:])}: {growths} growths, {refused} refused, {wrong} wrong",
           flush=True)
-    return growths, refused, wrong
+    return len(numbers), refused, wrong
 
 
 def words():
     parser = argparse.ArgumentParser(description=__doc__.split("\n")[0])
     parser.add_argument("--nllc", required=True, help="the program to try")
     parser.add_argument("--seconds", type=float, default=10.0, help="time limit of a run")
+    parser.add_argument("--options", action="append", help="words that stand before a FILE")
+    parser.add_argument("--spread", type=int, help="how many growths of a run are refused")
+    parser.add_argument("--command", action="append", help="words that are run alone")
     parser.add_argument("files", metavar="FILE", nargs="*")
     args = parser.parse_args()
+    if args.spread is not None and args.spread < 2:
+        parser.error("--spread is at least 2")
     examples = [os.path.join(HERE, "..", "examples", name) for name in ("*.facts", "*.mir")]
     found = [os.path.normpath(path) for pattern in examples for path in glob.glob(pattern)]
     args.files = args.files or sorted(found)
     return args
 
 
+def commands_of(args):
+    """What is run."""
+    if args.command:
+        return [shlex.split(command) for command in args.command]
+    options = [shlex.split(words) for words in args.options or [""]]
+    return [["--help"], *([task, *words, file] for words in options for file in args.files
+                          for task in ("values", "check"))]
+
+
 def main():
     args = words()
-    commands = [["--help"], *([task, file] for file in args.files for task in ("values", "check"))]
     with tempfile.TemporaryDirectory() as folder:
         allocator = Allocator(folder)
-        rows = [refuse_each(allocator, [args.nllc, *command], args.seconds)
-                for command in commands]
+        rows = [refuse_each(allocator, [args.nllc, *command], args.seconds, args.spread)
+                for command in commands_of(args)]
     runs, refused, wrong = (sum(column) for column in zip(*rows))
     print(f"{runs} runs, {refused} refused, {wrong} wrong")
     return 1 if wrong or any(row[1] == 0 for row in rows) else 0

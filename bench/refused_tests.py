@@ -1,14 +1,15 @@
 #!/usr/bin/env python3
 """Refuses each growth of memory of tests in turn.
 
-    refused_tests.py --tests FILE NAME..
+    refused_tests.py --tests FILE [--passing] NAME..
 
 FILE is the program of a crate's tests, as `rt test` leaves it (crates/CRATE/out/CRATE_tests), and
 each NAME the full name of one of them, as MODULE::TEST. Runs the test again and again, and has
 `refuse.c` refuse the first growth of memory, then the second, to the last one that it asks for.
-Each run is to pass, or to answer that memory was refused. Prints each run that ends otherwise, a
-line for each test, and last `N runs, M said so, W wrong`; status 1 where W isn't 0 or a test asks
-for no memory.
+Each run is to pass, or to answer that memory was refused; with `--passing` each is to pass, which
+is for tests that try again what is refused to them. Prints each run that ends otherwise, a line
+for each test, and last `N runs, M said so, W wrong`; status 1 where W isn't 0 or a test asks for
+no memory.
 """
 
 import argparse
@@ -30,16 +31,17 @@ def outcome(answer):
     return "refused" if "Memory" in text else "wrong"
 
 
-def refuse_each(allocator, command, seconds):
+def refuse_each(allocator, command, seconds, is_passing):
     """How many runs there were, how many said that memory was refused, how many were wrong."""
     usual, growths = allocator.run(command, 0, seconds)
     said, wrong = 0, int(outcome(usual) != "passed")
     for at in range(1, growths + 1):
         answer, _ = allocator.run(command, at, seconds)
         told = outcome(answer)
+        is_wrong = told == "wrong" or (is_passing and told != "passed")
         said += told == "refused"
-        wrong += told == "wrong"
-        if told == "wrong":
+        wrong += is_wrong
+        if is_wrong:
             print(" ".join(command), "with growth", at, "refused:", answer, file=sys.stderr)
     return growths, said, wrong
 
@@ -47,6 +49,7 @@ def refuse_each(allocator, command, seconds):
 def main():
     parser = argparse.ArgumentParser(description=__doc__.splitlines()[0])
     parser.add_argument("--tests", required=True)
+    parser.add_argument("--passing", action="store_true")
     parser.add_argument("--seconds", type=float, default=60)
     parser.add_argument("names", nargs="+")
     args = parser.parse_args()
@@ -55,7 +58,8 @@ def main():
     with tempfile.TemporaryDirectory() as folder:
         allocator = Allocator(folder)
         for name in args.names:
-            told = refuse_each(allocator, [os.path.abspath(args.tests), name], args.seconds)
+            told = refuse_each(allocator, [os.path.abspath(args.tests), name], args.seconds,
+                               args.passing)
             print(f"{name}: {told[0]} runs, {told[1]} said so, {told[2]} wrong")
             runs, said, wrong = runs + told[0], said + told[1], wrong + told[2]
             empty |= told[0] == 0

@@ -136,11 +136,12 @@ impl Texts for Shelf {
     }
 }
 
-/// The texts of the shelf, and one more at the path `sheet`.
+/// The texts of the shelf, and two more, at the paths `sheet` and `list`.
 #[derive(Drop)]
 pub struct Desk<'a> {
     pub shelf: Shelf,
     pub text: &'a [u8],
+    pub list: &'a [u8],
 }
 
 impl Texts for Desk<'_> {
@@ -151,6 +152,9 @@ impl Texts for Desk<'_> {
     fn get(&self, path: &str) -> Result<Vec<u8>, Unread> {
         if path == "sheet" {
             return self.text.to_vec(self.shelf.alloc).or(Err(Unread::Memory));
+        }
+        if path == "list" {
+            return self.list.to_vec(self.shelf.alloc).or(Err(Unread::Memory));
         }
         self.shelf.get(path)
     }

@@ -184,8 +184,13 @@ const END: &str = "\
 0: 11 Syntax;9: fits;35: 11 Syntax;128: 11 NotUtf8;
 ";
 
-// Writes what is told from a number on, where it isn't what was told before.
-fn write_told(out: &mut String, number: u64, before: Option<TextError>, told: Option<TextError>) {
+/// Writes what is told from a number on, where it isn't what was told before.
+pub fn write_told(
+    out: &mut String,
+    number: u64,
+    before: Option<TextError>,
+    told: Option<TextError>,
+) {
     if told == before {
         return;
     }

@@ -19,6 +19,10 @@ mod answers;
 #[cfg(test)]
 mod bodies;
 #[cfg(test)]
+mod borders;
+#[cfg(test)]
+mod changes;
+#[cfg(test)]
 mod comparing;
 #[cfg(test)]
 mod fakes;
@@ -29,6 +33,8 @@ mod hostile;
 #[cfg(test)]
 mod labels;
 #[cfg(test)]
+mod large;
+#[cfg(test)]
 mod limits;
 #[cfg(test)]
 mod meanings;
@@ -36,6 +42,8 @@ mod meanings;
 mod messages;
 #[cfg(test)]
 mod owners;
+#[cfg(test)]
+mod pieces;
 #[cfg(test)]
 mod program;
 #[cfg(test)]

@@ -49,14 +49,16 @@ pub fn run<R: Abort + AllocGlobal + Threads + Wait + Sync>(
     run_over(rt, words, &shelf, of_out, of_err)
 }
 
-/// What the program does with words over the texts of the shelf and one at the path `sheet`.
+/// What the program does with words over the texts of the shelf and two more, at the paths `sheet`
+/// and `list`.
 pub fn run_at_desk<R: Abort + AllocGlobal + Threads + Wait + Sync>(
     rt: &R,
     words: &str,
     text: &[u8],
+    list: &[u8],
 ) -> String {
     let shelf = Shelf { alloc: rt.alloc() };
-    run_over(rt, words, &Desk { shelf, text }, NEVER, NEVER)
+    run_over(rt, words, &Desk { shelf, text, list }, NEVER, NEVER)
 }
 
 // What the program does with words over texts, where its streams have these faults.

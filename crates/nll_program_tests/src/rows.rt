@@ -83,7 +83,7 @@ pub fn told<R: Abort + AllocGlobal + Threads + Wait + Sync>(
         Asked::Answer(command) => answer_to(rt.alloc(), command, text),
         Asked::Handed(command) => answer_handed(rt, rt.alloc(), command, text),
         Asked::Run(words) => run_on(rt, words, text),
-        Asked::Desk(words) => run_at_desk(rt, words, text),
+        Asked::Desk(words) => run_at_desk(rt, words, text, b""),
         Asked::Line => line_told(rt, rt.alloc(), words),
         Asked::Program(of_out, of_err) => run(rt, words, of_out, of_err),
         Asked::Help(end) => help_told(rt, words, end),

@@ -2,7 +2,7 @@
 use Rattle.std.proofs.Common.{◌≡◌, ◌<◌, ◌≤◌, ℕ, zero, suc, List, [], ◌∷◌, length, map, slice_index_or, slice_get, Some, refl, ap, sym, ◌∙◌, subst, ⊎_elim, arith}
 use Rattle.nll_mail.specs.declared.mail.Mail as Mail
 use Rattle.nll_run.specs.Table.{list_at, AreNewEnds, IsCell, IsTable}
-use Rattle.std.specs.Prelude.{Bool, true, Result, Ok, Err, IfOk}
+use Rattle.std.specs.Prelude.{Bool, false, true, Result, Ok, Err, IfOk}
 use Rattle.nll_worker.specs.Finishing.{WasStarted, IsAnswered}
 use Rattle.nll_worker.specs.declared.ending.Ending.{Ending}
 use Rattle.nll_worker.specs.declared.ending.Ending.TheVariants as endings
@@ -102,3 +102,13 @@ started_answer P endings.Memory t a = a
 started_answer P endings.NoOwner t a = a
 started_answer P endings.Forbidden t a = absurd t
 started_answer P endings.Unstarted t a = absurd t
+
+-- the permit answered something of each worker
+pub answer_of : (P : Bool → Type 0) (e : Ending) → IsAnswered P e → (answer : Bool) × P answer
+answer_of P endings.Forbidden a = (false, a)
+answer_of P endings.Quiet a = (true, a)
+answer_of P endings.Stopped a = (true, a)
+answer_of P endings.Stray a = (true, a)
+answer_of P endings.Memory a = (true, a)
+answer_of P endings.NoOwner a = (true, a)
+answer_of P endings.Unstarted a = (true, a)

@@ -1,7 +1,7 @@
 //! One run, from the problem to its outcome.
 
-ghost use Rattle.std.specs.Prelude.{◌≡◌, ◌<◌, ◌≤◌, ℕ, true, [], length, map, slice_get, Some, Err};
-ghost use Rattle.std.specs.Prelude.{IfOk, vec_len, vec_capacity};
+ghost use Rattle.std.specs.Prelude.{◌≡◌, ◌<◌, ◌≤◌, ℕ, Bool, true, [], length, map, slice_get};
+ghost use Rattle.std.specs.Prelude.{Some, Err, IfOk, vec_len, vec_capacity};
 ghost use Rattle.std.specs.VecDeque.{deque_len};
 ghost use Rattle.nll_problem.specs.Limits.{most_owners};
 ghost use Rattle.nll_problem.specs.Problem.{IsSound};
@@ -66,7 +66,8 @@ pub fn run<M: Mail, L: Ledger, G: Gate, R: Threads + Wait + Sync>(
 ///
 /// # Errors
 /// As those of `run`.
-/// - `Thread`: the permit refused a start, or a thread couldn't be started.
+/// - `Thread`: the permit refused a start, or a thread couldn't be started. The permit was asked by
+///   then.
 /// - `Memory`, where no start failed.
 pub fn run_with<M: Mail, L: Ledger, G: Gate, P: Permit, R: Threads + Wait + Sync>(
     rt: &R,
@@ -83,6 +84,8 @@ pub fn run_with<M: Mail, L: Ledger, G: Gate, P: Permit, R: Threads + Wait + Sync
         (map (λ list. list.items) o.grown.items) o.posts.items) }
     ensures permitted { IfOk result (λ _. (owner : ℕ) → owner < cut.now.owners
         → P.permits permit.now owner true) }
+    ensures thread { result ≡ Err Thread → (owner : ℕ) × (answer : Bool)
+        × (owner < cut.now.owners) × P.permits permit.now owner answer }
 {
     let tables = Tables::of(alloc, problem, cut)?;
     let outcome = run_on::<M, L, G, P, R>(
@@ -110,6 +113,8 @@ fn run_on<M: Mail, L: Ledger, G: Gate, P: Permit, R: Threads + Wait + Sync>(
         (map (λ list. list.items) o.grown.items) o.posts.items) }
     ensures permitted { IfOk result (λ _. (owner : ℕ) → owner < cut.now.owners
         → P.permits permit.now owner true) }
+    ensures thread { result ≡ Err Thread → (owner : ℕ) × (answer : Bool)
+        × (owner < cut.now.owners) × P.permits permit.now owner answer }
 {
     // No effect at run time. The proof reads from this call that the problem is sound.
     let _regions = problem.regions();
@@ -176,8 +181,8 @@ fn conclude<M: Mail, L: Ledger>(
         d.ending d.log.items }
     ensures ok { IfOk result (λ o. IsOutcome M.Mail problem.now cut.now o.values
         (map (λ list. list.items) o.grown.items) o.posts.items) }
-    ensures refused { (error : RunError) → IsReason (map (λ d. d.ending) finished.items) (Some error)
-        → result ≡ Err error }
+    ensures refused { (error : RunError)
+        → IsReason (map (λ d. d.ending) finished.items) (Some error) → result ≡ Err error }
     ensures thread { result ≡ Err Thread → (k : ℕ) × (d : _)
         × (slice_get finished.items k ≡ Some d) × (WasStarted d.ending → ⊥) }
     ensures started { IfOk result (λ _. (k : ℕ) (d : _) → slice_get finished.items k ≡ Some d

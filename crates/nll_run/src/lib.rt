@@ -1,7 +1,7 @@
 //! Runs: the owners of a cut, each in a thread of its own, until nothing is left to do anywhere.
 //!
-//! Read `coordinator` first, then `mailboxes`, `settling`, `parts` and `filling`. What a worker does,
-//! and how workers are started and joined, is in `nll_worker`. The definitions are in specs/:
+//! Read `coordinator` first, then `mailboxes`, `settling`, `parts` and `filling`. What a worker
+//! does, and how workers are started and joined, is in `nll_worker`. The definitions are in specs/:
 //! `Outcome` has what a run answers.
 #![tactic(auto)]
 

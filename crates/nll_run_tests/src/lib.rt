@@ -16,6 +16,12 @@ mod notes;
 #[cfg(test)]
 mod problems;
 #[cfg(test)]
+mod refusals;
+#[cfg(test)]
+mod refusing;
+#[cfg(test)]
+mod retrying;
+#[cfg(test)]
 mod rows;
 #[cfg(test)]
 mod telling;

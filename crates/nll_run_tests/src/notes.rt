@@ -61,6 +61,7 @@ impl Page {
                 self.has_acted.store(true, Ordering::SeqCst);
                 self.judge(self.has_owed.load(Ordering::SeqCst));
             }
+            Step::Close => {}
             Step::Clear(amount) => {
                 self.cleared.fetch_add(amount, Ordering::SeqCst);
                 self.has_acted.store(true, Ordering::SeqCst);

@@ -2,11 +2,11 @@
 use super::problems::{
     BY_TURNS, Deal, FILLED_HOLE, MANY, MANY_BOTH_WAYS, ONE_POINT, REACHED, Written,
 };
-use super::telling::{compare, told};
+use super::telling::{compare, filled, told};
 use nll_ledger::{Ledger, LockLedger, WordLedger};
 use nll_mail::{QueueMail, RingMail};
 use nll_worker::NoGate;
-use std::alloc::{AllocError, AllocGlobal, Global};
+use std::alloc::AllocGlobal;
 use std::process::Abort;
 use std::sync::Wait;
 use std::thread::Threads;
@@ -145,25 +145,6 @@ fn runs_come_to_the_least_values(rt: HostRuntime) {
     for (written, deal, want) in ROWS {
         compare_all(&rt, *written, *deal, want);
     }
-}
-
-// Writes a region that has the first so many elements.
-fn write_first(out: &mut String, region: u32, count: u32) -> Result<(), AllocError> {
-    write!(out, "{region}:")?;
-    for element in 0..count {
-        write!(out, " {element}")?;
-    }
-    out.push('|')
-}
-
-// What a run comes to whose regions all have all points.
-fn filled(alloc: Global, rest: &str) -> Result<String, AllocError> {
-    let mut out = String::new(alloc);
-    let universal = write_first(&mut out, 0, 301);
-    let first = write_first(&mut out, 1, 300);
-    let second = write_first(&mut out, 2, 300);
-    let rest = out.push_str(rest);
-    universal.and(first).and(second).and(rest).and(Ok(out))
 }
 
 // More growths go from owner to owner than a ring has places.

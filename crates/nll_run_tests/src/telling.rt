@@ -82,8 +82,8 @@ fn write_outcome<M: Mail>(
     write_posts::<M>(out, &outcome.posts, owners)
 }
 
-// What a run of the owners of a cut came to.
-fn told_over<M: Mail, L: Ledger, G: Gate, R: Threads + Wait + Sync>(
+/// What a run of the owners of a cut came to.
+pub fn told_over<M: Mail, L: Ledger, G: Gate, R: Threads + Wait + Sync>(
     rt: &R,
     alloc: Global,
     problem: &Problem,
@@ -134,6 +134,25 @@ pub fn told<M: Mail, L: Ledger, G: Gate, R: Threads + Wait + Sync>(
     let told = told_of::<M, L, G, R>(rt, alloc, &problem, deal, mail, ledger, gate);
     drop(problem);
     told
+}
+
+// Writes a region that has the first so many elements.
+fn write_first(out: &mut String, region: u32, count: u32) -> Result<(), AllocError> {
+    write!(out, "{region}:")?;
+    for element in 0..count {
+        write!(out, " {element}")?;
+    }
+    out.push('|')
+}
+
+/// What a run of 300 points comes to whose regions all have all points.
+pub fn filled(alloc: Global, rest: &str) -> Result<String, AllocError> {
+    let mut out = String::new(alloc);
+    let universal = write_first(&mut out, 0, 301);
+    let first = write_first(&mut out, 1, 300);
+    let second = write_first(&mut out, 2, 300);
+    let rest = out.push_str(rest);
+    universal.and(first).and(second).and(rest).and(Ok(out))
 }
 
 /// Compares what was told.

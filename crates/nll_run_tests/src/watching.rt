@@ -8,10 +8,11 @@ use nll_sets::Memory;
 use std::alloc::{AllocError, Global};
 use std::collections::VecDeque;
 
-/// A step of an owner.
+/// A step of an owner. A close is that of a mailbox to another owner.
 #[derive(Clone, Copy, Debug, PartialEq, Eq)]
 pub enum Step {
     Post,
+    Close,
     Owe(u64),
     Clear(u64),
 }
@@ -33,6 +34,7 @@ pub struct Watched<'x, I, W> {
 pub struct WatchedSender<'x, M: Mail, W> {
     inner: M::S,
     from: u16,
+    to: u16,
     watch: &'x W,
 }
 
@@ -77,6 +79,7 @@ impl<'x, M: Mail, W: Watch> Mail for Watched<'x, M, W> {
         let sender = WatchedSender {
             inner,
             from,
+            to,
             watch: self.watch,
         };
         Ok((sender, receiver))
@@ -94,9 +97,13 @@ impl<'x, M: Mail, W: Watch> Mail for Watched<'x, M, W> {
     fn close(sender: WatchedSender<'x, M, W>) -> M::Closed {
         let WatchedSender {
             inner,
-            from: _,
-            watch: _,
+            from,
+            to,
+            watch,
         } = sender;
+        if from != to {
+            watch.before(from, Step::Close);
+        }
         M::close(inner)
     }
 

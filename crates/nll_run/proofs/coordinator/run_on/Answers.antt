@@ -3,7 +3,7 @@ use Rattle.nll_owner.specs.Logs.{log_of}
 use Rattle.nll_worker.specs.Finishing.{IsGiven, IsFresh, Leaves, FinishedAs}
 use Rattle.nll_run.specs.Table.{IsTable}
 use Rattle.nll_run.proofs.PlaceLemmas.{place, within, mapped, map_size, all_of}
-use Rattle.nll_run.proofs.EndingLemmas.{table_then, empty_row, empty_column, if_ok_map, started_answer}
+use Rattle.nll_run.proofs.EndingLemmas.{table_then, empty_row, empty_column, answer_of, if_ok_map, started_answer}
 use Rattle.nll_run.proofs.coordinator.run_on.Goals as goal
 
 pub run_all-requires-clause-given : goal.run_all-requires-clause-given
@@ -59,3 +59,15 @@ returns-in-Ok-clause-permitted g c =
     subst (λ i. g.P.Permit.permits c.args.permit.now i true) (c.in_ok-book.ensures.each k w.0 w.1).0
     (started_answer (g.P.Permit.permits c.args.permit.now w.0.me) d.0.ending (started k d.0 d.1) (answered.at k w.0 d.0 w.1 d.1)))
     c.conclude.ensures.started
+
+pub returns-in-Ok-clause-thread : goal.returns-in-Ok-clause-thread
+returns-in-Ok-clause-thread g c = λ is.
+    let answered = c.in-Ok.ensures.answered in
+    let x = c.conclude.ensures.thread is in
+    let w = place c.in_ok-book.workers.items x.0 (let h = within c.in-Ok.finished.items x.0 x.1 x.2 in omega (arith, h, answered.len)) in
+    let a = answer_of (g.P.Permit.permits c.args.permit.now w.0.me) x.1.ending (answered.at x.0 w.0 x.1 w.1 x.2) in
+    let l = within c.in_ok-book.workers.items x.0 w.0 w.1 in
+    let k = (c.in_ok-book.ensures.each x.0 w.0 w.1).0 in
+    let n = c.owners-owners.ensures.value in
+    let z = c.in_ok-book.ensures.count in
+    (w.0.me, a.0, omega (arith, l, k, n, z), a.1)
