@@ -23,6 +23,16 @@ class Error:
 
     rendered: str
     places: list[tuple[str, int]]
+    column: int = 0
+    code: str = ""
+    message: str = ""
+
+    @property
+    def line(self) -> int:
+        return self.places[0][1] if self.places else 0
+
+    def words(self) -> str:
+        return f"{self.code}: {self.message}" if self.code else self.message
 
 
 @dataclass
@@ -76,9 +86,11 @@ def read_error(line: str) -> list[Error]:
         return [Error(line + "\n", [])]
     if said.get("level") != "error" or not said.get("rendered"):
         return []
-    places = [(span["file_name"], span["line_start"]) for span in said.get("spans", ())
-              if span.get("is_primary")]
-    return [Error(said["rendered"], places)]
+    spans = [span for span in said.get("spans", ()) if span.get("is_primary")]
+    places = [(span["file_name"], span["line_start"]) for span in spans]
+    column = spans[0]["column_start"] if spans else 0
+    code = (said.get("code") or {}).get("code", "")
+    return [Error(said["rendered"], places, column, code, said.get("message", ""))]
 
 
 def judge(status: int, run: Run, rustc: str) -> None:
