@@ -4,6 +4,7 @@
 """
 
 import re
+from collections import deque
 from typing import Iterable, Iterator, Optional
 
 from .dumps import Dump
@@ -22,6 +23,34 @@ CATEGORIES = {
     "ClosureUpvar": "capture", "Predicate": "predicate", "OpaqueType": "opaque", "Boring": "step",
 }
 GENERIC = re.compile(r"\(GenericArg\)")
+
+
+class Inside:
+    """The constraints between regions that are equal everywhere, for which a text has one name."""
+
+    def __init__(self, reasons: list[Reason], regions: Regions):
+        self.regions = regions
+        self.onwards: dict[int, list[Reason]] = {}
+        for reason in reasons:
+            if regions.find(reason.sup) == regions.find(reason.sub) and reason.sup != reason.sub:
+                self.onwards.setdefault(reason.sup, []).append(reason)
+
+    def onward(self, region: int) -> list[Reason]:
+        """A shortest chain from the region to the universal one that it equals."""
+        goal = self.regions.find(region)
+        if not self.regions.is_universal(goal):
+            return []
+        came_by: dict[int, Optional[Reason]] = {region: None}
+        todo = deque([region])
+        while todo and goal not in came_by:
+            for reason in self.onwards.get(todo.popleft(), ()):
+                if reason.sub not in came_by:
+                    came_by[reason.sub] = reason
+                    todo.append(reason.sub)
+        chain: list[Reason] = []
+        while reason := came_by.get(chain[0].sup if chain else goal):
+            chain.insert(0, reason)
+        return chain
 
 
 class Beside:
@@ -71,18 +100,18 @@ class Beside:
                 f"{self.place(loan.span)}, {loan.kind} of {deref}{what}{by}{home}")
 
     def reason_lines(self) -> Iterator[str]:
-        """Why each constraint is asked, at the point of its statement or everywhere.
-
-        Of regions that are equal everywhere, what a statement asks between them is said too.
-        """
+        """Why each constraint is asked, at the point of its statement or everywhere."""
         said = {}
+        inside = Inside(self.body.reasons, self.regions)
         for reason in self.body.reasons:
             sup, sub = self.name(reason.sup), self.name(reason.sub)
-            word = self.category(reason)
-            is_new = sup != sub or (word != "step" and reason.location is not None)
-            if sup and sub and word and is_new:
-                at = "" if reason.location is None else f" at {self.number[reason.location]}"
-                said[f"asked {sup} {sub}{at}, {self.place(reason.span)}: {word}"] = None
+            if not sup or not sub or sup == sub:
+                continue
+            at = "" if reason.location is None else f" at {self.number[reason.location]}"
+            for one in (*inside.onward(reason.sub)[::-1], reason):
+                word = self.category(one)
+                if word:
+                    said[f"asked {sup} {sub}{at}, {self.place(one.span)}: {word}"] = None
         return iter(said)
 
     def category(self, reason: Reason) -> str:

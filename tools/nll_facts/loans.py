@@ -17,6 +17,7 @@ BORROW = re.compile(r" = &(mut |fake (?:shallow |deep )?)?")
 # destructor can go against it.
 BEHIND = re.compile(r"\(\*\([^()]*: &")
 
+RESUME = re.compile(r" = yield\(.*\) -> \[resume: bb(\d+)")
 DROP = re.compile(r"drop\((.*)\) -> \[return: bb(\d+)")
 
 
@@ -56,6 +57,9 @@ class Loans:
                       for region, number, spot in tables.loan_issued_at}
         for number, spot in tables.loan_killed_at:
             self.loans[number].killed.append(spot.location)
+        self.resumed = {Location(int(found[1]), 0)
+                        for found in (RESUME.search(said.text)
+                                      for said in body.statements.values()) if found}
         self.invalid = {(spot.location, number) for spot, number in tables.loan_invalidated_at}
         self.issued = {loan.location: loan for loan in self.loans.values()}
         self.by_target = {loan.target: loan for loan in self.loans.values()
@@ -77,8 +81,8 @@ class Loans:
         """What goes against which loans, in the order of the points."""
         found: dict[tuple[Location, str], list[int]] = {}
         for location, number in sorted(self.invalid):
-            if not self.is_mere_reservation(location, number):
-                way = self.way(location, self.loans[number])
+            way = self.way(location, self.loans[number])
+            if way and not self.is_mere_reservation(location, number):
                 found.setdefault((location, way), []).append(number)
         return [Against(location, way, self.body.statements[location].span, numbers)
                 for (location, way), numbers in found.items()]
@@ -103,7 +107,11 @@ class Loans:
         return following is not None and following.text.startswith(f"{dropped[1]} = ")
 
     def way(self, location: Location, loan: Loan) -> str:
-        """How the statement goes against the loan."""
+        """How the statement goes against the loan; empty where it doesn't.
+
+        rustc's tables have it that a coroutine which goes on goes against all loans of its
+        variables. That is so of those that may be moved meanwhile, which stable Rust doesn't have.
+        """
         found = accesses(self.body.statements[location].text)
         direct = next((one.way for one in found if one.disturbs(loan.kind, loan.place)), None)
         if direct == "drops" and self.is_replaced(location):
@@ -113,5 +121,7 @@ class Loans:
         if direct:
             return direct
         begun = (self.by_target.get(one.place.local) for one in found if one.place)
-        return "mut" if any(one and overlap(one.place, loan.place) for one in begun) else "reads"
+        if any(one and overlap(one.place, loan.place) for one in begun):
+            return "mut"
+        return "" if location in self.resumed else "reads"
 

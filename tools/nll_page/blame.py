@@ -25,17 +25,11 @@ class Blame(NamedTuple):
 
 
 def reasons(facts, constraint):
-    """Why the constraint is asked: at the statements before its point, or everywhere.
-
-    The smaller region may stand for several that are equal; then what the same statement asks
-    between those counts too.
-    """
-    sup, sub = facts.names[constraint.sup], facts.names[constraint.sub]
+    """Why the constraint is asked: at the statements before its point, or everywhere."""
     asked = facts.remarks.beside.asked
-    points = words.origins(facts, constraint)
-    found = [one for one in asked.get((sup, sub), ()) if one.point is None or one.point in points]
-    found += [one for one in asked.get((sub, sub), ()) if one.point in points]
-    return [Blame(one.place, one.word) for one in found]
+    points = [None, *words.origins(facts, constraint)]
+    found = asked.get((facts.names[constraint.sup], facts.names[constraint.sub]), ())
+    return [Blame(one.place, one.word) for one in found if one.point in points]
 
 
 def of_step(facts, step):
