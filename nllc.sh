@@ -3,6 +3,7 @@
 # Until then a build of the same sources that nothing has proved, with checks at run time and not optimised: it is
 # compiled once, in about a minute, and kept in out/; each run says so in one line on standard error.
 # `nllc.sh rust FILE.rs` is another program: tools/nll-rust, which has this one answer what it makes of FILE.rs.
+# So is `nllc.sh page FILE`: tools/nll-text-page, which writes a page of a facts text or a MIR text.
 # So is `nllc.sh schedule FILE SCHEDULE`: tools/nll-schedule, which writes a page of a schedule.
 here=$(dirname -- "$(readlink -f -- "$0")")
 proved=$here/crates/nllc/out/nllc
@@ -27,6 +28,9 @@ compile() { "$here/tools/compile_unproved.sh" "$here/crates/nllc" "$unproved" ch
 if [ "$1" = rust ]; then
     shift
     exec python3 "$here/tools/nll-rust" "$@"
+elif [ "$1" = page ]; then
+    shift
+    exec python3 "$here/tools/nll-text-page" "$@"
 elif [ "$1" = schedule ]; then
     shift
     exec python3 "$here/tools/nll-schedule" "$@"

@@ -9,6 +9,8 @@ from concurrent.futures import ThreadPoolExecutor
 from dataclasses import dataclass
 from typing import Sequence
 
+from nll_page.folder import write_index
+
 from .answers import make_ready
 from .command import guarded, problems_of_file, split_words, write_all
 from .convert import Problem
@@ -67,6 +69,7 @@ def answer_file(asked: argparse.Namespace) -> int:
     if refused:
         print(f"rustc refuses {asked.file}, as it says above. nllc judges the ends of named "
               f"lifetimes alone; docs/FROM-RUST.md says where the two differ.")
+    print(f"all of them: {write_index(os.path.dirname(paths[0]))}")
     if asked.open and answers[0].page:
         webbrowser.open(f"file://{os.path.abspath(answers[0].page)}")
     return max(answer.status for answer in answers)

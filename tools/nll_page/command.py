@@ -27,10 +27,15 @@ is left half-written"""
 
 def main(arguments):
     """Runs the program on these words; its status."""
+    return guarded(lambda: run(words_of(arguments)))
+
+
+def guarded(work):
+    """The status of the work; a refusal is one line on standard error."""
     for number in (signal.SIGTERM, signal.SIGHUP):
         signal.signal(number, signal.default_int_handler)  # what is half-written is taken away
     try:
-        return run(words_of(arguments))
+        return work()
     except Refusal as refusal:
         say(str(refusal))
         return refusal.status
@@ -88,10 +93,7 @@ def content_of(asked):
     else:
         report, told, origin, standing = nllc.run(text)
     facts = read_facts(text, asked.facts)
-    if facts.points > MOST_POINTS:
-        raise Refusal(f"{asked.facts} has {facts.points:,} points, and a page of more than "
-                      f"{MOST_POINTS:,} is no use "
-                      f"to anybody; `nllc values` and `nllc check` answer it")
+    look_small(asked.facts, facts)
     values = read_values(report, facts, asked.values or origin)
     found = faults.faults(facts, values)
     if told is not None and told != [(facts.names[a], facts.names[b]) for a, b in found]:
@@ -99,6 +101,12 @@ def content_of(asked):
     path = source.find(facts, asked.facts, asked.source)
     return Content(facts, values, explained(facts, values, found, origin), asked.facts,
                    source.read(path, facts) if path else None, origin, standing)
+
+
+def look_small(path, facts):
+    if facts.points > MOST_POINTS:
+        raise Refusal(f"{path} has {facts.points:,} points, and a page of more than {MOST_POINTS:,} is no "
+                      "use to anybody; `nllc values` and `nllc check` answer it")
 
 
 def explained(facts, values, found, origin):
