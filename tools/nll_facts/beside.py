@@ -81,6 +81,7 @@ class Beside:
 
     def loan_lines(self) -> Iterator[str]:
         own = Loans(self.dump, self.tables, self.body)
+        yield f"loans: {len(own.loans)}"
         for number, loan in sorted(own.loans.items()):
             yield f"loan {number}: {self.loan(loan)}"
             if loan.killed:
@@ -146,7 +147,5 @@ class Beside:
                 yield f"needs {self.name(sup)} {self.name(sub)}"
 
     def rustc_lines(self, errors: Iterable[Error]) -> Iterator[str]:
-        """rustc's errors in these lines; those of closures stand at the function around them."""
         for error in errors:
-            if "{closure#" not in self.dump.name and any(map(self.dump.has, error.places)):
-                yield f"rustc {error.line}:{error.column}: {error.words()}"
+            yield f"rustc {error.line}:{error.column}: {error.words()}"

@@ -1,5 +1,6 @@
 """Reads what a facts text says beside its problem: loans, why constraints are asked, uses, needs.
 
+    # loans: COUNT
     # loan N: 'R at P, PLACE, KIND of WHAT, by a closure, PLACE
     # killed N: P ..                      # against P, PLACE, WAY: N ..
     # asked 'R 'R at P, PLACE: WORD       # uses 'R: P ..      # drops 'R: P ..
@@ -14,6 +15,7 @@ from typing import NamedTuple, Optional
 
 PLACE = r"(\d+:\d+-\d+:\d+|elsewhere)"
 FORMS = {
+    "loans:": re.compile(r"# loans: (\d+)"),
     "loan": re.compile(rf"# loan (\d+): '(\w+) at (\d+), {PLACE}, (mut|shared|fake) of (.*?)"
                        rf"(, by a closure)?(?:, {PLACE})?"),
     "killed": re.compile(r"# killed (\d+): ([\d ]+)"),
@@ -69,8 +71,9 @@ class Asked(NamedTuple):
 
 @dataclass
 class Beside:
-    """All that is said."""
+    """All that is said. The count of loans is None where a text says nothing of loans."""
 
+    count: Optional[int] = None
     loans: dict = field(default_factory=dict)
     killed: dict = field(default_factory=dict)
     against: list = field(default_factory=list)
@@ -85,7 +88,10 @@ class Beside:
         word = line.removeprefix("# ").split(" ", 1)[0]
         found = FORMS[word].fullmatch(line) if word in FORMS else None
         if found:
-            getattr(self, f"take_{word}")(*found.groups())
+            getattr(self, f"take_{word.rstrip(':')}")(*found.groups())
+
+    def take_loans(self, count):
+        self.count = int(count)
 
     def take_loan(self, number, region, at, place, kind, what, closure, home):
         self.loans[int(number)] = Loan(region, int(at), place_of(place), kind, what,
