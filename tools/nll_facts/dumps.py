@@ -32,6 +32,16 @@ class Dump:
         span = self.span
         return span is not None and span.file == file and span.first <= line <= span.last
 
+    @property
+    def is_closure(self) -> bool:
+        return "{closure#" in self.name
+
+    def is_inside(self, file: str, line: int, column: int) -> bool:
+        """Whether a character of a file stands inside the function, behind its first one."""
+        span = self.span
+        return span is not None and span.file == file \
+            and (span.first, span.column) < (line, column) < (span.last, span.end)
+
 
 def closure_note(function: str) -> str:
     """What to know of a closure's faults; empty for other functions."""
@@ -66,7 +76,9 @@ def dump_of(facts: str, mir_path: str, root: str) -> Dump:
     lines = [span for span in body.spans() if head and span.file == head.file]
     span = None
     if lines:
-        span = Span(head.file, min(s.first for s in lines), max(s.last for s in lines))
+        first, column = min((s.first, s.column) for s in lines)
+        last, end = max((s.last, s.end) for s in lines)
+        span = Span(head.file, first, last, column, end)
     name = IMPL_AT.sub(lambda found: impl_name(found, root), body.path)
     return Dump(name, file_name(os.path.basename(facts)), facts, mir_path, span, body.is_function)
 

@@ -30,7 +30,7 @@ def row_of(content, name):
     """The row of a page's content."""
     facts = content.facts
     lines = [remark.line for remark in facts.remarks.points.values() if remark.line is not None]
-    loans = getattr(content, "loans", None)
+    loans = None if facts.remarks.beside.count is None else content.loans
     source = content.source.path if content.source else facts.remarks.source or content.facts_path
     return Row(name, source, min(lines, default=None), facts.points, len(facts.names),
                len(content.faults), None if loans is None else len(loans))

@@ -8,6 +8,7 @@ from . import drawing, layout, lines, words
 from .escaping import script_data, text, visible
 from .fault_list import fault_list
 from .index import row_mark, row_of
+from .loan_list import loan_list
 from .names import function_words
 from .nllc import PROVED, UNKNOWN, UNPROVED
 from .point_list import all_rows, blocks, end_list, point_list, source_list, tabs
@@ -46,6 +47,8 @@ class Content(NamedTuple):
     source: Optional[Source]
     origin: str         # where the values come from
     standing: str       # and whether that is proved
+    loans: list = []    # those that something goes against
+    needs: list = []    # pairs that a closure needs of the function around it
     problem: str = ""   # a sentence on where the problem comes from, where the text doesn't say it itself
 
 
@@ -67,7 +70,7 @@ def page(content):
         "about": about(content),
         "verdict": verdict(content),
         "provenance": provenance(content),
-        "faults": fault_list(content),
+        "faults": fault_list(content) + loan_list(content),
         "regions": region_list(content),
         "tabs": tabs(content),
         "source": source_list(content, is_large),
@@ -105,11 +108,12 @@ def about(content):
 
 
 def verdict(content):
-    count = len(content.faults)
-    if not count:
+    counts = [words.plural(len(found), noun)
+              for found, noun in ((content.faults, "fault"), (content.loans, "loan error")) if found]
+    if not counts:
         return '<p class="verdict fine"><span aria-hidden="true">✓</span> no fault</p>'
     return (f'<p class="verdict faulty"><span aria-hidden="true">✕</span> '
-            f'{words.plural(count, "fault")}</p>')
+            f'{", ".join(counts)}</p>')
 
 
 def provenance(content):

@@ -96,7 +96,7 @@ def content_of_mir(path, text):
     lines = text.decode("utf-8").removesuffix("\n").split("\n")
     shown = Source(path, 1, lines) if len(text) <= source.MOST_BYTES else None
     explained = command.explained(facts, values, found, origin)
-    return Content(facts, values, explained, path, shown, origin, standing, problem)
+    return Content(facts, values, explained, path, shown, origin, standing, problem=problem)
 
 
 def problem_of(path):

@@ -71,7 +71,7 @@ class Commands(unittest.TestCase):
         self.assertEqual((status, out, err), (0, self.path("pick.html") + "\n", ""))
         page = self.page()
         self.assertIn("<code>&#x27;b</code> must outlive <code>&#x27;a</code>, which the signature "
-                      "doesn’t say", page)
+                      "doesn&#x27;t say", page)
         self.assertIn('data-walk="6,7,8"', page)
         self.assertIn('id="line-7"', page)       # the source, by the text's own remark
         self.assertNotIn("next_one", page)       # and of it this function alone
@@ -108,8 +108,14 @@ class Commands(unittest.TestCase):
         self.assertEqual(status, 0)
         self.assertEqual(lines[1],
                          f"{self.folder}/pick.rs:7: `'b` must outlive `'a`, which the signature "
-                         "doesn’t say")
-        self.assertEqual(lines[2:], [
+                         "doesn't say")
+        self.assertEqual(lines[2:], ["    what lives for `'b` comes to `'a` by line 7 (`best = second;`) "
+                                     "and line 9 (`best`)"])
+
+    def test_faults_step_by_step(self):
+        _, out, _ = self.run_main(self.path("pick.facts"), "--explain")
+        self.assertEqual(out.splitlines()[3:], [
+            "`'b` must outlive `'a`, which the signature doesn't say:",
             "    `end('a)` comes",
             "    to `'best`, the type of best: after `_0 = copy best` (line 9), inside `'a` by 8",
             "    to `'b`, 'b of the signature: after `best = copy second` (line 7), inside `'best` "
