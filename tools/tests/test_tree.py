@@ -63,16 +63,6 @@ class Layers(unittest.TestCase):
         for title, _, _ in self.layers[:-1]:
             self.assertIn(f" {title} ", picture)
 
-    def test_files_that_are_named_are_there(self):
-        for crate, files in re.findall(r"^\| `(nll\w+)` \|.*\| (`.*`) \|$", self.readme, re.MULTILINE):
-            folder = ""
-            for name in re.findall("`([^`]*)`", files):
-                folder = name.partition("/")[0] if "/" in name else folder
-                file = name.rpartition("/")[2]
-                path = f"{folder}/{file}" + (".antt" if folder == "specs" else "")
-                with self.subTest(crate=crate, path=path):
-                    self.assertTrue((ROOT / "crates" / crate / path).is_file())
-
 
 class Documents(unittest.TestCase):
     def test_each_crate_is_named(self):
@@ -92,6 +82,40 @@ def long_lines(path):
         if len(line) > MOST_COLUMNS and not is_import:
             yield number
         is_import = is_import and not ("}" in line or ";" in line or "{" not in line and IMPORT.match(line))
+
+
+class Reading(unittest.TestCase):
+    """docs/READING.md names files that are there."""
+
+    def setUp(self):
+        self.text = (ROOT / "docs" / "READING.md").read_text()
+
+    def test_files_to_open(self):
+        rows = re.findall(r"^\| (.*) \|$", self.text, re.MULTILINE)
+        for row in rows:
+            crate = re.search(r"`(nll\w*)`", row)
+            folder = ""
+            for name in re.findall(r"`([\w/]+(?:\.rt)?)`", row):
+                folder = name.partition("/")[0] if "/" in name else folder
+                if folder not in ("src", "specs") or name.startswith("nll"):
+                    continue
+                path = f"{folder}/{name.rpartition('/')[2]}" + (".antt" if folder == "specs" else "")
+                with self.subTest(crate=crate[1], path=path):
+                    self.assertTrue((ROOT / "crates" / crate[1] / path).is_file())
+
+    def test_files_of_the_walks(self):
+        there = {path.name for path in (ROOT / "crates").glob("*/src/*.rt")}
+        for name in re.findall(r"`(\w+\.rt)`", self.text):
+            with self.subTest(name=name):
+                self.assertIn(name, there)
+
+    def test_calls_of_the_walks(self):
+        """A call that is named with its file stands there, in some crate."""
+        text = re.sub(r"\s+", " ", self.text)
+        for call, file in re.findall(r"`(?:\w+::)?((?!nll)[a-z]\w+)` (?:of `nll\w*` )?\(`(\w+\.rt)`", text):
+            with self.subTest(call=call, file=file):
+                found = [path.read_text() for path in (ROOT / "crates").glob(f"*/src/{file}")]
+                self.assertTrue(any(re.search(rf"\bfn {call}\b", one) for one in found))
 
 
 class Lines(unittest.TestCase):
