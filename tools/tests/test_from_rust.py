@@ -13,6 +13,7 @@ import subprocess
 import sys
 import tempfile
 import unittest
+from concurrent.futures import ThreadPoolExecutor
 
 ROOT = pathlib.Path(__file__).resolve().parents[2]
 DOCUMENTS = ("docs/FROM-RUST.md", "README.md")
@@ -73,13 +74,14 @@ def has_rustc():
 class Shown(unittest.TestCase):
     @unittest.skipUnless(has_rustc(), "there is no rustc of the release that is shown")
     def test_commands(self):
-        with folder_of_links() as folder:
-            for document in DOCUMENTS:
-                lines = (ROOT / document).read_text().split("\n")
-                for begin, end, command in blocks(lines):
-                    with self.subTest(document=document, command=command):
-                        self.assertEqual(without_seconds(printed(command, folder)),
-                                         without_seconds(line[4:] for line in lines[begin:end]))
+        shown = {command: [line[4:] for line in lines[begin:end]]
+                 for lines in ((ROOT / name).read_text().split("\n") for name in DOCUMENTS)
+                 for begin, end, command in blocks(lines)}
+        with folder_of_links() as folder, ThreadPoolExecutor() as pool:
+            answers = pool.map(lambda command: printed(command, folder), shown)
+            for (command, lines), answer in zip(shown.items(), answers):
+                with self.subTest(command=command):
+                    self.assertEqual(without_seconds(answer), without_seconds(lines))
 
     def test_sources(self):
         """Lines of Rust that are shown with numbers stand there in a file that the document names."""
