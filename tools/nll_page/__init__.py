@@ -11,6 +11,7 @@ The values are those that `nllc` prints. Nothing here computes them, and nothing
     drawing     the graph as SVG                 page        puts the page together
     fault_list, chain_list, region_list, point_list, region_graph    its other parts
     index       a row for each page              folder      writes a folder's index
+    names       functions and regions in words
     mir_text    what a MIR text says             texts       the command for texts of both kinds
     escaping    makes text from outside safe     refusal     lines for a person
     templates/  the page's HTML, style and script

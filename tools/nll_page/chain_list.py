@@ -14,11 +14,12 @@ def told(content, fault):
     facts = content.facts
     sup, sub = words.tick(facts, fault.sup), words.tick(facts, fault.sub)
     lines = [line for step in reversed(fault.steps) for line in words.arising(facts, [step])]
-    if not lines:
-        return unplaced(content)
-    first, last = lines[0], lines[-1]
     lives = "What lives for " + sentence([sup])
     unsaid = f"nothing says that {sentence([sup])} outlives {sentence([sub])}."
+    if not lines:
+        return unplaced(content) or \
+            f'<p class="told">{lives} is wanted for {sentence([sub])}; {unsaid}</p>'
+    first, last = lines[0], lines[-1]
     if first == last:
         return (f'<p class="told">{lives} is wanted for {sentence([sub])} at '
                 f"{placed(content, last)}; {unsaid}</p>")
@@ -52,14 +53,19 @@ def line_of(content, number):
 
 def chain_list(content, fault):
     """The steps, and behind them where the end comes from."""
-    items = "".join(step_item(content, step, fault.sub) for step in reversed(fault.steps))
+    steps = fault.steps[::-1]
+    items = "".join(step_item(content, step, before, fault.sub)
+                    for step, before in zip(steps, [None, *steps]))
     said = sentence(words.beginning(content.facts, fault.sub))
     return (f'<ol class="chain">{items}'
             f'<li class="step" data-r="{fault.sub}"><p>{said}</p></li></ol>')
 
 
-def step_item(content, step, universal):
-    """A step with what its choosing lights: the smaller region, the walk and the end."""
+def step_item(content, step, before, universal):
+    """A step with what its choosing lights: the smaller region, the walk and the end.
+
+    What stands on its line isn't said again where the step before it is of the same line.
+    """
     facts = content.facts
     sup, sub = step.constraint.sup, step.constraint.sub
     walk = ",".join(map(str, step.walk))
@@ -69,20 +75,21 @@ def step_item(content, step, universal):
     told_of = f' title="{text(what)}"' if what else ""
     return (f'<li class="step" data-r="{sub}" data-walk="{walk}" data-end="{universal}">'
             '<details class="why"><summary><h3>'
-            f'<button type="button" class="show">{step_line(content, step)}</button> '
+            f'<button type="button" class="show">{step_line(content, step, before)}</button> '
             f'<span class="what"{told_of}>{sentence([words.tick(facts, sup)])} must outlive '
             f"{sentence([words.tick(facts, sub)])}</span></h3></summary>"
             f"<p>{said}</p></details></li>")
 
 
-def step_line(content, step):
+def step_line(content, step, before):
     """Where the step's constraint arises: a line of the source, else the statement, else a point."""
     facts = content.facts
     if words.is_everywhere(facts, step.constraint):
         return "everywhere"
     lines = words.arising(facts, [step])
     if lines:
-        code = line_of(content, lines[0])
+        is_said = before is not None and words.arising(facts, [before])[:1] == lines[:1]
+        code = "" if is_said else line_of(content, lines[0])
         return f"line {lines[0]}" + (f" <code>{text(code)}</code>" if code else "")
     points = words.origins(facts, step.constraint)
     return sentence(words.statement(facts, points[0]) if len(points) == 1

@@ -9,6 +9,7 @@ from .escaping import script_data, text, visible
 from .fault_list import fault_list
 from .index import row_mark, row_of
 from .loan_list import loan_list
+from .names import function_words
 from .nllc import PROVED, UNKNOWN, UNPROVED
 from .point_list import all_rows, blocks, end_list, point_list, source_list, tabs
 from .region_graph import region_graph
@@ -94,7 +95,7 @@ def fill(name, parts):
 
 
 def name_of(content):
-    named = content.facts.remarks.function
+    named = function_words(content.facts)
     return named or os.path.basename(content.facts_path).removesuffix(".facts")
 
 
