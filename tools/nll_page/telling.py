@@ -164,7 +164,7 @@ def lifetime(facts, region):
 def is_later_turn(facts, fault):
     """Whether the use stands before what goes against the loan, so that a loop leads back to it."""
     use, here = (facts.remarks.point(point).line for point in (fault.cause.use, fault.against.point))
-    return use is not None and here is not None and (use, fault.cause.use) <= (here, fault.against.point)
+    return use is not None and here is not None and (use, fault.cause.use) < (here, fault.against.point)
 
 
 def where_made(content, loan):
