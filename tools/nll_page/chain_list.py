@@ -73,11 +73,16 @@ def step_item(content, step, before, universal):
                      *words.step_sentence(facts, step, universal)])
     what = words.region_words(facts, sup)
     told_of = f' title="{text(what)}"' if what else ""
-    return (f'<li class="step" data-r="{sub}" data-walk="{walk}" data-end="{universal}">'
-            '<details class="why"><summary><h3>'
-            f'<button type="button" class="show">{step_line(content, step, before)}</button> '
-            f'<span class="what"{told_of}>{sentence([words.tick(facts, sup)])} must outlive '
-            f"{sentence([words.tick(facts, sub)])}</span></h3></summary>"
+    behind = f'<span class="what"{told_of}>{sentence([words.tick(facts, sup)])} must outlive ' \
+             f"{sentence([words.tick(facts, sub)])}</span>"
+    return step_part(f'data-r="{sub}" data-walk="{walk}" data-end="{universal}"',
+                     step_line(content, step, before), behind, said)
+
+
+def step_part(lights, shown, behind, said):
+    """A step as one line, whose words open; `lights` are the attributes for what its choosing lights."""
+    return (f'<li class="step" {lights}><details class="why"><summary><h3>'
+            f'<button type="button" class="show">{shown}</button> {behind}</h3></summary>'
             f"<p>{said}</p></details></li>")
 
 

@@ -1,6 +1,7 @@
 """The loans of a page that something goes against: a table, and for each the way from its use to it."""
 
 from . import telling, words
+from .chain_list import step_part
 from .escaping import sentence, text
 
 
@@ -42,10 +43,8 @@ def step_item(facts, step, point):
     why = [*words.reason(facts, step.constraint), words.tick(facts, sup),
            " must hold all that is reached inside ", words.tick(facts, sub), f" from point {at} on, by ",
            words.walk_text(step.walk), "."]
-    return (f'<li class="step" data-r="{sub}" data-walk="{walk}"><h3>'
-            f'<button type="button" class="show">{head}</button> '
-            f'<span class="what">{text(words.region_words(facts, sup))}</span></h3>'
-            f"<p>{sentence(why)}</p></li>")
+    behind = f'<span class="what">{text(words.region_words(facts, sup))}</span>'
+    return step_part(f'data-r="{sub}" data-walk="{walk}"', head, behind, sentence(why))
 
 
 def last_step(content, fault):
