@@ -248,7 +248,7 @@ pub fn keeps<'a>(list: &mut Vec<&'a str>, text: &'a str) {
     def test_right_functions(self):
         done = self.rust(self.write("a.rs", self.KEEPS))
         self.assertEqual(done.returncode, 0, done.stdout)
-        self.assertTrue(done.stdout.startswith("no fault: keeps, keeps::{closure#0}\n"), done.stdout)
+        self.assertTrue(done.stdout.startswith("no fault: keeps\n"), done.stdout)
 
     def test_both_answers(self):
         done = self.rust(support.source_path("differ"), "get_default")

@@ -144,8 +144,8 @@ class Loans(unittest.TestCase):
         [one] = telling.all_of(content)
         self.assertEqual(telling.lines(content, one), [
             "a.rs:2:5: E0506: `a` assigns to what line 1 has borrowed as mutable",
-            "    the loan of line 1 (`&a`) is in force: its region `'x` holds line 2, since line 2 uses it "
-            "(`a = 1;`)"])
+            "    the loan of line 1 (`&a`) is in force: its region `'x` holds line 2, since the same line "
+            "uses it"])
 
 
 class Blame(unittest.TestCase):
