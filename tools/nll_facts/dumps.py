@@ -43,13 +43,6 @@ class Dump:
             and (span.first, span.column) < (line, column) < (span.last, span.end)
 
 
-def closure_note(function: str) -> str:
-    """What to know of a closure's faults; empty for other functions."""
-    if "{closure#" not in function:
-        return ""
-    return "a closure: what it needs of lifetimes from outside, the function around it has to keep"
-
-
 def find_dumps(facts: str, mir: str, crate: str, root: str = "") -> list[Dump]:
     """All functions of one run of rustc, in the order of the source.
 

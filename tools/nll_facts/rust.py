@@ -104,21 +104,28 @@ def tell_all(checked: Checked, answers: list[Answer]) -> None:
     """The lines of all functions that have any, the names of the others, and what else rustc refuses."""
     places = {tuple(place) for answer in answers for place in answer.said.get("places", ())}
     silent = []
-    for (_, problem), answer in zip(checked.problems, answers):
+    for (dump, problem), answer in zip(checked.problems, answers):
         lines = [answer.failure] if answer.failure else told(problem, answer.said, places)
         if lines:
-            print(f"{problem.function}: {'no answer' if answer.failure else verdict(answer.said)}")
+            print(f"{answer.said.get('name', problem.function)}: "
+                  f"{'no answer' if answer.failure else verdict(answer.said)}")
         else:
-            silent.append(problem.function)
+            silent.append((dump.is_closure, answer.said["name"]))
         for line in lines:
             print(f"  {line}")
-    if silent:
-        more = f" and {len(silent) - MOST_NAMES} more" if len(silent) > MOST_NAMES else ""
-        print(f"no fault: {', '.join(silent[:MOST_NAMES])}{more}")
+    tell_silent(silent)
     for error in checked.errors:
         if error.places and not is_judged(error):
             print(f"{error.places[0][0]}:{error.line}:{error.column}: {version()}: {error.words()}\n"
-                  f"    (neither a lifetime nor a loan: nllc says nothing of it)")
+                  f"    (an error of another kind, of which nothing is said here)")
+
+
+def tell_silent(silent: list[tuple[bool, str]]) -> None:
+    """The functions of which nothing is told; closures only where there is nothing else."""
+    names = [name for is_closure, name in silent if not is_closure] or [name for _, name in silent]
+    if names:
+        more = f" and {len(names) - MOST_NAMES} more" if len(names) > MOST_NAMES else ""
+        print(f"no fault: {', '.join(names[:MOST_NAMES])}{more}")
 
 
 def verdict(said: dict[str, Any]) -> str:

@@ -128,11 +128,18 @@ def read_error(line: str) -> list[Error]:
         return [Error(line + "\n", [])]
     if said.get("level") != "error" or not said.get("rendered"):
         return []
-    spans = [span for span in said.get("spans", ()) if span.get("is_primary")]
+    spans = [at_home(span) for span in said.get("spans", ()) if span.get("is_primary")]
     places = [(span["file_name"], span["line_start"]) for span in spans]
     column = spans[0]["column_start"] if spans else 0
     code = (said.get("code") or {}).get("code", "")
     return [Error(said["rendered"], places, column, code, said.get("message", ""))]
+
+
+def at_home(span: dict) -> dict:
+    """The place in the user's own files: of what a macro of the standard library made, the macro's use."""
+    while span.get("expansion") and not os.path.isfile(span["file_name"]):
+        span = span["expansion"]["span"]
+    return span
 
 
 def judge(status: int, errors: list[Error], rustc: str) -> None:

@@ -10,6 +10,7 @@ import tempfile
 from . import chains, differences, explaining, faults, loans, nllc, source, telling, words
 from .escaping import visible
 from .facts import is_facts_text, read_facts
+from .names import function_words
 from .page import Content, Fault, page
 from .refusal import Refusal
 from .streams import any_locale, unwritten
@@ -198,6 +199,7 @@ def answer(out, content, in_full):
     told = telling.all_of(content)
     return {
         "page": out,
+        "name": visible(function_words(content.facts)),
         "faults": len(content.faults),
         "lines": [visible(line) for one in told for line in telling.lines(content, one)],
         "explained": [visible(line) for line in explaining.lines(content)] if in_full else [],

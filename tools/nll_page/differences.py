@@ -9,7 +9,7 @@ def differences(content):
     beside = content.facts.remarks.beside
     found = {one.place[:2] for one in telling.all_of(content) if one.place}
     return [(line, column, words, reason(content, line, column, words))
-            for line, column, words in beside.rustc if (line, column) not in found]
+            for line, column, words in beside.rustc if found.isdisjoint({(line, column), (line, 0)})]
 
 
 def reason(content, line, column, words):

@@ -92,7 +92,15 @@ def fault(facts, number, loan, against, cause):
         code = "E0499" if loan.kind == "mut" else "E0502"
     elif against.way in ENDING:
         code, place = end_of_loan(facts, loan, against, cause)
-    return LoanFault(code, place, number, loan, against, cause)
+    start = loan.at if against.way in ENDING else against.point
+    return LoanFault(code, place or next_line(facts, start), number, loan, against, cause)
+
+
+def next_line(facts, start):
+    """The first line that is known from a point on, for what a macro of another file makes."""
+    known = (facts.remarks.point(point).line for point in range(start, facts.points))
+    line = next((line for line in known if line is not None), None)
+    return None if line is None else Place(line, 0, line, 0)
 
 
 def end_of_loan(facts, loan, against, cause):

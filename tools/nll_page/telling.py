@@ -19,7 +19,7 @@ DEEDS = {"return": "returned", "yield": "yielded", "constant": "made a constant"
 ACTS = {"mut": "borrows as mutable", "shared": "borrows", "moves": "moves", "assigns": "assigns to",
         "reads": "uses", "looks": "looks at"}
 
-NAMELESS = re.compile(r"without a name; the type of (\w+)(?::|;|$)")
+OF_VARIABLE = re.compile(r"the type of (\w+)(?::|;|$)")
 
 
 class Telling(NamedTuple):
@@ -115,7 +115,8 @@ def ending_head(content, fault):
     if fault.code == "E0515":
         return ["this hands out a borrow of ", *what, ", which ends with the function"]
     if fault.code == "E0373":
-        return ["the closure may outlive the function, and it borrows ", *what, " from it"]
+        who = "async block" if snippet(content.source, loan.place).startswith("async") else "closure"
+        return [f"the {who} may outlive the function, and it borrows ", *what, " from it"]
     if fault.code == "E0713":
         return ["this borrow may still be in use when the destructor of ", *what, " runs"]
     end = line_of(content.facts, fault.against)
@@ -144,11 +145,14 @@ def since(content, fault):
     if cause.use is None:
         return ["it is in the type of a variable that is used later"]
     line = facts.remarks.point(cause.use).line
-    where = [f"line {line}"] if line is not None else [f"point {cause.use}"]
-    code = whole_line(content.source, line) if line is not None else ""
     deed = " drops what holds it" if cause.is_drop else " uses it"
     later = " in a later turn of the loop" if is_later_turn(facts, fault) else ""
-    return [*where, deed, later, *([" (", Code(code), ")"] if code and code != "}" else [])]
+    if line is None:
+        return [f"point {cause.use}", deed, later]
+    if line == line_of(facts, fault.against):
+        return ["the same line", deed, later]
+    code = whole_line(content.source, line)
+    return [f"line {line}", deed, later, *([" (", Code(code), ")"] if code and code != "}" else [])]
 
 
 def lifetime(facts, region):
@@ -156,7 +160,7 @@ def lifetime(facts, region):
     said = facts.remarks.region(facts.names[region]).text
     if "without a name" not in said:
         return [words.tick(facts, region)]
-    variable = NAMELESS.search(said)
+    variable = OF_VARIABLE.search(said)
     return ["the lifetime", *([" in the type of ", Code(variable[1])] if variable else
                               [" ", words.tick(facts, region)])]
 
@@ -164,7 +168,7 @@ def lifetime(facts, region):
 def is_later_turn(facts, fault):
     """Whether the use stands before what goes against the loan, so that a loop leads back to it."""
     use, here = (facts.remarks.point(point).line for point in (fault.cause.use, fault.against.point))
-    return use is not None and here is not None and (use, fault.cause.use) <= (here, fault.against.point)
+    return use is not None and here is not None and (use, fault.cause.use) < (here, fault.against.point)
 
 
 def where_made(content, loan):

@@ -212,27 +212,43 @@ class OneCommand(Room):
             f"pages: {self.path('o', 'index.html')}"])
         self.assertTrue(os.path.isfile(self.path("o", "longer.html")))
 
+    LOANS = """\
+fn show(_: &u8) {}
+pub fn wrong() {
+    let mut list = vec![1];
+    let first = &list[0];
+    list.push(2);
+    show(first);
+}
+"""
+    KEEPS = """\
+pub fn keeps<'a>(list: &mut Vec<&'a str>, text: &'a str) {
+    let mut keep = |part: &'a str| list.push(part);
+    keep(text);
+}
+"""
+
     def test_loan_in_two_lines(self):
-        done = self.rust(support.source_path("borrowed_twice"), "writer_beside_reader")
+        path = self.write("a.rs", self.LOANS)
+        done = self.rust(path, "wrong")
         self.assertEqual(done.returncode, 1, done.stderr)
         self.assertEqual(done.stdout.splitlines()[:3], [
-            "writer_beside_reader: 1 loan error",
-            "  loans/borrowed_twice.rs:18:5: E0502: `list.push(3)` borrows as mutable what line 17 has "
-            "borrowed",
-            "      the loan of line 17 (`list`) is in force: its region `'r2` holds line 18, since line 19 "
+            "wrong: 1 loan error",
+            f"  {path}:5:5: E0502: `list.push(2)` borrows as mutable what line 4 has borrowed",
+            "      the loan of line 4 (`list`) is in force: its region `'r2` holds line 5, since line 6 "
             "uses it (`show(first);`)"])
         self.assertEqual(done.stderr, "")
 
     def test_the_rest_by_explain(self):
-        done = self.rust(support.source_path("borrowed_twice"), "writer_beside_reader", "--explain")
+        done = self.rust(self.write("a.rs", self.LOANS), "wrong", "--explain")
         self.assertIn("error[E0502]", done.stderr)
-        self.assertIn("why `'r2` holds point 22", done.stdout)
-        self.assertIn("`'r6` is live at point 22: ", done.stdout)
+        self.assertRegex(done.stdout, r"why `'r2` holds point \d+, ")
+        self.assertRegex(done.stdout, r"`'r\d+` is live at point \d+: .* \(line 6\) uses it\n")
 
     def test_right_functions(self):
-        done = self.rust(support.source_path("closures"), "keeps")
+        done = self.rust(self.write("a.rs", self.KEEPS))
         self.assertEqual(done.returncode, 0, done.stdout)
-        self.assertTrue(done.stdout.startswith("no fault: keeps\n"))
+        self.assertTrue(done.stdout.startswith("no fault: keeps\n"), done.stdout)
 
     def test_both_answers(self):
         done = self.rust(support.source_path("differ"), "get_default")
