@@ -3,7 +3,9 @@
 # Until then a build of the same sources that nothing has proved, with checks at run time and not optimised: it is
 # compiled once, in about a minute, and kept in out/; each run says so in one line on standard error.
 # `nllc.sh rust FILE.rs` is another program: tools/nll-rust, which has this one answer what it makes of FILE.rs.
+# So is `nllc.sh page FILE`: tools/nll-text-page, which writes a page of a facts text or a MIR text.
 # So is `nllc.sh schedule FILE SCHEDULE`: tools/nll-schedule, which writes a page of a schedule.
+# Without words, and with `--help`, it names these on top of what the program says of itself.
 here=$(dirname -- "$(readlink -f -- "$0")")
 proved=$here/crates/nllc/out/nllc
 unproved=$here/out/nllc-unproved
@@ -22,11 +24,31 @@ needs_rt() {
     exit 127
 }
 
+words() {
+    cat <<END
+Words of this script; what answers them stands in tools/, and isn't proved:
+  $0 rust FILE.rs [FUNCTION]    why the borrow checker refuses a function; makes pages
+  $0 page FILE ..               makes a page of each facts text or MIR text
+  $0 schedule FILE SCHEDULE     makes a page of a schedule, event by event
+  $0 --prove                    proves nllc and builds it; until then a slow build runs
+The first three say more with --help. All other words are those of nllc itself:
+
+END
+}
+
 compile() { "$here/tools/compile_unproved.sh" "$here/crates/nllc" "$unproved" check; }
 
+if [ "$#" = 0 ]; then
+    words >&2
+elif [ "$#" = 1 ] && { [ "$1" = --help ] || [ "$1" = -h ]; }; then
+    words
+fi
 if [ "$1" = rust ]; then
     shift
     exec python3 "$here/tools/nll-rust" "$@"
+elif [ "$1" = page ]; then
+    shift
+    exec python3 "$here/tools/nll-text-page" "$@"
 elif [ "$1" = schedule ]; then
     shift
     exec python3 "$here/tools/nll-schedule" "$@"

@@ -10,6 +10,10 @@ and these modules are the ones that give it.
     points       numbers the points              liveness     where variables are live
     regions      merges and names regions        origins      says where regions come from
     wording      statements and types in words   rustc-wrapper  what cargo runs for rustc
+    beside       what a text says beside its problem
+    loans        loans and what goes against them   captures  where closures use what they borrow
+    accesses     what statements do to places       places    reads places of MIR
+    errors       which function rustc's errors belong to
     convert      makes a problem of all this     text         writes it as a facts text
     jobs         many functions side by side     answers      what nllc says of a text
     table        the table at the end            rust         from a Rust file to its pages

@@ -23,7 +23,7 @@ def whole_crate(asked: argparse.Namespace) -> int:
     if not os.path.isfile(os.path.join(asked.crate, "Cargo.toml")):
         raise Refusal(f"{asked.crate} has no Cargo.toml; give the folder of a crate or workspace")
     name = os.path.basename(os.path.realpath(asked.crate))
-    out = asked.out or f"{name}-facts"
+    out = asked.out or os.path.join("out", "rust", name)
     with tempfile.TemporaryDirectory(prefix="nll-facts.") as room:
         check(asked.crate, asked.options, room)
         jobs = jobs_of(room, out)

@@ -5,15 +5,22 @@ import os
 import signal
 import sys
 import tempfile
+from dataclasses import dataclass, field
 from typing import Callable, Optional, Sequence
+
+from nll_page.streams import any_locale, unwritten
+from nll_page.words import plural
 
 from .cargo import whole_crate
 from .convert import Problem, convert
 from .dumps import Dump, choose, find_dumps
+from .errors import own_errors
 from .progress import Progress
 from .refusal import Refusal
 from .rustc import CRATE, Error, run_rustc
 from .text import facts_text, free_path, make_folder, write_whole
+
+FOLDER = os.path.join("out", "rust")
 
 
 def main(words: Sequence[str]) -> int:
@@ -22,19 +29,21 @@ def main(words: Sequence[str]) -> int:
 
 
 def guarded(program: str, work: Callable[[], int]) -> int:
-    """The status of the work; a refusal is one line on standard error."""
+    """The status of the work; a refusal is one line on standard error, and so is a full disk."""
     signal.signal(signal.SIGTERM, signal.getsignal(signal.SIGINT))
+    any_locale()
     try:
-        return work()
+        status = work()
+        sys.stdout.flush()
+        return status
     except Refusal as refusal:
         print(f"{program}: {refusal}", file=sys.stderr)
         return refusal.status
     except KeyboardInterrupt:
         print(f"{program}: stopped; nothing half-written is left", file=sys.stderr)
         return 130
-    except BrokenPipeError:
-        os.dup2(os.open(os.devnull, os.O_WRONLY), 1)
-        return 3
+    except OSError as error:
+        return unwritten(program, error)
 
 
 def run(asked: argparse.Namespace) -> int:
@@ -60,7 +69,7 @@ def read_words(words: Sequence[str]) -> argparse.Namespace:
                         help="this one alone: its name (pick, module::pick, Type::pick) or a line")
     parser.add_argument("-o", dest="out", metavar="FOLDER",
                         help="where the texts go; it is made where it isn't there. Without it "
-                        "NAME-facts, NAME being the file's or crate's")
+                        f"{FOLDER}/NAME, NAME being the file's or crate's")
     parser.add_argument("--edition", default="2021", help="of the language, for FILE.rs; 2021")
     parser.add_argument("--crate", metavar="FOLDER",
                         help="all functions of the crate or workspace there, and nllc's answers")
@@ -75,20 +84,31 @@ def read_words(words: Sequence[str]) -> argparse.Namespace:
 
 
 def one_file(asked: argparse.Namespace) -> int:
-    problems, _ = problems_of_file(asked.file, asked.function, asked.edition, asked.options)
-    paths = write_all(asked.out, asked.file, problems)
-    for path, (_, problem) in zip(paths, problems):
-        print(f"{path}  {problem.function}: {len(problem.points)} points, "
-              f"{len(problem.regions)} regions, {len(problem.constraints)} constraints")
-    return 0
+    checked = problems_of_file(asked.file, asked.function, asked.edition, asked.options)
+    show(checked.errors)
+    paths = write_all(folder_of(asked), checked.problems)
+    for path, (_, problem) in zip(paths, checked.problems):
+        print(f"{path}  {problem.function}: {plural(len(problem.points), 'point')}, "
+              f"{plural(len(problem.regions), 'region')}, "
+              f"{plural(len(problem.constraints), 'constraint')}")
+    return tell_unanswered(asked.file, checked.unanswered)
+
+
+@dataclass
+class Checked:
+    """The problems of a file's functions, and rustc's errors.
+
+    Of some errors no function that rustc has checked has a line: those stand apart.
+    """
+
+    problems: list[tuple[Dump, Problem]]
+    errors: list[Error]
+    unanswered: list[Error] = field(default_factory=list)
 
 
 def problems_of_file(file: str, function: Optional[str], edition: str,
-                     options: list[str]) -> tuple[list[tuple[Dump, Problem]], bool]:
-    """The problems of a file's functions, or of the one, and whether rustc refuses any of them.
-
-    What rustc says against them is shown.
-    """
+                     options: list[str]) -> Checked:
+    """The problems of a file's functions, or of the one."""
     with tempfile.TemporaryDirectory(prefix="nll-facts.") as room:
         with Progress(lambda: f"rustc checks {file}"):
             run = run_rustc(file, room, [f"--edition={edition}", *options], sys.stderr.isatty())
@@ -96,14 +116,18 @@ def problems_of_file(file: str, function: Optional[str], edition: str,
         if run.errors and not dumps:
             show(run.errors)
             raise Refusal(f"rustc refuses {file} before it checks borrows: mend what it says above")
-        if not function:
-            show(run.errors)
-            chosen = functions(file, run.errors, dumps)
-            return [(dump, convert(dump)) for dump in chosen], bool(run.errors)
-        dump = choose(dumps, file, function)
-        errors = [error for error in run.errors if any(map(dump.has, error.places))]
-        show(errors)
-        return [(dump, convert(dump))], bool(errors)
+        if function:
+            chosen = [choose(dumps, file, function)]
+            errors = [error for error in run.errors if any(map(chosen[0].has, error.places))]
+            unanswered = []
+        else:
+            chosen = functions(file, dumps)
+            unanswered = [error for error in run.errors if error.places
+                          and not any(map(lambda dump: any(map(dump.has, error.places)), dumps))]
+            errors = [error for error in run.errors if error not in unanswered]
+        problems = [(dump, convert(dump, errors=own_errors(dump, dumps, run.errors)))
+                    for dump in chosen]
+        return Checked(problems, errors, unanswered)
 
 
 def show(errors: list[Error]) -> None:
@@ -111,27 +135,39 @@ def show(errors: list[Error]) -> None:
         sys.stderr.write(error.rendered)
 
 
-def functions(file: str, errors: list[Error], dumps: list[Dump]) -> list[Dump]:
-    """All functions; refuses a file with an error outside those whose borrows rustc has checked.
-
-    A function that has facts was checked. So an error inside it is one of the borrow checker, and
-    its facts are what is wanted.
-    """
+def functions(file: str, dumps: list[Dump]) -> list[Dump]:
+    """All functions that rustc has checked. So an error inside one is of the borrow checker."""
     found = [dump for dump in dumps if dump.is_function]
     if not found:
         raise Refusal(f"{file} has no function with a body: nothing in it has regions to solve")
-    for error in errors:
-        inside = any(dump.has(place) for dump in dumps for place in error.places)
-        if error.places and not inside:
-            raise Refusal(f"rustc refuses {file} before it checks all borrows: mend what it says "
-                          f"above of line {error.places[0][1]}, or name a function that has no "
-                          f"error")
     return found
 
 
-def write_all(out: Optional[str], file: str, problems: list[tuple[Dump, Problem]]) -> list[str]:
+def tell_unanswered(file: str, errors: list[Error]) -> int:
+    """Says which lines rustc refuses so that it doesn't check their borrows; the status."""
+    if not errors:
+        return 0
+    show(errors)
+    lines = ", ".join(str(line) for line in sorted({error.line for error in errors}))
+    print(f"{file}: rustc refuses line {lines} before it checks borrows, as it says above; the functions "
+          "there have no answer", file=sys.stderr)
+    return 2
+
+
+def folder_of(asked: argparse.Namespace) -> str:
+    """Where texts and pages go: in one folder for all files, which git is told to ignore."""
+    if asked.out:
+        return asked.out
+    folder = os.path.join(FOLDER, os.path.splitext(os.path.basename(asked.file))[0])
+    make_folder(folder)
+    ignored = os.path.join(FOLDER, ".gitignore")
+    if not os.path.exists(ignored):
+        write_whole(ignored, "*\n")
+    return folder
+
+
+def write_all(folder: str, problems: list[tuple[Dump, Problem]]) -> list[str]:
     """Writes a text for each problem, all made before the first is written; gives the paths."""
-    folder = out or f"{os.path.splitext(os.path.basename(file))[0]}-facts"
     texts = [(dump.file_name, facts_text(problem)) for dump, problem in problems]
     make_folder(folder)
     paths: list[str] = []

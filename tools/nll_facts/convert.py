@@ -2,9 +2,10 @@
 
 import os
 from collections import defaultdict
-from dataclasses import dataclass
-from typing import Iterator
+from dataclasses import dataclass, field
+from typing import Iterable, Iterator
 
+from .beside import Beside
 from .dumps import Dump
 from .liveness import bases
 from .mir import read_body
@@ -12,6 +13,7 @@ from .origins import origins
 from .points import Points, number_points
 from .refusal import Refusal
 from .regions import STATIC, Regions, name_regions
+from .rustc import Error
 from .tables import Tables, read_tables
 from .wording import Remark, Wording
 
@@ -26,7 +28,10 @@ Named = tuple[str, Remark]
 
 @dataclass(frozen=True)
 class Problem:
-    """What a facts text says: names without `'`, points by number, each with its remark."""
+    """What a facts text says: names without `'`, points by number, each with its remark.
+
+    What it says beside the problem itself is lines of remarks.
+    """
 
     function: str
     source: str
@@ -38,6 +43,7 @@ class Problem:
     returns: list[int]
     bases: list[tuple[str, list[int]]]
     constraints: list[tuple[str, str, int]]
+    beside: list[str] = field(default_factory=list)
 
     def check_limits(self) -> None:
         """Refuses what `nllc` would refuse for its size."""
@@ -58,8 +64,8 @@ def refuse_past(function: str, what: str, count: int, most: int) -> None:
                       f"cut the function into smaller ones")
 
 
-def convert(dump: Dump, root: str = "") -> Problem:
-    """The problem of a function; rustc's paths are relative to the root."""
+def convert(dump: Dump, root: str = "", errors: Iterable[Error] = ()) -> Problem:
+    """The problem of a function; rustc's paths are relative to the root, its errors are told."""
     tables = read_tables(dump.facts)
     body = read_body(dump.mir)
     points = number_points(tables, body)
@@ -86,6 +92,7 @@ def convert(dump: Dump, root: str = "") -> Problem:
         returns=points.returns,
         bases=[(names[region], live) for region, live in live_points(tables, points, regions)],
         constraints=[(names[sup], names[sub], at) for sup, sub, at in asked],
+        beside=Beside(dump, tables, body, points, regions, names, wording.source).lines(errors),
     )
     problem.check_limits()
     return problem
@@ -112,7 +119,7 @@ def mentioned(tables: Tables, asked: list[tuple[int, int, int]]) -> Iterator[int
     """The regions of variables' types and drops, of borrows and of constraints."""
     yield from (region for _, region in tables.use_of_var_derefs_origin)
     yield from (region for _, region in tables.drop_of_var_derefs_origin)
-    yield from (region for region, _ in tables.loan_issued_at)
+    yield from (region for region, _, _ in tables.loan_issued_at)
     for sup, sub, _ in asked:
         yield sup
         yield sub

@@ -32,12 +32,15 @@ class Dump:
         span = self.span
         return span is not None and span.file == file and span.first <= line <= span.last
 
+    @property
+    def is_closure(self) -> bool:
+        return "{closure#" in self.name
 
-def closure_note(function: str) -> str:
-    """What to know of a closure's faults; empty for other functions."""
-    if "{closure#" not in function:
-        return ""
-    return "a closure: what it needs of lifetimes from outside, the function around it has to keep"
+    def is_inside(self, file: str, line: int, column: int) -> bool:
+        """Whether a character of a file stands inside the function, behind its first one."""
+        span = self.span
+        return span is not None and span.file == file \
+            and (span.first, span.column) < (line, column) < (span.last, span.end)
 
 
 def find_dumps(facts: str, mir: str, crate: str, root: str = "") -> list[Dump]:
@@ -66,7 +69,9 @@ def dump_of(facts: str, mir_path: str, root: str) -> Dump:
     lines = [span for span in body.spans() if head and span.file == head.file]
     span = None
     if lines:
-        span = Span(head.file, min(s.first for s in lines), max(s.last for s in lines))
+        first, column = min((s.first, s.column) for s in lines)
+        last, end = max((s.last, s.end) for s in lines)
+        span = Span(head.file, first, last, column, end)
     name = IMPL_AT.sub(lambda found: impl_name(found, root), body.path)
     return Dump(name, file_name(os.path.basename(facts)), facts, mir_path, span, body.is_function)
 

@@ -7,6 +7,9 @@ from concurrent.futures import ProcessPoolExecutor, as_completed
 from dataclasses import dataclass, field
 from functools import partial
 
+from nll_page.facts import read_facts
+from nll_page.faults import needs
+
 from .answers import check, make_ready
 from .convert import convert
 from .dumps import Dump
@@ -70,10 +73,22 @@ def do(job: Job, answer: bool, seconds: float) -> Row:
     try:
         problem = convert(job.dump, job.root)
         row.points = len(problem.points)
-        write_whole(job.path, facts_text(problem))
+        text = facts_text(problem)
+        write_whole(job.path, text)
         if answer:
-            row.faults = check(job.path, seconds)
+            row.faults = beyond_needs(text, check(job.path, seconds))
     except Refusal as refusal:
         row.failure = str(refusal)
     row.seconds = time.monotonic() - began
     return row
+
+
+def beyond_needs(text: str, lines: list[str]) -> list[str]:
+    """The faults, save what a closure only needs of the function around it."""
+    if not lines:
+        return []
+    facts = read_facts(text.encode(), "the text")
+    numbers = {f"'{name}": number for number, name in enumerate(facts.names)}
+    pairs = {line: (numbers[line.split()[1]], numbers[line.split()[4]]) for line in lines}
+    needed = needs(facts, pairs.values())
+    return [line for line, pair in pairs.items() if pair not in needed]

@@ -8,11 +8,13 @@ import re
 from dataclasses import dataclass, field
 from typing import Iterator, NamedTuple, Optional
 
+from .places import closing
 from .refusal import Refusal
 from .tables import Location
 
 TITLE = re.compile(r"// MIR for `(.*)` 0 nll")
-SPAN = re.compile(r"(?P<file>.+):(?P<line>\d+):\d+: (?P<last>\d+):\d+(?: \(#\d+\))?")
+SPAN = re.compile(r"(?P<file>.+):(?P<line>\d+):(?P<column>\d+): (?P<last>\d+):(?P<end>\d+)"
+                  r"(?: \(#\d+\))?")
 CODE = re.compile(r"(?P<indent> +)(?P<code>\S.*?)\s+// (?:\S+ )*?in scope \d+ at (?P<span>.*)"
                   r"|        (?P<statement>\S.*);\s+// (?:bb\S+ )?scope \d+ at (?P<where>.*)")
 LET = re.compile(r"let (?:mut )?_(\d+): (.*?)(?: as UserTypeProjection .*)?;")
@@ -20,16 +22,35 @@ DEBUG = re.compile(r"debug (\S+) => _(\d+);")
 BLOCK = re.compile(r"    bb(\d+)(?: \(cleanup\))?: \{")
 STATEMENT = re.compile(r" {8}[^\s/]")
 PARAMETER = re.compile(r"(?:^|, )_(\d+): ")
+REASON = re.compile(r"\| '\?(\d+): '\?(\d+) due to (\w+)(.*) at "
+                    r"(?:All\(.*\)|Single\(bb(\d+)\[(\d+)\]\)) \((.*) \(#\d+\)")
+NEED = re.compile(r"\| where '\?(\d+): '\?(\d+)$")
 EXTERNAL = re.compile(r"\| '\?(\d+) \| External \|")
 NAME = re.compile(r"    r(\d+)\[label=\"\\'\?\d+ \(\\'([A-Za-z0-9_]+)\)\"\]")
 
 
 class Span(NamedTuple):
-    """Where something stands in the source: the file as rustc writes it, first and last line."""
+    """Where something stands in the source: the file as rustc writes it, lines, columns."""
 
     file: str
     first: int
     last: int
+    column: int = 0
+    end: int = 0    # the column behind it
+
+
+class Reason(NamedTuple):
+    """A constraint as rustc prints it: its category with what stands behind, and where it arises.
+
+    Without a location it holds everywhere.
+    """
+
+    sup: int
+    sub: int
+    category: str
+    detail: str
+    location: Optional[Location]
+    span: Optional[Span]
 
 
 class Statement(NamedTuple):
@@ -58,6 +79,8 @@ class Body:
     statements: dict[Location, Statement] = field(default_factory=dict)
     names: dict[int, str] = field(default_factory=dict)
     external: set[int] = field(default_factory=set)
+    reasons: list[Reason] = field(default_factory=list)
+    needs: list[tuple[int, int]] = field(default_factory=list)
 
     def spans(self) -> Iterator[Span]:
         """The places in the source that the dump names."""
@@ -74,11 +97,21 @@ def read_body(mir_path: str) -> Body:
         raise Refusal(f"{mir_path} is no MIR dump that is known here; rustc 1.95 is known to work")
     body = Body(path=title[1])
     body.external = {int(found[1]) for found in map(EXTERNAL.match, lines) if found}
+    body.reasons = list(filter(None, map(reason_of, lines)))
+    body.needs = [(int(found[1]), int(found[2])) for found in map(NEED.match, lines) if found]
     begin = next((i for i, line in enumerate(lines[1:], 1) if line and line[0] not in "/|"), 1)
     read_header(body, lines[begin])
     read_code(body, lines[begin + 1:])
     body.names = read_names(mir_path.removesuffix(".mir") + ".regioncx.all.dot")
     return body
+
+
+def reason_of(line: str) -> Optional[Reason]:
+    found = REASON.match(line)
+    if not found:
+        return None
+    location = Location(int(found[5]), int(found[6])) if found[5] else None
+    return Reason(int(found[1]), int(found[2]), found[3], found[4], location, span_of(found[7]))
 
 
 def read_lines(path: str) -> list[str]:
@@ -101,16 +134,6 @@ def read_header(body: Body, line: str) -> None:
     for this, following in zip(found, [*found[1:], None]):
         end = following.start() if following else len(inside)
         body.locals[int(this[1])] = Local(inside[this.end():end])
-
-
-def closing(text: str, begin: int) -> int:
-    """Where the bracket that opens at `begin` closes; the text's end if it doesn't."""
-    depth = 0
-    for at in range(begin, len(text)):
-        depth += {"(": 1, ")": -1}.get(text[at], 0)
-        if depth == 0:
-            return at
-    return len(text)
 
 
 def read_code(body: Body, lines: list[str]) -> None:
@@ -148,7 +171,9 @@ def read_declaration(body: Body, code: str, span: Optional[Span]) -> None:
 
 def span_of(text: str) -> Optional[Span]:
     found = SPAN.fullmatch(text)
-    return Span(found["file"], int(found["line"]), int(found["last"])) if found else None
+    if not found:
+        return None
+    return Span(found["file"], *(int(found[part]) for part in ("line", "last", "column", "end")))
 
 
 def read_names(dot_path: str) -> dict[int, str]:

@@ -1,31 +1,41 @@
 """The one command from a Rust file to its pages: a text, `nllc`'s answer and a page of each."""
 
 import argparse
+import json
 import os
 import subprocess
 import sys
 import webbrowser
 from concurrent.futures import ThreadPoolExecutor
-from dataclasses import dataclass
-from typing import Sequence
+from dataclasses import dataclass, field
+from typing import Any, Sequence
+
+from nll_page.folder import write_index
+from nll_page.words import plural
 
 from .answers import make_ready
-from .command import guarded, problems_of_file, split_words, write_all
+from .command import (FOLDER, Checked, folder_of, guarded, problems_of_file, show, split_words,
+                      tell_unanswered, write_all)
 from .convert import Problem
-from .dumps import closure_note
+from .errors import is_judged
 from .progress import Bar, Progress
+from .rustc import version
 
 PAGE = os.path.join(os.path.dirname(os.path.dirname(os.path.abspath(__file__))), "nll-page")
+
+MOST_NAMES = 20
 
 
 @dataclass(frozen=True)
 class Answer:
-    """What became of one function: its page and its faults in words, or why there are none."""
+    """What became of one function: what `nll-page` says of it, or why it says nothing."""
 
     status: int
-    page: str
-    faults: list[str]
-    failure: str
+    failure: str = ""
+    said: dict[str, Any] = field(default_factory=dict)
+
+    def count(self) -> int:
+        return self.said.get("faults", 0) + self.said.get("loans", 0)
 
 
 def main(words: Sequence[str]) -> int:
@@ -36,15 +46,19 @@ def main(words: Sequence[str]) -> int:
 def read_words(words: Sequence[str]) -> argparse.Namespace:
     own, options = split_words(words)
     parser = argparse.ArgumentParser(
-        prog="nllc.sh rust", usage="nllc.sh rust FILE.rs [FUNCTION] [-o FOLDER] [--open] "
+        prog="nllc.sh rust", usage="nllc.sh rust FILE.rs [FUNCTION] [-o FOLDER] [--explain] [--open] "
         "[--edition E] [-- OPTIONS OF RUSTC]",
-        description="Shows the regions of a Rust file's functions: a facts text and a page of "
-        "each, and the faults in words. Status 0: no fault; 1: faults; 2: refused; 3: failed.")
+        description="Says why the borrow checker refuses the functions of a Rust file: lifetimes that "
+        "would have to outlive others, and loans that something goes against while they are in force. "
+        "Makes a facts text and a page of each function. Status 0: no fault; 1: faults; 2: refused, "
+        "all or in part; 3: failed.")
     parser.add_argument("file", metavar="FILE.rs")
     parser.add_argument("function", metavar="FUNCTION", nargs="?",
                         help="this one alone: its name (pick, module::pick, Type::pick) or a line")
     parser.add_argument("-o", dest="out", metavar="FOLDER",
-                        help="where texts and pages go; without it NAME-facts")
+                        help=f"where texts and pages go; without it {FOLDER}/NAME")
+    parser.add_argument("--explain", action="store_true",
+                        help="what rustc says, and how each fault comes about, step by step")
     parser.add_argument("--open", action="store_true", help="open the page in the browser")
     parser.add_argument("--edition", default="2021", help="of the language; 2021")
     asked = parser.parse_args(own)
@@ -53,46 +67,80 @@ def read_words(words: Sequence[str]) -> argparse.Namespace:
 
 
 def answer_file(asked: argparse.Namespace) -> int:
-    problems, refused = problems_of_file(asked.file, asked.function, asked.edition, asked.options)
-    paths = write_all(asked.out, asked.file, problems)
+    checked = problems_of_file(asked.file, asked.function, asked.edition, asked.options)
+    if asked.explain:
+        show(checked.errors)
+    paths = write_all(folder_of(asked), checked.problems)
     make_ready()
     bar = Bar(len(paths))
     answers = []
     with ThreadPoolExecutor(os.cpu_count()) as pool, Progress(bar.words):
-        for answer in pool.map(answer_text, paths):
+        for answer in pool.map(lambda path: answer_text(path, asked.explain), paths):
             answers.append(answer)
-            bar.step(len(answer.faults))
-    for (_, problem), answer in zip(problems, answers):
-        tell(problem, answer)
-    if refused:
-        print(f"rustc refuses {asked.file}, as it says above. nllc judges the ends of named "
-              f"lifetimes alone; docs/FROM-RUST.md says where the two differ.")
-    if asked.open and answers[0].page:
-        webbrowser.open(f"file://{os.path.abspath(answers[0].page)}")
-    return max(answer.status for answer in answers)
+            bar.step(answer.count())
+    tell_all(checked, answers)
+    status = tell_unanswered(asked.file, checked.unanswered)
+    index = write_index(os.path.dirname(paths[0]))
+    print(f"pages: {index}")
+    if asked.open:
+        page = answers[0].said.get("page") if len(answers) == 1 else index
+        webbrowser.open(f"file://{os.path.abspath(page or index)}")
+    return max(status, *(answer.status for answer in answers))
 
 
-def answer_text(path: str) -> Answer:
+def answer_text(path: str, in_full: bool) -> Answer:
     """Has the page of a text made, which has `nllc` answer it and tells the faults in words."""
-    done = subprocess.run([sys.executable, PAGE, path, "--faults"], stdin=subprocess.DEVNULL,
-                          capture_output=True, check=False, encoding="utf-8", errors="replace")
+    words = [sys.executable, PAGE, path, "--json", *(["--explain"] if in_full else [])]
+    done = subprocess.run(words, stdin=subprocess.DEVNULL, capture_output=True, check=False,
+                          encoding="utf-8", errors="replace", env=os.environ | {"PYTHONUTF8": "1"})
     if done.returncode != 0:
-        said = done.stderr.strip().splitlines() or ["it says not why"]
-        return Answer(done.returncode, "", [], said[-1].removeprefix("nll-page: "))
-    page, *lines = done.stdout.splitlines()
-    faults = [] if lines == ["no fault"] else lines
-    return Answer(1 if faults else 0, page, faults, "")
+        told = done.stderr.strip().splitlines() or ["it says not why"]
+        return Answer(done.returncode, told[-1].removeprefix("nll-page: "))
+    said = json.loads(done.stdout)
+    return Answer(1 if said["faults"] or said["loans"] else 0, said=said)
 
 
-def tell(problem: Problem, answer: Answer) -> None:
-    """A function's lines on the terminal."""
-    counts = f"{len(problem.points)} points, {len(problem.regions)} regions"
-    if answer.failure:
-        print(f"{problem.function}: {counts}: no answer: {answer.failure}")
-        return
-    print(f"{problem.function}: {counts}: {'faults' if answer.faults else 'no fault'}")
-    for line in answer.faults:
-        print(f"  {line}")
-    if answer.faults and closure_note(problem.function):
-        print(f"  ({closure_note(problem.function)})")
-    print(f"  page: {answer.page}")
+def tell_all(checked: Checked, answers: list[Answer]) -> None:
+    """The lines of all functions that have any, the names of the others, and what else rustc refuses."""
+    places = {tuple(place) for answer in answers for place in answer.said.get("places", ())}
+    silent = []
+    for (dump, problem), answer in zip(checked.problems, answers):
+        lines = [answer.failure] if answer.failure else told(problem, answer.said, places)
+        if lines:
+            print(f"{answer.said.get('name', problem.function)}: "
+                  f"{'no answer' if answer.failure else verdict(answer.said)}")
+        else:
+            silent.append((dump.is_closure, answer.said["name"]))
+        for line in lines:
+            print(f"  {line}")
+    tell_silent(silent)
+    for error in checked.errors:
+        if error.places and not is_judged(error):
+            print(f"{error.places[0][0]}:{error.line}:{error.column}: {version()}: {error.words()}\n"
+                  f"    (an error of another kind, of which nothing is said here)")
+
+
+def tell_silent(silent: list[tuple[bool, str]]) -> None:
+    """The functions of which nothing is told; closures only where there is nothing else."""
+    names = [name for is_closure, name in silent if not is_closure] or [name for _, name in silent]
+    if names:
+        more = f" and {len(names) - MOST_NAMES} more" if len(names) > MOST_NAMES else ""
+        print(f"no fault: {', '.join(names[:MOST_NAMES])}{more}")
+
+
+def verdict(said: dict[str, Any]) -> str:
+    counts = [plural(said[kind], noun) for kind, noun in (("faults", "fault"), ("loans", "loan error"))
+              if said[kind]]
+    return ", ".join(counts) or "no fault"
+
+
+def told(problem: Problem, said: dict[str, Any], places: set[tuple]) -> list[str]:
+    """A function's lines; `places` are those of all functions' faults."""
+    lines = [*said["lines"], *said["explained"]]
+    if said["asked_to_explain"]:
+        lines += [f"needs of the function around it that {need}" for need in said["needs"]]
+    for line, column, words, why in said["differences"]:
+        if (line, column) not in places:
+            lines += [f"{problem.source}:{line}:{column}: {version()}: {words}; nllc: no fault there",
+                      f"    {why}"]
+    return lines

@@ -2,7 +2,6 @@
 
 from typing import Iterable
 
-from .dumps import closure_note
 from .jobs import Row
 
 HEAD = ("Source", "Functions", "Points", "Seconds", "Faults")
@@ -39,7 +38,6 @@ def told(rows: list[Row]) -> Iterable[str]:
     for row in rows:
         place = f"{row.source}:{row.line}: {row.function}"
         for fault in row.faults:
-            note = closure_note(row.function)
-            yield f"{place}: {fault.removeprefix('fault ')}  ({note or row.path})"
+            yield f"{place}: {fault.removeprefix('fault ')}  ({row.path})"
         if row.failure:
             yield f"{place}: no answer: {row.failure}"

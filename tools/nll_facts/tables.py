@@ -49,14 +49,17 @@ class Subsets:
 class Tables:
     """The tables of a function that are used here, with rustc's names.
 
-    Regions and variables are numbers: `'?5` is 5, `_3` is 3. Move paths (`mp4`) are numbers too.
+    Regions and variables are numbers: `'?5` is 5, `_3` is 3. So are move paths (`mp4`) and loans
+    (`bw2`).
     """
 
     cfg_edge: list[tuple[Spot, Spot]]
     universal_region: list[int]
     known_placeholder_subset: list[tuple[int, int]]
     subset_base: "Subsets"
-    loan_issued_at: list[tuple[int, Spot]]
+    loan_issued_at: list[tuple[int, int, Spot]]
+    loan_killed_at: list[tuple[int, Spot]]
+    loan_invalidated_at: list[tuple[Spot, int]]
     use_of_var_derefs_origin: list[tuple[int, int]]
     drop_of_var_derefs_origin: list[tuple[int, int]]
     var_used_at: list[tuple[int, Spot]]
@@ -89,7 +92,10 @@ class Reader:
             universal_region=[region(a) for a, in self.rows("universal_region")],
             known_placeholder_subset=self.pairs("known_placeholder_subset", region, region),
             subset_base=self.subsets(),
-            loan_issued_at=[(region(a), self.spot(p)) for a, _, p in self.rows("loan_issued_at")],
+            loan_issued_at=[(region(a), loan(b), self.spot(p))
+                            for a, b, p in self.rows("loan_issued_at")],
+            loan_killed_at=self.pairs("loan_killed_at", loan, self.spot),
+            loan_invalidated_at=self.pairs("loan_invalidated_at", self.spot, loan),
             use_of_var_derefs_origin=self.pairs("use_of_var_derefs_origin", variable, region),
             drop_of_var_derefs_origin=self.pairs("drop_of_var_derefs_origin", variable, region),
             var_used_at=self.pairs("var_used_at", variable, self.spot),
@@ -154,6 +160,10 @@ def region(field: str) -> int:
 
 def variable(field: str) -> int:
     return int(field.removeprefix("_"))
+
+
+def loan(field: str) -> int:
+    return int(field.removeprefix("bw"))
 
 
 def path(field: str) -> int:

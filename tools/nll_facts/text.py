@@ -3,7 +3,8 @@
     # function: NAME                    # point N: line L: TEXT
     # source: PATH                      # region 'NAME: line L: TEXT
 
-`line L: ` is left out where the line isn't known.
+`line L: ` is left out where the line isn't known. `beside` makes the other remarks, which stand
+before the last line.
 """
 
 import os
@@ -46,6 +47,7 @@ def lines(problem: Problem) -> Iterator[str]:
     for name, live in problem.bases:
         yield from (f"base '{name} {point}" for point in live)
     yield from (f"constraint '{sup} '{sub} {at}" for sup, sub, at in problem.constraints)
+    yield from (f"# {line}" for line in problem.beside)
     yield "end"
 
 

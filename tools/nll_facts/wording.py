@@ -53,7 +53,7 @@ class Wording:
             own = self.origins.get(int(target[2])) if target and target[2] else None
             if own and own[0] == sub:
                 found[spot.location] = sup
-        return found | {spot.location: region for region, spot in tables.loan_issued_at}
+        return found | {spot.location: region for region, _, spot in tables.loan_issued_at}
 
     def file_of_source(self) -> str:
         """The file with the function's head, where the type of its result stands."""

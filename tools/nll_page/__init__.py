@@ -9,7 +9,16 @@ The values are those that `nllc` prints. Nothing here computes them, and nothing
     words       sentences                        source      the lines of the Rust file
     lines       straight lines of points         layout      where the graph's boxes stand
     drawing     the graph as SVG                 page        puts the page together
-    fault_list, region_list, point_list          its other parts
+    fault_list, chain_list, region_list, point_list, region_graph    its other parts
+    index       a row for each page              folder      writes a folder's index
+    names       functions and regions in words
+    beside      what a text says of loans and reasons
+    loans       which of them something goes against, and why they are in force
+    blame       which constraint is named            differences  where rustc says something else
+    telling     faults in two lines                  explaining   and step by step
+    loan_list   the loans of a page                  snippets     what stands in the source
+    streams     any locale, and full disks
+    mir_text    what a MIR text says             texts       the command for texts of both kinds
     escaping    makes text from outside safe     refusal     lines for a person
     templates/  the page's HTML, style and script
 """

@@ -57,7 +57,7 @@ def search(facts, values, wanted, universal):
         left.discard(sub)
         if (steps, points) > best[sub]:
             continue
-        onward = ways_to_return(facts, values.set_of(sub))
+        onward = ways_to(facts, values.set_of(sub), facts.returns)
         for constraint in by_sub.get(sub, ()):
             walk_points = length(onward, constraint.at)
             cost = (steps + 1, points + walk_points)
@@ -77,9 +77,9 @@ def backwards(came_by, region, universal):
     return steps[::-1]
 
 
-def ways_to_return(facts, inside):
-    """For each point from which a walk inside the set comes to a return: how far, what is next."""
-    onward = {point: (1, None) for point in sorted(facts.returns) if point in inside}
+def ways_to(facts, inside, goals):
+    """For each point from which a walk inside the set comes to a goal: how far, what is next."""
+    onward = {point: (1, None) for point in sorted(goals) if point in inside}
     todo = deque(onward)
     while todo:
         point = todo.popleft()

@@ -1,16 +1,19 @@
 """The command line: words, files, what is printed, statuses."""
 
 import argparse
+import json
 import os
 import signal
 import sys
 import tempfile
 
-from . import chains, faults, nllc, source, words
+from . import chains, differences, explaining, faults, loans, nllc, source, telling, words
 from .escaping import visible
 from .facts import is_facts_text, read_facts
+from .names import function_words
 from .page import Content, Fault, page
 from .refusal import Refusal
+from .streams import any_locale, unwritten
 from .values import read_values
 
 MOST_POINTS = 50_000
@@ -27,16 +30,26 @@ is left half-written"""
 
 def main(arguments):
     """Runs the program on these words; its status."""
+    return guarded(lambda: run(words_of(arguments)))
+
+
+def guarded(work):
+    """The status of the work; a refusal is one line on standard error."""
     for number in (signal.SIGTERM, signal.SIGHUP):
         signal.signal(number, signal.default_int_handler)  # what is half-written is taken away
+    any_locale()
     try:
-        return run(words_of(arguments))
+        status = work()
+        sys.stdout.flush()
+        return status
     except Refusal as refusal:
         say(str(refusal))
         return refusal.status
     except KeyboardInterrupt:
         say("stopped")
         return 130
+    except OSError as error:
+        return unwritten("nll-page", error)
 
 
 def words_of(arguments):
@@ -50,7 +63,9 @@ def words_of(arguments):
                              "if it is there")
     parser.add_argument("--values", metavar="FILE",
                         help="what `nllc values FACTS` printed, in place of running nllc")
-    parser.add_argument("--faults", action="store_true", help="print each fault in words, too")
+    parser.add_argument("--faults", action="store_true", help="print each fault in two lines, too")
+    parser.add_argument("--explain", action="store_true", help="and how it comes about, step by step")
+    parser.add_argument("--json", action="store_true", help="print all of it as JSON, for a program")
     parser.add_argument("-o", metavar="OUT.html", dest="out",
                         help="the page (otherwise FACTS with .html in place of .facts)")
     return parser.parse_args(arguments)
@@ -63,9 +78,12 @@ def run(asked):
             raise Refusal(f"the page would be written over {path}; name another by -o OUT.html")
     content = content_of(asked)
     write(out, page(content))
-    print(out)
-    if asked.faults:
-        tell_faults(content)
+    if not asked.json:
+        print(out)
+    if asked.json:
+        print(json.dumps(answer(out, content, asked.explain)))
+    elif asked.faults or asked.explain:
+        tell_faults(content, asked.explain)
     note_missing(asked, content)
     return 0
 
@@ -88,17 +106,23 @@ def content_of(asked):
     else:
         report, told, origin, standing = nllc.run(text)
     facts = read_facts(text, asked.facts)
-    if facts.points > MOST_POINTS:
-        raise Refusal(f"{asked.facts} has {facts.points:,} points, and a page of more than "
-                      f"{MOST_POINTS:,} is no use "
-                      f"to anybody; `nllc values` and `nllc check` answer it")
+    look_small(asked.facts, facts)
     values = read_values(report, facts, asked.values or origin)
     found = faults.faults(facts, values)
     if told is not None and told != [(facts.names[a], facts.names[b]) for a, b in found]:
         raise Refusal(f"the faults of `{origin} check` aren't those of `{origin} values`", 3)
     path = source.find(facts, asked.facts, asked.source)
-    return Content(facts, values, explained(facts, values, found, origin), asked.facts,
-                   source.read(path, facts) if path else None, origin, standing)
+    needs = faults.needs(facts, found)
+    wrong = [pair for pair in found if pair not in needs]
+    return Content(facts, values, explained(facts, values, wrong, origin), asked.facts,
+                   source.read(path, facts) if path else None, origin, standing,
+                   list(loans.loan_faults(facts, values)), needs)
+
+
+def look_small(path, facts):
+    if facts.points > MOST_POINTS:
+        raise Refusal(f"{path} has {facts.points:,} points, and a page of more than {MOST_POINTS:,} is no "
+                      "use to anybody; `nllc values` and `nllc check` answer it")
 
 
 def explained(facts, values, found, origin):
@@ -154,24 +178,38 @@ def umask():
     return mask
 
 
-def tell_faults(content):
-    """Each fault for a terminal: a line for it, and one for each step of its chain."""
-    facts = content.facts
-    for fault in content.faults:
-        line = words.entry(facts, fault.steps)
-        path = content.source.path if content.source else facts.remarks.source
-        place = f"{path}:{line}: " if path else f"line {line}: "
-        where = place if line is not None else ""
-        tell(f"{where}{words.plain(words.fault_head(facts, fault.sup, fault.sub))}")
-        tell(f"    {words.plain([words.end(facts, fault.sub), ' comes'])}")
-        for step in fault.steps:
-            tell(f"    {words.plain(words.step_brief(facts, step))}")
-    if not content.faults:
+def tell_faults(content, in_full):
+    """Each fault in two lines for a terminal; in full with the steps by which it comes about."""
+    for one in telling.all_of(content):
+        for line in telling.lines(content, one):
+            tell(line)
+    if in_full:
+        for line in explaining.lines(content):
+            tell(line)
+    if not content.faults and not content.loans:
         tell("no fault")
 
 
 def tell(line):
     print(visible(line))
+
+
+def answer(out, content, in_full):
+    """What `nllc.sh rust` tells of the function."""
+    told = telling.all_of(content)
+    return {
+        "page": out,
+        "name": visible(function_words(content.facts)),
+        "faults": len(content.faults),
+        "lines": [visible(line) for one in told for line in telling.lines(content, one)],
+        "explained": [visible(line) for line in explaining.lines(content)] if in_full else [],
+        "asked_to_explain": in_full,
+        "needs": [visible(words.plain(telling.of_need(content, pair))) for pair in content.needs],
+        "places": [one.place[:2] for one in told if one.place],
+        "differences": [[line, column, visible(said), visible(words.plain(why))]
+                        for line, column, said, why in differences.differences(content)],
+        "loans": len(content.loans),
+    }
 
 
 def note_missing(asked, content):

@@ -119,6 +119,35 @@ def unfolded(facts, graph, shape):
         row_cells(facts, rows[box], sizes[box][0]) + row_stubs(graph, rows[box], sizes[box][0])))
 
 
+def many(facts, graph, shape):
+    """The drawing of many points, and what the script needs to put cells into the boxes that are in sight.
+
+    All frames are one path, and so are all edges of a kind: a browser opens that at once.
+    """
+    sizes = [folded_size(facts, line) for line in graph.lines]
+    drawing = placed(facts, graph, shape, sizes)
+    corners = [drawing.corners[box] for box in range(len(graph.lines))]
+    edges = [(*edge_ends(graph, edge), *edge_lines(route, edge in shape.turned), edge in shape.turned)
+             for edge, route in drawing.routes.items()]
+    frames = "".join(f"M{x:.0f} {y:.0f}h{w:.0f}v{h:.0f}h-{w:.0f}z"
+                     for (x, y), (w, h) in zip(corners, sizes))
+    parts = [opening("folded many", drawing), f'<path class="frame" d="{frames}"/>',
+             '<path class="frame lit" d=""/><g class="edges">']
+    for turned in (False, True):
+        ways = "".join(way for _, _, way, _, back in edges if back == turned)
+        parts.append(f'<g class="edge{" back" if turned else ""}"><path class="way" d="{ways}"/></g>')
+    heads = "".join(head for _, _, _, head, _ in edges)
+    parts.append(f'<path class="head" d="{heads}"/></g><g class="inside"></g></svg>')
+    return "".join(parts), {
+        "cell": CELL, "pitch": PITCH, "top": HEAD, "pad": PAD,
+        "boxes": [[round(x), round(y), round(w), round(h), columns(len(line)),
+                   " ".join(filter(None, lines.title(facts, line))), line]
+                  for (x, y), (w, h), line in zip(corners, sizes, graph.lines)],
+        "edges": {f"{a}-{b}": [way, head] for a, b, way, head, _ in edges},
+        "stubs": {str(point): found for point, found in graph.stubs.items()},
+    }
+
+
 def folded_stubs(graph, line, size):
     """A stub for each point to which several of the line's points lead; the last stands lowest."""
     sources = {}
@@ -172,14 +201,22 @@ def cell(facts, point, x, y):
             f'<rect x="{x:g}" y="{y:g}" width="{CELL}" height="{CELL}" rx="2.5"/>{returns}</g>')
 
 
-def svg(name, facts, graph, shape, sizes, inside):
+def placed(facts, graph, shape, sizes):
+    """Where boxes of these sizes stand, with room for stubs beside them."""
     wide = STUB + LETTER * len(str(facts.points))
     room = [wide if any(point in graph.stubs for point in line) else 0 for line in graph.lines]
-    drawing = layout.place(shape, [(*size, free) for size, free in zip(sizes, room)])
-    parts = [f'<svg class="graph {name}" viewBox="0 0 {drawing.width:.0f} {drawing.height:.0f}" '
-             f'width="{drawing.width:.0f}" '
-             f'height="{drawing.height:.0f}" role="group" aria-label="control-flow graph">',
-             '<g class="edges">']
+    return layout.place(shape, [(*size, free) for size, free in zip(sizes, room)])
+
+
+def opening(name, drawing):
+    return (f'<svg class="graph {name}" viewBox="0 0 {drawing.width:.0f} {drawing.height:.0f}" '
+            f'width="{drawing.width:.0f}" '
+            f'height="{drawing.height:.0f}" role="group" aria-label="control-flow graph">')
+
+
+def svg(name, facts, graph, shape, sizes, inside):
+    drawing = placed(facts, graph, shape, sizes)
+    parts = [opening(name, drawing), '<g class="edges">']
     parts += [edge_path(graph, edge, route, edge in shape.turned)
               for edge, route in drawing.routes.items()]
     parts += [loop_path(graph, box, drawing.corners[box], sizes[box]) for box, other in graph.edges
@@ -217,7 +254,11 @@ def edge_ends(graph, edge):
 
 
 def edge_path(graph, edge, route, turned):
-    """A smooth line down through the route, with an arrow where the edge ends."""
+    return edge_group(graph, edge, *edge_lines(route, turned), turned)
+
+
+def edge_lines(route, turned):
+    """A smooth line down through the route, and an arrow where the edge ends."""
     (x, y), *rest = route
     path = [f"M{x:.1f} {y + (5 if turned else 0):.1f}"]
     for at, (to_x, to_y) in enumerate(rest):
@@ -229,7 +270,7 @@ def edge_path(graph, edge, route, turned):
         x, y = to_x, to_y
     (hx, hy), tip = (route[0], -5) if turned else (route[-1], 5)
     head = f"M{hx - 3.5:.1f} {hy + (6 if turned else -6):.1f}l3.5 {tip}l3.5 {-tip}z"
-    return edge_group(graph, edge, " ".join(path), head, turned)
+    return " ".join(path), head
 
 
 def loop_path(graph, box, corner, size):

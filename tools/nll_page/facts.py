@@ -62,6 +62,11 @@ class Facts:
         return frozenset(self.constraints)
 
     @cached_property
+    def by_sup(self):
+        """For each region the constraints at whose larger side it stands."""
+        return grouped((c.sup, c) for c in self.constraints)
+
+    @cached_property
     def spread(self):
         """For each pair of regions with constraints the number of their points."""
         return Counter((c.sup, c.sub) for c in self.constraints)

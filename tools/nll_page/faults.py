@@ -1,10 +1,10 @@
 """Which ends in the values of universal regions are faults."""
 
 
-def known(facts):
+def known(facts, further=()):
     """For each universal region those that it is known to outlive, itself among them."""
     direct = [[] for _ in range(facts.universals)]
-    for long, short in facts.outlives:
+    for long, short in [*facts.outlives, *further]:
         direct[long].append(short)
     direct[0] = list(range(facts.universals))
     return [reached(direct, region) for region in range(facts.universals)]
@@ -29,3 +29,16 @@ def faults(facts, values):
             for a in range(facts.universals)
             for element in values.elements(a)
             if element >= facts.points and element - facts.points not in outlived[a]]
+
+
+def needs(facts, found):
+    """Those of the faults that a closure or coroutine only needs of the function around it.
+
+    rustc says what that is, and asks it where the closure is made; there it is a constraint like
+    any other.
+    """
+    asked = [(facts.names.index(long), facts.names.index(short))
+             for long, short in facts.remarks.beside.needs
+             if {long, short} <= set(facts.names[:facts.universals])]
+    outlived = known(facts, asked)
+    return [(long, short) for long, short in found if asked and short in outlived[long]]

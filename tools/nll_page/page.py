@@ -7,16 +7,20 @@ from typing import NamedTuple, Optional
 from . import drawing, layout, lines, words
 from .escaping import script_data, text, visible
 from .fault_list import fault_list
+from .index import row_mark, row_of
+from .loan_list import loan_list
+from .names import function_words
 from .nllc import PROVED, UNKNOWN, UNPROVED
-from .point_list import all_rows, end_list, point_list, source_list, tabs
+from .point_list import all_rows, blocks, end_list, point_list, source_list, tabs
+from .region_graph import region_graph
 from .region_list import region_list, region_words
 from .source import Source
 
 TEMPLATES = os.path.join(os.path.dirname(os.path.abspath(__file__)), "templates")
-SCRIPTS = ("values.js", "show.js", "words.js", "choose.js", "graph.js", "keys.js", "start.js")
+SCRIPTS = ("values.js", "show.js", "words.js", "large.js", "choose.js", "graph.js", "keys.js", "start.js")
 
 FEW_ROWS = 60       # up to so many statements, the graph is first shown with them
-MOST_ROWS = 4000    # more are shown folded only
+MOST_ROWS = 3000    # of a larger text the script makes the rows and boxes that are looked at
 
 STANDINGS = {
     PROVED: "the proved build",
@@ -43,6 +47,9 @@ class Content(NamedTuple):
     source: Optional[Source]
     origin: str         # where the values come from
     standing: str       # and whether that is proved
+    loans: list = []    # those that something goes against
+    needs: list = []    # pairs that a closure needs of the function around it
+    problem: str = ""   # a sentence on where the problem comes from, where the text doesn't say it itself
 
 
 def page(content):
@@ -51,24 +58,29 @@ def page(content):
     graph = drawing.graph_of(facts)
     shape = layout.shape_of(len(graph.lines), graph.edges)
     rows = len(all_rows(facts))
+    is_large = rows > MOST_ROWS
+    folded, large = drawing.many(facts, graph, shape) if is_large else \
+        (drawing.folded(facts, graph, shape), None)
     return fill("page.html", {
         "title": text(name_of(content)),
+        "row": row_mark(row_of(content, name_of(content))),
         "css": template("look.css") + template("page.css"),
         "js": "\n".join(map(template, SCRIPTS)),
         "name": text(name_of(content)),
         "about": about(content),
         "verdict": verdict(content),
         "provenance": provenance(content),
-        "faults": fault_list(content),
+        "faults": fault_list(content) + loan_list(content),
         "regions": region_list(content),
         "tabs": tabs(content),
-        "source": source_list(content),
-        "points": point_list(facts),
-        "folded": drawing.folded(facts, graph, shape),
-        "statements": drawing.unfolded(facts, graph, shape) if rows <= MOST_ROWS else "",
+        "source": source_list(content, is_large),
+        "points": point_list(facts, is_large),
+        "folded": folded,
+        "statements": "" if is_large else drawing.unfolded(facts, graph, shape),
+        "outlives": region_graph(facts),
         "view": "statements" if rows <= FEW_ROWS else "folded",
         "ends": end_list(facts),
-        "data": script_data(data(content)),
+        "data": script_data(data(content, large)),
     })
 
 
@@ -83,7 +95,7 @@ def fill(name, parts):
 
 
 def name_of(content):
-    named = content.facts.remarks.function
+    named = function_words(content.facts)
     return named or os.path.basename(content.facts_path).removesuffix(".facts")
 
 
@@ -96,21 +108,25 @@ def about(content):
 
 
 def verdict(content):
-    count = len(content.faults)
-    if not count:
+    counts = [words.plural(len(found), noun)
+              for found, noun in ((content.faults, "fault"), (content.loans, "loan error")) if found]
+    if not counts:
         return '<p class="verdict fine"><span aria-hidden="true">✓</span> no fault</p>'
     return (f'<p class="verdict faulty"><span aria-hidden="true">✕</span> '
-            f'{words.plural(count, "fault")}</p>')
+            f'{", ".join(counts)}</p>')
 
 
 def provenance(content):
-    return f"Values from <code>{text(content.origin)}</code>, {STANDINGS[content.standing]}."
+    more = f" {text(content.problem)}" if content.problem else ""
+    return f"Values from <code>{text(content.origin)}</code>, {STANDINGS[content.standing]}.{more}"
 
 
-def data(content):
-    """What the script reads."""
+def data(content, large=None):
+    """What the script reads; of a large text also the rows and boxes that it makes itself."""
     facts = content.facts
-    return {
+    more = {} if large is None else {
+        "large": large, "blocks": [[row.points for row in rows] for _, rows in blocks(facts)]}
+    return more | {
         "points": facts.points,
         "universals": facts.universals,
         "regions": [region_data(content, region) for region in range(len(facts.names))],

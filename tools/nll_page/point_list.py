@@ -5,6 +5,9 @@ from .escaping import text, visible
 from .source import pieces
 
 
+MOST_IN_PART = 100  # rows, where no remark names blocks
+
+
 def tabs(content):
     """The tabs of source and points: the source comes first where points have lines."""
     named = bool(content.source) and content.facts.remarks.has_lines()
@@ -17,7 +20,7 @@ def tab(name, title, is_chosen):
             f'aria-selected="{str(is_chosen).lower()}">{title}</button>')
 
 
-def source_list(content):
+def source_list(content, is_large=False):
     if not content.source:
         return ""
     facts = content.facts
@@ -25,11 +28,11 @@ def source_list(content):
     for row in all_rows(facts):
         rows.setdefault(facts.remarks.point(row.points[0]).line, []).append(row)
     asking = {number for fault in content.faults for number in words.arising(facts, fault.steps)}
-    return "".join(source_line(facts, number, line, rows.get(number, []), number in asking)
+    return "".join(source_line(facts, number, line, rows.get(number, []), number in asking, is_large)
                    for number, line in enumerate(content.source.lines, content.source.first))
 
 
-def source_line(facts, number, line, rows, asks):
+def source_line(facts, number, line, rows, asks, is_large=False):
     """A line of the source; with points it opens, and shows them."""
     head = f'<span class="no">{number}</span>'
     code = "".join(f'<span class="{kind}">{text(piece)}</span>' if kind else text(piece)
@@ -39,9 +42,10 @@ def source_line(facts, number, line, rows, asks):
                 f"<code>{code}</code></div>")
     kind, told = ("line asks", " title='a constraint of a fault’s chain arises here'") \
         if asks else ("line", "")
+    inside = "" if is_large else "".join(point_row(facts, row) for row in rows)
     return (f'<details class="{kind}" id="line-{number}"><summary{told}>{head}{strip(rows)}'
             f"<code>{code}</code></summary>"
-            f'<div class="rows">{"".join(point_row(facts, row) for row in rows)}</div></details>')
+            f'<div class="rows">{inside}</div></details>')
 
 
 def strip(rows):
@@ -56,20 +60,42 @@ def all_rows(facts):
     return lines.rows(facts, range(facts.points))
 
 
-def point_list(facts):
-    parts = []
-    block = None
+def point_list(facts, is_large=False):
+    """The points by blocks, which fold; of a large text the script makes the rows of those that are opened."""
+    return "".join(block_part(facts, number, *block, is_large)
+                   for number, block in enumerate(blocks(facts)))
+
+
+def blocks(facts):
+    """The rows by block, each block with its name; without blocks in the remarks by hundreds of points."""
+    found = []
     for row in all_rows(facts):
         spot = facts.remarks.point(row.points[0]).spot()
-        if spot and spot[0] != block:
-            block = spot[0]
-            parts.append(f'<h3 class="block">{text(block)}</h3>')
-        parts.append(point_row(facts, row, line_mark(facts.remarks.point(row.points[0]))))
-    return "".join(parts)
+        name = spot[0] if spot else ""
+        is_full = not name and found and len(found[-1][1]) == MOST_IN_PART
+        if not found or found[-1][0] != name or is_full:
+            found.append((name, []))
+        found[-1][1].append(row)
+    return found
 
 
-def line_mark(remark):
-    return f'<span class="at">line {remark.line}</span>' if remark.line is not None else ""
+def block_part(facts, number, name, rows, is_large):
+    first, last = rows[0].points[0], rows[-1].points[-1]
+    numbers = str(first) if first == last else f"{first}–{last}"
+    head = f'{text(name) + " " if name else ""}<span class="of">{numbers}</span>'
+    inside = "" if is_large else "".join(
+        point_row(facts, row, place_mark(facts, row.points[0])) for row in rows)
+    is_open = "" if is_large and number else " open"
+    return (f'<details class="block" data-block="{number}"{is_open}><summary>{head}</summary>'
+            f"{inside}</details>")
+
+
+def place_mark(facts, point):
+    """The line of a point, and its name where that isn't its number."""
+    line = facts.remarks.point(point).line
+    said = [facts.point_names[point]] if point in facts.point_names else []
+    said += [f"line {line}"] if line is not None else []
+    return f'<span class="at">{text(", ".join(said))}</span>' if said else ""
 
 
 def point_row(facts, row, behind=""):

@@ -2,6 +2,7 @@
 
 from . import words
 from .escaping import text
+from .names import region_text
 
 
 def region_list(content):
@@ -34,7 +35,7 @@ def region_item(content, region):
     elements = content.values.elements(region)
     what = region_words(facts, region)
     name = facts.names[region]
-    short = facts.remarks.region(name).text.removeprefix("the ") or what
+    short = region_text(facts, facts.remarks.region(name).text).partition(";")[0].removeprefix("the ") or what
     return (f'<li><button type="button" class="region{"" if elements else " empty"}" '
             f'data-r="{region}" aria-pressed="false" tabindex="-1" title="{text(what)}">'
             f'<code class="name">&#x27;{text(name)}</code><span class="what">{text(short)}</span>'
@@ -47,7 +48,7 @@ def region_words(facts, region):
     if not remark.text and remark.line is None:
         return words.region_words(facts, region)
     line = f"line {remark.line}" if remark.line is not None else ""
-    return ", ".join(part for part in (remark.text, line) if part)
+    return ", ".join(part for part in (region_text(facts, remark.text), line) if part)
 
 
 def barcode(facts, elements):

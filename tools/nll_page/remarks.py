@@ -6,12 +6,15 @@
     # region 'NAME: line L: TEXT
 
 `line L: ` is left out where the line isn't known. `nllc` skips all of them, and any may be missing;
-a remark of another form is for the reader of the text alone.
+a remark of another form is for the reader of the text alone. What they say of loans and of why
+constraints are asked, `beside` reads.
 """
 
 import re
 from dataclasses import dataclass, field
 from typing import NamedTuple, Optional
+
+from .beside import Beside
 
 FUNCTION = re.compile(r"#\s*function:\s*(\S.*)", re.ASCII)
 SOURCE = re.compile(r"#\s*source:\s*(\S.*)", re.ASCII)
@@ -50,6 +53,7 @@ class Remarks:
     source: str = ""
     points: dict = field(default_factory=dict)
     regions: dict = field(default_factory=dict)
+    beside: Beside = field(default_factory=Beside)
 
     def point(self, point):
         return self.points.get(point, NOTHING)
@@ -71,6 +75,8 @@ class Remarks:
             self.function = self.function or found[1]
         elif found := SOURCE.fullmatch(line):
             self.source = self.source or found[1]
+        else:
+            self.beside.read(line)
 
 
 def is_remark(line):

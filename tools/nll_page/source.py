@@ -20,6 +20,9 @@ WORD = re.compile(r"""
 """, re.VERBOSE)
 
 
+REMARK = re.compile(r"\s*#(?![\[!])")     # of a MIR text; Rust's attributes go on with a bracket
+
+
 class Source(NamedTuple):
     """Some lines of a file: its path, the number of the first line, the lines."""
 
@@ -87,6 +90,9 @@ def closes(line, depth):
 
 def pieces(line):
     """The line cut into pairs of a kind ("" for the rest) and text."""
+    if REMARK.match(line):
+        yield "comment", line
+        return
     at = 0
     for found in WORD.finditer(line):
         if found.start() > at:

@@ -4,7 +4,7 @@ import re
 
 from .refusal import Refusal
 
-LINE = re.compile(r"'([A-Za-z0-9_]+):((?: [0-9]+| end\('[A-Za-z0-9_]+\))*)")
+LINE = re.compile(r"'([A-Za-z0-9_]+):((?: [0-9]+| bb[0-9]+/[0-9]+| end\('[A-Za-z0-9_]+\))*)")
 
 
 class Values:
@@ -31,6 +31,7 @@ def read_values(report, facts, source):
     """The values that a report gives, where it is one of these facts; `source` names it."""
     ends = {f"end('{name})": facts.end_of(number)
             for number, name in enumerate(facts.names[:facts.universals])}
+    elements = ends | {name: point for point, name in facts.point_names.items()}
     rows = []
     for number, line in enumerate(report.splitlines(), 1):
         found = LINE.fullmatch(line)
@@ -39,7 +40,7 @@ def read_values(report, facts, source):
                           f"`nllc values FACTS > FILE` writes one")
         if number > len(facts.names) or found[1] != facts.names[number - 1]:
             raise foreign(source)
-        rows.append([ends[word] if word in ends else int(word) if not word.startswith("end") else -1
+        rows.append([elements.get(word, int(word) if word.isdigit() else -1)
                      for word in found[2].split()])
     if len(rows) != len(facts.names) or not all(fits(facts, *row) for row in enumerate(rows)):
         raise foreign(source)

@@ -40,7 +40,7 @@ def plural(count, noun):
 
 def fault_head(facts, sup, sub):
     return [tick(facts, sup), " must outlive ", tick(facts, sub),
-            ", which the signature doesn’t say"]
+            ", which the signature doesn't say"]
 
 
 def spans(elements):
@@ -197,4 +197,4 @@ def conclusion(facts, sup, sub):
         if any("without a name" in text for text in said) else []
     wish = Code(f"where '{facts.names[sup]}: '{facts.names[sub]}")
     return [*so, "The signature may ask that of its callers, ", *names, "by ", wish,
-            "; it doesn’t."]
+            "; it doesn't."]

@@ -13,6 +13,7 @@ from nll_page.refusal import Refusal
 from . import program
 from .content import Content
 from .page import page
+from .problem import is_mir_text, problem_in
 from .states import Broken, read_run
 
 MOST_BYTES = 1024 * 1024     # of FILE
@@ -86,6 +87,7 @@ def content_of(asked):
         look_small_problem(asked.facts, facts)
     printed = program.run(words_for(asked, asked.owners or named_owners(events)))
     told, rest = (facts, printed.text) if facts else problem_in(printed.text, asked.facts)
+    look_small_problem(asked.facts, told)
     states = read_run(rest, len(told.names), told.points + told.universals)
     try:
         return Content(told, states, (asked.facts, asked.schedule), printed.program, printed.standing)
@@ -99,21 +101,6 @@ def words_for(asked, owners):
     if asked.cut:
         return [str(owners), "cut", asked.facts, asked.schedule, asked.cut]
     return [str(owners), asked.deal or "round", asked.facts, asked.schedule]
-
-
-def is_mir_text(text):
-    return text.split(b"\n", 1)[0].split() == [b"nll-mir", b"1"]
-
-
-def problem_in(printed, path):
-    """The problem of a MIR text, which the program prints first as a facts text, and what is behind it."""
-    head, end, rest = printed.partition("\nend\n")
-    if not end:
-        raise Refusal("world_program printed no problem of the MIR text", 3)
-    facts = read_facts((head + end).encode(), path)
-    facts.point_names = {point: remark.text for point, remark in facts.remarks.points.items()}
-    look_small_problem(path, facts)
-    return facts, rest
 
 
 def events_in(schedule):

@@ -1,10 +1,13 @@
 """What the tests of the facts tool share: the sources, rustc's stored dumps, the golden texts."""
 
 import json
+import lzma
 import os
 import re
 import subprocess
 import sys
+import tempfile
+from functools import cache
 
 HERE = os.path.dirname(os.path.abspath(__file__))
 TOOLS = os.path.dirname(HERE)
@@ -12,13 +15,16 @@ ROOT = os.path.dirname(TOOLS)
 GOLDEN = os.path.join(HERE, "golden")
 DUMPS = os.path.join(HERE, "dumps")
 SOURCES = ("small", "rfc2094", "differ")
+WRONG = ("borrowed_twice", "moved_or_assigned", "too_short", "lifetimes")
+RIGHT = ("closures", "coroutines", "iterators")
 
 sys.path[:0] = [TOOLS, os.path.join(ROOT, "bench")]
 
 import reference  # noqa: E402 (the slow reader and solver of bench/)
 from nll_facts.convert import convert  # noqa: E402
 from nll_facts.dumps import find_dumps  # noqa: E402
-from nll_facts.rustc import CRATE  # noqa: E402
+from nll_facts.errors import own_errors  # noqa: E402
+from nll_facts.rustc import CRATE, Error  # noqa: E402
 from nll_facts.text import facts_text  # noqa: E402
 
 POINT = re.compile(r"# point (\d+): (?:line (\d+): )?(.*)")
@@ -27,12 +33,12 @@ REGION = re.compile(r"# region '(\w+): (?:line (\d+): )?(.*)")
 
 def source_path(source):
     """The path as rustc gets it, in the folder of the tests."""
-    return os.path.join("sources", f"{source}.rs")
+    return os.path.join("sources" if source in SOURCES else "loans", f"{source}.rs")
 
 
 def unpack(source, folder):
     """Puts the stored dump of a source's functions into a folder."""
-    with open(os.path.join(DUMPS, f"{source}.json"), encoding="utf-8") as file:
+    with lzma.open(os.path.join(DUMPS, f"{source}.json.xz"), "rt", encoding="utf-8") as file:
         files = json.load(file)
     for name, lines in files.items():
         path = os.path.join(folder, name)
@@ -41,11 +47,28 @@ def unpack(source, folder):
             file.write("\n".join(lines))
 
 
-def texts_of(folder):
+def texts_of(folder, errors=()):
     """The texts of all functions that rustc left in a folder, by file name."""
     dumps = find_dumps(os.path.join(folder, "facts"), os.path.join(folder, "mir"), CRATE, HERE)
-    return {f"{dump.file_name}.facts": facts_text(convert(dump)) for dump in dumps
-            if dump.is_function}
+    return {f"{dump.file_name}.facts":
+            facts_text(convert(dump, errors=own_errors(dump, dumps, errors)))
+            for dump in dumps if dump.is_function}
+
+
+def stored_errors(source):
+    """rustc's errors of a source, as they are stored."""
+    with open(os.path.join(HERE, "loans", "errors.tsv"), encoding="utf-8") as file:
+        rows = [line.rstrip("\n").split("\t") for line in file]
+    return [Error("", [(name, int(line))], int(column), code, message)
+            for name, line, column, code, message in rows if name == source_path(source)]
+
+
+@cache
+def stored_texts(source):
+    """The texts of a source, made of its stored dump."""
+    with tempfile.TemporaryDirectory() as folder:
+        unpack(source, folder)
+        return texts_of(folder, stored_errors(source))
 
 
 def golden_texts(source):

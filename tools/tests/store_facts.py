@@ -1,5 +1,5 @@
 #!/usr/bin/env python3
-"""Makes the stored dumps and the golden texts anew, with the rustc at hand (1.95).
+"""Makes the stored dumps, rustc's errors and the golden texts anew, with the rustc at hand (1.95).
 
     python3 tools/tests/store_facts.py
 
@@ -7,6 +7,7 @@ Look at what changed before it is committed: the tests compare with these files.
 """
 
 import json
+import lzma
 import os
 import shutil
 import tempfile
@@ -32,21 +33,37 @@ def files_of(folder):
 
 
 def store(source):
+    """Stores the dump, and of some sources the texts; gives rustc's errors."""
     with tempfile.TemporaryDirectory() as room:
-        run_rustc(support.source_path(source), room, ["--edition=2021"])
-        with open(os.path.join(support.DUMPS, f"{source}.json"), "w", encoding="utf-8") as file:
+        errors = run_rustc(support.source_path(source), room, ["--edition=2021"]).errors
+        errors = [error for error in errors if error.places]
+        path = os.path.join(support.DUMPS, f"{source}.json.xz")
+        with lzma.open(path, "wt", preset=9, encoding="utf-8") as file:
             json.dump(dict(files_of(room)), file, indent=0, ensure_ascii=False)
-            file.write("\n")
-        folder = os.path.join(support.GOLDEN, source)
-        shutil.rmtree(folder, ignore_errors=True)
-        os.makedirs(folder)
-        for name, text in support.texts_of(room).items():
-            with open(os.path.join(folder, name), "w", encoding="utf-8") as file:
-                file.write(text)
+        if source in support.SOURCES:
+            store_texts(source, support.texts_of(room, errors))
+    return errors
+
+
+def store_texts(source, texts):
+    folder = os.path.join(support.GOLDEN, source)
+    shutil.rmtree(folder, ignore_errors=True)
+    os.makedirs(folder)
+    for name, text in texts.items():
+        with open(os.path.join(folder, name), "w", encoding="utf-8") as file:
+            file.write(text)
+
+
+def store_errors(errors):
+    with open(os.path.join(support.HERE, "loans", "errors.tsv"), "w", encoding="utf-8") as file:
+        for error in errors:
+            message = " ".join(error.message.split())
+            row = (error.places[0][0], str(error.line), str(error.column), error.code, message)
+            file.write("\t".join(row) + "\n")
 
 
 if __name__ == "__main__":
     os.chdir(support.HERE)
     os.makedirs(support.DUMPS, exist_ok=True)
-    for one in support.SOURCES:
-        store(one)
+    store_errors([error for one in (*support.SOURCES, *support.WRONG, *support.RIGHT)
+                  for error in store(one)])

@@ -106,13 +106,24 @@ class Refused(Room):
 
     def test_one_function_of_several_is_wrong(self):
         text = 'fn f() -> u8 {\n    "a"\n}\nfn g(x: &u8) -> &u8 {\n    x\n}\n'
-        self.refused(self.convert(text), "of line 2, or name a function that has no error")
+        self.answered_in_part(self.convert(text))
         self.assertEqual(self.convert(text, "g").returncode, 0)
 
     def test_a_module_of_another_file(self):
         self.write("m.rs", 'pub fn f() -> u8 {\n    "a"\n}\n')
-        done = self.convert("mod m;\nfn g(x: &u8) -> &u8 {\n    x\n}\n")
-        self.refused(done, "of line 2, or name a function that has no error")
+        self.answered_in_part(self.convert("mod m;\nfn g(x: &u8) -> &u8 {\n    x\n}\n"))
+
+    def answered_in_part(self, done):
+        """The other function has a text; rustc's errors are shown, and the status says that they are there."""
+        self.assertEqual(done.returncode, 2)
+        self.assertEqual(os.listdir(self.path("o")), ["g.facts"])
+        self.assertIn("mismatched types", done.stderr)
+        self.assertIn("rustc refuses line 2 before it checks borrows", done.stderr)
+
+    def test_texts_of_nllc(self):
+        for text, words in (("nll-facts 1\npoints 1\nend\n", "is a facts text, not a Rust file"),
+                            ("nll-mir 1\n", "is a MIR text, not a Rust file")):
+            self.refused(self.convert(text), words)
 
     def test_no_rust(self):
         self.refused(self.convert("fn f("), "rustc refuses")
@@ -185,20 +196,104 @@ class OneCommand(Room):
                               check=False, cwd=support.HERE, encoding="utf-8",
                               env=os.environ | {"NLLC": self.program})
 
-    def test_fault_in_words(self):
+    def line(self, source, code):
+        with open(os.path.join(support.HERE, support.source_path(source)), encoding="utf-8") as file:
+            return file.read().split("\n").index(code) + 1
+
+    def test_fault_in_two_lines(self):
         done = self.rust(support.source_path("differ"), "longer")
         self.assertEqual(done.returncode, 1, done.stderr)
-        source = os.path.join(support.HERE, support.source_path("differ"))
-        with open(source, encoding="utf-8") as file:
-            line = file.read().split("\n").index("        r = y;") + 1
-        self.assertIn(f"sources/differ.rs:{line}: `'b` must outlive `'a`", done.stdout)
-        self.assertIn(f"page: {self.path('o', 'longer.html')}", done.stdout)
+        into, out = self.line("differ", "        r = y;"), self.line("differ", "    r // holds: r")
+        self.assertEqual(done.stdout.splitlines(), [
+            "longer: 1 fault",
+            f"  sources/differ.rs:{out}:5: `'b` must outlive `'a`, which the signature doesn't say (returned)",
+            f"      what lives for `'b` comes to `'a` by line {into} (assigned: `r = y`) and line {out} "
+            "(returned: `r`)",
+            f"pages: {self.path('o', 'index.html')}"])
         self.assertTrue(os.path.isfile(self.path("o", "longer.html")))
+
+    LOANS = """\
+fn show(_: &u8) {}
+pub fn wrong() {
+    let mut list = vec![1];
+    let first = &list[0];
+    list.push(2);
+    show(first);
+}
+"""
+    KEEPS = """\
+pub fn keeps<'a>(list: &mut Vec<&'a str>, text: &'a str) {
+    let mut keep = |part: &'a str| list.push(part);
+    keep(text);
+}
+"""
+
+    def test_loan_in_two_lines(self):
+        path = self.write("a.rs", self.LOANS)
+        done = self.rust(path, "wrong")
+        self.assertEqual(done.returncode, 1, done.stderr)
+        self.assertEqual(done.stdout.splitlines()[:3], [
+            "wrong: 1 loan error",
+            f"  {path}:5:5: E0502: `list.push(2)` borrows as mutable what line 4 has borrowed",
+            "      the loan of line 4 (`list`) is in force: its region `'r2` holds line 5, since line 6 "
+            "uses it (`show(first);`)"])
+        self.assertEqual(done.stderr, "")
+
+    def test_the_rest_by_explain(self):
+        done = self.rust(self.write("a.rs", self.LOANS), "wrong", "--explain")
+        self.assertIn("error[E0502]", done.stderr)
+        self.assertRegex(done.stdout, r"why `'r2` holds point \d+, ")
+        self.assertRegex(done.stdout, r"`'r\d+` is live at point \d+: .* \(line 6\) uses it\n")
+
+    def test_right_functions(self):
+        done = self.rust(self.write("a.rs", self.KEEPS))
+        self.assertEqual(done.returncode, 0, done.stdout)
+        self.assertTrue(done.stdout.startswith("no fault: keeps\n"), done.stdout)
+
+    def test_both_answers(self):
+        done = self.rust(support.source_path("differ"), "get_default")
+        self.assertEqual(done.returncode, 0, done.stderr)
+        self.assertRegex(done.stdout, r"differ.rs:55:13: rustc 1\.\d+\.\d+: E0499: .*; nllc: no fault there\n"
+                         r" +problem case 3 of RFC 2094: the loan of line 52 ")
+
+    def test_a_type_error_beside(self):
+        path = self.write("a.rs", 'fn f() -> u8 {\n    "a"\n}\nfn g(x: &u8) -> &u8 {\n    x\n}\n')
+        done = self.rust(path)
+        self.assertEqual(done.returncode, 2)
+        self.assertIn("no fault: g\n", done.stdout)
+        self.assertIn("rustc refuses line 2 before it checks borrows", done.stderr)
 
     def test_problem_cases(self):
         done = self.rust(support.source_path("rfc2094"))
         self.assertEqual(done.returncode, 0, done.stdout + done.stderr)
-        self.assertEqual(done.stdout.count("no fault\n"), 14)
+        self.assertRegex(done.stdout, r"\Ano fault: (\w[\w:]*, ){13}\w[\w:]*\n")
+
+    def test_where_output_goes(self):
+        done = subprocess.run([RUST, "rust", os.path.join(support.HERE, support.source_path("differ")),
+                               "last"], capture_output=True, check=False, cwd=self.room,
+                              encoding="utf-8", env=os.environ | {"NLLC": self.program})
+        self.assertEqual(done.stdout.splitlines()[-1], "pages: out/rust/differ/index.html", done.stderr)
+        self.assertEqual([name for name in self.left() if not name.startswith("out/rust/")], ["nllc"])
+        with open(self.path("out", "rust", ".gitignore"), encoding="utf-8") as file:
+            self.assertEqual(file.read(), "*\n")
+
+    def test_any_locale(self):
+        env = os.environ | {"NLLC": self.program, "PYTHONIOENCODING": "ascii", "LC_ALL": "C",
+                            "PYTHONUTF8": "0", "PYTHONCOERCECLOCALE": "0"}
+        done = subprocess.run([RUST, "rust", support.source_path("differ"), "longer", "--explain",
+                               "-o", self.path("o")], capture_output=True, check=False,
+                              cwd=support.HERE, encoding="ascii", env=env)
+        self.assertEqual(done.returncode, 1, done.stderr)
+        self.assertIn("\\u2192", done.stdout)
+
+    def test_nowhere_to_write(self):
+        with open("/dev/full", "w", encoding="utf-8") as full:
+            done = subprocess.run([RUST, "rust", support.source_path("differ"), "last", "-o",
+                                   self.path("o")], stdout=full, stderr=subprocess.PIPE, check=False,
+                                  cwd=support.HERE, encoding="utf-8",
+                                  env=os.environ | {"NLLC": self.program})
+        self.assertEqual((done.returncode, done.stderr), (3, "nllc.sh rust: standard output can't be "
+                                                          "written: No space left on device\n"))
 
     def test_refusal(self):
         done = self.rust("none.rs")

@@ -19,9 +19,7 @@ NO_STATEMENT = re.compile(r"[\s{}();]*(else)?[\s{}();]*|\s*pub fn .*")
 class Golden(unittest.TestCase):
     def test_conversion_of_stored_dumps(self):
         for source in support.SOURCES:
-            with tempfile.TemporaryDirectory() as folder:
-                support.unpack(source, folder)
-                texts = support.texts_of(folder)
+            texts = support.stored_texts(source)
             golden = support.golden_texts(source)
             self.assertEqual(sorted(texts), sorted(golden))
             for name, text in texts.items():

@@ -9,7 +9,7 @@ import unittest
 import facts_support as support
 from nll_facts.convert import Problem
 from nll_facts.dumps import Dump, choose, file_name, type_name
-from nll_facts.jobs import Row
+from nll_facts.jobs import Row, beyond_needs
 from nll_facts.liveness import bases
 from nll_facts.mir import Body, Local, Span
 from nll_facts.refusal import Refusal
@@ -200,6 +200,15 @@ b.rs             1       2      0.5       0
 a.rs:3: f: 'a must outlive 'b  (o/f.facts)
 b.rs:1: g: no answer: no answer in 60 s
 """)
+
+
+class NeedsOfACrate(unittest.TestCase):
+    def test_no_fault_is_told_of_a_need(self):
+        text = ("nll-facts 1\npoints 1\nuniversal 'a\nuniversal 'b\nuniversal 'c\n# needs 'a 'b\n"
+                "end\n")
+        lines = ["fault 'a must outlive 'b", "fault 'a must outlive 'c"]
+        self.assertEqual(beyond_needs(text, lines), lines[1:])
+        self.assertEqual(beyond_needs(text, []), [])
 
 
 class Pages(unittest.TestCase):

@@ -5,13 +5,12 @@ import os
 import stat
 import subprocess
 import sys
-import tempfile
 import time
 import unittest
 from contextlib import redirect_stderr, redirect_stdout
 from unittest import mock
 
-from page_support import ROOT, SAMPLES, file_bytes, reference, text
+from page_support import ROOT, SAMPLES, Folder, file_bytes, reference, text
 
 from nll_page import nllc
 from nll_page.command import main
@@ -19,28 +18,11 @@ from nll_page.command import main
 REFERENCE = os.path.join(ROOT, "bench", "reference.py")
 
 
-class Commands(unittest.TestCase):
-    """Each test has a folder of its own; `nllc` is a script there that runs the reference."""
-
+class Commands(Folder):
     def setUp(self):
-        folder = tempfile.TemporaryDirectory()
-        self.addCleanup(folder.cleanup)
-        self.folder = folder.name
-        self.program("nllc", f'exec "{sys.executable}" "{REFERENCE}" "$@"')
+        super().setUp()
         self.write("pick.facts", file_bytes(SAMPLES, "pick.facts"))
         self.write("pick.rs", file_bytes(SAMPLES, "pick.rs"))
-
-    def path(self, name):
-        return os.path.join(self.folder, name)
-
-    def write(self, name, data):
-        with open(self.path(name), "wb") as file:
-            file.write(data)
-        return self.path(name)
-
-    def program(self, name, body):
-        self.write(name, f"#!/bin/sh\n{body}\n".encode())
-        os.chmod(self.path(name), 0o755)
 
     def run_main(self, *words, nllc="nllc"):
         out, err = io.StringIO(), io.StringIO()
@@ -71,7 +53,7 @@ class Commands(unittest.TestCase):
         self.assertEqual((status, out, err), (0, self.path("pick.html") + "\n", ""))
         page = self.page()
         self.assertIn("<code>&#x27;b</code> must outlive <code>&#x27;a</code>, which the signature "
-                      "doesn’t say", page)
+                      "doesn&#x27;t say", page)
         self.assertIn('data-walk="6,7,8"', page)
         self.assertIn('id="line-7"', page)       # the source, by the text's own remark
         self.assertNotIn("next_one", page)       # and of it this function alone
@@ -108,8 +90,14 @@ class Commands(unittest.TestCase):
         self.assertEqual(status, 0)
         self.assertEqual(lines[1],
                          f"{self.folder}/pick.rs:7: `'b` must outlive `'a`, which the signature "
-                         "doesn’t say")
-        self.assertEqual(lines[2:], [
+                         "doesn't say")
+        self.assertEqual(lines[2:], ["    what lives for `'b` comes to `'a` by line 7 (`best = second;`) "
+                                     "and line 9 (`best`)"])
+
+    def test_faults_step_by_step(self):
+        _, out, _ = self.run_main(self.path("pick.facts"), "--explain")
+        self.assertEqual(out.splitlines()[3:], [
+            "`'b` must outlive `'a`, which the signature doesn't say:",
             "    `end('a)` comes",
             "    to `'best`, the type of best: after `_0 = copy best` (line 9), inside `'a` by 8",
             "    to `'b`, 'b of the signature: after `best = copy second` (line 7), inside `'best` "

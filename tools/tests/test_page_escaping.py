@@ -135,10 +135,10 @@ class Pieces(unittest.TestCase):
 
     def test_what_is_put_in_is_not_looked_at_again(self):
         with_marks = fill("page.html", {name: "{{css}}" for name in
-                                        ("title", "css", "js", "name", "about", "verdict",
+                                        ("title", "row", "css", "js", "name", "about", "verdict",
                                          "provenance", "faults",
                                          "regions", "tabs", "source", "points", "folded",
-                                         "statements", "view",
+                                         "statements", "outlives", "view",
                                          "ends", "data")})
         self.assertIn("<style>\n{{css}}</style>", with_marks)
 

@@ -6,6 +6,7 @@ import unittest
 from page_support import SAMPLES, facts_of, file_bytes, solved, text
 
 from nll_page import nllc
+from nll_page.chain_list import told
 from nll_page.chains import chain
 from nll_page.fault_list import fault_list
 from nll_page.page import Content, Fault
@@ -50,7 +51,7 @@ class Points(unittest.TestCase):
         facts = facts_of(3, "# point 0: x = y", "# point 1: return", "return 0", "return 1",
                          "return 2")
         self.assertEqual(bare(point_list(facts)),
-                         ["0", "x = y", "returns", "1", "return", "2", "returns"])
+                         ["0–2", "0", "x = y", "returns", "1", "return", "2", "returns"])
 
     def test_what_the_text_says_without_remarks(self):
         facts = facts_of(1, "universal 'a", *(f"region 'r{n}" for n in range(6)),
@@ -60,7 +61,8 @@ class Points(unittest.TestCase):
     def test_blocks_and_lines(self):
         facts = facts_of(2, "# point 0: line 4: a (bb0[0])", "# point 1: line 5: b (bb1[0])")
         self.assertEqual(bare(point_list(facts)),
-                         ["bb0", "0", "a", "line 4", "bb1", "1", "b", "line 5"])
+                         ["bb0 ", "0", "0", "a", "line 4", "bb1 ", "1", "1", "b", "line 5"])
+        self.assertEqual(point_list(facts).count('<details class="block"'), 2)
 
     def test_tabs(self):
         facts, values = solved(file_bytes(SAMPLES, "pick.facts"))
@@ -89,10 +91,26 @@ class Lines(unittest.TestCase):
 
     def test_the_fault(self):
         made = fault_list(self.content)
-        self.assertIn('Asked at <a href="#line-7" data-line="7">line 7</a> and '
-                      '<a href="#line-9" data-line="9">line 9</a>.', made)
+        self.assertEqual("".join(bare(re.search(r'<p class="told">.*?</p>', made)[0])),
+                         "What lives for &#x27;b comes in at line 7, best = second;, and at line 9, best, it "
+                         "is wanted for &#x27;a; nothing says that &#x27;b outlives &#x27;a.")
+        self.assertIn('<a href="#line-7" data-line="7">', made)
+
+    def test_steps_from_the_cause_to_the_end(self):
+        made = fault_list(self.content)
         self.assertEqual(re.findall(r'data-r="(\d)" data-walk="([\d,]*)" data-end="(\d)"', made),
-                         [("1", "8", "1"), ("3", "6,7,8", "1")])
+                         [("3", "6,7,8", "1"), ("1", "8", "1")])
+        steps = [" ".join(bare(step)) for step in re.findall(r"<summary><h3>.*?</h3></summary>", made)]
+        self.assertEqual(steps, ["line 7  best = second; &#x27;b  must outlive  &#x27;best",
+                                 "line 9  best &#x27;best  must outlive  &#x27;a"])
+
+    def test_a_fault_of_one_line(self):
+        facts, values = solved(text(2, "# point 0: line 3: x", "universal 'a", "next 0 1", "return 1",
+                                    "constraint 'a 'static 1"))
+        fault = Fault(1, 0, chain(facts, values, 1, 0))
+        said = "".join(bare(told(content(facts, values, [fault], Source("x.rs", 3, ["x // out"])), fault)))
+        self.assertEqual(said, "What lives for &#x27;a is wanted for &#x27;static at line 3, x; nothing says "
+                               "that &#x27;a outlives &#x27;static.")
 
 
 if __name__ == "__main__":

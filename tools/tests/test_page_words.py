@@ -16,7 +16,7 @@ class Sentences(unittest.TestCase):
 
     def test_the_fault(self):
         self.assertEqual(plain(words.fault_head(self.facts, 2, 1)),
-                         "`'b` must outlive `'a`, which the signature doesn’t say")
+                         "`'b` must outlive `'a`, which the signature doesn't say")
 
     def test_each_step(self):
         self.assertEqual([plain(words.step_sentence(self.facts, step, 1)) for step in self.steps], [
@@ -36,10 +36,10 @@ class Sentences(unittest.TestCase):
             return plain(words.conclusion(facts, 1, 2)).partition("chooses. ")[2]
 
         self.assertEqual(said("'a of the signature"), "The signature may ask that of its callers, "
-                         "by `where 'a: 'b`; it doesn’t.")
+                         "by `where 'a: 'b`; it doesn't.")
         self.assertEqual(said("a lifetime of the signature without a name"),
                          "The signature may ask that of its callers, with names in place of `'a` "
-                         "and `'b`, by `where 'a: 'b`; it doesn’t.")
+                         "and `'b`, by `where 'a: 'b`; it doesn't.")
         self.assertEqual(said("'a of the function around this closure"),
                          "A closure may need that: it is the function around it that has to keep it.")
 

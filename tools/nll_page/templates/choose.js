@@ -9,11 +9,15 @@ function chooseRegion(region) {
   rove(regionButtons, button);
   reveal(button);
   const points = [...setOf("holds", region)].filter(isPoint);
-  if (region >= data.universals) revealAny(points);
+  if (region < data.universals || !points.length) return;
+  makePlaces(points[0]);
+  if (data.large) openLine(points[0]);
+  revealAny(points);
 }
 
 // `from` is the place that was clicked: its own pane stays as it is.
 function chooseElement(element, from) {
+  makePlaces(element);
   chosen.element = chosen.element === element ? null : element;
   chosen.step = null;
   show();
@@ -34,6 +38,7 @@ function chooseStep(step) {
   if (!isNew) return;
   reveal(step);
   const [first] = stepWalk(step);
+  makePlaces(first);
   openLine(first);
   placesOf(first).forEach((place) => reveal(place));
 }
@@ -62,10 +67,12 @@ function stepRun(by) {
   if (to !== undefined) chooseElement(to);
 }
 
-// Opens the line of the source at which the point stands.
+// Opens the line of the source and the block at which the point stands.
 function openLine(element) {
-  const place = placesOf(element).find((one) => one.closest("#source details"));
-  if (place) place.closest("details").open = true;
+  for (const place of placesOf(element)) {
+    const part = place.closest("#source details, #points details");
+    if (part) part.open = true;
+  }
 }
 
 function showLine(number) {
@@ -78,12 +85,33 @@ function showLine(number) {
 
 const isThere = (place) => place.getClientRects().length > 0;
 
-// Scrolls so that the place is in sight; in the graph its whole box, where there is room.
+// Scrolls the place's pane, and nothing else, so that the place is in sight; in the graph its whole box, where
+// there is room. A page that is longer than its window stays where its reader has it.
 function reveal(place, block = "nearest") {
   if (!place || !isThere(place)) return;
+  const pane = place.closest(".scroll");
+  if (!pane) return;
   const frame = place.closest(".box")?.querySelector(".frame");
-  if (frame) frame.scrollIntoView({ block: "nearest", inline: "nearest" });
-  place.scrollIntoView({ block, inline: "nearest" });
+  if (frame) scrollTo(pane, frame, "nearest", 14);
+  scrollTo(pane, place, block, place.matches(".cell") ? 14 : 60);
+}
+
+// Scrolls the pane to the place, with this much room round it where the pane has it.
+function scrollTo(pane, place, block, room) {
+  const [inner, outer] = [place.getBoundingClientRect(), pane.getBoundingClientRect()];
+  const down = shift(inner.top - outer.top, inner.height, pane.clientHeight, block, room);
+  const across = shift(inner.left - outer.left, inner.width, pane.clientWidth, "nearest", 14);
+  pane.scrollTop += down;
+  pane.scrollLeft += across;
+}
+
+// By how much to scroll along one axis what begins at `from` and is so long.
+function shift(from, size, length, block, room) {
+  if (block === "center") return from + size / 2 - length / 2;
+  const spare = Math.max(0, Math.min(room, (length - size) / 2));
+  if (from < spare) return from - spare;
+  const over = from + size + spare - length;
+  return over > 0 ? Math.min(over, from - spare) : 0;
 }
 
 // Scrolls each pane to the first of the points, where none of them is in sight.

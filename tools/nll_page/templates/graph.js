@@ -19,6 +19,7 @@ function zoomTo(next) {
   pane.classList.toggle("small", scale < 0.45);
   pane.scrollLeft = middle[0] * scale - across;
   pane.scrollTop = middle[1] * scale - down;
+  fillInSight();
 }
 
 const zoomBy = (factor) => zoomTo(scale * factor);
@@ -31,11 +32,12 @@ function fit() {
 function setView(view) {
   if (!document.querySelector(`.graph.${view}`)) return;
   document.body.dataset.view = view;
-  for (const name of ["statements", "folded"]) {
+  for (const name of ["statements", "folded", "outlives"]) {
     byId(`view-${name}`).setAttribute("aria-pressed", String(name === view));
   }
   const graph = document.querySelector(`.graph.${view}`);
   reveal(graph.querySelector(".cell.picked") || graph.querySelector(".cell"));
+  fillInSight();
 }
 
 const otherView = () => setView(document.body.dataset.view === "folded" ? "statements" : "folded");
@@ -44,6 +46,7 @@ const otherView = () => setView(document.body.dataset.view === "folded" ? "state
 function firstView() {
   const pane = byId("graph");
   const shown = svgs.find(({ svg }) => isThere(svg));
+  if (!shown) return;
   const ratio = (pane.clientWidth - 4) / shown.width;
   if (ratio >= 1) return;
   if (ratio >= LEGIBLE) {

@@ -13,10 +13,13 @@ function rove(members, member) {
   if (member) member.tabIndex = 0;
 }
 
+// Whether the parts stand one below the other, so that the document scrolls and not they alone.
+const isDocument = () => matchMedia("(max-width: 720px)").matches;
+
 function focusOn(place) {
   if (!place) return;
   rove(group(place), place);
-  place.focus();
+  place.focus({ preventScroll: !isDocument() });
   reveal(place);
 }
 
@@ -67,6 +70,9 @@ function actOf(event) {
   }
   if (event.target.matches(".cell") && (event.key === "Enter" || event.key === " ")) {
     return () => chooseElement(Number(place.dataset.p), place);
+  }
+  if (event.target.matches(".knot") && (event.key === "Enter" || event.key === " ")) {
+    return () => chooseRegion(Number(event.target.dataset.r));
   }
   if (event.key === "Escape" && !byId("help").open) {
     return () => {

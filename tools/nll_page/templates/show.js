@@ -2,6 +2,9 @@
 
 const chosen = { region: null, element: null, step: null };
 
+// What the pointer is on: the page shows for as long what a click there would fix. Null where it is on nothing.
+let hovered = null;
+
 const byId = (id) => document.getElementById(id);
 const all = (selector, within = document) => [...within.querySelectorAll(selector)];
 
@@ -22,21 +25,34 @@ function addTo(table, key, value) {
 const placesOf = (element) => places.get(element) || [];
 
 function show() {
-  const { region, element, step } = chosen;
-  const why = reasonToShow();
+  hovered = null;
+  document.body.classList.remove("hovering");
+  light(chosen);
+  describe(reasonToShow(chosen));
+  remember();
+}
+
+// Lights in all places what this choice is about.
+function light({ region, element, step }) {
+  const why = step ? null : reasonToShow({ region, element });
   const walk = step ? stepWalk(step) : why ? why.walk : [];
   showElements(region, element, new Set(walk));
   showRegions(region, element);
   showLines(region);
   showWalk(walk);
   for (const item of all(".step")) item.classList.toggle("on", item === step);
-  describe(why);
-  remember();
 }
 
-// Why the chosen region holds the chosen element, where it doesn't hold it from the start.
-function reasonToShow() {
-  const { region, element } = chosen;
+// Shows what a click would fix, or again what is chosen.
+function hover(next) {
+  if (JSON.stringify(next) === JSON.stringify(hovered) && next?.step === hovered?.step) return;
+  hovered = next;
+  document.body.classList.toggle("hovering", next !== null);
+  light(next ? { ...chosen, step: null, ...next } : chosen);
+}
+
+// Why the region holds the element, where it doesn't hold it from the start.
+function reasonToShow({ region, element }) {
   if (region === null || element === null || !holds(region, element)) return null;
   return setOf("base", region).has(element) ? null : reason(region, element);
 }
@@ -47,17 +63,27 @@ function stepWalk(step) {
   return step.dataset.end ? [...points, data.points + Number(step.dataset.end)] : points;
 }
 
-function showElements(region, chosenOne, walked) {
+// The marks that elements have now, and those elements that have one.
+let marks = { held: new Set(), base: new Set(), walked: new Set(), picked: null, all: new Set() };
+
+function showElements(region, picked, walked) {
   const held = region === null ? new Set() : setOf("holds", region);
   const base = region === null ? new Set() : setOf("base", region);
-  for (const [element, list] of places) {
-    for (const place of list) {
-      place.classList.toggle("held", held.has(element));
-      place.classList.toggle("base", base.has(element));
-      place.classList.toggle("picked", element === chosenOne);
-      place.classList.toggle("walked", walked.has(element));
-    }
+  const before = marks.all;
+  marks = { held, base, walked, picked, all: new Set([...held, ...walked]) };
+  if (picked !== null) marks.all.add(picked);
+  for (const element of new Set([...before, ...marks.all])) {
+    for (const place of placesOf(element)) mark(place, element);
   }
+  if (data.large) showFrames();
+}
+
+// Gives a place the marks of its element.
+function mark(place, element) {
+  place.classList.toggle("held", marks.held.has(element));
+  place.classList.toggle("base", marks.base.has(element));
+  place.classList.toggle("picked", element === marks.picked);
+  place.classList.toggle("walked", marks.walked.has(element));
 }
 
 function showRegions(chosenOne, element) {
@@ -66,6 +92,11 @@ function showRegions(chosenOne, element) {
     const isOfBody = region >= data.universals;
     button.setAttribute("aria-pressed", String(region === chosenOne));
     button.classList.toggle("holds", element !== null && isOfBody && holds(region, element));
+  }
+  for (const knot of all(".knot")) {
+    const region = Number(knot.dataset.r);
+    knot.classList.toggle("on", region === chosenOne);
+    knot.classList.toggle("holds", element !== null && region >= data.universals && holds(region, element));
   }
 }
 
@@ -81,6 +112,8 @@ function showLines(region) {
 function showWalk(walk) {
   for (const edge of all("[data-edge].walked")) edge.classList.remove("walked");
   for (let at = 1; at < walk.length; at++) {
-    for (const edge of edges.get(`${walk[at - 1]}-${walk[at]}`) || []) edge.classList.add("walked");
+    const way = `${walk[at - 1]}-${walk[at]}`;
+    if (data.large) drawWay(way);
+    for (const edge of edges.get(way) || []) edge.classList.add("walked");
   }
 }

@@ -48,9 +48,10 @@ function recall(address) {
   const words = new URLSearchParams(address.slice(1));
   const step = all(".step")[Number(words.get("step") ?? -1)];
   const region = data.regions.findIndex(({ name }) => name === words.get("region"));
-  const element = [...places.keys()].find((one) => elementName(one) === words.get("point"));
+  const count = data.points + data.universals;
+  const element = Array.from({ length: count }, (_, one) => one).find((one) => elementName(one) === words.get("point"));
   if (step) {
-    step.closest("details").open = true;
+    step.closest(".fault").open = true;
     chooseStep(step);
     return;
   }
@@ -71,6 +72,8 @@ const clicks = [
   ["#help-button", () => byId("help").showModal()],
   ["#view-statements", () => setView("statements")],
   ["#view-folded", () => setView("folded")],
+  ["#view-outlives", () => setView("outlives")],
+  [".knot", (node) => chooseRegion(Number(node.dataset.r))],
   ["#zoom-in", () => zoomBy(1.25)],
   ["#zoom-out", () => zoomBy(0.8)],
   ["#zoom-fit", fit],
@@ -90,6 +93,29 @@ document.addEventListener("click", (event) => {
   }
 });
 
+// What a click on the node would choose, by the selector that it fits.
+const hovers = [
+  [".cell, .point, .end", (node) => ({ element: Number(node.dataset.p) })],
+  [".region, .chip[data-r], .knot", (node) => ({ region: Number(node.dataset.r) })],
+  [".step[data-walk]", (step) => ({ step, region: Number(step.dataset.r), element: null })],
+];
+
+function hoverAt(event) {
+  for (const [selector, toChoose] of hovers) {
+    const node = event.target.closest(selector);
+    if (node) return toChoose(node);
+  }
+  return null;
+}
+
+let waiting = 0;
+document.addEventListener("pointerover", (event) => {
+  if (event.pointerType !== "mouse") return;
+  cancelAnimationFrame(waiting);
+  waiting = requestAnimationFrame(() => hover(hoverAt(event)));
+});
+document.addEventListener("pointerleave", () => hover(null));
+
 byId("graph").addEventListener("wheel", (event) => {
   if (!event.ctrlKey) return;
   event.preventDefault();
@@ -97,6 +123,10 @@ byId("graph").addEventListener("wheel", (event) => {
 }, { passive: false });
 
 byId("filter").addEventListener("input", filterRegions);
+if (data.large) {
+  byId("graph").addEventListener("scroll", () => requestAnimationFrame(fillInSight));
+  fillBlock(document.querySelector(".block[open]"));
+}
 
 setTab(document.querySelector("[role=tab][aria-selected=true]").id.slice(4));
 setView(document.body.dataset.view);
@@ -104,6 +134,7 @@ byId("view-statements").hidden = !document.querySelector(".graph.statements");
 for (const list of [regionButtons, all("#points .point"), all(".end")]) rove(list, list[0]);
 for (const list of all("#graph svg, #source .rows")) rove([], list.querySelector(".cell, .point"));
 firstView();
+fillInSight();
 const address = location.hash; // before `show` writes it anew
 show();
 recall(address);

@@ -164,6 +164,7 @@ function regionChip(region) {
   const isChosen = region === chosen.region;
   const button = chip(regionName(region), isChosen, () => chooseRegion(region));
   button.title = data.regions[region].what;
+  button.dataset.r = region;
   return button;
 }
 

@@ -93,11 +93,14 @@ class Browser:
         while not any(event.get("method") == method for event in self.events):
             self.events.append(self.message())
 
-    def open(self, path, width=1440, height=900, scheme="light", fragment=""):
+    def open(self, path, width=1440, height=900, scheme="light", fragment="", metrics=False):
         target = self.call("Target.createTarget", url="about:blank")["targetId"]
         session = self.call("Target.attachToTarget", targetId=target, flatten=True)["sessionId"]
-        return Page(self, session, "file://" + os.path.abspath(path) + fragment, width, height,
-                    scheme)
+        if metrics:
+            self.call("Performance.enable", session, timeDomain="threadTicks")
+        page = Page(self, session, "file://" + os.path.abspath(path) + fragment, width, height, scheme)
+        page.target = target
+        return page
 
 
 def raised(descriptor):
@@ -136,6 +139,11 @@ class Page:
             raise RuntimeError(answer["exceptionDetails"].get("exception", {}).get("description",
                                                                                    script))
         return answer["result"].get("value")
+
+    def seconds(self):
+        """The main thread's time for the page so far, where `metrics` were asked for."""
+        found = {metric["name"]: metric["value"] for metric in self.call("Performance.getMetrics")["metrics"]}
+        return found["TaskDuration"]
 
     def complaints(self):
         """What the page's script raised and its console told, so far."""

@@ -1,0 +1,127 @@
+"""The loans of a function: what is borrowed, what goes against it, as rustc's tables have it."""
+
+import re
+from dataclasses import dataclass, field
+from typing import NamedTuple, Optional
+
+from .accesses import accesses
+from .captures import capture_of
+from .dumps import Dump
+from .mir import Body, Span
+from .places import Place, overlap, read_place
+from .tables import Location, Tables
+
+BORROW = re.compile(r" = &(mut |fake (?:shallow |deep )?)?")
+
+# A borrow of what a field's reference leads to: it goes on when the field is gone, so that only a
+# destructor can go against it.
+BEHIND = re.compile(r"\(\*\([^()]*: &")
+
+RESUME = re.compile(r" = yield\(.*\) -> \[resume: bb(\d+)")
+DROP = re.compile(r"drop\((.*)\) -> \[return: bb(\d+)")
+
+
+@dataclass(frozen=True)
+class Loan:
+    """A borrow. `home` is where a temporary is made, or where a closure uses what it borrows."""
+
+    region: int
+    location: Location
+    kind: str
+    place: Place
+    target: Optional[int]
+    span: Optional[Span]
+    home: Optional[Span] = None
+    is_capture: bool = False
+    killed: list[Location] = field(default_factory=list)
+
+
+class Against(NamedTuple):
+    """A statement that goes against loans, and how."""
+
+    location: Location
+    way: str
+    span: Optional[Span]
+    loans: list[int]
+
+
+class Loans:
+    """All loans of one function."""
+
+    def __init__(self, dump: Dump, tables: Tables, body: Body):
+        self.body = body
+        self.uses: dict[int, set[Location]] = {}
+        for variable, spot in tables.var_used_at:
+            self.uses.setdefault(variable, set()).add(spot.location)
+        self.loans = {number: self.loan(dump, region, spot.location)
+                      for region, number, spot in tables.loan_issued_at}
+        for number, spot in tables.loan_killed_at:
+            self.loans[number].killed.append(spot.location)
+        self.resumed = {Location(int(found[1]), 0)
+                        for found in (RESUME.search(said.text)
+                                      for said in body.statements.values()) if found}
+        self.invalid = {(spot.location, number) for spot, number in tables.loan_invalidated_at}
+        self.issued = {loan.location: loan for loan in self.loans.values()}
+        self.by_target = {loan.target: loan for loan in self.loans.values()
+                          if loan.kind == "mut" and loan.target is not None}
+
+    def loan(self, dump: Dump, region: int, location: Location) -> Loan:
+        text, span = self.body.statements[location]
+        target, end = read_place(text) or (None, 0)
+        way = BORROW.search(text, end)
+        kind = (way[1] or "shared").split()[0]
+        place, _ = read_place(text, way.end())
+        variable = target.local if target and not target.steps else None
+        capture = capture_of(dump, self.body, variable, self.uses.get(variable, ()))
+        root = self.body.locals.get(place.local)
+        home = capture.use if capture else root.span if root and not root.name else None
+        return Loan(region, location, kind, place, variable, span, home, capture is not None)
+
+    def against(self) -> list[Against]:
+        """What goes against which loans, in the order of the points."""
+        found: dict[tuple[Location, str], list[int]] = {}
+        for location, number in sorted(self.invalid):
+            way = self.way(location, self.loans[number])
+            if way and not self.is_mere_reservation(location, number):
+                found.setdefault((location, way), []).append(number)
+        return [Against(location, way, self.body.statements[location].span, numbers)
+                for (location, way), numbers in found.items()]
+
+    def is_mere_reservation(self, location: Location, number: int) -> bool:
+        """Whether a borrow in two phases begins there, against a loan that may only read.
+
+        rustc's tables have that too, but the second phase alone goes against such a loan.
+        """
+        first = self.issued.get(location)
+        if first is None or first.kind != "mut" or self.loans[number].kind == "mut":
+            return False
+        uses = self.uses.get(first.target, set())
+        is_temporary = first.target is not None and not self.body.locals[first.target].name
+        return is_temporary and len(uses) == 1 and all((use, number) in self.invalid
+                                                       for use in uses)
+
+    def is_replaced(self, location: Location) -> bool:
+        """Whether what is dropped there gets a new value at once: that is one assignment."""
+        dropped = DROP.match(self.body.statements[location].text)
+        following = self.body.statements.get(Location(int(dropped[2]), 0)) if dropped else None
+        return following is not None and following.text.startswith(f"{dropped[1]} = ")
+
+    def way(self, location: Location, loan: Loan) -> str:
+        """How the statement goes against the loan; empty where it doesn't.
+
+        rustc's tables have it that a coroutine which goes on goes against all loans of its
+        variables. That is so of those that may be moved meanwhile, which stable Rust doesn't have.
+        """
+        found = accesses(self.body.statements[location].text)
+        direct = next((one.way for one in found if one.disturbs(loan.kind, loan.place)), None)
+        if direct == "drops" and self.is_replaced(location):
+            return "assigns"
+        if direct == "drops" and BEHIND.search(self.body.statements[loan.location].text):
+            return "destroys"
+        if direct:
+            return direct
+        begun = (self.by_target.get(one.place.local) for one in found if one.place)
+        if any(one and overlap(one.place, loan.place) for one in begun):
+            return "mut"
+        return "" if location in self.resumed else "reads"
+

@@ -1,0 +1,63 @@
+"""Reads places of MIR, such as `((*_1).0: T)[_5]`, and tells whether two of them overlap."""
+
+import re
+from typing import NamedTuple, Optional
+
+LOCAL = re.compile(r"_(\d+)")
+FIELD = re.compile(r"\.(\d+): | as (\w+)\)")
+
+
+class Place(NamedTuple):
+    """A variable, and the steps from it: `*`, the number of a field, `as V`, `[]`."""
+
+    local: int
+    steps: tuple[str, ...] = ()
+
+
+def closing(text: str, begin: int) -> int:
+    """Where the bracket that opens at `begin` closes; the text's end if it doesn't."""
+    depth = 0
+    for at in range(begin, len(text)):
+        depth += {"(": 1, ")": -1}.get(text[at], 0)
+        if depth == 0:
+            return at
+    return len(text)
+
+
+def read_place(text: str, at: int = 0) -> Optional[tuple[Place, int]]:
+    """The place that begins there, and where it ends; None where none begins."""
+    found = read_inner(text, at)
+    if not found:
+        return None
+    place, end = found
+    while text.startswith("[", end) and "]" in text[end:]:
+        place = Place(place.local, (*place.steps, "[]"))
+        end = text.index("]", end) + 1
+    return place, end
+
+
+def read_inner(text: str, at: int) -> Optional[tuple[Place, int]]:
+    """A variable, or a step in brackets."""
+    local = LOCAL.match(text, at)
+    if local:
+        return Place(int(local[1])), local.end()
+    if not text.startswith("(", at):
+        return None
+    is_deref = text.startswith("(*", at)
+    inner = read_place(text, at + (2 if is_deref else 1))
+    if not inner:
+        return None
+    place, end = inner
+    step = FIELD.match(text, end)
+    if not is_deref and not step:
+        return None
+    name = "*" if is_deref else step[1] or f"as {step[2]}"
+    return Place(place.local, (*place.steps, name)), closing(text, at) + 1
+
+
+def overlap(one: Place, other: Place) -> bool:
+    """Whether the places may share memory: they do unless they part at two fields."""
+    if one.local != other.local:
+        return False
+    return not any(a != b and a.isdigit() and b.isdigit()
+                   for a, b in zip(one.steps, other.steps))

@@ -1,0 +1,43 @@
+"""Which constraint of a chain is named for it: the one that rustc would name.
+
+rustc ranks the categories of constraints, and takes of equal ones the one that is nearest to the
+lifetime that is to be outlived.
+"""
+
+from typing import NamedTuple, Optional
+
+from . import words
+from .beside import Place
+
+RANKS = {"return": 0, "object": 1, "generic": 3, "predicate": 4, "opaque": 4, "step": 5}
+INTERESTING = 2
+SILENT = 6
+
+
+class Blame(NamedTuple):
+    """A constraint's place in the source and its category."""
+
+    place: Optional[Place]
+    word: str
+
+    def rank(self):
+        return RANKS.get(self.word, INTERESTING)
+
+
+def reasons(facts, constraint):
+    """Why the constraint is asked: at the statements before its point, or everywhere."""
+    asked = facts.remarks.beside.asked
+    points = [None, *words.origins(facts, constraint)]
+    found = asked.get((facts.names[constraint.sup], facts.names[constraint.sub]), ())
+    return [Blame(one.place, one.word) for one in found if one.point in points]
+
+
+def of_step(facts, step):
+    """The best reason of a step, or None."""
+    return min(reasons(facts, step.constraint), key=Blame.rank, default=None)
+
+
+def of_chain(facts, steps):
+    """The reason that is named, of a chain whose first step is next to what is to be outlived."""
+    found = [reason for reason in (of_step(facts, step) for step in steps) if reason]
+    return min(found, key=Blame.rank, default=None)

@@ -1,0 +1,37 @@
+"""Faults and loans for a terminal, step by step."""
+
+from . import words
+from .words import Code
+
+
+def lines(content):
+    """A line for each fault, and one for each step of its chain; then the same for each loan."""
+    facts = content.facts
+    for fault in content.faults:
+        yield words.plain(words.fault_head(facts, fault.sup, fault.sub)) + ":"
+        yield f"    {words.plain([words.end(facts, fault.sub), ' comes'])}"
+        for step in fault.steps:
+            yield f"    {words.plain(words.step_brief(facts, step))}"
+    for fault in content.loans:
+        yield from loan_lines(facts, fault)
+
+
+def loan_lines(facts, fault):
+    point, cause, region = fault.against.point, fault.cause, Code(f"'{fault.loan.region}")
+    yield words.plain(["why ", region, f" holds point {point}, ", *words.statement(facts, point), ":"])
+    for step in cause.steps:
+        sup, sub = words.tick(facts, step.constraint.sup), words.tick(facts, step.constraint.sub)
+        asked = words.reason(facts, step.constraint) or ["By the text, "]
+        yield "    " + words.plain([*asked, sup, " must outlive ", sub, ", inside which ",
+                                    words.walk_text(step.walk), " leads there"])
+    yield "    " + words.plain(last_line(facts, cause, point))
+
+
+def last_line(facts, cause, point):
+    name = words.tick(facts, cause.region)
+    if facts.is_universal(cause.region):
+        return [name, " outlives the function, so it holds each point"]
+    if cause.use is None:
+        return [name, f" is live at point {point}"]
+    return [name, f" is live at point {point}: ", *words.statement(facts, cause.use),
+            " drops it" if cause.is_drop else " uses it"]

@@ -1,0 +1,175 @@
+"""Which loans are in force where something goes against them, and why.
+
+A loan is in force at a point if a path leads there from the borrow, inside the value of the loan's
+region, and past no point that kills the loan.
+"""
+
+from collections import deque
+from typing import NamedTuple, Optional
+
+from . import blame, chains
+from .beside import Against, Loan, Place
+
+ENDING = ("ends", "drops", "leaves", "destroys")
+CODES = {"moves": "E0505", "assigns": "E0506", "reads": "E0503", "looks": "E0503",
+         "shared": "E0502"}
+
+
+class Cause(NamedTuple):
+    """Why the loan's region holds the point, and the steps from there to the loan.
+
+    `region` is live at the point since a variable of it is used (or dropped) at `use`; or it is a
+    universal one, which outlives the function.
+    """
+
+    region: int
+    use: Optional[int]
+    is_drop: bool
+    steps: list     # the first one's constraint has `region` at its smaller side
+
+
+class LoanFault(NamedTuple):
+    """A loan that something goes against while it is in force; rustc's code and place of it."""
+
+    code: str
+    place: Optional[Place]
+    number: int
+    loan: Loan
+    against: Against
+    cause: Cause
+
+
+def loan_faults(facts, values):
+    """All, in the order of the source; of several loans at one place the first."""
+    beside = facts.remarks.beside
+    numbers = {name: number for number, name in enumerate(facts.names)}
+    found = []
+    for number, loan in sorted(beside.loans.items()):
+        if loan.region not in numbers or loan.at >= facts.points:
+            continue
+        region = numbers[loan.region]
+        force = in_force(facts, values.set_of(region), loan, beside.killed.get(number, ()))
+        for against in beside.against:
+            if number in against.loans and against.point in force:
+                cause = why(facts, values, region, against.point)
+                found.append(fault(facts, number, loan, against, cause))
+    return each_once(sorted(found, key=order))
+
+
+def order(one):
+    return one.place or Place(0, 0, 0, 0), one.against.point, one.number
+
+
+def in_force(facts, inside, loan, killed):
+    """The points at which the loan is in force."""
+    reached = {point for point in facts.successors[loan.at] if point in inside}
+    todo = list(reached)
+    while todo:
+        point = todo.pop()
+        for following in () if point in killed else facts.successors[point]:
+            if following in inside and following not in reached:
+                reached.add(following)
+                todo.append(following)
+    return reached
+
+
+def each_once(found):
+    """Without what rustc wouldn't say again: of the same loan's end, of the same access."""
+    told = set()
+    for one in found:
+        ends = one.against.way in ENDING
+        marks = {("end", one.number)} if ends else {one.place, (one.place and one.place[:2], one.code)}
+        if told.isdisjoint(marks):
+            yield one
+        told |= marks
+
+
+def fault(facts, number, loan, against, cause):
+    code, place = CODES.get(against.way), against.place
+    if loan.kind == "fake":
+        code = "E0510"
+    elif against.way == "mut":
+        code = "E0499" if loan.kind == "mut" else "E0502"
+    elif against.way in ENDING:
+        code, place = end_of_loan(facts, loan, against, cause)
+    start = loan.at if against.way in ENDING else against.point
+    return LoanFault(code, place or next_line(facts, start), number, loan, against, cause)
+
+
+def next_line(facts, start):
+    """The first line that is known from a point on, for what a macro of another file makes."""
+    known = (facts.remarks.point(point).line for point in range(start, facts.points))
+    line = next((line for line in known if line is not None), None)
+    return None if line is None else Place(line, 0, line, 0)
+
+
+def end_of_loan(facts, loan, against, cause):
+    """rustc's code and place where what is borrowed goes away."""
+    named = blame.of_chain(facts, cause.steps) if facts.is_universal(cause.region) else None
+    category = named.word if named else ""
+    if against.way == "destroys":
+        return "E0713", loan.place
+    if loan.by_closure and category in ("return", "argument", "opaque"):
+        return "E0373", loan.place
+    if category in ("return", "yield"):
+        return "E0515", named.place
+    if loan.is_of_temporary():
+        return "E0716", loan.home or loan.place
+    return "E0597", loan.home if loan.by_closure and loan.home else loan.place
+
+
+def why(facts, values, region, point):
+    """The nearest region for whose sake this one holds the point."""
+    by_sup = facts.by_sup
+    came_by = {region: None}
+    todo = deque([region])
+    while todo:
+        sup = todo.popleft()
+        if facts.is_universal(sup):
+            return Cause(sup, None, False, backwards(came_by, sup))
+        if point in facts.bases[sup] and not outlives_caller(facts, values, sup):
+            return used(facts, sup, point, backwards(came_by, sup))
+        for constraint in by_sup.get(sup, ()):
+            sub = constraint.sub
+            if sub not in came_by and values.has(sub, point):
+                onward = chains.ways_to(facts, values.set_of(sub), [point])
+                if constraint.at in onward:
+                    came_by[sub] = chains.Step(constraint, chains.walk(onward, constraint.at))
+                    todo.append(sub)
+    ends = [element - facts.points for element in values.elements(region)
+            if element >= facts.points]
+    if ends:
+        return Cause(ends[0], None, False, chains.chain(facts, values, region, ends[0]))
+    return used(facts, region, point, [])
+
+
+def backwards(came_by, region):
+    """The steps from the region to the loan's."""
+    steps = []
+    while came_by[region] is not None:
+        steps.append(came_by[region])
+        region = came_by[region].constraint.sup
+    return steps
+
+
+def outlives_caller(facts, values, region):
+    """Whether the region holds the end of a universal one, so that a use says nothing of it."""
+    elements = values.elements(region)
+    return bool(elements) and elements[-1] >= facts.points
+
+
+def used(facts, region, point, steps):
+    """The cause with the nearest point, from this one on, that uses or drops a variable of it."""
+    beside, name, live = facts.remarks.beside, facts.names[region], facts.bases[region]
+    seen = {point}
+    todo = deque([point])
+    while todo:
+        here = todo.popleft()
+        for table, is_drop in ((beside.uses, False), (beside.drops, True)):
+            if here in table.get(name, ()) and here in live:
+                return Cause(region, here, is_drop, steps)
+        for following in facts.successors[here]:
+            if following in live and following not in seen:
+                seen.add(following)
+                todo.append(following)
+    return Cause(region, None, False, steps)

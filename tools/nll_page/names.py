@@ -1,0 +1,55 @@
+"""What a page calls a function and the lifetimes of the function around it: words in place of rustc's names."""
+
+import re
+
+CLOSURE = re.compile(r"\{closure#(\d+)\}$")
+BODY = re.compile(r"\{(async|gen|async gen) (fn body|block|closure body)\b")
+AROUND = re.compile(r"'(\w+) of the function around this closure")
+NUMBERED = re.compile(r"_*r\d+_*|_*\d+|_+")
+
+
+def function_words(facts):
+    """The function's name; of a closure or the body of an async function, whose it is."""
+    *around, last = split_path(facts.remarks.function)
+    found = CLOSURE.match(last)
+    if not found:
+        return facts.remarks.function
+    outer = "::".join(around)
+    body = body_kind(facts)
+    if body and not CLOSURE.search(outer):
+        return f"{body} of {outer}"
+    words = [f"closure {int(found[1]) + 1}"]
+    while around and (found := CLOSURE.match(around[-1])):
+        words.append(f"closure {int(found[1]) + 1}")
+        around.pop()
+    return " in ".join(words) + (f" of {'::'.join(around)}" if around else "")
+
+
+def split_path(name):
+    """The parts of a path, with types in angle brackets whole."""
+    parts, depth, begin = [], 0, 0
+    for at, letter in enumerate(name):
+        depth += (letter in "<{(") - (letter in ")}>" and name[at - 1:at + 1] != "->")
+        if depth == 0 and name.startswith("::", at):
+            parts.append(name[begin:at])
+            begin = at + 2
+    return [*parts, name[begin:]]
+
+
+def body_kind(facts):
+    """`async body` and the like, where the type of a variable says that this is one; else nothing."""
+    for remark in facts.remarks.regions.values():
+        found = BODY.search(remark.text)
+        if found:
+            return f"{found[1]} {'block' if found[2] == 'block' else 'body'}"
+    return ""
+
+
+def region_text(facts, text):
+    """What a remark says of a region, with the outer function's name for the function around a closure."""
+    outer = "::".join(part for part in split_path(facts.remarks.function) if not CLOSURE.match(part))
+
+    def named(found):
+        whose = f"of {outer}" if outer else "of the function around this closure"
+        return f"an unnamed lifetime {whose}" if NUMBERED.fullmatch(found[1]) else f"'{found[1]} {whose}"
+    return AROUND.sub(named, text)

@@ -1,0 +1,27 @@
+"""What stands at a place of the source, on one line."""
+
+MOST_LETTERS = 50
+
+
+def snippet(source, place):
+    """The words there, cut where they are long; empty where the source isn't at hand."""
+    if source is None or place is None:
+        return ""
+    index = place.line - source.first
+    if not 0 <= index < len(source.lines):
+        return ""
+    line = source.lines[index]
+    is_one_line = place.last == place.line
+    words = line[place.column - 1:place.end - 1] if is_one_line else line[place.column - 1:]
+    words = words.strip()
+    if len(words) > MOST_LETTERS or not is_one_line:
+        return words[:MOST_LETTERS - 3].rstrip() + " .."
+    return words
+
+
+def whole_line(source, number):
+    """A line without its indent and what is said behind it."""
+    if source is None or not source.first <= number < source.first + len(source.lines):
+        return ""
+    words = source.lines[number - source.first].partition("//")[0].strip()
+    return words if len(words) <= MOST_LETTERS else words[:MOST_LETTERS - 3].rstrip() + " .."

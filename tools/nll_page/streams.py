@@ -1,0 +1,19 @@
+"""Standard output and standard error, whatever the locale is and wherever they lead."""
+
+import os
+import sys
+
+
+def any_locale():
+    """Has letters that the locale lacks written as codes."""
+    for stream in (sys.stdout, sys.stderr):
+        if hasattr(stream, "reconfigure"):
+            stream.reconfigure(errors="backslashreplace")
+
+
+def unwritten(program, error):
+    """Says in one line that standard output can't be written, unless nobody reads it; the status."""
+    os.dup2(os.open(os.devnull, os.O_WRONLY), 1)    # what is still to be written goes there
+    if not isinstance(error, BrokenPipeError):
+        sys.stderr.write(f"{program}: standard output can't be written: {error.strerror}\n")
+    return 3

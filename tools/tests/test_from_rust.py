@@ -1,0 +1,105 @@
+"""What docs/FROM-RUST.md and README.md show of commands on Rust files is what these print.
+
+    python3 tools/tests/test_from_rust.py --write       makes what they show anew
+
+The functions' values are those of the quick solver, and a MIR text's problem is that of the slow reader. Where
+there is no rustc of the release that the document speaks of, nothing is compared.
+"""
+
+import os
+import pathlib
+import re
+import subprocess
+import sys
+import tempfile
+import unittest
+from concurrent.futures import ThreadPoolExecutor
+
+ROOT = pathlib.Path(__file__).resolve().parents[2]
+DOCUMENTS = ("docs/FROM-RUST.md", "README.md")
+COMMAND = re.compile(r"    \$ ((?:\./nllc\.sh (?:rust|page)|tools/nll-facts --crate) .*)")
+NUMBERED = re.compile(r" {3,5}(\d{1,2})  (.*)")
+SECONDS = re.compile(r"\d+\.\d\b(?= |$)")
+RELEASE = "rustc 1.95."
+
+
+def blocks(lines):
+    """The shown commands: where what they print begins and ends, and the command."""
+    for at, line in enumerate(lines):
+        if found := COMMAND.match(line):
+            end = at + 1
+            while end < len(lines) and lines[end].startswith("    ") and not lines[end].startswith("    $"):
+                end += 1
+            if end > at + 1:
+                yield at + 1, end, found[1]
+
+
+def printed(command, folder):
+    """What a command prints in a folder in which it finds the repository's files."""
+    environment = os.environ | {"NLLC": str(ROOT / "tools/tests/quick_nllc.py"),
+                                "WORLD_PROGRAM": str(ROOT / "bench/reference_states.py")}
+    done = subprocess.run(command, shell=True, cwd=folder, env=environment, capture_output=True, text=True,
+                          check=False)
+    return done.stdout.splitlines()
+
+
+def folder_of_links():
+    folder = tempfile.TemporaryDirectory(prefix="nll-documents.")
+    for name in ("examples", "tools", "nllc.sh"):
+        os.symlink(ROOT / name, os.path.join(folder.name, name))
+    return folder
+
+
+def without_seconds(lines):
+    return [SECONDS.sub("0.0", line) for line in lines]
+
+
+def write(document):
+    path = ROOT / document
+    lines = path.read_text().split("\n")
+    with folder_of_links() as folder:
+        for begin, end, command in reversed(list(blocks(lines))):
+            lines[begin:end] = ["    " + line for line in printed(command, folder)]
+    path.write_text("\n".join(lines))
+
+
+def has_rustc():
+    try:
+        said = subprocess.run(["rustc", "--version"], capture_output=True, text=True, check=False).stdout
+    except OSError:
+        return False
+    return said.startswith(RELEASE)
+
+
+class Shown(unittest.TestCase):
+    @unittest.skipUnless(has_rustc(), "there is no rustc of the release that is shown")
+    def test_commands(self):
+        shown = {command: [line[4:] for line in lines[begin:end]]
+                 for lines in ((ROOT / name).read_text().split("\n") for name in DOCUMENTS)
+                 for begin, end, command in blocks(lines)}
+        with folder_of_links() as folder, ThreadPoolExecutor() as pool:
+            answers = pool.map(lambda command: printed(command, folder), shown)
+            for (command, lines), answer in zip(shown.items(), answers):
+                with self.subTest(command=command):
+                    self.assertEqual(without_seconds(answer), without_seconds(lines))
+
+    def test_sources(self):
+        """Lines of Rust that are shown with numbers stand there in a file that the document names."""
+        for document in DOCUMENTS:
+            text = (ROOT / document).read_text()
+            files = [(ROOT / name).read_text().split("\n") for name in
+                     sorted(set(re.findall(r"\b(?:examples|tools/tests/sources)/\w+\.rs\b", text)))]
+            for block in re.findall(r"(?:^ {3,5}\d{1,2}(?:  .*)?\n)+", text, re.MULTILINE):
+                shown = [NUMBERED.match(line + "  ") for line in block.splitlines()]
+                with self.subTest(document=document, block=block.splitlines()[0]):
+                    self.assertTrue(any(all(
+                        line and int(line[1]) <= len(file)
+                        and file[int(line[1]) - 1] == line[2].rstrip() for line in shown) for file in files))
+
+
+if __name__ == "__main__":
+    if sys.argv[1:] == ["--write"]:
+        for name in DOCUMENTS:
+            write(name)
+    else:
+        unittest.main()

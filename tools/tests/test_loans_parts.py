@@ -1,0 +1,186 @@
+"""The parts by which loans are found and told, on small made-up inputs."""
+
+import unittest
+
+import page_support
+from nll_facts.accesses import accesses
+from nll_facts.dumps import Dump
+from nll_facts.errors import own_errors
+from nll_facts.mir import Span, reason_of
+from nll_facts.places import Place, overlap, read_place
+from nll_facts.rustc import Error, read_error
+from nll_page import blame, loans, telling
+from nll_page.facts import Constraint
+from nll_page.page import Content
+from nll_page.snippets import snippet, whole_line
+from nll_page.source import Source
+from quick_solver import quick_values
+
+
+class Places(unittest.TestCase):
+    def read(self, text):
+        return read_place(text)[0]
+
+    def test_forms(self):
+        self.assertEqual(self.read("_3"), Place(3))
+        self.assertEqual(self.read("(*_1)"), Place(1, ("*",)))
+        self.assertEqual(self.read("((*_1).0: &mut Vec<(u8, u8)>)"), Place(1, ("*", "0")))
+        self.assertEqual(self.read("((_1 as Some).0: fn(u8) -> u8)[_5][0 of 1]"),
+                         Place(1, ("as Some", "0", "[]", "[]")))
+
+    def test_no_place(self):
+        for text in ("const 1_u8", "(", "(const 1_u8, move _3)", ""):
+            self.assertIsNone(read_place(text), text)
+
+    def test_where_it_ends(self):
+        self.assertEqual(read_place("(*_1) = copy _2")[1], 5)
+
+    def test_overlap(self):
+        whole, one, other = Place(1), Place(1, ("0",)), Place(1, ("1",))
+        self.assertTrue(overlap(whole, one) and overlap(one, Place(1, ("0", "*"))))
+        self.assertFalse(overlap(one, other))
+        self.assertFalse(overlap(one, Place(2, ("0",))))
+        self.assertTrue(overlap(Place(1, ("[]",)), Place(1, ("[]",))))
+
+
+class Accesses(unittest.TestCase):
+    def ways(self, statement):
+        return [(access.way, access.place and access.place.local) for access in accesses(statement)]
+
+    def test_statements(self):
+        for statement, ways in {
+            "_1 = const 3_u8": [("assigns", 1)],
+            "_3 = &mut (*_1)": [("mut", 1), ("assigns", 3)],
+            "_3 = &(*_1)": [("shared", 1), ("assigns", 3)],
+            "_3 = &raw mut (*_1)": [("mut", 1), ("assigns", 3)],
+            "_3 = &raw const _1": [("shared", 1), ("assigns", 3)],
+            "_3 = &fake shallow _1": [("looks", 1), ("assigns", 3)],
+            "(_1.0: u8) = Add(copy (_1.0: u8), move _2)": [("reads", 1), ("moves", 2), ("assigns", 1)],
+            '_0 = f(move _1, const "move _7") -> [return: bb1, unwind: bb2]':
+                [("moves", 1), ("assigns", 0)],
+            "switchInt(copy _3) -> [0: bb3, otherwise: bb2]": [("reads", 3)],
+            "_4 = discriminant((*_1))": [("reads", 1), ("assigns", 4)],
+            "FakeRead(ForMatchedPlace(None), _2)": [("reads", 2)],
+            "PlaceMention((*_2))": [("reads", 2)],
+            "StorageDead(_5)": [("ends", 5)],
+            "StorageLive(_5)": [],
+            "drop((_5.1: T)) -> [return: bb1, unwind: bb2]": [("drops", 5)],
+            "return": [("leaves", None)],
+            "goto -> bb1": [],
+        }.items():
+            self.assertEqual(self.ways(statement), ways, statement)
+
+    def test_what_disturbs_a_loan(self):
+        read, write = accesses("_3 = copy _1")[0], accesses("_1 = const 3_u8")[0]
+        self.assertFalse(read.disturbs("shared", Place(1)))
+        self.assertTrue(read.disturbs("mut", Place(1)))
+        self.assertTrue(write.disturbs("shared", Place(1, ("0",))))
+        self.assertFalse(write.disturbs("mut", Place(2)))
+
+
+class RustcsWords(unittest.TestCase):
+    def test_reasons(self):
+        found = reason_of("| '?7: '?8 due to Return(Normal) at Single(bb5[2]) (a.rs:21:5: 21:9 (#0)")
+        self.assertEqual((found.sup, found.sub, found.category, str(found.location)),
+                         (7, 8, "Return", "bb5[2]"))
+        self.assertEqual(found.span, Span("a.rs", 21, 21, 5, 9))
+        found = reason_of("| '?1: '?8 due to BoringNoLocation at All(a.rs:1:2: 1:3) (a.rs:1:2: 1:3 (#0)")
+        self.assertEqual((found.category, found.location), ("BoringNoLocation", None))
+        self.assertIsNone(reason_of("| '?1 live at {bb0[0]}"))
+
+    def test_errors_in_macros(self):
+        inner = '{"file_name": "/rustc/none/macros.rs", "line_start": 1, "column_start": 1, ' \
+                '"is_primary": true, "expansion": {"span": {"file_name": "a.rs", "line_start": 7, ' \
+                '"column_start": 5, "expansion": null}}}'
+        [error] = read_error('{"level": "error", "rendered": "x", "message": "m", "code": {"code": "E0716"}, '
+                             f'"spans": [{inner}]}}')
+        self.assertEqual((error.places, error.column, error.words()), ([("a.rs", 7)], 5, "E0716: m"))
+
+    def test_whose_errors(self):
+        outer = Dump("f", "f", "", "", Span("a.rs", 1, 9, 1, 2))
+        closure = Dump("f::{closure#0}", "f-0", "", "", Span("a.rs", 3, 5, 9, 6))
+        dumps = [outer, closure]
+        errors = [Error("", [("a.rs", line)], column, code)
+                  for line, column, code in ((2, 5, "E0499"), (4, 9, "E0502"), (3, 9, "E0505"),
+                                             (4, 9, "E0597"), (2, 5, "E0382"), (12, 1, "E0499"))]
+        self.assertEqual([e.code for e in own_errors(outer, dumps, errors)], ["E0499", "E0505", "E0597"])
+        self.assertEqual([e.code for e in own_errors(closure, dumps, errors)], ["E0502", "E0597"])
+
+
+TEXT = ("region 'x", "region 'y", "next 0 1", "next 1 2", "next 2 3", "return 3",
+        "base 'y 1", "base 'y 2", "constraint 'x 'y 1",
+        "# loan 0: 'x at 0, 1:9-1:11, mut of a", "# against 2, 2:5-2:6, assigns: 0", "# uses 'y: 2",
+        "# point 0: line 1: y = &mut a", "# point 1: line 2: a = 1", "# point 2: line 2: a = 1")
+SOURCE = Source("a.rs", 1, ["let y = &a;", "    a = 1;", "    show(y); // it"])
+
+
+class Loans(unittest.TestCase):
+    def content(self, *lines):
+        facts = page_support.facts_of(4, *lines)
+        values = quick_values(facts)
+        return Content(facts, values, [], "TEXT", SOURCE, "", "", list(loans.loan_faults(facts, values)))
+
+    def test_in_force(self):
+        [fault] = self.content(*TEXT).loans
+        self.assertEqual((fault.code, fault.place[:2], fault.cause.use), ("E0506", (2, 5), 2))
+        self.assertEqual([step.constraint for step in fault.cause.steps], [(1, 2, 1)])
+
+    def test_killed(self):
+        self.assertEqual(self.content(*TEXT, "# killed 0: 1").loans, [])
+
+    def test_against_where_it_is_not_in_force(self):
+        self.assertEqual(self.content(*TEXT[:-5], "# loan 0: 'x at 0, 1:9-1:11, mut of a",
+                                      "# against 3, 3:5-3:6, assigns: 0").loans, [])
+
+    def test_the_killing_point_itself(self):
+        self.assertEqual(len(self.content(*TEXT, "# killed 0: 2").loans), 1)
+
+    def test_a_text_of_another_function(self):
+        self.assertEqual(self.content(*TEXT[:8], "# loan 0: 'z at 0, 1:9-1:11, mut of a",
+                                      "# loan 1: 'x at 9, 1:9-1:11, mut of a").loans, [])
+
+    def test_two_lines(self):
+        content = self.content(*TEXT)
+        [one] = telling.all_of(content)
+        self.assertEqual(telling.lines(content, one), [
+            "a.rs:2:5: E0506: `a` assigns to what line 1 has borrowed as mutable",
+            "    the loan of line 1 (`&a`) is in force: its region `'x` holds line 2, since the same line "
+            "uses it"])
+
+
+class Blame(unittest.TestCase):
+    def facts(self, *words):
+        said = [f"# asked 'a 'b at 0, 1:{n}-1:{n + 1}: {word}" for n, word in enumerate(words, 1)]
+        return page_support.facts_of(2, "universal 'a", "universal 'b", "next 0 1", *said)
+
+    def best(self, *words):
+        facts = self.facts(*words)
+        found = blame.reasons(facts, Constraint(1, 2, 1))
+        return min(found, key=blame.Blame.rank, default=None)
+
+    def test_ranks(self):
+        self.assertEqual(self.best("step", "assignment", "return").word, "return")
+        self.assertEqual(self.best("generic", "argument", "step").word, "argument")
+        self.assertEqual(self.best("step").place.column, 1)
+        self.assertIsNone(self.best())
+
+
+class Snippets(unittest.TestCase):
+    def place(self, *numbers):
+        return loans.Place(*numbers)
+
+    def test_words_of_a_place(self):
+        self.assertEqual(snippet(SOURCE, self.place(1, 9, 1, 11)), "&a")
+        self.assertEqual(snippet(SOURCE, self.place(2, 5, 3, 8)), "a = 1; ..")
+        self.assertEqual(snippet(SOURCE, self.place(9, 1, 9, 2)), "")
+        self.assertEqual(snippet(None, self.place(1, 1, 1, 2)), "")
+        self.assertEqual(snippet(SOURCE, None), "")
+
+    def test_a_whole_line(self):
+        self.assertEqual(whole_line(SOURCE, 3), "show(y);")
+        self.assertEqual(whole_line(Source("", 1, ["x" * 80]), 1), "x" * 47 + " ..")
+        self.assertEqual(whole_line(SOURCE, 4), "")
+
+
+if __name__ == "__main__":
+    unittest.main()
