@@ -11,8 +11,7 @@ disk: its libraries are second names of the tree's, and what else checks kept `r
 were at that commit and stand on none that says something else since; tools/changes.py tells which do. Where
 crates are named, no others are tried.
 
-For each edit it prints the seconds of processor time that its check took, the first of a crate with the
-check of the crate itself, and what refused it:
+For each edit it prints the seconds of processor time that its check took, and what refused it:
 
 - a clause's goal: no search answers it any more, or its written answer (in Answers.antt) isn't one any more;
 - a step of a proof file: a lemma or an invariant that the changed text makes wrong;
@@ -121,16 +120,26 @@ def refused_by(text):
     return GOAL if is_goal else STEP
 
 
+def seconds_each(samples, count):
+    """The seconds that each of so many edits took, by the processes that `rt` started; nothing where it tried none.
+
+    It tries an edit over a folder of kept work that has the edit's number, and anew where that told nothing.
+    """
+    seconds = [None] * count
+    for sample in filter(is_edit, samples):
+        if sample["over"].isdigit() and int(sample["over"]) < count:
+            seconds[int(sample["over"])] = round((seconds[int(sample["over"])] or 0) + seconds_of(sample), 2)
+    return seconds
+
+
 def try_crate(room, crate, jobs):
     """Tries the edits of one crate, so many at a time; gives what came of each."""
     words = ["env", f"RT_JOBS={jobs}", "rt", "must-fail", crate]
     with started(words, room) as running, Watch(running.pid) as watch:
         printed = running.stdout.read()
     lines = dict(re.findall(rf"^rt: must-fail {crate}/(\S+)\.edit: (.*)$", printed, re.M))
-    seconds = [seconds_of(sample) for sample in watch.gone if is_edit(sample)]
     edits = [pathlib.Path(edit).stem for edit in edits_in(room, crate, "must-fail")]
-    if len(seconds) < len(edits) or "BAD EDIT" in printed:
-        seconds = [None] * len(edits)
+    seconds = seconds_each(watch.gone, len(edits))
     said = printed.strip().splitlines()[-1:] or ["rt says nothing"]
     texts = [lines.get(edit, f"not tried: {said[0]}") for edit in edits]
     return [Tried(crate, edit, taken, refused_by(text), text)

@@ -165,6 +165,14 @@ class Trying(unittest.TestCase):
         self.assertIn("low/four: ? s, refused by a missing name: ./proofs/echo/Answers.antt:4:14", printed)
         self.assertIn("low/five: ? s, NOT REFUSED: the crate is still proved with this edit", printed)
 
+    def test_each_edit_has_the_seconds_of_its_own_checks(self):
+        def sample(over, seconds, cwd="/tmp/rt-edit-1-a"):
+            return {"cwd": cwd, "over": over, "own": seconds, "kids": 0.5}
+
+        samples = [sample("seed", 20), sample("1", 4), sample("0", 2), sample("1", 1), sample("", 9),
+                   sample("0", 30, "/repository/crates/low")]
+        self.assertEqual(wrong_bodies.seconds_each(samples, 3), [2.5, 6, None])
+
     def test_an_edit_of_which_nothing_is_said_is_not_refused(self):
         self.write("crates/low/wrong-bodies/one.edit", "BAD EDIT: there is no file src/a.rt")
         ended, _, printed = self.try_on(["low"])
