@@ -7,7 +7,8 @@
 It reads /proc twice a second, so what a process takes in its last half second isn't counted. What a process
 starts itself counts with it, once it has ended. A sample is a dict: `pid`, `parent`, `first` and `last` (the
 times at which it was seen), `own` and `kids` (seconds of processor time, its own and its children's), `cwd`,
-`words` (the first of its command line, and `--test` where it's one of them) and `kb` (memory at most).
+`words` (the first of its command line, and `--test` where it's one of them), `over` (the name of the folder of
+kept work that it begins with, or nothing) and `kb` (memory at most).
 """
 
 import os
@@ -46,8 +47,9 @@ def described(pid):
         return {}
     if not memory or not words[0]:
         return {}
+    over = os.path.basename(words[words.index("--incremental") + 1]) if "--incremental" in words[:-1] else ""
     words = words[:WORDS] + ["--test"] * ("--test" in words[WORDS:])
-    return {"words": words, "cwd": cwd, "kb": int(memory[0])}
+    return {"words": words, "cwd": cwd, "over": over, "kb": int(memory[0])}
 
 
 class Watch:
@@ -76,7 +78,7 @@ class Watch:
         now, seen = time.time(), set()
         for pid, start, own, kids in children_of(self.root):
             seen.add((pid, start))
-            new = {"pid": pid, "parent": self.root, "first": now, "cwd": "", "words": [], "kb": 0}
+            new = {"pid": pid, "parent": self.root, "first": now, "cwd": "", "words": [], "over": "", "kb": 0}
             sample = self.alive.setdefault((pid, start), new)
             sample.update(described(pid), last=now, own=round(own, 2), kids=round(kids, 2))
         self.end([key for key in self.alive if key not in seen])

@@ -5,13 +5,13 @@
 
 They stand in crates/*/wrong-bodies, and each is an edit as those of must-fail/ are. In a copy of the
 repository they take the place of these, and `rt must-fail` tries them, several crates side by side; the
-libraries below are proved first, where the working tree keeps no proof of them. `--all` tries the edits of
-must-fail/ too, before a release. `--since` leaves out the crates that are as they were at that commit and
-stand on none that says something else since; tools/changes.py tells which do. Where crates are named, no
-others are tried.
+libraries below are proved first, where the working tree keeps no proof of them. The copy takes next to no
+disk: its libraries are second names of the tree's, and what else checks kept `rt` takes from where it stands.
+`--all` tries the edits of must-fail/ too, before a release. `--since` leaves out the crates that are as they
+were at that commit and stand on none that says something else since; tools/changes.py tells which do. Where
+crates are named, no others are tried.
 
-For each edit it prints the seconds of processor time that its check took, the first of a crate with the
-check of the crate itself, and what refused it:
+For each edit it prints the seconds of processor time that its check took, and what refused it:
 
 - a clause's goal: no search answers it any more, or its written answer (in Answers.antt) isn't one any more;
 - a step of a proof file: a lemma or an invariant that the changed text makes wrong;
@@ -33,6 +33,7 @@ from changes import changes_since
 from crates import above, below, edits_in, uses_of
 from processes import Watch, is_edit, seconds_of
 from proving import most_at_once, prove, started
+from rooms import copy, library_of, link
 
 ROOT = pathlib.Path(__file__).resolve().parents[1]
 FOLDERS = ("wrong-bodies", "must-fail")
@@ -66,13 +67,10 @@ def libraries_of(root, crates):
 
 
 def copied(root, room, libraries):
-    """Copies the repository, and of what its checks kept only that of the libraries."""
-    kept = [root / "crates" / library for library in libraries]
-
-    def left_out(folder, _):
-        return {".git"} if pathlib.Path(folder) in kept else {".git", "out"}
-
-    shutil.copytree(root, room, symlinks=True, ignore=left_out)
+    """Copies the repository, and of what its checks kept the libraries alone, by second names."""
+    shutil.copytree(root, room, symlinks=True, ignore=shutil.ignore_patterns(".git", "out"))
+    for library in libraries:
+        copy(library_of(root, library), library_of(room, library), link)
 
 
 def put_in_place(room, crates, folders):
@@ -122,16 +120,26 @@ def refused_by(text):
     return GOAL if is_goal else STEP
 
 
-def try_crate(room, crate):
-    """Tries the edits of one crate; gives what came of each."""
-    words = ["rt", "must-fail", crate]
+def seconds_each(samples, count):
+    """The seconds that each of so many edits took, by the processes that `rt` started; nothing where it tried none.
+
+    It tries an edit over a folder of kept work that has the edit's number, and anew where that told nothing.
+    """
+    seconds = [None] * count
+    for sample in filter(is_edit, samples):
+        if sample["over"].isdigit() and int(sample["over"]) < count:
+            seconds[int(sample["over"])] = round((seconds[int(sample["over"])] or 0) + seconds_of(sample), 2)
+    return seconds
+
+
+def try_crate(room, crate, jobs):
+    """Tries the edits of one crate, so many at a time; gives what came of each."""
+    words = ["env", f"RT_JOBS={jobs}", "rt", "must-fail", crate]
     with started(words, room) as running, Watch(running.pid) as watch:
         printed = running.stdout.read()
     lines = dict(re.findall(rf"^rt: must-fail {crate}/(\S+)\.edit: (.*)$", printed, re.M))
-    seconds = [seconds_of(sample) for sample in watch.gone if is_edit(sample)]
     edits = [pathlib.Path(edit).stem for edit in edits_in(room, crate, "must-fail")]
-    if len(seconds) < len(edits) or "BAD EDIT" in printed:
-        seconds = [None] * len(edits)
+    seconds = seconds_each(watch.gone, len(edits))
     said = printed.strip().splitlines()[-1:] or ["rt says nothing"]
     texts = [lines.get(edit, f"not tried: {said[0]}") for edit in edits]
     return [Tried(crate, edit, taken, refused_by(text), text)
@@ -147,11 +155,11 @@ def show(tried):
 
 
 def try_all(room, crates, jobs):
-    """Tries the edits of these crates, so many crates at a time, those with the most edits first."""
-    found = []
+    """Tries the edits of these crates, so many edits at a time, the crates with the most of them first."""
+    found, each = [], max(1, jobs // len(crates))
     crates = sorted(crates, key=lambda crate: -len(edits_in(room, crate, "must-fail")))
     with concurrent.futures.ThreadPoolExecutor(jobs) as pool:
-        running = [pool.submit(try_crate, room, crate) for crate in crates]
+        running = [pool.submit(try_crate, room, crate, each) for crate in crates]
         for ended in concurrent.futures.as_completed(running):
             found += ended.result()
             print(*map(show, ended.result()), sep="\n", flush=True)
@@ -168,7 +176,7 @@ def read_words(words):
     parser = argparse.ArgumentParser(description="Tries the wrong bodies that the gate doesn't.")
     parser.add_argument("--all", action="store_true", help="try those of must-fail/ too")
     parser.add_argument("--since", metavar="COMMIT", help="leave out what hasn't changed since then")
-    parser.add_argument("--jobs", type=int, metavar="N", help="how many crates at a time")
+    parser.add_argument("--jobs", type=int, metavar="N", help="how many checks at a time")
     parser.add_argument("crates", nargs="*", metavar="CRATE")
     return parser.parse_args(words)
 

@@ -150,6 +150,11 @@ class Watching(unittest.TestCase):
         ended.wait()
         self.assertEqual(processes.described(ended.pid), {})
 
+    def test_the_kept_work_that_a_check_begins_with_is_told_by_its_name(self):
+        for words, wanted in ((["--incremental", "/kept/7"], "7"), (["--jobs", "1"], ""), (["--incremental"], "")):
+            with subprocess.Popen(["sh", "-c", "read it", "check", *words], stdin=subprocess.PIPE) as child:
+                self.assertEqual(processes.described(child.pid)["over"], wanted)
+
     def test_what_is_no_check_has_no_crate(self):
         self.assertEqual(processes.crate_of(sample("low", 1)), "low")
         self.assertIsNone(processes.crate_of({"words": []}))

@@ -25,7 +25,9 @@ if [ "$1" = all ]; then
     printf '== low\\nlogic=proved functions=1\\n'
     exit {proves}
 fi
+echo "$RT_JOBS at a time" >> {said}
 ls crates/*/must-fail crates/*/out >> {said} 2>/dev/null
+stat -c '%n has %h names' crates/*/out/rlib/stamp >> {said} 2>/dev/null
 for edit in crates/$2/must-fail/*.edit; do
     echo "rt: must-fail $2/$(basename $edit): $(cat $edit)"
 done
@@ -74,7 +76,8 @@ class Trying(unittest.TestCase):
         self.write("crates.txt", "low:\nhigh: low\ntop: high\nbeside:\n")
         for crate in ("low", "high", "top", "beside"):
             self.write(f"crates/{crate}/src/lib.rt", "pub fn f() { 1 }\n")
-            self.write(f"crates/{crate}/out/kept", "")
+            self.write(f"crates/{crate}/out/rlib/stamp", crate)
+            self.write(f"crates/{crate}/out/incremental/found", crate)
         for edit, answer in {"low/wrong-bodies/one": "one", "high/wrong-bodies/two": "two",
                              "high/must-fail/gates": "one", "beside/must-fail/other": "one"}.items():
             self.write(f"crates/{edit}.edit", ANSWERS[answer])
@@ -87,7 +90,7 @@ class Trying(unittest.TestCase):
         for words in ("init -q", "add -A", "-c user.name=a -c user.email=a@b commit -q -m a"):
             subprocess.run(["git", "-C", str(self.root), *words.split()], check=True)
 
-    def try_on(self, words, proves=0):
+    def try_on(self, words, proves=0, jobs=1):
         """What the tool ends with, what `rt` was asked and saw, and what was printed."""
         said, printed = pathlib.Path(self.folder.name) / "said", io.StringIO()
         rt = pathlib.Path(self.folder.name) / "bin" / "rt"
@@ -99,7 +102,7 @@ class Trying(unittest.TestCase):
         os.environ["PATH"] = f"{rt.parent}:{path}"
         try:
             with contextlib.redirect_stdout(printed), contextlib.redirect_stderr(printed):
-                ended = wrong_bodies.main([*words, "--jobs", "1"], self.root)
+                ended = wrong_bodies.main([*words, "--jobs", str(jobs)], self.root)
         finally:
             os.environ["PATH"] = path
         return ended, said.read_text(), printed.getvalue()
@@ -124,12 +127,23 @@ class Trying(unittest.TestCase):
     def test_crates_with_more_edits_go_first(self):
         self.assertEqual(self.tried(["--all"])[:2], ["high/gates", "high/two"])
 
-    def test_the_libraries_are_proved_first_with_what_is_kept_of_them(self):
+    def test_the_libraries_are_proved_first(self):
         said = self.try_on(["high"])[1].split("\n")
         self.assertEqual(said[0], f"all check --jobs 1 in {wrong_bodies.LIBRARIES}")
         self.assertEqual(said[1], "must-fail high in copy")
-        self.assertEqual([line for line in said if "/out" in line], ["crates/low/out:"])
         self.assertIn("library low: proved", self.try_on(["high"])[2])
+
+    def test_of_what_is_kept_the_copy_has_the_libraries_alone_and_no_second_time(self):
+        said = self.try_on(["high"])[1].split("\n")
+        at = said.index("crates/low/out:")
+        self.assertEqual(said[at + 1], "rlib")
+        self.assertEqual([line for line in said if "/out" in line],
+                         ["crates/low/out:", "crates/low/out/rlib/stamp has 2 names"])
+
+    def test_a_crate_has_its_share_of_the_checks_at_a_time(self):
+        for words, jobs, wanted in ((["high"], 4, "4"), (["high", "low"], 4, "2"), (["high", "low"], 1, "1")):
+            said = self.try_on(words, jobs=jobs)[1]
+            self.assertEqual(set(re.findall(r"^(.*) at a time$", said, re.M)), {wanted}, words)
 
     def test_where_a_library_is_not_proved_nothing_is_tried(self):
         ended, said, printed = self.try_on(["high"], proves=1)
@@ -150,6 +164,14 @@ class Trying(unittest.TestCase):
         self.assertIn("low/one: ? s, refused by a clause's goal: note: src/lib.rt:20:1: it is not", printed)
         self.assertIn("low/four: ? s, refused by a missing name: ./proofs/echo/Answers.antt:4:14", printed)
         self.assertIn("low/five: ? s, NOT REFUSED: the crate is still proved with this edit", printed)
+
+    def test_each_edit_has_the_seconds_of_its_own_checks(self):
+        def sample(over, seconds, cwd="/tmp/rt-edit-1-a"):
+            return {"cwd": cwd, "over": over, "own": seconds, "kids": 0.5}
+
+        samples = [sample("seed", 20), sample("1", 4), sample("0", 2), sample("1", 1), sample("", 9),
+                   sample("0", 30, "/repository/crates/low")]
+        self.assertEqual(wrong_bodies.seconds_each(samples, 3), [2.5, 6, None])
 
     def test_an_edit_of_which_nothing_is_said_is_not_refused(self):
         self.write("crates/low/wrong-bodies/one.edit", "BAD EDIT: there is no file src/a.rt")
