@@ -1,5 +1,5 @@
--- Frontiers: reachable sets that are kept while runs of elements are added to the set in which walks
--- may go.
+-- Frontiers: reachable sets that are kept while runs of elements are added to the set in which
+-- walks may go.
 -- Source: RFC 2094, "Solving constraints" (the search from a constraint's point that stops where it
 -- leaves the region); that it is resumed when the region grows is project's choice. The code looks
 -- at the points of one new run at a time; this speaks of whole walks.

@@ -55,8 +55,8 @@ pub record IsLandingStart (list : List Landing) (number place : ℕ) : Type 0 wh
   pub others : (k : ℕ) (d : Landing) → place ≤ k → k < length list
       → number ≤ (slice_index_or list k d).to
 
--- The list has just the jumps of the graph, by where they land, ascending; and the numbers are where
--- those of each target start, up to one behind the number of points.
+-- The list has just the jumps of the graph, by where they land, ascending; and the numbers are
+-- where those of each target start, up to one behind the number of points.
 pub record AreLandings (g : Graph) (list : List Landing) (starts : List ℕ) : Type 0 where
   pub each : (l : Landing) → Contains list l ↔ IsJump g l.from l.to
   pub sized : length starts ≡ g.points + 2

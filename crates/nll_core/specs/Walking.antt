@@ -83,8 +83,8 @@ IsFollowed g sub reached x = (t : ℕ) → IsJump g x t → t < g.points → IsI
 abbrev pub IsLedTo : Graph → List Bool → List Bool → ℕ → Type 0
 IsLedTo g sub start x = (y : ℕ) × IsIn start y × Reaches g (IsIn sub) y x
 
--- The set got what walks inside `sub` reach from it, points alone, and the list their runs. Each point
--- of the list was followed; `ends` says whether a return point is among them.
+-- The set got what walks inside `sub` reach from it, points alone, and the list their runs. Each
+-- point of the list was followed; `ends` says whether a return point is among them.
 pub record IsSpread (g : Graph) (sub start new : List Bool) (listed all : List Run) (ends : Bool)
     : Type 0 where
   pub grows : Grows g sub (IsLedTo g sub start) start new listed all

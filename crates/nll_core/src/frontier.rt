@@ -69,8 +69,8 @@ impl Frontier {
 
     /// Reaches what can be reached once a run of elements is in the set: walks go on through those
     /// at which one begins, or to which a step leads from what is reached; so they go on at a hole
-    /// that is filled later. Clears a list, and puts the runs of what is newly reached into it, each
-    /// element once. The points from which walks go are points of the graph.
+    /// that is filled later. Clears a list, and puts the runs of what is newly reached into it,
+    /// each element once. The points from which walks go are points of the graph.
     ///
     /// # Errors
     /// - `Memory`: the list is of no use; each later call answers `Memory` too.
@@ -100,11 +100,11 @@ impl Frontier {
         self.go_on(steps, seen, run, found)
     }
 
-    /// Goes on from a run of elements of the set in which walks may go, which may have grown by other
-    /// elements too: through those at which a walk begins, or to which a step leads from what is
-    /// reached, and from there through the whole set. Clears a list, and puts the runs of what is
-    /// newly reached into it, each element once. The points from which walks go are points of the
-    /// graph.
+    /// Goes on from a run of elements of the set in which walks may go, which may have grown by
+    /// other elements too: through those at which a walk begins, or to which a step leads from what
+    /// is reached, and from there through the whole set. Clears a list, and puts the runs of what
+    /// is newly reached into it, each element once. The points from which walks go are points of
+    /// the graph.
     ///
     /// # Errors
     /// - `Memory`: the list is of no use; each later call answers `Memory` too.

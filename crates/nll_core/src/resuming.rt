@@ -237,8 +237,8 @@ fn enter_point(
     Ok(())
 }
 
-// Whether the ends in the set are reached: a return point is newly reached, or one is reached and an
-// end perhaps in the run.
+// Whether the ends in the set are reached: a return point is newly reached, or one is reached and
+// an end perhaps in the run.
 fn is_ended(lines: &Lines, landings: &Landings, run: Run, reached: &RunSet, ended: bool) -> bool
     requires landings { landings.now ≡ lines.now }
     requires width { lines.now.points ≤ length reached.now }

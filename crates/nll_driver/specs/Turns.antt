@@ -115,8 +115,8 @@ pub record IsLeft {P : Type 0} (ends : P → ℕ × ℕ) (sent received : P → 
   pub same_received : received post ≡ channel.received
   pub kept : received post ≢ sent post
 
--- Each owner of the cut has said all that it has to say, and a mailbox between two of them kept some
--- of it back.
+-- Each owner of the cut has said all that it has to say, and a mailbox between two of them kept
+-- some of it back.
 pub record KeepsBack {P : Type 0} (ends : P → ℕ × ℕ) (sent received : P → List Growth)
     (q : Problem) (c : Cut) : Type 0 where
   pub network : Network

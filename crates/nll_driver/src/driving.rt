@@ -13,8 +13,8 @@ use nll_mail::Mail;
 use nll_problem::Problem;
 use std::alloc::Global;
 
-/// Drives the owners of a cut over mailboxes: takes the turns in their order, and settles the network
-/// then.
+/// Drives the owners of a cut over mailboxes: takes the turns in their order, and settles the
+/// network then.
 ///
 /// # Errors
 /// - `Wrong`: a turn names no owner, or one owner twice.

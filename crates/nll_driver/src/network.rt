@@ -131,8 +131,8 @@ impl<'q, M: Mail> Network<'q, M> {
         }
     }
 
-    /// Loads, posts and takes wherever there is something to load, to post or to take, until there is
-    /// nothing. Then settles the mailboxes.
+    /// Loads, posts and takes wherever there is something to load, to post or to take, until there
+    /// is nothing. Then settles the mailboxes.
     ///
     /// # Errors
     /// - `Owner`, `Post`: an owner, or a mailbox, refused a call.
@@ -306,8 +306,8 @@ impl<'q, M: Mail> Network<'q, M> {
         Ok(moved)
     }
 
-    // Loads, posts and takes wherever there is something to load, to post or to take. Answers whether
-    // there was.
+    // Loads, posts and takes wherever there is something to load, to post or to take. Answers
+    // whether there was.
     fn round(&mut self) -> Result<bool, Stop>
         requires { self.old.refused ≡ false }
         ensures moves { IfOk result (λ did. Moves did self.old self.new) }

@@ -35,8 +35,8 @@ const END_OF_RANKS: u64 = 1 << 61;
 /// The values and copies of an owner, its log, and what it received. Contracts see it as the owner.
 ///
 /// # Shape
-/// `received` and `given` have an entry for each owner: what it told, and how much of its part of the
-/// log it was given.
+/// `received` and `given` have an entry for each owner: what it told, and how much of its part of
+/// the log it was given.
 #[derive(Drop)]
 pub struct Knowledge<'q> {
     pub problem: &'q Problem,

@@ -165,7 +165,8 @@ pub fn logs_of<M: Mail>(
     told
 }
 
-// Writes what each turn answers, and how many growths each owner has grown, given and received then.
+// Writes what each turn answers, and how many growths each owner has grown, given and received
+// then.
 fn write_turns<M: Mail>(
     out: &mut String,
     network: &mut Network<'_, M>,
@@ -215,8 +216,8 @@ fn answers_round<M: Mail>(
     told
 }
 
-/// What each turn answers of the owners of a problem, to whom the regions are dealt in turns, and how
-/// many growths each owner has grown, given and received then.
+/// What each turn answers of the owners of a problem, to whom the regions are dealt in turns, and
+/// how many growths each owner has grown, given and received then.
 pub fn answers_of<M: Mail>(
     alloc: Global,
     mail: &M,
@@ -285,9 +286,9 @@ fn last_answers_round(alloc: Global, problem: &Problem) -> Result<String, Failur
     told
 }
 
-/// What the first of two owners of a problem answers, once it is loaded, to a growth of rank 2^61, to
-/// one of the rank before, and to one of rank 1 that asks it to grow; and what it has for the other
-/// then.
+/// What the first of two owners of a problem answers, once it is loaded, to a growth of rank 2^61,
+/// to one of the rank before, and to one of rank 1 that asks it to grow; and what it has for the
+/// other then.
 pub fn answers_at_the_last_rank(alloc: Global, written: Written) -> Result<String, Failure> {
     let problem = problem_of(alloc, written)?;
     let told = last_answers_round(alloc, &problem);

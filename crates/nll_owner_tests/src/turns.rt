@@ -180,8 +180,8 @@ const TAKEN: &[Taken] = &[
     ),
 ];
 
-// A driver takes the turns that it is given, each once and in this order: turns of three owners, and
-// the logs then (the region and the element of each growth).
+// A driver takes the turns that it is given, each once and in this order: turns of three owners,
+// and the logs then (the region and the element of each growth).
 type Logged = (&'static [Turn], &'static str);
 
 const LOGGED: &[Logged] = &[

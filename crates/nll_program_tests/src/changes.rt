@@ -170,7 +170,8 @@ const WORKED: &[Worked] = &[
     Worked {
         lines: TWO_BORROWS,
         is_cut: false,
-        beginnings: "0: 1 Header;9: 1 End;11: 2 Syntax;19: 2 End;21: 3 Syntax;29: 3 End;33: 4 Syntax;\
+        beginnings: "\
+            0: 1 Header;9: 1 End;11: 2 Syntax;19: 2 End;21: 3 Syntax;29: 3 End;33: 4 Syntax;\
             41: 4 End;45: 5 Syntax;55: 5 End;57: 6 Syntax;67: 6 End;69: 7 Syntax;79: 7 End;\
             81: 8 Syntax;95: 8 End;97: 9 Syntax;104: 9 End;106: 10 Syntax;114: 10 End;\
             116: 11 Syntax;128: 11 End;130: 12 Syntax;147: 12 End;149: 12 Syntax;151: 12 End;\
@@ -185,7 +186,8 @@ const WORKED: &[Worked] = &[
     Worked {
         lines: DROPPED,
         is_cut: false,
-        beginnings: "0: 1 Header;9: 1 End;11: 2 Syntax;19: 2 End;21: 3 Syntax;49: 3 End;51: 4 Syntax;\
+        beginnings: "\
+            0: 1 Header;9: 1 End;11: 2 Syntax;19: 2 End;21: 3 Syntax;49: 3 End;51: 4 Syntax;\
             61: 4 End;63: 5 Syntax;71: 5 Shape;72: 5 Syntax;75: 5 End;77: 6 Syntax;84: 6 End;\
             86: 7 Syntax;94: 7 End;96: 8 Syntax;98: 8 End;100: 9 Syntax;113: 9 End;115: 10 Syntax;\
             123: 10 End;125: 11 Syntax;130: 11 End;132: 12 Syntax;134: fits;",
@@ -195,7 +197,8 @@ const WORKED: &[Worked] = &[
     Worked {
         lines: CALLED,
         is_cut: false,
-        beginnings: "0: 1 Header;9: 1 End;11: 2 Syntax;19: 2 End;21: 3 Syntax;29: 3 End;31: 4 Syntax;\
+        beginnings: "\
+            0: 1 Header;9: 1 End;11: 2 Syntax;19: 2 End;21: 3 Syntax;29: 3 End;31: 4 Syntax;\
             39: 4 End;41: 5 Syntax;51: 5 End;53: 6 Syntax;67: 6 End;69: 7 Syntax;83: 7 End;\
             85: 8 Syntax;92: 8 End;94: 9 Syntax;102: 9 End;104: 10 Syntax;148: 10 End;\
             150: 11 Syntax;158: 11 End;160: 12 Syntax;166: 12 End;167: 12 Syntax;168: 12 End;\
@@ -208,7 +211,8 @@ const WORKED: &[Worked] = &[
         lines: "nll-facts 1|points 3|region '1|region '2|next 0 1|next 1 2|return 2|base '1 1|\
             base '1 2|constraint '2 '1 1|end|",
         is_cut: false,
-        beginnings: "0: 1 Header;11: 1 End;13: 2 Syntax;20: 2 End;22: 3 Syntax;30: 3 End;32: 4 Syntax;\
+        beginnings: "\
+            0: 1 Header;11: 1 End;13: 2 Syntax;20: 2 End;22: 3 Syntax;30: 3 End;32: 4 Syntax;\
             40: 4 End;42: 5 Syntax;49: 5 End;51: 6 Syntax;58: 6 End;60: 7 Syntax;67: 7 End;\
             69: 8 Syntax;77: 8 End;79: 9 Syntax;87: 9 End;89: 10 Syntax;106: 10 End;108: 11 Syntax;\
             110: fits;",

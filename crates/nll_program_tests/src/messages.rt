@@ -89,8 +89,8 @@ fn prints_refusals_without_a_line(rt: HostRuntime) {
     compare_refusal(&rt, limit, b"2, nllc: limit constraints");
 }
 
-// Ends the test unless that is the status and the line of a refusal, as it is displayed and as it is
-// printed.
+// Ends the test unless that is the status and the line of a refusal, as it is displayed and as it
+// is printed.
 fn compare_line<R: Abort + AllocGlobal>(rt: &R, refusal: &Refusal, want: &[u8]) {
     let mut line = Vec::new(rt.alloc());
     let is_printed = refusal.print(&mut line).is_ok();

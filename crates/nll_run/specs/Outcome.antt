@@ -11,8 +11,8 @@ use Rattle.nll_mail.specs.declared.mail.Mail as Mail
 use Rattle.nll_owner.specs.Logs.{AreSound, log_of, part}
 use Rattle.nll_owner.specs.Delivery.{AreDelivered, IsPairBefore, SayLeast}
 
--- the growth's rank comes next after that of a growth which stands in the log of owner i, or in what
--- i received from another
+-- the growth's rank comes next after that of a growth which stands in the log of owner i, or in
+-- what i received from another
 abbrev pub ComesNext : Problem → Cut → List (List Growth) → ℕ → Growth → Type 0
 ComesNext q c grown i g =
     (h : Growth)

@@ -23,8 +23,8 @@ const REPORT: &[u8] = b"'static: 0 1 end('static)
 '2: 0 1
 ";
 
-// The two owners of an answer are at work side by side: each begins its turns 1 and 2 only where the
-// other has.
+// The two owners of an answer are at work side by side: each begins its turns 1 and 2 only where
+// the other has.
 #[test]
 fn two_owners_meet_for_an_answer(rt: HostRuntime) {
     let facts = meaning(rt.alloc(), TEXT).expect(&rt, "the text is right");

@@ -7,8 +7,8 @@ use std::thread;
 /// A place where the owners 0 and 1 meet, again and again. Who comes there waits for the other, but
 /// not for good.
 ///
-/// As a gate it has them meet in as many turns as it is made for; as a watch of mailboxes, at as many
-/// posts.
+/// As a gate it has them meet in as many turns as it is made for; as a watch of mailboxes, at as
+/// many posts.
 #[derive(Drop)]
 pub struct Meeting {
     times: u64,

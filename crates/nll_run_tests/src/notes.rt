@@ -14,8 +14,8 @@ struct Page {
     // Whether it owed, and whether it posted or cleared, in the turn that it's in.
     has_owed: AtomicBool,
     has_acted: AtomicBool,
-    // How often a turn began that hadn't the next number, it posted or cleared in a turn in which it
-    // hadn't owed, or owed where it had posted or cleared.
+    // How often a turn began that hadn't the next number, it posted or cleared in a turn in which
+    // it hadn't owed, or owed where it had posted or cleared.
     wrong: AtomicU64,
 }
 
@@ -97,9 +97,9 @@ impl Notes {
         }
     }
 
-    /// For each of the two: its turns, what it owed beside its load, its posts, what it cleared, and
-    /// how often it was wrong: began a turn by a number that wasn't the next, posted or cleared in a
-    /// turn in which it hadn't owed, or owed where it had posted or cleared.
+    /// For each of the two: its turns, what it owed beside its load, its posts, what it cleared,
+    /// and how often it was wrong: began a turn by a number that wasn't the next, posted or cleared
+    /// in a turn in which it hadn't owed, or owed where it had posted or cleared.
     pub fn written(&self, alloc: Global) -> Result<String, AllocError> {
         let mut out = String::new(alloc);
         let first = self.first.write(&mut out);

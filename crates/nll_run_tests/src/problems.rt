@@ -6,8 +6,8 @@ use nll_cut::{Cut, CutError};
 use std::alloc::Global;
 
 /// A problem: its points, of which the last returns, each next to the one before; its region
-/// variables; those of them that have all points; its other base facts, as a region and a point; and
-/// its constraints, as the larger region, the smaller one and the point.
+/// variables; those of them that have all points; its other base facts, as a region and a point;
+/// and its constraints, as the larger region, the smaller one and the point.
 #[derive(Clone, Copy)]
 pub struct Written {
     pub points: u32,

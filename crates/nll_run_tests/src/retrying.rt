@@ -1,5 +1,5 @@
-//! Runs that may be refused memory, and are run again then. Where one growth of memory is refused to
-//! a test, the test still passes.
+//! Runs that may be refused memory, and are run again then. Where one growth of memory is refused
+//! to a test, the test still passes.
 ghost use Rattle.std.specs.Prelude.{◌≡◌, length, IfOk};
 
 use super::failure::Failure;

@@ -82,8 +82,8 @@ fn two_owners_post_to_rings(rt: HostRuntime) {
     }
 }
 
-// The turns of an owner have the numbers 1, 2 and so on, and in each of them it owes before it posts
-// and clears.
+// The turns of an owner have the numbers 1, 2 and so on, and in each of them it owes before it
+// posts and clears.
 #[test]
 fn owe_first_over_queues(rt: HostRuntime) {
     for (written, want, steps) in STEPS {

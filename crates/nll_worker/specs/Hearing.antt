@@ -7,8 +7,8 @@ use Rattle.nll_owner.specs.Owner.{Owner, IsSound, IsDone, Passes, with_growth}
 use Rattle.nll_worker.specs.declared.receiving.Heard.{Heard}
 use Rattle.nll_worker.specs.declared.receiving.Heard.TheVariants.{Nothing, One, Stray, Memory}
 
--- what an owner keeps that was refused to receive a growth of owner j: it is sound, its log is longer
--- at most, and it received the growth or nothing
+-- what an owner keeps that was refused to receive a growth of owner j: it is sound, its log is
+-- longer at most, and it received the growth or nothing
 abbrev pub IsGivenUp : ℕ → Growth → Owner → Owner → Type 0
 IsGivenUp j g old new =
     IsPrefix old.log new.log × IsSound new × (new ≡ record old {

@@ -20,8 +20,8 @@ pub record HasPosted (o : Owner) (posts : List (List Growth)) : Type 0 where
 abbrev pub HasGivenAll : ℕ → Owner → Type 0
 HasGivenAll owners o = (j : ℕ) → j < owners → given_to o j ≡ length (part_for o j)
 
--- The owner is loaded and has nothing left to do. It owes 1 for its load and for each growth of each
--- part, posted or not.
+-- The owner is loaded and has nothing left to do. It owes 1 for its load and for each growth of
+-- each part, posted or not.
 pub record IsWorking (o : Owner) (owed : ℕ) : Type 0 where
   pub sound : IsSound o
   pub whole : o.broken ≡ false

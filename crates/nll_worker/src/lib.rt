@@ -1,8 +1,8 @@
 //! Workers: each owner of a run at work in a thread of its own.
 //!
-//! Read `gate`, `permit`, `ending`, `receiving` and `posting` (what a worker does at its mailboxes),
-//! `tally`, `turn`, `working` (one worker from its start to its end), `outbox`, `worker`, `starts` and
-//! `threads`; `laws` says what follows of all workers together.
+//! Read `gate`, `permit`, `ending`, `receiving` and `posting` (what a worker does at its
+//! mailboxes), `tally`, `turn`, `working` (one worker from its start to its end), `outbox`,
+//! `worker`, `starts` and `threads`; `laws` says what follows of all workers together.
 //! The definitions are in specs/: `Finishing` first, which has what a worker promises.
 #![tactic(auto)]
 

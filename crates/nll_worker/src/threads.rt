@@ -50,9 +50,10 @@ pub fn run_all<M: Mail, L: Ledger, G: Gate, P: Permit, R: Threads + Wait + Sync>
         w.share w.outbox.senders.items w.receivers.items w.room.items (vec_capacity w.room)) }
     requires cut { length cut.now.list ≡ problem.now.regions }
     requires tables { AreTables problem.now cut.now tables.now }
-    ensures ended { IfOk result (λ all. Each workers.items all.items (λ w done. IsEnded L.Ledger M.Mail
-        problem.now cut.now book.now w.me w.outbox.senders.items w.receivers.items
-        done.log.items done.left done.closed.items done.receivers.items done.ending)) }
+    ensures ended { IfOk result (λ all. Each workers.items all.items (λ w done.
+        IsEnded L.Ledger M.Mail problem.now cut.now book.now w.me w.outbox.senders.items
+        w.receivers.items done.log.items done.left done.closed.items done.receivers.items
+        done.ending)) }
     ensures answered { IfOk result (λ all. Each workers.items all.items (λ w done.
         IsAnswered (P.permits permit.now w.me) done.ending)) }
 {
