@@ -114,6 +114,10 @@ module _ (q : Problem) where
           let same : set_of new c.sub ≡ set_of old sub = ap (set_of new) own.1 ∙ other_set sub (λ e. apart (sym e)) in
           λ e asked. subst (λ r. IsHeld new r e) (sym own.2) (asks e (c, listed, subst (λ flags. Reaches q.graph (λ x. flag flags x ≡ true) c.at e) same asked))
 
+    -- a constraint is met where the region that it fills has all of the region that it reads
+    pub met_within : (c : Constraint) (values : List (List Bool)) → ((e : ℕ) → IsHeld values c.sub e → IsHeld values c.sup e) → IsMet q values c
+    met_within c values within = λ e asked. within e (reaches_inside q.graph (IsHeld values c.sub) c.at e asked)
+
     -- a constraint of a region with itself is always met
     pub met_self : (c : Constraint) (values : List (List Bool)) → c.sup ≡ c.sub → IsMet q values c
     met_self c values same = λ e asked. subst (λ r. IsHeld values r e) (sym same) (reaches_inside q.graph (IsHeld values c.sub) c.at e asked)

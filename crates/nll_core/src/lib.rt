@@ -2,7 +2,7 @@
 //! The problem is that of `nll_problem`, the sets are those of `nll_sets`; both are found here too.
 //!
 //! Reading order: `values`, `bases`, `lines` (with `line_ends`, `jumps`), `stretches`, `filling`,
-//! `walk`, `pairs`, `meeting`, `order`, `solver`; `returns`, `landings`, `steps`, `starts`,
+//! `walk`, `pairs`, `inclusion`, `meeting`, `order`, `solver`; `returns`, `landings`, `steps`, `starts`,
 //! `resuming`, `frontier`; `search`, `reachability`, `outliving`, `fault_check`.
 //! The definitions are in specs/.
 #![tactic(auto)]
@@ -11,6 +11,7 @@ mod bases;
 mod fault_check;
 mod filling;
 mod frontier;
+mod inclusion;
 mod jumps;
 mod landing;
 mod landings;

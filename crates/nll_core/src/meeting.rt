@@ -9,6 +9,7 @@ ghost use Rattle.nll_core.specs.Growing.{Gains, Tells, IsMet};
 ghost use Rattle.nll_core.specs.Walking.{PointsAscend, IsLedFrom};
 ghost use Rattle.nll_core.specs.Worklist.{AreOfPair, Visits};
 
+use crate::inclusion::is_seen_within;
 use crate::lines::Lines;
 use crate::values::Values;
 use crate::walk::Walk;
@@ -41,8 +42,8 @@ pub fn meet(
     ensures met { OnOk result
         ((c : spec.Constraint) → Contains pair.now c → IsMet problem.now values.new c) }
 {
-    // What a walk inside a region reaches is in the region.
-    if sup == sub {
+    // What a walk inside a region reaches is in the region, and so in another one that has all of it.
+    if sup == sub || is_seen_within(values.set(sub), values.set(sup)) {
         return Ok(false);
     }
     let new = fill(problem, lines, values, walk, sub, sup, pair)?;

@@ -1,10 +1,12 @@
-use Rattle.std.proofs.Common.{◌≡◌, ◌≢◌, ◌∙◌, ◌||◌, ℕ, ◌<◌, Bool, false, get_or, length, refl, inl, set, sym, subst, ap, arith}
+use Rattle.std.proofs.Common.{◌≡◌, ◌≢◌, ◌∙◌, ◌||◌, ℕ, ◌<◌, List, Bool, false, get_or, length, refl, inl, set, sym, subst, ap, arith}
 use Rattle.std.proofs.lemmas.List.{get_or_read}
+use Rattle.nll_core.specs.Search.{IsIn}
+use Rattle.nll_core.specs.Values.{IsHeld}
 use Rattle.nll_core.specs.Worklist.{Visits}
 use Rattle.nll_core.proofs.GrowingLemmas.{tells_none}
-use Rattle.nll_core.proofs.WorklistLemmas.{visits_pair, met_pair, met_self, eqb_is, eqb_false}
+use Rattle.nll_core.proofs.WorklistLemmas.{visits_pair, met_pair, met_self, met_within, eqb_is, eqb_false}
 use Rattle.nll_core.proofs.meeting.meet.Goals as goal
-use Rattle.nll_core.proofs.meeting.meet.Goals.{After-fill}
+use Rattle.nll_core.proofs.meeting.meet.Goals.{After-fill, then-eq-via-then-eq, then-eq-via-else-eq+then-is_seen_within}
 
 pub returns-then-eq-clause-visits : goal.returns-then-eq-clause-visits
 returns-then-eq-clause-visits c = record {
@@ -19,7 +21,13 @@ returns-then-eq-clause-visits c = record {
 pub returns-then-eq-clause-met : goal.returns-then-eq-clause-met
 returns-then-eq-clause-met c = λ k h.
     let own = c.requires.pair k h in
-    met_self c.args.problem.now c.args.sub k c.args.values.now (own.2 ∙ (eqb_is _ _ c.if-eq.ensures ∙ sym own.1))
+    elim c.then-eq.branch [
+      | then-eq-via-then-eq w ↦ met_self c.args.problem.now c.args.sub k c.args.values.now (own.2 ∙ (eqb_is _ _ w.if-eq.ensures ∙ sym own.1))
+      | then-eq-via-else-eq+then-is_seen_within w ↦
+          met_within c.args.problem.now c.args.sub k c.args.values.now
+          (subst (λ (r : ℕ × ℕ). (e : ℕ) → IsHeld c.args.values.now r.0 e → IsHeld c.args.values.now r.1 e) (λ i. (sym own.1 i, sym own.2 i))
+          (subst (λ (s : List Bool × List Bool). (e : ℕ) → IsIn s.0 e → IsIn s.1 e) (λ i. (w.set.ensures i, w.set-else-eq.ensures i)) (w.if-is_seen_within.ensures refl)))
+    ]
 
 apart : (c : After-fill) → c.args.sup ≢ c.args.sub
 apart c = eqb_false _ _ c.if-eq.ensures
