@@ -4,6 +4,8 @@
 import os
 import random
 import sys
+import tempfile
+import unittest
 
 HERE = os.path.dirname(os.path.abspath(__file__))
 ROOT = os.path.dirname(os.path.dirname(HERE))
@@ -58,3 +60,25 @@ def random_text(seed):
     lines += [f"constraint '{draw.choice(names)} '{draw.choice(names)} {draw.randrange(points)}"
               for _ in range(draw.randint(1, 9))]
     return text(points, *lines)
+
+
+class Folder(unittest.TestCase):
+    """Each test has a folder of its own; `nllc` is a script there that runs the reference."""
+
+    def setUp(self):
+        folder = tempfile.TemporaryDirectory()
+        self.addCleanup(folder.cleanup)
+        self.folder = folder.name
+        self.program("nllc", f'exec "{sys.executable}" "{ROOT}/bench/reference.py" "$@"')
+
+    def path(self, *name):
+        return os.path.join(self.folder, *name)
+
+    def write(self, name, data):
+        with open(self.path(name), "wb") as file:
+            file.write(data)
+        return self.path(name)
+
+    def program(self, name, body):
+        self.write(name, f"#!/bin/sh\n{body}\n".encode())
+        os.chmod(self.path(name), 0o755)

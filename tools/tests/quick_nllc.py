@@ -1,15 +1,16 @@
 #!/usr/bin/env python3
-"""`nllc values FILE` and `nllc check FILE` of facts texts, by the quick solver: a stand-in for tests."""
+"""`nllc values FILE` and `nllc check FILE`, a stand-in for tests: by the quick solver, of MIR texts by the reference."""
 
 import os
 import sys
 
-HERE = os.path.dirname(os.path.abspath(__file__))
-sys.path[:0] = [os.path.dirname(HERE), HERE]
+HERE = os.path.dirname(os.path.realpath(__file__))
+sys.path[:0] = [os.path.dirname(HERE), HERE, os.path.join(os.path.dirname(os.path.dirname(HERE)), "bench")]
 
-from quick_solver import quick_values  # noqa: E402 (the paths stand above)
+import reference  # noqa: E402 (the paths stand above)
+from quick_solver import quick_values  # noqa: E402
 
-from nll_page.facts import read_facts  # noqa: E402
+from nll_page.facts import is_facts_text, read_facts  # noqa: E402
 from nll_page.faults import faults  # noqa: E402
 
 
@@ -19,7 +20,10 @@ def element(facts, number):
 
 def main(command, path):
     with open(path, "rb") as file:
-        facts = read_facts(file.read(), path)
+        text = file.read()
+    if not is_facts_text(text):
+        return reference.main([command, path])
+    facts = read_facts(text, path)
     values = quick_values(facts)
     if command == "values":
         for region, name in enumerate(facts.names):

@@ -5,13 +5,12 @@ import os
 import stat
 import subprocess
 import sys
-import tempfile
 import time
 import unittest
 from contextlib import redirect_stderr, redirect_stdout
 from unittest import mock
 
-from page_support import ROOT, SAMPLES, file_bytes, reference, text
+from page_support import ROOT, SAMPLES, Folder, file_bytes, reference, text
 
 from nll_page import nllc
 from nll_page.command import main
@@ -19,28 +18,11 @@ from nll_page.command import main
 REFERENCE = os.path.join(ROOT, "bench", "reference.py")
 
 
-class Commands(unittest.TestCase):
-    """Each test has a folder of its own; `nllc` is a script there that runs the reference."""
-
+class Commands(Folder):
     def setUp(self):
-        folder = tempfile.TemporaryDirectory()
-        self.addCleanup(folder.cleanup)
-        self.folder = folder.name
-        self.program("nllc", f'exec "{sys.executable}" "{REFERENCE}" "$@"')
+        super().setUp()
         self.write("pick.facts", file_bytes(SAMPLES, "pick.facts"))
         self.write("pick.rs", file_bytes(SAMPLES, "pick.rs"))
-
-    def path(self, name):
-        return os.path.join(self.folder, name)
-
-    def write(self, name, data):
-        with open(self.path(name), "wb") as file:
-            file.write(data)
-        return self.path(name)
-
-    def program(self, name, body):
-        self.write(name, f"#!/bin/sh\n{body}\n".encode())
-        os.chmod(self.path(name), 0o755)
 
     def run_main(self, *words, nllc="nllc"):
         out, err = io.StringIO(), io.StringIO()
