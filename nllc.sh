@@ -41,7 +41,7 @@ compile() { "$here/tools/compile_unproved.sh" "$here/crates/nllc" "$unproved" ch
 if [ "$#" = 0 ]; then
     words >&2
 elif [ "$#" = 1 ] && { [ "$1" = --help ] || [ "$1" = -h ]; }; then
-    words
+    words 2>/dev/null || { say "standard output can't be written"; exit 3; }
 fi
 if [ "$1" = rust ]; then
     shift

@@ -1,6 +1,7 @@
 """What a statement of MIR does to places: moves, reads, borrows, assigns to them, ends them."""
 
 import re
+from functools import lru_cache
 from typing import Iterator, NamedTuple, Optional
 
 from .places import Place, overlap, read_place
@@ -29,6 +30,7 @@ class Access(NamedTuple):
         return self.place is None or overlap(self.place, place)
 
 
+@lru_cache(64)  # of one statement against many loans
 def accesses(statement: str) -> list[Access]:
     """The accesses of a statement, in the order in which they take effect."""
     text = QUOTED.sub('""', statement)

@@ -5,6 +5,8 @@ import threading
 import time
 from typing import Callable
 
+from nll_page.words import plural
+
 WIDTH = 30
 PATIENCE = 1.0
 PACE = 0.3
@@ -54,5 +56,5 @@ class Bar:
 
     def words(self) -> str:
         full = WIDTH * self.done // self.total
-        return (f"[{'#' * full}{'.' * (WIDTH - full)}] {self.done} of {self.total} functions, "
-                f"{self.faults} faults")
+        return (f"[{'#' * full}{'.' * (WIDTH - full)}] {self.done} of {plural(self.total, 'function')}, "
+                f"{plural(self.faults, 'fault')}")

@@ -19,7 +19,7 @@ from .command import (FOLDER, Checked, folder_of, guarded, problems_of_file, sho
 from .convert import Problem
 from .errors import is_judged
 from .progress import Bar, Progress
-from .rustc import version
+from .rustc import Error, version
 
 PAGE = os.path.join(os.path.dirname(os.path.dirname(os.path.abspath(__file__))), "nll-page")
 
@@ -105,7 +105,8 @@ def tell_all(checked: Checked, answers: list[Answer]) -> None:
     places = {tuple(place) for answer in answers for place in answer.said.get("places", ())}
     silent = []
     for (dump, problem), answer in zip(checked.problems, answers):
-        lines = [answer.failure] if answer.failure else told(problem, answer.said, places)
+        lines = [answer.failure] if answer.failure else told(problem, answer.said, places,
+                                                                   checked.errors)
         if lines:
             print(f"{answer.said.get('name', problem.function)}: "
                   f"{'no answer' if answer.failure else verdict(answer.said)}")
@@ -134,8 +135,9 @@ def verdict(said: dict[str, Any]) -> str:
     return ", ".join(counts) or "no fault"
 
 
-def told(problem: Problem, said: dict[str, Any], places: set[tuple]) -> list[str]:
-    """A function's lines; `places` are those of all functions' faults."""
+def told(problem: Problem, said: dict[str, Any], places: set[tuple],
+         errors: list[Error]) -> list[str]:
+    """A function's lines; `places` are those of all functions' faults, the errors are rustc's."""
     lines = [*said["lines"], *said["explained"]]
     if said["asked_to_explain"]:
         lines += [f"needs of the function around it that {need}" for need in said["needs"]]
@@ -143,4 +145,7 @@ def told(problem: Problem, said: dict[str, Any], places: set[tuple]) -> list[str
         if (line, column) not in places:
             lines += [f"{problem.source}:{line}:{column}: {version()}: {words}; nllc: no fault there",
                       f"    {why}"]
+    for line, column in said["places"]:
+        if not any(error.line == line and column in (0, error.column) for error in errors):
+            lines.append(f"{problem.source}:{line}:{column}: {version()} names no error there")
     return lines

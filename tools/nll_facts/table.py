@@ -2,6 +2,8 @@
 
 from typing import Iterable
 
+from nll_page.words import plural
+
 from .jobs import Row
 
 HEAD = ("Source", "Functions", "Points", "Seconds", "Faults")
@@ -13,7 +15,7 @@ def table(rows: list[Row], answered: bool) -> str:
     for row in rows:
         by_source.setdefault(row.source or "?", []).append(row)
     body = [cells(source, some, answered) for source, some in sorted(by_source.items())]
-    total = cells(f"{len(by_source)} files", rows, answered)
+    total = cells(plural(len(by_source), "file"), rows, answered)
     return "\n".join([*aligned([HEAD, *body, total]), *told(rows)]) + "\n"
 
 

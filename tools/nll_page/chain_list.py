@@ -47,7 +47,7 @@ def line_of(content, number):
     source = content.source
     if source is None or not source.first <= number < source.first + len(source.lines):
         return ""
-    code = source.lines[number - source.first].partition("//")[0].strip()
+    code = source.lines[number - source.first].partition("//")[0].strip().removesuffix(";")
     return code if len(code) <= MOST_LETTERS else code[:MOST_LETTERS - 1] + "…"
 
 

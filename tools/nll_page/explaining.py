@@ -19,15 +19,15 @@ def lines(content):
 def loan_lines(facts, fault):
     point, cause, region = fault.against.point, fault.cause, Code(f"'{fault.loan.region}")
     yield words.plain(["why ", region, f" holds point {point}, ", *words.statement(facts, point), ":"])
+    yield "    " + words.plain(first_line(facts, cause, point))
     for step in cause.steps:
         sup, sub = words.tick(facts, step.constraint.sup), words.tick(facts, step.constraint.sub)
         asked = words.reason(facts, step.constraint) or ["By the text, "]
         yield "    " + words.plain([*asked, sup, " must outlive ", sub, ", inside which ",
                                     words.walk_text(step.walk), " leads there"])
-    yield "    " + words.plain(last_line(facts, cause, point))
 
 
-def last_line(facts, cause, point):
+def first_line(facts, cause, point):
     name = words.tick(facts, cause.region)
     if facts.is_universal(cause.region):
         return [name, " outlives the function, so it holds each point"]

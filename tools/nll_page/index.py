@@ -78,7 +78,7 @@ def index_page(rows, template, style):
 
 def wrong_words(faults, loans):
     said = [plural(faults, "fault")] if faults else []
-    said += [plural(loans, "loan")] if loans else []
+    said += [plural(loans, "loan error")] if loans else []
     return ", ".join(said)
 
 

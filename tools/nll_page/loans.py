@@ -9,6 +9,7 @@ from typing import NamedTuple, Optional
 
 from . import blame, chains
 from .beside import Against, Loan, Place
+from .facts import grouped
 
 ENDING = ("ends", "drops", "leaves", "destroys")
 CODES = {"moves": "E0505", "assigns": "E0506", "reads": "E0503", "looks": "E0503",
@@ -43,16 +44,17 @@ def loan_faults(facts, values):
     """All, in the order of the source; of several loans at one place the first."""
     beside = facts.remarks.beside
     numbers = {name: number for number, name in enumerate(facts.names)}
+    against = grouped((number, one) for one in beside.against for number in one.loans)
     found = []
     for number, loan in sorted(beside.loans.items()):
         if loan.region not in numbers or loan.at >= facts.points:
             continue
         region = numbers[loan.region]
         force = in_force(facts, values.set_of(region), loan, beside.killed.get(number, ()))
-        for against in beside.against:
-            if number in against.loans and against.point in force:
-                cause = why(facts, values, region, against.point)
-                found.append(fault(facts, number, loan, against, cause))
+        for one in against.get(number, ()):
+            if one.point in force:
+                cause = why(facts, values, region, one.point)
+                found.append(fault(facts, number, loan, one, cause))
     return each_once(sorted(found, key=order))
 
 

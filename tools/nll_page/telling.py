@@ -36,7 +36,8 @@ def of_fault(content, fault):
     facts = content.facts
     named = blame.of_chain(facts, fault.steps)
     deed = f" ({DEEDS[named.word]})" if named and named.word in DEEDS else ""
-    head = [*words.fault_head(facts, fault.sup, fault.sub), deed]
+    head = [*lifetime(facts, fault.sup), " must outlive ", *lifetime(facts, fault.sub),
+            ", which the signature doesn't say", deed]
     return Telling(place_of_fault(facts, fault, named), "", head, way_of(content, fault))
 
 
@@ -51,10 +52,10 @@ def place_of_fault(facts, fault, named):
 def way_of(content, fault):
     """The lines through which what is to last too long goes."""
     stops = stops_of(content, fault.steps[::-1])
-    name = words.tick(content.facts, fault.sup)
+    name = lifetime(content.facts, fault.sup)
     if not stops:
-        return [name, " is asked to by constraints that no line of the source is known for"]
-    return ["what lives for ", name, " comes to ", words.tick(content.facts, fault.sub), " by ",
+        return [*name, " is asked to by constraints that no line of the source is known for"]
+    return ["what lives for ", *name, " comes to ", *lifetime(content.facts, fault.sub), " by ",
             *words.joined(stops)]
 
 
@@ -186,7 +187,7 @@ def line_of(facts, against):
 def of_need(content, pair):
     """What a closure or coroutine needs of the function around it."""
     facts = content.facts
-    return [words.tick(facts, pair[0]), " must outlive ", words.tick(facts, pair[1])]
+    return [words.tick(facts, pair[0]), " outlive ", words.tick(facts, pair[1])]
 
 
 def all_of(content):

@@ -4,7 +4,7 @@
 import os
 import sys
 
-HERE = os.path.dirname(os.path.abspath(__file__))
+HERE = os.path.dirname(os.path.realpath(__file__))
 sys.path[:0] = [os.path.dirname(HERE), HERE, os.path.join(os.path.dirname(os.path.dirname(HERE)), "bench")]
 
 import reference  # noqa: E402 (the paths stand above)

@@ -66,6 +66,31 @@ class Documents(unittest.TestCase):
             with self.subTest(folder=folder, edit=edit):
                 self.assertTrue((ROOT / "crates" / folder / f"{edit}.edit").is_file())
 
+    def test_claims(self):
+        """Each file that a claim names is there, and each row of the promises leads to a claim."""
+        text = (ROOT / "docs/CLAIMS.md").read_text()
+        for path in set(re.findall(r"`(crates/[\w/]+\.rt)`", text)):
+            with self.subTest(path=path):
+                self.assertTrue((ROOT / path).is_file())
+        claims = re.findall(r"^### (\d+)\. ", text, re.MULTILINE)
+        self.assertEqual(claims, [str(number) for number in range(1, len(claims) + 1)])
+        for document in ("docs/CLAIMS.md", "README.md"):
+            rows = re.findall(r"^\|.*\| ([\d, ]+) \|$", (ROOT / document).read_text(), re.MULTILINE)
+            self.assertTrue(rows, document)
+            for row in rows:
+                self.assertLessEqual(set(row.split(", ")), set(claims), document)
+
+    def test_links(self):
+        """Each document that a document names is there."""
+        for path in [ROOT / "README.md", ROOT / "CONTRIBUTING.md", *sorted((ROOT / "docs").glob("*.md"))]:
+            text = path.read_text()
+            named = re.findall(r"\b(docs/[\w-]+\.md)\b", text)
+            linked = [link for link in re.findall(r"\]\(([^)#]+)\)", text) if "://" not in link]
+            for name in set(named):
+                self.assertTrue((ROOT / name).is_file(), f"{path}: {name}")
+            for link in set(linked):
+                self.assertTrue((path.parent / link).exists(), f"{path}: {link}")
+
 
 def stands_in(lines, path):
     """Whether the lines stand in a text in this order, where `..` stands for any lines."""

@@ -263,11 +263,6 @@ pub fn keeps<'a>(list: &mut Vec<&'a str>, text: &'a str) {
         self.assertIn("no fault: g\n", done.stdout)
         self.assertIn("rustc refuses line 2 before it checks borrows", done.stderr)
 
-    def test_problem_cases(self):
-        done = self.rust(support.source_path("rfc2094"))
-        self.assertEqual(done.returncode, 0, done.stdout + done.stderr)
-        self.assertRegex(done.stdout, r"\Ano fault: (\w[\w:]*, ){13}\w[\w:]*\n")
-
     def test_where_output_goes(self):
         done = subprocess.run([RUST, "rust", os.path.join(support.HERE, support.source_path("differ")),
                                "last"], capture_output=True, check=False, cwd=self.room,

@@ -83,6 +83,28 @@ class Shown(unittest.TestCase):
                 with self.subTest(command=command):
                     self.assertEqual(without_seconds(answer), without_seconds(lines))
 
+    @unittest.skipUnless(has_rustc(), "there is no rustc of the release that is shown")
+    def test_figures_of_the_text(self):
+        """What docs/FROM-RUST.md says of points and regions of examples/three.rs."""
+        with folder_of_links() as folder:
+            printed("./nllc.sh rust examples/three.rs", folder)
+            said = {}
+            for name in ("news", "fixed", "longer"):
+                path = os.path.join(folder, "out", "rust", "three", f"{name}.facts")
+                said[name] = pathlib.Path(path).read_text()
+                lines = printed(f"tools/tests/quick_nllc.py values {path}", folder)
+                said[name, "values"] = dict(line.split(":", 1) for line in lines)
+        self.assertIn("# region 'r4: line 8: the borrow &draft\n", said["news"])
+        self.assertIn("# region 'r12: line 8: the type of text", said["news"])
+        self.assertIn("\nconstraint 'r4 'r12 5\n", said["news"])
+        self.assertIn("\nbase 'r12 45\n", said["news"])
+        self.assertIn(" 45 ", said["news", "values"]["'r4"])
+        self.assertIn("# region 'r9: line 29: the type of text", said["fixed"])
+        self.assertEqual(said["fixed", "values"]["'r9"], " 2 3 4 5 6 14 15 16 17 18 end('static)")
+        self.assertRegex(said["fixed"], "# point 6: line 30: _3 = show")
+        self.assertIn("# region 'r11: line 20: the type of best", said["longer"])
+        self.assertIn("# point 21: line 22: best = move _10 (bb3[4])\n", said["longer"])
+
     def test_sources(self):
         """Lines of Rust that are shown with numbers stand there in a file that the document names."""
         for document in DOCUMENTS:

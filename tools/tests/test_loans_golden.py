@@ -49,7 +49,7 @@ class Found(unittest.TestCase):
                 self.assertEqual(found_in(source), errors)
 
     def test_right_functions_have_none(self):
-        for source in support.RIGHT:
+        for source in (*support.RIGHT, "small", "rfc2094"):
             with self.subTest(source=source):
                 self.assertEqual(found_in(source), set())
                 self.assertEqual(support.stored_errors(source), [])

@@ -165,6 +165,20 @@ class Blame(unittest.TestCase):
         self.assertIsNone(self.best())
 
 
+class Lifetimes(unittest.TestCase):
+    def told(self, remark):
+        facts = page_support.facts_of(1, f"# region 'r1: line 1: {remark}", "universal 'r1")
+        return telling.words.plain(telling.lifetime(facts, 1))
+
+    def test_with_and_without_names(self):
+        nameless = "a lifetime of the signature without a name; "
+        self.assertEqual(self.told("'a of the signature; the type of x: &'a u8"), "`'r1`")
+        self.assertEqual(self.told(nameless + "the type of x: &'r1 u8"), "the lifetime in the type of `x`")
+        self.assertEqual(self.told(nameless + "region 2 of 2 in the type of m: &Mutex<&u8>"),
+                         "the lifetime in the type of `m`")
+        self.assertEqual(self.told(nameless + "the type of the result: &'r1 u8"), "the lifetime `'r1`")
+
+
 class Snippets(unittest.TestCase):
     def place(self, *numbers):
         return loans.Place(*numbers)

@@ -92,7 +92,7 @@ class Lines(unittest.TestCase):
     def test_the_fault(self):
         made = fault_list(self.content)
         self.assertEqual("".join(bare(re.search(r'<p class="told">.*?</p>', made)[0])),
-                         "What lives for &#x27;b comes in at line 7, best = second;, and at line 9, best, it "
+                         "What lives for &#x27;b comes in at line 7, best = second, and at line 9, best, it "
                          "is wanted for &#x27;a; nothing says that &#x27;b outlives &#x27;a.")
         self.assertIn('<a href="#line-7" data-line="7">', made)
 
@@ -101,7 +101,7 @@ class Lines(unittest.TestCase):
         self.assertEqual(re.findall(r'data-r="(\d)" data-walk="([\d,]*)" data-end="(\d)"', made),
                          [("3", "6,7,8", "1"), ("1", "8", "1")])
         steps = [" ".join(bare(step)) for step in re.findall(r"<summary><h3>.*?</h3></summary>", made)]
-        self.assertEqual(steps, ["line 7  best = second; &#x27;b  must outlive  &#x27;best",
+        self.assertEqual(steps, ["line 7  best = second &#x27;b  must outlive  &#x27;best",
                                  "line 9  best &#x27;best  must outlive  &#x27;a"])
 
     def test_a_fault_of_one_line(self):

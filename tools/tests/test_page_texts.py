@@ -117,7 +117,7 @@ class Index(Command):
         made = index.index_page(index.rows_in(self.folder), "{{title}}{{rows}}{{verdict}}", "")
         self.assertNotIn("<script", made)
         self.assertIn('href="./a%20b%25.html"', made)
-        self.assertIn("1 loan<", made)
+        self.assertIn("1 loan error<", made)
 
     def test_other_files(self):
         self.write("other.html", b"<p>no page</p>")

@@ -40,6 +40,13 @@ class Words(unittest.TestCase):
         self.assertEqual((done.returncode, done.stdout), (2, "own words: \n"))
         self.assertEqual([name for name in OWN if name in done.stderr], list(OWN))
 
+    def test_nowhere_to_write(self):
+        with open("/dev/full", "w", encoding="utf-8") as full:
+            done = subprocess.run([os.path.join(self.room, "nllc.sh"), "--help"], stdout=full,
+                                  stderr=subprocess.PIPE, check=False, encoding="utf-8")
+        self.assertEqual((done.returncode, done.stderr),
+                         (3, "nllc.sh: standard output can't be written\n"))
+
     def test_words_of_the_program(self):
         done = self.run_script("check", "F")
         self.assertEqual((done.returncode, done.stdout, done.stderr), (0, "own words: check F\n", ""))

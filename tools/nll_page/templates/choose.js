@@ -37,6 +37,7 @@ function chooseStep(step) {
   show();
   if (!isNew) return;
   reveal(step);
+  reveal(regionButtons.find((one) => Number(one.dataset.r) === chosen.region));
   const [first] = stepWalk(step);
   makePlaces(first);
   openLine(first);
