@@ -152,7 +152,9 @@ class Watching(unittest.TestCase):
 
     def test_the_kept_work_that_a_check_begins_with_is_told_by_its_name(self):
         for words, wanted in ((["--incremental", "/kept/7"], "7"), (["--jobs", "1"], ""), (["--incremental"], "")):
-            with subprocess.Popen(["sh", "-c", "read it", "check", *words], stdin=subprocess.PIPE) as child:
+            with subprocess.Popen(["sh", "-c", "echo it; read it", "check", *words], stdin=subprocess.PIPE,
+                                  stdout=subprocess.PIPE) as child:
+                child.stdout.readline()
                 self.assertEqual(processes.described(child.pid)["over"], wanted)
 
     def test_what_is_no_check_has_no_crate(self):
