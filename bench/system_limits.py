@@ -96,7 +96,7 @@ def stacks(tally, command, usual, seconds):
 def little_memory(tally, command, usual, seconds):
     """How many runs were refused memory, where there are so many KiB to address."""
     refused = 0
-    for kib in [*range(1024, 16384, 512), *range(16384, 131072, 8192)]:
+    for kib in [*range(2048, 16384, 512), *range(16384, 131072, 8192)]:
         answer = run(command, seconds, [(resource.RLIMIT_AS, kib * KIB)])
         is_loaded = answer[0] != 127
         refused += answer in (MEMORY, THREAD)

@@ -260,16 +260,24 @@ fn behind(told: Option<TextError>, line: u64) -> Option<TextError> {
 }
 
 // What is told of the beginnings.
-fn compare_beginnings(rt: &impl Abort, alloc: Global, worked: &Worked) {
-    let text = text_of(alloc, worked.lines).expect(rt, "memory");
+fn beginnings_told(alloc: Global, is_cut: bool, text: &[u8]) -> String {
     let mut out = String::new(alloc);
     let mut before = None;
-    for length in 0..=text.len() {
-        let told = fault_of(alloc, worked.is_cut, &text[..length]);
+    for length in 0..text.len() {
+        let told = fault_of(alloc, is_cut, &text[..length]);
         write_told(&mut out, length as u64, before, told);
         before = told;
     }
-    compare(rt, worked.lines, out, worked.beginnings.as_bytes());
+    let whole = fault_of(alloc, is_cut, text);
+    write_told(&mut out, text.len() as u64, before, whole);
+    out
+}
+
+// Ends the test unless that is told of the beginnings of a text.
+fn compare_beginnings(rt: &impl Abort, alloc: Global, worked: &Worked) {
+    let text = text_of(alloc, worked.lines).expect(rt, "memory");
+    let told = beginnings_told(alloc, worked.is_cut, text.as_slice());
+    compare(rt, worked.lines, told, worked.beginnings.as_bytes());
 }
 
 // What is told of a text where each of the bytes stands at a place of this line.
@@ -304,18 +312,23 @@ fn pattern_of(letter: Option<&u8>) -> &'static str {
     "no letter"
 }
 
-// What is told of all places.
-fn compare_places(rt: &impl Abort, alloc: Global, worked: &Worked) {
-    let text = text_of(alloc, worked.lines).expect(rt, "memory");
+// Ends the test unless that is told of each place of a text.
+fn compare_each(rt: &impl Abort, alloc: Global, worked: &Worked, text: &[u8]) {
     let mut line = 1u64;
-    for (place, byte) in text.as_slice().iter().enumerate() {
-        let told = changes_told(rt, alloc, worked.is_cut, text.as_slice(), (place, line));
+    for place in 0..text.len() {
+        let told = changes_told(rt, alloc, worked.is_cut, text, (place, line));
         let want = pattern_of(worked.places.as_bytes().get(place));
         compare(rt, worked.lines, told, want.as_bytes());
-        if *byte == b'\n' {
+        if text[place] == b'\n' {
             line = line.saturating_add(1);
         }
     }
+}
+
+// The same of a text whose lines end with `|`.
+fn compare_places(rt: &impl Abort, alloc: Global, worked: &Worked) {
+    let text = text_of(alloc, worked.lines).expect(rt, "memory");
+    compare_each(rt, alloc, worked, text.as_slice());
 }
 
 // A beginning fits where it is the whole text, or lacks its last line feed alone; of a cut file it
