@@ -1,16 +1,17 @@
 """The one command from a Rust file to its pages: a text, `nllc`'s answer and a page of each."""
 
 import argparse
-import json
 import os
-import subprocess
 import sys
 import webbrowser
-from concurrent.futures import ThreadPoolExecutor
+from concurrent.futures import ProcessPoolExecutor
 from dataclasses import dataclass, field
+from functools import partial
 from typing import Any, Sequence
 
+from nll_page.command import answered
 from nll_page.folder import write_index
+from nll_page.refusal import Refusal as Unanswered
 from nll_page.words import plural
 
 from .answers import make_ready
@@ -18,17 +19,16 @@ from .command import (FOLDER, Checked, folder_of, guarded, problems_of_file, sho
                       tell_unanswered, write_all)
 from .convert import Problem
 from .errors import is_judged
+from .jobs import leave_signals
 from .progress import Bar, Progress
 from .rustc import Error, version
-
-PAGE = os.path.join(os.path.dirname(os.path.dirname(os.path.abspath(__file__))), "nll-page")
 
 MOST_NAMES = 20
 
 
 @dataclass(frozen=True)
 class Answer:
-    """What became of one function: what `nll-page` says of it, or why it says nothing."""
+    """What became of one function: what is told of it, or why nothing is."""
 
     status: int
     failure: str = ""
@@ -72,12 +72,7 @@ def answer_file(asked: argparse.Namespace) -> int:
         show(checked.errors)
     paths = write_all(folder_of(asked), checked.problems)
     make_ready()
-    bar = Bar(len(paths))
-    answers = []
-    with ThreadPoolExecutor(os.cpu_count()) as pool, Progress(bar.words):
-        for answer in pool.map(lambda path: answer_text(path, asked.explain), paths):
-            answers.append(answer)
-            bar.step(answer.count())
+    answers = answer_all(paths, asked.explain)
     tell_all(checked, answers)
     status = tell_unanswered(asked.file, checked.unanswered)
     index = write_index(os.path.dirname(paths[0]))
@@ -88,15 +83,31 @@ def answer_file(asked: argparse.Namespace) -> int:
     return max(status, *(answer.status for answer in answers))
 
 
+def answer_all(paths: list[str], in_full: bool) -> list[Answer]:
+    """Has all texts answered, side by side, with a bar where somebody looks."""
+    if len(paths) == 1:
+        return [answer_text(paths[0], in_full)]
+    bar = Bar(len(paths))
+    answers = []
+    with ProcessPoolExecutor(initializer=keep_silent) as pool, Progress(bar.words):
+        for answer in pool.map(partial(answer_text, in_full=in_full), paths):
+            answers.append(answer)
+            bar.step(answer.count())
+    return answers
+
+
+def keep_silent() -> None:
+    """Leaves signals and the terminal to the first process."""
+    leave_signals()
+    sys.stderr = open(os.devnull, "w", encoding="utf-8")
+
+
 def answer_text(path: str, in_full: bool) -> Answer:
-    """Has the page of a text made, which has `nllc` answer it and tells the faults in words."""
-    words = [sys.executable, PAGE, path, "--json", *(["--explain"] if in_full else [])]
-    done = subprocess.run(words, stdin=subprocess.DEVNULL, capture_output=True, check=False,
-                          encoding="utf-8", errors="replace", env=os.environ | {"PYTHONUTF8": "1"})
-    if done.returncode != 0:
-        told = done.stderr.strip().splitlines() or ["it says not why"]
-        return Answer(done.returncode, told[-1].removeprefix("nll-page: "))
-    said = json.loads(done.stdout)
+    """Has `nllc` answer a text and its page made, and what is to be told of the function."""
+    try:
+        said = answered(path, in_full)
+    except Unanswered as refusal:
+        return Answer(refusal.status, str(refusal))
     return Answer(1 if said["faults"] or said["loans"] else 0, said=said)
 
 

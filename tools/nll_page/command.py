@@ -1,7 +1,6 @@
 """The command line: words, files, what is printed, statuses."""
 
 import argparse
-import json
 import os
 import signal
 import sys
@@ -65,7 +64,6 @@ def words_of(arguments):
                         help="what `nllc values FACTS` printed, in place of running nllc")
     parser.add_argument("--faults", action="store_true", help="print each fault in two lines, too")
     parser.add_argument("--explain", action="store_true", help="and how it comes about, step by step")
-    parser.add_argument("--json", action="store_true", help="print all of it as JSON, for a program")
     parser.add_argument("-o", metavar="OUT.html", dest="out",
                         help="the page (otherwise FACTS with .html in place of .facts)")
     return parser.parse_args(arguments)
@@ -78,11 +76,8 @@ def run(asked):
             raise Refusal(f"the page would be written over {path}; name another by -o OUT.html")
     content = content_of(asked)
     write(out, page(content))
-    if not asked.json:
-        print(out)
-    if asked.json:
-        print(json.dumps(answer(out, content, asked.explain)))
-    elif asked.faults or asked.explain:
+    print(out)
+    if asked.faults or asked.explain:
         tell_faults(content, asked.explain)
     note_missing(asked, content)
     return 0
@@ -194,8 +189,15 @@ def tell(line):
     print(visible(line))
 
 
+def answered(facts_path, in_full):
+    """Writes the page of a text beside it; gives what `nllc.sh rust` tells of the function."""
+    content = content_of(argparse.Namespace(facts=facts_path, source=None, values=None))
+    out = beside(facts_path)
+    write(out, page(content))
+    return answer(out, content, in_full)
+
+
 def answer(out, content, in_full):
-    """What `nllc.sh rust` tells of the function."""
     told = telling.all_of(content)
     return {
         "page": out,

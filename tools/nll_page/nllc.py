@@ -6,6 +6,7 @@ import subprocess
 import sys
 import tempfile
 import time
+from functools import cache
 from typing import NamedTuple
 
 from .refusal import Refusal
@@ -64,6 +65,7 @@ def run(text):
                       standing(program, values))
 
 
+@cache
 def make_ready(program):
     """Has `nllc.sh` compile now, with its word of how long, what it would compile for both runs."""
     if os.path.basename(program) == "nllc.sh":
