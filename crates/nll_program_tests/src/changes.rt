@@ -191,7 +191,8 @@ const WORKED: &[Worked] = &[
             61: 4 End;63: 5 Syntax;71: 5 Shape;72: 5 Syntax;75: 5 End;77: 6 Syntax;84: 6 End;\
             86: 7 Syntax;94: 7 End;96: 8 Syntax;98: 8 End;100: 9 Syntax;113: 9 End;115: 10 Syntax;\
             123: 10 End;125: 11 Syntax;130: 11 End;132: 12 Syntax;134: fits;",
-        places: "cccncccoccuaaaaabdKaLaaaaabaadgmarbaaaabaadgbaaaaalaabaeabaaaawaabajabaadgrafaaaaabAa\
+        places: "cccncccoccuaaaaabdKaLaaaaabaadgmarbaaaabaadgbaaaaalaabaeabaaaawaabajabaad\
+            grafaaaaabAa\
             faaaabaaeahaaafaaabapmBrbaaeafaaaabaajafaaaaaaqaab",
     },
     Worked {
@@ -203,7 +204,8 @@ const WORKED: &[Worked] = &[
             85: 8 Syntax;92: 8 End;94: 9 Syntax;102: 9 End;104: 10 Syntax;148: 10 End;\
             150: 11 Syntax;158: 11 End;160: 12 Syntax;166: 12 End;167: 12 Syntax;168: 12 End;\
             170: 13 Syntax;175: 13 End;177: 14 Syntax;179: fits;",
-        places: "cccncccoccwaaaaabdCawaaaaabdCasaaaaabdtalaabaeabaaaalaabajabadgbaaaauaabajabadgbaaaa\
+        places: "cccncccoccwaaaaabdCawaaaaabdCasaaaaabdtalaabaeabaaaalaabajabadgbaaaauaaba\
+            jabadgbaaaa\
             faaaaabAafaaaabaaeafkmabaaaabMaaaaabakabadgbaaaaabadgbaaabBrbaaeafaaaabaajahaaabakava\
             faaaaaaqaab",
     },
