@@ -5,6 +5,7 @@ function group(place) {
   if (place.matches(".cell")) return all(".cell", place.closest("svg"));
   if (place.matches(".end")) return all(".end");
   if (place.matches(".point")) return all(".point", place.closest(".rows, .scroll"));
+  if (place.matches("summary")) return all(".block > summary");
   return regionButtons.filter((button) => !button.parentElement.hidden);
 }
 
@@ -35,8 +36,11 @@ function neighbour(place, key) {
 function nextCell(place, key) {
   const point = Number(place.dataset.p);
   const graph = place.closest("svg");
-  const cellOf = (other) =>
-    placesOf(other).find((one) => one.matches(".cell") && graph.contains(one));
+  const cellOf = (other) => {
+    if (other === undefined || !isPoint(other) || other < 0) return undefined;
+    makePlaces(other);
+    return placesOf(other).find((one) => one.matches(".cell") && graph.contains(one));
+  };
   if (key === "ArrowDown") return cellOf(data.next[point][0]);
   if (key === "ArrowUp") return cellOf(before[point][0]);
   if (key === "Home") return cellOf(0);
@@ -63,7 +67,7 @@ const keys = {
 
 // What the key does here, or null where it is the browser's.
 function actOf(event) {
-  const place = event.target.closest(".cell, .point, .region, .end");
+  const place = event.target.closest(".cell, .point, .region, .end, .block > summary");
   if (event.altKey || event.ctrlKey || event.metaKey) return null;
   if (place && /^(Arrow|Home$|End$)/.test(event.key)) {
     return () => focusOn(neighbour(place, event.key));

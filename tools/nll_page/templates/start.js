@@ -131,10 +131,11 @@ if (data.large) {
 setTab(document.querySelector("[role=tab][aria-selected=true]").id.slice(4));
 setView(document.body.dataset.view);
 byId("view-statements").hidden = !document.querySelector(".graph.statements");
-for (const list of [regionButtons, all("#points .point"), all(".end")]) rove(list, list[0]);
-for (const list of all("#graph svg, #source .rows")) rove([], list.querySelector(".cell, .point"));
 firstView();
 fillInSight();
+for (const list of [regionButtons, all("#points .point"), all(".end")]) rove(list, list[0]);
+for (const list of all("#graph svg, #source .rows")) rove([], list.querySelector(".cell, .point"));
+all(".block > summary").forEach((summary, at) => { summary.tabIndex = at ? -1 : 0; });
 const address = location.hash; // before `show` writes it anew
 show();
 recall(address);

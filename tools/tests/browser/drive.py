@@ -29,7 +29,7 @@ from nll_page.values import read_values  # noqa: E402
 
 SLOW = 250      # milliseconds for one choice are too many
 LEAST = 4.5     # the contrast that text must have
-WIDTHS = (1920, 1440, 1000, 600)
+WIDTHS = (1920, 1440, 1000, 600, 320)
 
 # Text that has to be read, in the states in which it stands.
 TEXTS = ["h1", ".about", ".verdict", "footer p", ".group", ".region .name", ".region .what",
@@ -38,7 +38,7 @@ TEXTS = ["h1", ".about", ".verdict", "footer p", ".group", ".region .name", ".re
          ".comment", ".keyword", ".lifetime", ".string", ".row code", ".row .at", ".row .said",
          ".chosen .label", ".chosen .hint", ".chip", ".chip.on", ".end", ".end.held",
          ".fault summary", ".step p", ".step.on p", ".step .show", ".step.on .show",
-         ".step.on .what", ".where", ".so", "[role=tab]", ".views button"]
+         ".step.on .what", ".where", ".told", ".so", ".block > summary", "[role=tab]", ".views button"]
 
 
 class Drive:
@@ -52,8 +52,15 @@ class Drive:
         self.scheme = scheme
         self.shots = shots
         self.name = f"{os.path.basename(path).removesuffix('.html')}-{scheme}"
-        self.page = browser.open(path, 1440, 900, scheme)
+        self.page = self.opened()
         self.wrong = []
+
+    def opened(self, fragment=""):
+        """The page, of a large one with all its rows and cells."""
+        page = self.browser.open(self.path, 1440, 900, self.scheme, fragment)
+        page.value("if (data.large) { data.large.boxes.forEach((_, box) => fillBox(box)); "
+                   "all('.block').forEach(fillBlock); all('.block').forEach((one) => { one.open = true; }); }")
+        return page
 
     def all(self):
         """Tries everything; what is wrong, a line each."""
@@ -65,6 +72,7 @@ class Drive:
         self.tabulator()
         self.keys()
         self.views()
+        self.outlives()
         self.widths()
         self.address()
         self.contrast()
@@ -119,7 +127,7 @@ class Drive:
         """A chosen point lists the regions that hold it, and comes into sight in the graph."""
         count = self.facts.points
         for point in sorted({0, count // 2, count * 2 // 3, count - 1}):
-            self.page.value("clear()")
+            self.page.value(f"clear(); makePlaces({point})")
             self.page.click(f"#graph .cell[data-p='{point}']")
             self.check_holders(point)
         self.page.value("clear(); setTab('points')")
@@ -158,9 +166,9 @@ class Drive:
     def steps(self):
         """A chosen step of a chain lights its walk."""
         self.page.probe("openAll", "details.fault", True)
-        for at in range(self.page.value("all('.step[data-walk]').length")):
-            walk = self.page.value(f"all('.step[data-walk]')[{at}].dataset.walk").split(",")
-            self.page.value(f"all('.step[data-walk] .show')[{at}].id = 'driven'")
+        for at in range(self.page.value("all('.step .show').length")):
+            walk = self.page.value(f"all('.step .show')[{at}].closest('.step').dataset.walk").split(",")
+            self.page.value(f"all('.step .show')[{at}].id = 'driven'")
             self.page.click("#driven")
             self.page.value("byId('driven').removeAttribute('id')")
             self.expect(f"step {at} lights another walk",
@@ -228,6 +236,20 @@ class Drive:
             self.shot(view)
             self.page.value("zoomTo(1)")
 
+    def outlives(self):
+        """The graph of regions has each region that a constraint speaks of, and a click there chooses it."""
+        self.page.click("#view-outlives")
+        wanted = {r for c in self.facts.constraints if c.sup != c.sub for r in (c.sup, c.sub)}
+        shown = self.page.value("all('.knot').map((knot) => Number(knot.dataset.r))")
+        if self.page.value("all('svg.outlives').length"):
+            self.expect("regions are missing in their graph", set(shown) == wanted)
+            self.page.value("clear()")
+            self.page.click(".knot")
+            self.expect("a click in the graph of regions chooses another",
+                        self.page.value("chosen.region") == shown[0])
+        self.shot("outlives")
+        self.page.click("#view-folded")
+
     def widths(self):
         for width in WIDTHS:
             self.page.resize(width, 900)
@@ -241,7 +263,7 @@ class Drive:
         region = len(self.facts.names) - 1
         self.page.value(f"clear(); chooseRegion({region})")
         fragment = self.page.value("location.hash")
-        other = self.browser.open(self.path, 1440, 900, self.scheme, fragment)
+        other = self.opened(fragment)
         self.expect(f"the address {fragment} doesn't choose what it names",
                     other.probe("elements", "#graph .cell.held") == self.points_of(region))
 
