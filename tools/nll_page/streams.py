@@ -1,14 +1,28 @@
 """Standard output and standard error, whatever the locale is and wherever they lead."""
 
+import codecs
 import os
 import sys
 
+# How a person writes them without the letter.
+PLAIN = {"→": "->", "…": "..", "–": "-", "’": "'", "‹": "<", "›": ">"}
+
+
+def plain(error):
+    """What stands for letters that an encoding lacks."""
+    letters = error.object[error.start:error.end]
+    return "".join(PLAIN.get(letter, letter.encode("ascii", "backslashreplace").decode())
+                   for letter in letters), error.end
+
+
+codecs.register_error("plain", plain)
+
 
 def any_locale():
-    """Has letters that the locale lacks written as codes."""
+    """Has letters that the locale lacks written otherwise."""
     for stream in (sys.stdout, sys.stderr):
         if hasattr(stream, "reconfigure"):
-            stream.reconfigure(errors="backslashreplace")
+            stream.reconfigure(errors="plain")
 
 
 def unwritten(program, error):

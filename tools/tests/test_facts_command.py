@@ -279,7 +279,7 @@ pub fn keeps<'a>(list: &mut Vec<&'a str>, text: &'a str) {
                                "-o", self.path("o")], capture_output=True, check=False,
                               cwd=support.HERE, encoding="ascii", env=env)
         self.assertEqual(done.returncode, 1, done.stderr)
-        self.assertIn("\\u2192", done.stdout)
+        self.assertIn(" -> ", done.stdout)
 
     def test_nowhere_to_write(self):
         with open("/dev/full", "w", encoding="utf-8") as full:

@@ -14,6 +14,7 @@ from nll_page.facts import Constraint
 from nll_page.page import Content
 from nll_page.snippets import snippet, whole_line
 from nll_page.source import Source
+import nll_page.streams  # noqa: F401 (the codec `plain`)
 from quick_solver import quick_values
 
 
@@ -177,6 +178,12 @@ class Lifetimes(unittest.TestCase):
         self.assertEqual(self.told(nameless + "region 2 of 2 in the type of m: &Mutex<&u8>"),
                          "the lifetime in the type of `m`")
         self.assertEqual(self.told(nameless + "the type of the result: &'r1 u8"), "the lifetime `'r1`")
+
+
+class AnyLocale(unittest.TestCase):
+    def test_letters_that_an_encoding_lacks(self):
+        self.assertEqual("1 → 2 … ü 中".encode("ascii", "plain"), b"1 -> 2 .. \\xfc \\u4e2d")
+        self.assertEqual("ü →".encode("latin-1", "plain"), b"\xfc ->")
 
 
 class Snippets(unittest.TestCase):
