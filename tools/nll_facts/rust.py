@@ -75,7 +75,8 @@ def answer_file(asked: argparse.Namespace) -> int:
     answers = answer_all(paths, asked.explain)
     tell_all(checked, answers)
     status = tell_unanswered(asked.file, checked.unanswered)
-    index = write_index(os.path.dirname(paths[0]))
+    made = [os.path.basename(answer.said.get("page", "")) for answer in answers]
+    index = write_index(os.path.dirname(paths[0]), None if asked.function else made)
     print(f"pages: {index}")
     if asked.open:
         page = answers[0].said.get("page") if len(answers) == 1 else index
