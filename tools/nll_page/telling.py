@@ -105,6 +105,8 @@ def loan_head(content, fault):
     as_mutable = " as mutable" if loan.kind in ("mut", "unique") else ""
     if loan.kind == "fake":
         return [*who, ACTS[fault.against.way], " what the ", Code("match"), " is looking at"]
+    if loan.at == fault.against.point:
+        return [*who, ACTS[fault.against.way], f" what it has borrowed{as_mutable} in an earlier turn of the loop"]
     return [*who, ACTS[fault.against.way], " what ", *where_made(content, loan),
             f" has borrowed{as_mutable}"]
 

@@ -143,6 +143,14 @@ class Loans(unittest.TestCase):
         [fault] = self.content(*lines, "# against 1, 2:5-2:6, mut: 0", late).loans
         self.assertEqual((fault.code, fault.against.point), ("E0499", 1))
 
+    def test_an_earlier_turn(self):
+        [fault] = self.content("region 'x", "next 0 1", "next 1 0", "next 1 2", "return 2", "base 'x 0",
+                               "base 'x 1", "# loan 0: 'x at 0, 1:9-1:11, mut of a",
+                               "# against 0, 1:9-1:11, mut: 0", "# point 0: line 1: y = &mut a").loans
+        told = telling.of_loan(self.content(), fault)
+        self.assertEqual(telling.words.plain(told.head), "`&a` borrows as mutable what it has borrowed as "
+                         "mutable in an earlier turn of the loop")
+
     def test_closures_that_borrow_uniquely(self):
         for kind, way, code in (("unique", "unique", "E0524"), ("mut", "unique", "E0500"),
                                 ("shared", "unique", "E0500"), ("unique", "mut", "E0501"),
