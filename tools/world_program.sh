@@ -1,5 +1,5 @@
 #!/bin/sh
-# Prints the path of the program of world_program.rattle, which pages of schedules are made of: the one
+# Prints the path of the program of world_program.rattle, by which pages of schedules and of MIR texts are made: the one
 # that `world_program.sh --prove` proved and built, while no source is newer; else a build of the same
 # sources that nothing has proved, which is compiled once, in about a minute. `--prove` takes what was proved of the
 # crates below it: after `./nllc.sh --prove` some two minutes, else many more. With `--built` nothing is compiled; where no
@@ -14,7 +14,7 @@ below="nll_sets nll_problem nll_text nll_reading nll_facts nll_core nll_cut nll_
 used="nll_problem nll_core nll_cut nll_mail nll_owner nll_event nll_model nll_text nll_reading nll_facts \
     nll_body nll_mir_text nll_body_problem nll_cut_text nll_schedule_text anyhow"
 
-say() { echo "nll-schedule: $*" >&2; }
+say() { echo "world_program.sh: $*" >&2; }
 
 # Whether the program is there, and no source is newer.
 is_current() {

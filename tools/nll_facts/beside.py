@@ -86,19 +86,21 @@ class Beside:
             yield f"loan {number}: {self.loan(loan)}"
             if loan.killed:
                 yield f"killed {number}: {self.numbers(loan.killed)}"
-        for location, way, span, loans in own.against():
+        for location, way, begun, span, loans in own.against():
+            after = f" after {self.number[begun]}" if begun else ""
             numbers = " ".join(map(str, loans))
-            yield f"against {self.number[location]}, {self.place(span)}, {way}: {numbers}"
+            yield f"against {self.number[location]}, {self.place(span)}, {way}{after}: {numbers}"
 
     def loan(self, loan: Loan) -> str:
         """`'r4 at 5, 8:16-8:22, mut of list`, and where else it stands."""
         root = self.body.locals.get(loan.place.local)
         what = root.name if root and root.name else "a temporary"
         deref = "*" if "*" in loan.place.steps else ""
+        kind = "unique" if loan.is_unique else loan.kind
         by = ", by a closure" if loan.is_capture else ""
         home = f", {self.place(loan.home)}" if loan.home else ""
         return (f"{self.name(loan.region)} at {self.number[loan.location]}, "
-                f"{self.place(loan.span)}, {loan.kind} of {deref}{what}{by}{home}")
+                f"{self.place(loan.span)}, {kind} of {deref}{what}{by}{home}")
 
     def reason_lines(self) -> Iterator[str]:
         """Why each constraint is asked, at the point of its statement or everywhere."""

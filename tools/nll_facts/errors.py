@@ -6,7 +6,7 @@ from .rustc import Error
 LOANS = ("E0499", "E0502", "E0503", "E0505", "E0506", "E0510", "E0515", "E0597", "E0713", "E0716",
          "E0373", "E0500", "E0501", "E0524")
 LIFETIMES = ("E0521", "E0621")
-NAMELESS = "lifetime may not live long enough"
+NAMELESS = ("lifetime may not live long enough", "captured variable cannot escape `FnMut` closure body")
 # At these, what a closure borrows from outside goes away: that is the outer function's.
 FROM_OUTSIDE = ("E0373", "E0597")
 

@@ -17,13 +17,18 @@ BORROW = re.compile(r" = &(mut |fake (?:shallow |deep )?)?")
 # destructor can go against it.
 BEHIND = re.compile(r"\(\*\([^()]*: &")
 
+# The type of what a closure has borrowed: there it is as if it were `mut`.
+ENVIRONMENT = re.compile(r"\{(?:closure|coroutine|async|gen)")
 RESUME = re.compile(r" = yield\(.*\) -> \[resume: bb(\d+)")
 DROP = re.compile(r"drop\((.*)\) -> \[return: bb(\d+)")
 
 
 @dataclass(frozen=True)
 class Loan:
-    """A borrow. `home` is where a temporary is made, or where a closure uses what it borrows."""
+    """A borrow. `home` is where a temporary is made, or where a closure uses what it borrows.
+
+    A closure borrows uniquely what it writes through a variable that isn't `mut` itself.
+    """
 
     region: int
     location: Location
@@ -33,14 +38,16 @@ class Loan:
     span: Optional[Span]
     home: Optional[Span] = None
     is_capture: bool = False
+    is_unique: bool = False
     killed: list[Location] = field(default_factory=list)
 
 
 class Against(NamedTuple):
-    """A statement that goes against loans, and how."""
+    """A statement that goes against loans, and how; of a second phase, where the first one begins."""
 
     location: Location
     way: str
+    begun: Optional[Location]
     span: Optional[Span]
     loans: list[int]
 
@@ -75,17 +82,19 @@ class Loans:
         capture = capture_of(dump, self.body, variable, self.uses.get(variable, ()))
         root = self.body.locals.get(place.local)
         home = capture.use if capture else root.span if root and not root.name else None
-        return Loan(region, location, kind, place, variable, span, home, capture is not None)
+        is_unique = capture is not None and kind == "mut" and root is not None \
+            and not root.is_mutable and not ENVIRONMENT.search(root.type)
+        return Loan(region, location, kind, place, variable, span, home, capture is not None, is_unique)
 
     def against(self) -> list[Against]:
         """What goes against which loans, in the order of the points."""
-        found: dict[tuple[Location, str], list[int]] = {}
+        found: dict[tuple[Location, str, Optional[Location]], list[int]] = {}
         for location, number in sorted(self.invalid):
-            way = self.way(location, self.loans[number])
+            way, begun = self.way(location, self.loans[number])
             if way and not self.is_mere_reservation(location, number):
-                found.setdefault((location, way), []).append(number)
-        return [Against(location, way, self.body.statements[location].span, numbers)
-                for (location, way), numbers in found.items()]
+                found.setdefault((location, way, begun), []).append(number)
+        return [Against(location, way, begun, self.body.statements[location].span, numbers)
+                for (location, way, begun), numbers in found.items()]
 
     def is_mere_reservation(self, location: Location, number: int) -> bool:
         """Whether a borrow in two phases begins there, against a loan that may only read.
@@ -106,22 +115,26 @@ class Loans:
         following = self.body.statements.get(Location(int(dropped[2]), 0)) if dropped else None
         return following is not None and following.text.startswith(f"{dropped[1]} = ")
 
-    def way(self, location: Location, loan: Loan) -> str:
-        """How the statement goes against the loan; empty where it doesn't.
+    def way(self, location: Location, loan: Loan) -> tuple[str, Optional[Location]]:
+        """How the statement goes against the loan, if it does, and where a second phase has begun.
 
         rustc's tables have it that a coroutine which goes on goes against all loans of its
         variables. That is so of those that may be moved meanwhile, which stable Rust doesn't have.
         """
         found = accesses(self.body.statements[location].text)
         direct = next((one.way for one in found if one.disturbs(loan.kind, loan.place)), None)
-        if direct == "drops" and self.is_replaced(location):
-            return "assigns"
-        if direct == "drops" and BEHIND.search(self.body.statements[loan.location].text):
-            return "destroys"
         if direct:
-            return direct
+            return self.more_exactly(direct, location, loan), None
         begun = (self.by_target.get(one.place.local) for one in found if one.place)
-        if any(one and overlap(one.place, loan.place) for one in begun):
-            return "mut"
-        return "" if location in self.resumed else "reads"
+        first = next((one for one in begun if one and overlap(one.place, loan.place)), None)
+        if first:
+            return "late", first.location
+        return "" if location in self.resumed else "reads", None
 
+    def more_exactly(self, way: str, location: Location, loan: Loan) -> str:
+        if way == "drops" and self.is_replaced(location):
+            return "assigns"
+        if way == "drops" and BEHIND.search(self.body.statements[loan.location].text):
+            return "destroys"
+        made = self.issued.get(location)
+        return "unique" if way == "mut" and made and made.is_unique else way

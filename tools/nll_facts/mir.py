@@ -17,7 +17,7 @@ SPAN = re.compile(r"(?P<file>.+):(?P<line>\d+):(?P<column>\d+): (?P<last>\d+):(?
                   r"(?: \(#\d+\))?")
 CODE = re.compile(r"(?P<indent> +)(?P<code>\S.*?)\s+// (?:\S+ )*?in scope \d+ at (?P<span>.*)"
                   r"|        (?P<statement>\S.*);\s+// (?:bb\S+ )?scope \d+ at (?P<where>.*)")
-LET = re.compile(r"let (?:mut )?_(\d+): (.*?)(?: as UserTypeProjection .*)?;")
+LET = re.compile(r"let (mut )?_(\d+): (.*?)(?: as UserTypeProjection .*)?;")
 DEBUG = re.compile(r"debug (\S+) => _(\d+);")
 BLOCK = re.compile(r"    bb(\d+)(?: \(cleanup\))?: \{")
 STATEMENT = re.compile(r" {8}[^\s/]")
@@ -67,6 +67,7 @@ class Local:
     type: str
     name: Optional[str] = None
     span: Optional[Span] = None
+    is_mutable: bool = False
 
 
 @dataclass
@@ -159,14 +160,19 @@ def read_code(body: Body, lines: list[str]) -> None:
 
 
 def read_declaration(body: Body, code: str, span: Optional[Span]) -> None:
-    """Takes `let mut _3: T;` and `debug x => _3;`, whose span is where a parameter is declared."""
+    """Takes `let mut _3: T;` and `debug x => _3;`, whose span is where a parameter is declared.
+
+    That of `mut x` is longer than the name.
+    """
     if found := LET.fullmatch(code):
-        known = body.locals.get(int(found[1]))
-        body.locals[int(found[1])] = Local(found[2], known.name if known else None, span)
+        known = body.locals.get(int(found[2]))
+        name = known.name if known else None
+        body.locals[int(found[2])] = Local(found[3], name, span, found[1] is not None)
     elif found := DEBUG.fullmatch(code):
         local = body.locals.setdefault(int(found[2]), Local(""))
         local.name = local.name or found[1]
         local.span = local.span or span
+        local.is_mutable |= span is not None and span.end - span.column > len(found[1])
 
 
 def span_of(text: str) -> Optional[Span]:

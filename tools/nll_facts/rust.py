@@ -75,7 +75,8 @@ def answer_file(asked: argparse.Namespace) -> int:
     answers = answer_all(paths, asked.explain)
     tell_all(checked, answers)
     status = tell_unanswered(asked.file, checked.unanswered)
-    index = write_index(os.path.dirname(paths[0]))
+    made = [os.path.basename(answer.said.get("page", "")) for answer in answers]
+    index = write_index(os.path.dirname(paths[0]), None if asked.function else made)
     print(f"pages: {index}")
     if asked.open:
         page = answers[0].said.get("page") if len(answers) == 1 else index
@@ -114,22 +115,28 @@ def answer_text(path: str, in_full: bool) -> Answer:
 def tell_all(checked: Checked, answers: list[Answer]) -> None:
     """The lines of all functions that have any, the names of the others, and what else rustc refuses."""
     places = {tuple(place) for answer in answers for place in answer.said.get("places", ())}
-    silent = []
+    silent, loud = [], set()
     for (dump, problem), answer in zip(checked.problems, answers):
         lines = [answer.failure] if answer.failure else told(problem, answer.said, places,
                                                                    checked.errors)
         if lines:
             print(f"{answer.said.get('name', problem.function)}: "
                   f"{'no answer' if answer.failure else verdict(answer.said)}")
+            loud.add(outermost(problem.function))
         else:
-            silent.append((dump.is_closure, answer.said["name"]))
+            silent.append((dump.is_closure, problem.function, answer.said["name"]))
         for line in lines:
             print(f"  {line}")
-    tell_silent(silent)
+    tell_silent([(is_closure, name) for is_closure, function, name in silent if function not in loud])
     for error in checked.errors:
         if error.places and not is_judged(error):
             print(f"{error.places[0][0]}:{error.line}:{error.column}: {version()}: {error.words()}\n"
                   f"    (an error of another kind, of which nothing is said here)")
+
+
+def outermost(function: str) -> str:
+    """The function in which a closure stands."""
+    return function.split("::{closure#")[0]
 
 
 def tell_silent(silent: list[tuple[bool, str]]) -> None:

@@ -2,7 +2,7 @@
 
     # loans: COUNT
     # loan N: 'R at P, PLACE, KIND of WHAT, by a closure, PLACE
-    # killed N: P ..                      # against P, PLACE, WAY: N ..
+    # killed N: P ..                      # against P, PLACE, WAY after P: N ..
     # asked 'R 'R at P, PLACE: WORD       # uses 'R: P ..      # drops 'R: P ..
     # needs 'R 'R                         # rustc LINE:COLUMN: WORDS
 
@@ -16,10 +16,10 @@ from typing import NamedTuple, Optional
 PLACE = r"(\d+:\d+-\d+:\d+|elsewhere)"
 FORMS = {
     "loans:": re.compile(r"# loans: (\d+)"),
-    "loan": re.compile(rf"# loan (\d+): '(\w+) at (\d+), {PLACE}, (mut|shared|fake) of (.*?)"
+    "loan": re.compile(rf"# loan (\d+): '(\w+) at (\d+), {PLACE}, (mut|unique|shared|fake) of (.*?)"
                        rf"(, by a closure)?(?:, {PLACE})?"),
     "killed": re.compile(r"# killed (\d+): ([\d ]+)"),
-    "against": re.compile(rf"# against (\d+), {PLACE}, (\w+): ([\d ]+)"),
+    "against": re.compile(rf"# against (\d+), {PLACE}, (\w+)(?: after (\d+))?: ([\d ]+)"),
     "asked": re.compile(rf"# asked '(\w+) '(\w+)(?: at (\d+))?, {PLACE}: (\w+)"),
     "uses": re.compile(r"# uses '(\w+): ([\d ]+)"),
     "drops": re.compile(r"# drops '(\w+): ([\d ]+)"),
@@ -53,11 +53,12 @@ class Loan(NamedTuple):
 
 
 class Against(NamedTuple):
-    """A point that goes against loans, and how."""
+    """A point that goes against loans, and how; of a borrow in two phases the first one's point."""
 
     point: int
     place: Optional[Place]
     way: str
+    begun: Optional[int]
     loans: list
 
 
@@ -100,8 +101,9 @@ class Beside:
     def take_killed(self, number, points):
         self.killed[int(number)] = set(numbers(points))
 
-    def take_against(self, point, place, way, loans):
-        self.against.append(Against(int(point), place_of(place), way, numbers(loans)))
+    def take_against(self, point, place, way, begun, loans):
+        first = None if begun is None else int(begun)
+        self.against.append(Against(int(point), place_of(place), way, first, numbers(loans)))
 
     def take_asked(self, sup, sub, point, place, word):
         asked = Asked(None if point is None else int(point), place_of(place), word)

@@ -7,9 +7,10 @@ from .index import NAME, index_page, rows_in
 from .page import template
 
 
-def write_index(folder):
-    """Writes the index of a folder's pages; its path."""
+def write_index(folder, names=None):
+    """Writes the index of a folder's pages, or of those that are named; its path."""
     path = os.path.join(folder, NAME)
     style = template("look.css") + template("index.css")
-    write(path, index_page(rows_in(folder), template("index.html"), style))
+    rows = [(name, row) for name, row in rows_in(folder) if names is None or name in names]
+    write(path, index_page(rows, template("index.html"), style))
     return path

@@ -12,8 +12,8 @@ from .beside import Against, Loan, Place
 from .facts import grouped
 
 ENDING = ("ends", "drops", "leaves", "destroys")
-CODES = {"moves": "E0505", "assigns": "E0506", "reads": "E0503", "looks": "E0503",
-         "shared": "E0502"}
+BORROWING = ("mut", "unique", "late", "shared")
+CODES = {"moves": "E0505", "assigns": "E0506", "reads": "E0503", "looks": "E0503"}
 
 
 class Cause(NamedTuple):
@@ -51,8 +51,9 @@ def loan_faults(facts, values):
             continue
         region = numbers[loan.region]
         force = in_force(facts, values.set_of(region), loan, beside.killed.get(number, ()))
+        points = {one.point for one in against.get(number, ())} & force
         for one in against.get(number, ()):
-            if one.point in force:
+            if one.point in points and one.begun not in points:
                 cause = why(facts, values, region, one.point)
                 found.append(fault(facts, number, loan, one, cause))
     return each_once(sorted(found, key=order))
@@ -90,12 +91,21 @@ def fault(facts, number, loan, against, cause):
     code, place = CODES.get(against.way), against.place
     if loan.kind == "fake":
         code = "E0510"
-    elif against.way == "mut":
-        code = "E0499" if loan.kind == "mut" else "E0502"
+    elif against.way in BORROWING:
+        code = code_of_borrows(loan, against)
     elif against.way in ENDING:
         code, place = end_of_loan(facts, loan, against, cause)
     start = loan.at if against.way in ENDING else against.point
     return LoanFault(code, place or next_line(facts, start), number, loan, against, cause)
+
+
+def code_of_borrows(loan, against):
+    """rustc's code of two borrows that don't go together; closures that borrow uniquely have their own."""
+    if against.way == "unique":
+        return "E0524" if loan.kind == "unique" else "E0500"
+    if loan.kind == "unique":
+        return "E0501"
+    return "E0499" if loan.kind == "mut" and against.way != "shared" else "E0502"
 
 
 def next_line(facts, start):

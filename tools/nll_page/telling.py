@@ -16,8 +16,8 @@ DEEDS = {"return": "returned", "yield": "yielded", "constant": "made a constant"
          "annotation": "annotated", "generic": "annotated", "cast": "cast", "object": "made an object",
          "argument": "passed on", "bound": "bound", "assignment": "assigned", "use": "used",
          "capture": "captured", "predicate": "asked", "opaque": "the type of the result"}
-ACTS = {"mut": "borrows as mutable", "shared": "borrows", "moves": "moves", "assigns": "assigns to",
-        "reads": "uses", "looks": "looks at"}
+ACTS = {"mut": "borrows as mutable", "unique": "borrows as mutable", "late": "borrows as mutable",
+        "shared": "borrows", "moves": "moves", "assigns": "assigns to", "reads": "uses", "looks": "looks at"}
 
 OF_VARIABLE = re.compile(r"the type of (\w+)(?::|;|$)")
 
@@ -102,9 +102,11 @@ def loan_head(content, fault):
     loan = fault.loan
     code = snippet(content.source, fault.against.place)
     who = [Code(code), " "] if code else ["this "]
-    as_mutable = " as mutable" if loan.kind == "mut" else ""
+    as_mutable = " as mutable" if loan.kind in ("mut", "unique") else ""
     if loan.kind == "fake":
         return [*who, ACTS[fault.against.way], " what the ", Code("match"), " is looking at"]
+    if loan.at == fault.against.point:
+        return [*who, ACTS[fault.against.way], f" what it has borrowed{as_mutable} in an earlier turn of the loop"]
     return [*who, ACTS[fault.against.way], " what ", *where_made(content, loan),
             f" has borrowed{as_mutable}"]
 

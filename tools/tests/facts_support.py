@@ -15,7 +15,7 @@ ROOT = os.path.dirname(TOOLS)
 GOLDEN = os.path.join(HERE, "golden")
 DUMPS = os.path.join(HERE, "dumps")
 SOURCES = ("small", "rfc2094", "differ")
-WRONG = ("borrowed_twice", "moved_or_assigned", "too_short", "lifetimes")
+WRONG = ("borrowed_twice", "by_closures", "moved_or_assigned", "too_short", "lifetimes")
 RIGHT = ("closures", "coroutines", "iterators")
 
 sys.path[:0] = [TOOLS, os.path.join(ROOT, "bench")]

@@ -250,6 +250,14 @@ pub fn keeps<'a>(list: &mut Vec<&'a str>, text: &'a str) {
         self.assertEqual(done.returncode, 0, done.stdout)
         self.assertTrue(done.stdout.startswith("no fault: keeps\n"), done.stdout)
 
+    def test_a_fault_of_a_closure_is_one_of_the_function(self):
+        path = self.write("a.rs", "pub fn f(mut list: Vec<u8>) {\n    let mut add = || {\n"
+                          "        let one = &mut list;\n        list.push(1);\n        one.push(2);\n"
+                          "    };\n    add();\n}\npub fn g() {}\n")
+        lines = self.rust(path).stdout.splitlines()
+        self.assertEqual((lines[0], lines[3]), ("closure 1 of f: 1 loan error", "no fault: g"))
+        self.assertIn(f"{path}:4:9: E0499", lines[1])
+
     def test_both_answers(self):
         done = self.rust(support.source_path("differ"), "get_default")
         self.assertEqual(done.returncode, 0, done.stderr)

@@ -19,7 +19,7 @@ ROOT = pathlib.Path(__file__).resolve().parents[2]
 DOCUMENTS = ("docs/FROM-RUST.md", "README.md")
 COMMAND = re.compile(r"    \$ ((?:\./nllc\.sh (?:rust|page)|tools/nll-facts --crate) .*)")
 NUMBERED = re.compile(r" {3,5}(\d{1,2})  (.*)")
-SECONDS = re.compile(r"\d+\.\d\b(?= |$)")
+SECONDS = re.compile(r" +\d+\.\d\b(?= |$)")
 RELEASE = "rustc 1.95."
 
 
@@ -51,7 +51,7 @@ def folder_of_links():
 
 
 def without_seconds(lines):
-    return [SECONDS.sub("0.0", line) for line in lines]
+    return [SECONDS.sub("  0.0", line) for line in lines]
 
 
 def write(document):

@@ -16,7 +16,8 @@ from nll_page.loans import loan_faults
 from nll_page.page import Content, Fault
 from quick_solver import quick_values
 
-KINDS = ("E0499", "E0502", "E0505", "E0506", "E0597", "E0515", "E0716", "E0503", "E0373", "E0510", "E0713")
+KINDS = ("E0499", "E0502", "E0505", "E0506", "E0597", "E0515", "E0716", "E0503", "E0373", "E0510", "E0713",
+         "E0500", "E0501", "E0524")
 FN = re.compile(r"\s*(?:pub )?(?:async )?fn (\w+)")
 
 

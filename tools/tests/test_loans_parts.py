@@ -136,6 +136,29 @@ class Loans(unittest.TestCase):
     def test_the_killing_point_itself(self):
         self.assertEqual(len(self.content(*TEXT, "# killed 0: 2").loans), 1)
 
+    def test_second_phase(self):
+        late = "# against 2, 2:1-2:9, late after 1: 0"
+        lines = [line for line in TEXT if not line.startswith("# against")]
+        self.assertEqual([one.code for one in self.content(*lines, late).loans], ["E0499"])
+        [fault] = self.content(*lines, "# against 1, 2:5-2:6, mut: 0", late).loans
+        self.assertEqual((fault.code, fault.against.point), ("E0499", 1))
+
+    def test_an_earlier_turn(self):
+        [fault] = self.content("region 'x", "next 0 1", "next 1 0", "next 1 2", "return 2", "base 'x 0",
+                               "base 'x 1", "# loan 0: 'x at 0, 1:9-1:11, mut of a",
+                               "# against 0, 1:9-1:11, mut: 0", "# point 0: line 1: y = &mut a").loans
+        told = telling.of_loan(self.content(), fault)
+        self.assertEqual(telling.words.plain(told.head), "`&a` borrows as mutable what it has borrowed as "
+                         "mutable in an earlier turn of the loop")
+
+    def test_closures_that_borrow_uniquely(self):
+        for kind, way, code in (("unique", "unique", "E0524"), ("mut", "unique", "E0500"),
+                                ("shared", "unique", "E0500"), ("unique", "mut", "E0501"),
+                                ("unique", "shared", "E0501"), ("mut", "shared", "E0502"),
+                                ("shared", "mut", "E0502"), ("mut", "mut", "E0499")):
+            lines = [line.replace(", mut of", f", {kind} of").replace("assigns", way) for line in TEXT]
+            self.assertEqual([one.code for one in self.content(*lines).loans], [code], (kind, way))
+
     def test_a_text_of_another_function(self):
         self.assertEqual(self.content(*TEXT[:8], "# loan 0: 'z at 0, 1:9-1:11, mut of a",
                                       "# loan 1: 'x at 9, 1:9-1:11, mut of a").loans, [])

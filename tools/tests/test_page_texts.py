@@ -10,6 +10,7 @@ from unittest import mock
 from page_support import EXAMPLES, ROOT, SAMPLES, Folder, file_bytes, reference
 
 from nll_page import index
+from nll_page.folder import write_index
 from nll_page.mir_text import MirText
 from nll_page.texts import main
 from nll_page.values import read_values
@@ -118,6 +119,13 @@ class Index(Command):
         self.assertNotIn("<script", made)
         self.assertIn('href="./a%20b%25.html"', made)
         self.assertIn("1 loan error<", made)
+
+    def test_pages_that_are_named_alone(self):
+        for name in ("old.html", "new.html"):
+            self.write(name, index.row_mark(index.Row(name, "x", 1, 1, 1, 0, None)).encode())
+        write_index(self.folder, ["new.html"])
+        with open(self.path("index.html"), encoding="utf-8") as file:
+            self.assertEqual(re.findall(r'href="\./([^"]*)"', file.read()), ["new.html"])
 
     def test_other_files(self):
         self.write("other.html", b"<p>no page</p>")

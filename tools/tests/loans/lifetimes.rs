@@ -65,3 +65,10 @@ pub fn captured<'a>(v: &mut Vec<&'a u8>, x: &u8) {
 pub fn two(x: &u8, y: &u8) -> &'static u8 {
     if *x > *y { x } else { y }
 }
+pub fn escapes<'a>() -> impl FnMut() -> &'a u32 {
+    let mut count = 0;
+    move || {
+        count += 1;
+        &count
+    }
+}
