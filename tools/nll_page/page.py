@@ -11,7 +11,7 @@ from .index import row_mark, row_of
 from .loan_list import loan_list
 from .names import function_words
 from .nllc import PROVED, UNKNOWN, UNPROVED
-from .point_list import all_rows, blocks, end_list, point_list, source_list, tabs
+from .point_list import blocks, end_list, point_list, source_list, tabs
 from .region_graph import region_graph
 from .region_list import region_list, region_words
 from .source import Source
@@ -57,7 +57,8 @@ def page(content):
     facts = content.facts
     graph = drawing.graph_of(facts)
     shape = layout.shape_of(len(graph.lines), graph.edges)
-    rows = len(all_rows(facts))
+    found = blocks(facts)
+    rows = sum(len(its) for _, its in found)
     is_large = rows > MOST_ROWS
     folded, large = drawing.many(facts, graph, shape) if is_large else \
         (drawing.folded(facts, graph, shape), None)
@@ -74,13 +75,13 @@ def page(content):
         "regions": region_list(content),
         "tabs": tabs(content),
         "source": source_list(content, is_large),
-        "points": point_list(facts, is_large),
+        "points": point_list(facts, found, is_large),
         "folded": folded,
         "statements": "" if is_large else drawing.unfolded(facts, graph, shape),
         "outlives": region_graph(facts),
         "view": "statements" if rows <= FEW_ROWS else "folded",
         "ends": end_list(facts),
-        "data": script_data(data(content, large)),
+        "data": script_data(data(content, found, large)),
     })
 
 
@@ -121,11 +122,11 @@ def provenance(content):
     return f"Values from <code>{text(content.origin)}</code>, {STANDINGS[content.standing]}.{more}"
 
 
-def data(content, large=None):
+def data(content, found, large=None):
     """What the script reads; of a large text also the rows and boxes that it makes itself."""
     facts = content.facts
     more = {} if large is None else {
-        "large": large, "blocks": [[row.points for row in rows] for _, rows in blocks(facts)]}
+        "large": large, "blocks": [[row.points for row in rows] for _, rows in found]}
     return more | {
         "points": facts.points,
         "universals": facts.universals,

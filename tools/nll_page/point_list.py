@@ -60,10 +60,10 @@ def all_rows(facts):
     return lines.rows(facts, range(facts.points))
 
 
-def point_list(facts, is_large=False):
+def point_list(facts, found=None, is_large=False):
     """The points by blocks, which fold; of a large text the script makes the rows of those that are opened."""
     return "".join(block_part(facts, number, *block, is_large)
-                   for number, block in enumerate(blocks(facts)))
+                   for number, block in enumerate(found or blocks(facts)))
 
 
 def blocks(facts):

@@ -85,7 +85,6 @@ class Browser(unittest.TestCase):
                 self.browser.call("Target.closeTarget", targetId=shown.target)
 
     def test_widths(self):
-        self.opened("pick.html", page(sample()))
         self.opened("long.html", page(long_words()))
 
     def test_widths_with_a_choice(self):
