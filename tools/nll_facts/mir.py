@@ -6,6 +6,7 @@ that the problem itself needs is in the fact tables, save which terminators leav
 
 import re
 from dataclasses import dataclass, field
+from functools import lru_cache
 from typing import Iterator, NamedTuple, Optional
 
 from .places import closing
@@ -90,6 +91,7 @@ class Body:
                 yield thing.span
 
 
+@lru_cache(128)  # a function's is asked for its name, for its problem, and by closures around it
 def read_body(mir_path: str) -> Body:
     """The body of a `.mir` file; the names come from the graph of regions that stands beside it."""
     lines = read_lines(mir_path)

@@ -85,11 +85,12 @@ class Beside:
     rustc: list = field(default_factory=list)
 
     def read(self, line):
-        """Takes a remark line in, if it has one of the forms."""
+        """Takes a remark line in, if it has one of the forms; whether it has."""
         word = line.removeprefix("# ").split(" ", 1)[0]
         found = FORMS[word].fullmatch(line) if word in FORMS else None
         if found:
             getattr(self, f"take_{word.rstrip(':')}")(*found.groups())
+        return found is not None
 
     def take_loans(self, count):
         self.count = int(count)

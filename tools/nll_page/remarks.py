@@ -67,6 +67,8 @@ class Remarks:
     def read(self, line):
         """Takes a remark line in, if it has one of the forms."""
         line = line.strip(" \t\r")
+        if self.beside.read(line):
+            return
         if found := POINT.fullmatch(line):
             self.points.setdefault(int(found[1]), remark_of(found))
         elif found := REGION.fullmatch(line):
@@ -75,8 +77,6 @@ class Remarks:
             self.function = self.function or found[1]
         elif found := SOURCE.fullmatch(line):
             self.source = self.source or found[1]
-        else:
-            self.beside.read(line)
 
 
 def is_remark(line):

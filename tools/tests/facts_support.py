@@ -66,7 +66,8 @@ def stored_errors(source):
 @cache
 def stored_texts(source):
     """The texts of a source, made of its stored dump."""
-    with tempfile.TemporaryDirectory() as folder:
+    memory = "/dev/shm" if os.path.isdir("/dev/shm") else None     # thousands of small files
+    with tempfile.TemporaryDirectory(dir=memory) as folder:
         unpack(source, folder)
         return texts_of(folder, stored_errors(source))
 

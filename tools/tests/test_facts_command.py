@@ -228,26 +228,22 @@ pub fn keeps<'a>(list: &mut Vec<&'a str>, text: &'a str) {
 }
 """
 
-    def test_loan_in_two_lines(self):
+    def test_loan_in_two_lines_and_step_by_step(self):
         path = self.write("a.rs", self.LOANS)
-        done = self.rust(path, "wrong")
+        done = self.rust(path, "wrong", "--explain")
         self.assertEqual(done.returncode, 1, done.stderr)
         self.assertEqual(done.stdout.splitlines()[:3], [
             "wrong: 1 loan error",
             f"  {path}:5:5: E0502: `list.push(2)` borrows as mutable what line 4 has borrowed",
             "      the loan of line 4 (`list`) is in force: its region `'r2` holds line 5, since line 6 "
             "uses it (`show(first);`)"])
-        self.assertEqual(done.stderr, "")
-
-    def test_the_rest_by_explain(self):
-        done = self.rust(self.write("a.rs", self.LOANS), "wrong", "--explain")
         self.assertIn("error[E0502]", done.stderr)
         self.assertRegex(done.stdout, r"why `'r2` holds point \d+, ")
         self.assertRegex(done.stdout, r"`'r\d+` is live at point \d+: .* \(line 6\) uses it\n")
 
     def test_right_functions(self):
         done = self.rust(self.write("a.rs", self.KEEPS))
-        self.assertEqual(done.returncode, 0, done.stdout)
+        self.assertEqual((done.returncode, done.stderr), (0, ""))
         self.assertTrue(done.stdout.startswith("no fault: keeps\n"), done.stdout)
 
     def test_a_fault_of_a_closure_is_one_of_the_function(self):
