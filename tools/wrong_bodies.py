@@ -43,6 +43,8 @@ LIBRARIES = "libraries_to_prove"
 REFUSED = "refused, as it must be"
 TAKEN = (" (only because a proof file names what the edit took away, so this says little of the contract: "
          "change a value and keep the names)")
+# Of an answer that `rt` says this of it doesn't say why what it cites was rejected: for a name that is gone, it may be.
+NOT_CHECKED = re.compile(r": error: \d+ declarations? that depends? on ")
 GOAL, STEP, NAME, NONE = "a clause's goal", "a step of a proof file", "a missing name", "nothing"
 
 Tried = collections.namedtuple("Tried", "crate edit seconds by text")
@@ -115,6 +117,8 @@ def refused_by(text):
         return NONE
     if TAKEN in text:
         return NAME
+    if NOT_CHECKED.search(text):
+        return STEP
     place = re.search(r": (?:note: )?(?:\./)?(\S+?):\d+:\d+: ", text)
     is_goal = place and (place[1].startswith("src/") or place[1].endswith("/Answers.antt"))
     return GOAL if is_goal else STEP

@@ -37,6 +37,8 @@ ANSWERS = {
     "two": "refused, as it must be: ./proofs/echo/Answers.antt:8:13: error: `returns`: the two types differ",
     "three": "refused, as it must be: ./proofs/EchoLemmas.antt:7:20: error: `echo_is_itself`: expected type",
     "four": f"refused, as it must be{wrong_bodies.TAKEN}: ./proofs/echo/Answers.antt:4:14: error: no field",
+    "six": "refused, as it must be: ./proofs/echo/Answers.antt:9:5: error: 1 declaration that depends on `got`, which "
+           "was rejected, was not checked: returns",
     "five": "NOT REFUSED: the crate is still proved with this edit",
 }
 
@@ -159,7 +161,7 @@ class Trying(unittest.TestCase):
             self.write(f"crates/low/wrong-bodies/{name}.edit", answer)
         ended, _, printed = self.try_on(["low"])
         self.assertEqual(ended, 1)
-        self.assertEqual(printed.splitlines()[-1], "5 tried, 2 refused by a clause's goal, 1 by a step of a "
+        self.assertEqual(printed.splitlines()[-1], "6 tried, 2 refused by a clause's goal, 2 by a step of a "
                          "proof file, 1 by a missing name, 1 not refused")
         self.assertIn("low/one: ? s, refused by a clause's goal: note: src/lib.rt:20:1: it is not", printed)
         self.assertIn("low/four: ? s, refused by a missing name: ./proofs/echo/Answers.antt:4:14", printed)
