@@ -1,6 +1,6 @@
 //! What statements were found to ask, so that it isn't worked out again where others ask the same.
 
-ghost use Rattle.std.specs.Prelude.{◌≡◌, ◌×◌, ◌<◌, ◌++◌, ◌∷◌, [], IsTrue, MatchOption, OnOk, length};
+ghost use Rattle.std.specs.Prelude.{◌≡◌, ◌<◌, ◌++◌, ◌∷◌, [], MatchOption, OnOk, length};
 ghost use Rattle.nll_problem.specs.Problem.{SameSet};
 ghost use Rattle.nll_body_problem.specs.Known.{AreAskedAt, AreKnown};
 ghost use Rattle.nll_body_problem.specs.declared.known.Entry.{Entry as entry};
