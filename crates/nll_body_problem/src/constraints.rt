@@ -106,7 +106,8 @@ fn add_known(
     ensures ok { OnOk result (AddsConstraints (IsAskedAt body.now point) builder.old builder.new) }
     ensures err { IfErr result (IsRefused (IsAskedAt body.now point) builder.old) }
 {
-    add_pairs(builder, body.graph().next_of(point), pairs)
+    add_pairs(builder, body.graph().next_of(point), pairs)?;
+    Ok(())
 }
 
 // Adds what stands at a point asks, and leaves it in the list.
