@@ -5,6 +5,7 @@
 #
 # The texts: copies, borrows and calls of types of 2,047 references of one region, written out or of a struct's
 # field; one line of 64 MiB of nested references of an unknown region; switches with as many edges as the limit.
+# The baseline goes by its newer solver, as nllc does; the older one takes the square of such repetitions.
 # Prints a Markdown table; status 1 where ends differ or a run takes longer than the limit (60 seconds).
 set -eu
 here=$(cd "$(dirname "$0")" && pwd)
@@ -13,5 +14,5 @@ texts=$(mktemp -d)
 trap 'rm -rf "$texts"' EXIT
 python3 "$here/generate_mir.py" costly --into "$texts"
 commit=$(git -C "$here" rev-parse --short HEAD 2>/dev/null || echo none)
-python3 "$here/measure.py" limits --baseline "$here/baseline/target/release/baseline" \
+python3 "$here/measure.py" limits --newer --baseline "$here/baseline/target/release/baseline" \
     --texts "$texts" --commit "$commit" "$@"

@@ -31,7 +31,7 @@ def measured(args, folder, sizes):
         return None
     with open(path, "wb") as file:
         file.write(text)
-    found = run([args.program, "values", path], args.seconds, out)
+    found = run([args.program, *args.words, "values", path], args.seconds, out)
     if found.status not in (0, 2):
         return len(text), found.wall, found.peak, found.err or "past the time"
     return len(text) + os.path.getsize(out), found.user, found.peak, found.err
@@ -67,11 +67,13 @@ def is_costly(small, steps):
 def main():
     parser = argparse.ArgumentParser(description=__doc__.split("\n", maxsplit=1)[0])
     parser.add_argument("--program", required=True)
+    parser.add_argument("--words", nargs="*", default=[], help="words in front of the command, as +runs for --runs")
     parser.add_argument("--pairs", action="store_true", help="also grow each two dimensions together")
     parser.add_argument("--most", type=int, default=1 << 18, help="bytes of the largest text")
     parser.add_argument("--seconds", type=float, default=20.0, help="time limit of a run")
     parser.add_argument("--only", nargs="*", help="dimensions of which one at least is grown")
     args = parser.parse_args()
+    args.words = [word.replace("+", "--") for word in args.words]
     groups = [(name,) for name in DIMENSIONS]
     if args.pairs:
         groups += itertools.combinations(DIMENSIONS, 2)
