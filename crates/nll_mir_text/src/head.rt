@@ -120,7 +120,8 @@ impl Reader {
         ensures refused { IfErr result
             (IsRefused (said_by self.old) (forms.variable number (written text.now))) }
     {
-        if is_unknown_type(self.alloc, &self.regions, &self.structs, text)? {
+        let unknown = is_unknown_type(self.alloc, &self.regions, &self.structs, text)?;
+        if unknown {
             return Err(TextKind::Unknown);
         }
         let table = &mut self.variables.table;
@@ -185,7 +186,8 @@ impl Reader {
         ensures refused { IfErr result (IsRefused (said_by self.old) (struct_form text.now)) }
     {
         let fields = text.fields.as_type();
-        if are_unknown_fields(self.alloc, own, &self.structs, fields)? {
+        let unknown = are_unknown_fields(self.alloc, own, &self.structs, fields)?;
+        if unknown {
             return Err(TextKind::Unknown);
         }
         let table = &mut self.variables.table;

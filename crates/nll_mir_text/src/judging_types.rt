@@ -43,7 +43,8 @@ fn any_unknown(
         ≡ false) }
 {
     for argument in arguments {
-        if is_unknown_type(alloc, regions, structs, &argument.1)? {
+        let unknown = is_unknown_type(alloc, regions, structs, &argument.1)?;
+        if unknown {
             return Ok(true);
         }
     }
@@ -62,7 +63,8 @@ fn is_unknown_call(
         → list_all (λ t. is_known (scope_in regions.now structs.now) (written t))
         (types_written (call_of call.now)) ≡ false) }
 {
-    if any_unknown(alloc, regions, structs, call.arguments.as_slice())? {
+    let unknown = any_unknown(alloc, regions, structs, call.arguments.as_slice())?;
+    if unknown {
         return Ok(true);
     }
     is_unknown_type(alloc, regions, structs, &call.result)

@@ -107,7 +107,8 @@ impl Reader {
         ensures refused { IfErr result
             (IsRefused (said_by self.old) (form_of (lines.At statement.now))) }
     {
-        if are_unknown_types(self.alloc, &self.regions, &self.structs, statement)? {
+        let unknown = are_unknown_types(self.alloc, &self.regions, &self.structs, statement)?;
+        if unknown {
             return Err(TextKind::Unknown);
         }
         let variables = &mut self.variables;
