@@ -1,9 +1,9 @@
 -- What stands at points asks constraints, one point after another.
-use Rattle.std.proofs.Common.{◌≡◌, ◌⊎◌, ◌↔◌, ℕ, ◌+◌, ◌<◌, ◌≤◌, List, [], ◌∷◌, ◌++◌, Contains, length, Some, inl, inr, sym, ◌∙◌, subst, ⊎_elim, arith}
+use Rattle.std.proofs.Common.{◌≡◌, ◌⊎◌, ◌↔◌, ℕ, ◌+◌, ◌<◌, ◌≤◌, List, [], ◌∷◌, ◌++◌, Contains, length, Some, inl, inr, refl, sym, ◌∙◌, subst, ⊎_elim, arith}
 use Rattle.std.proofs.lemmas.Bool.{cases_lt}
 use Rattle.std.proofs.lemmas.List.Elements.{Contains-push_cases}
 use Rattle.std.proofs.lemmas.Option.{slice_get_within}
-use Rattle.nll_problem.specs.Problem.{Problem}
+use Rattle.nll_problem.specs.Problem.{Problem, SameSet}
 use Rattle.nll_problem.specs.declared.constraint.Constraint.{Constraint}
 use Rattle.nll_problem.specs.declared.error.BuildError.{BuildError}
 use Rattle.nll_types.specs.Types.{TypeTree}
@@ -30,6 +30,15 @@ only_asked body i structs variables old new seen same_structs same_variables non
           (subst (λ (ss : List Struct). Asks ss variables i x) same_structs (each.0 (subst (λ (xs : List (ℕ × ℕ)). Contains xs x) same there))),
       λ asks. subst (λ (xs : List (ℕ × ℕ)). Contains xs x) (sym same) (each.1
           (subst (λ (ss : List Struct). Asks ss variables i x) (sym same_structs) (subst (λ (vs : List TypeTree). Asks body.structs vs i x) (sym same_variables) asks))),
+    )
+
+-- and so are those of which each is kept once
+pub kept_asked : (body : BodyText) (i : Statement ℕ TypeTree) (structs : List Struct) (variables : List TypeTree) (old new once seen : List (ℕ × ℕ)) → structs ≡ body.structs → variables ≡ body.variables
+    → old ≡ [] → AddsPairs (Asks structs variables i) old new → SameSet new once → seen ≡ once → (x : ℕ × ℕ) → Contains seen x ↔ Asks body.structs body.variables i x
+kept_asked body i structs variables old new once seen same_structs same_variables none h kept same x =
+    let asks = only_asked body i structs variables old new new same_structs same_variables none refl h x in (
+      λ there. asks.0 ((kept x).1 (subst (λ (xs : List (ℕ × ℕ)). Contains xs x) same there)),
+      λ a. subst (λ (xs : List (ℕ × ℕ)). Contains xs x) (sym same) ((kept x).0 (asks.1 a)),
     )
 
 -- the pairs that a statement asks at the points that may come after it are what it asks

@@ -1,4 +1,4 @@
-use Rattle.std.proofs.Common.{inl}
+use Rattle.std.proofs.Common.{inl, refl}
 use Rattle.std.proofs.lemmas.Result.{err_from_is_err_and}
 use Rattle.nll_body_problem.proofs.constraints.add_next.Goals as goal
 
@@ -11,4 +11,4 @@ remember-requires-clause-asked c = rw c.as_slice.ensures.value c.in_ok-add_point
 pub returns-in_err-remember-clause-err : goal.returns-in_err-remember-clause-err
 returns-in_err-remember-clause-err c =
     let p = err_from_is_err_and c.from_residual-in_err-remember.result c.from_residual-in_err-remember.ensures.1 in
-    rw (p.1, p.2) (inl c.in_err-remember.ensures.err)
+    rw (p.1, p.2) (inl refl)

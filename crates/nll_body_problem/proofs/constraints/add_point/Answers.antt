@@ -1,14 +1,15 @@
-use Rattle.std.proofs.Common.{◌↔◌, ℕ, ◌<◌, Contains, refl, sym, subst, arith}
+use Rattle.std.proofs.Common.{◌↔◌, ℕ, ◌<◌, Contains, sym, subst, arith}
 use Rattle.std.proofs.lemmas.Result.{err_from_is_err_and}
 use Rattle.nll_rules.specs.Asking.{Asks}
 use Rattle.nll_body.specs.Bodies.{GoesOn}
 use Rattle.nll_body.specs.Views.{meant}
 use Rattle.nll_body_problem.specs.BodyProblem.{IsAskedAt}
+use Rattle.nll_body_problem.specs.Known.{AreAskedAt}
 use Rattle.nll_body_problem.proofs.AddingLemmas.{adds_same, refused_same}
-use Rattle.nll_body_problem.proofs.PointLemmas.{asked_here, asked_pairs, only_asked}
+use Rattle.nll_body_problem.proofs.PointLemmas.{asked_here, asked_pairs, kept_asked}
 use Rattle.nll_body_problem.proofs.RegionLemmas.{asks_below}
 use Rattle.nll_body_problem.proofs.constraints.add_point.Goals as goal
-use Rattle.nll_body_problem.proofs.constraints.add_point.Goals.{After-next_of, After-keep_once, After-as_slice}
+use Rattle.nll_body_problem.proofs.constraints.add_point.Goals.{After-next_of, After-as_slice}
 
 pub next_of-requires : goal.next_of-requires
 next_of-requires c = omega (arith, c.graph.ensures.points, c.requires.point)
@@ -17,22 +18,17 @@ next_of-requires c = omega (arith, c.graph.ensures.points, c.requires.point)
 goes : (c : After-next_of) → (q : ℕ) → Contains c.next_of.result.now q ↔ GoesOn c.args.body.now c.args.point q
 goes c = λ q. (λ h. (c.graph.ensures.next c.args.point q).0 ((c.next_of.ensures.each q).0 h), λ g. (c.next_of.ensures.each q).1 ((c.graph.ensures.next c.args.point q).1 g))
 
--- the pairs that are kept are what the statement asks
-kept : (c : After-keep_once) → (x : ℕ × ℕ) → Contains c.keep_once.new.pairs.items x ↔ Asks c.args.body.now.structs c.args.body.now.variables (meant c.line_at.result.now) x
-kept c = λ x.
-    let asks = only_asked c.args.body.now (meant c.line_at.result.now) _ _ c.clear.new.self.items c.asks.new.asked.items c.asks.new.asked.items
-    c.structs.ensures c.variable_types.ensures c.clear.ensures.items refl c.in_ok-asks.ensures x in
-    let once = c.keep_once.ensures x in
-    (λ h. asks.0 (once.1 h), λ h. once.0 (asks.1 h))
-
--- and so are those of the slice
+-- the pairs are what the statement asks
 pairs : (c : After-as_slice) → (x : ℕ × ℕ) → Contains c.as_slice.result.now x ↔ Asks c.args.body.now.structs c.args.body.now.variables (meant c.line_at.result.now) x
-pairs c = rw c.as_slice.ensures.value (kept c.After-keep_once)
+pairs c =
+    kept_asked c.args.body.now (meant c.line_at.result.now) _ _ c.clear.new.self.items c.asks.new.asked.items c.keep_once.new.pairs.items c.as_slice.result.now
+    c.structs.ensures c.variable_types.ensures c.clear.ensures.items c.in_ok-asks.ensures c.keep_once.ensures c.as_slice.ensures.value
 
 pub returns-clause-asked : goal.returns-clause-asked
 returns-clause-asked c =
-    let d = goal.at.returns-clause-asked c in
-    asked_pairs c.args.body.now c.args.point (meant c.line_at.result.now) c.keep_once.new.pairs.items c.line_at.ensures (kept d.After-keep_once)
+    let d = (goal.at.returns-clause-asked c).After-as_slice in
+    subst (AreAskedAt c.args.body.now c.args.point) c.as_slice.ensures.value
+    (asked_pairs c.args.body.now c.args.point (meant c.line_at.result.now) c.as_slice.result.now c.line_at.ensures (pairs d))
 
 pub add_pairs-requires-clause-points : goal.add_pairs-requires-clause-points
 add_pairs-requires-clause-points c =
