@@ -3,10 +3,10 @@
 
     growth.py --program PATH [--pairs] [--most BYTES] [--seconds S] [--only WORD ..]
 
-Grows each dimension of a text (`growth_mir.py`) by twos, alone, and with `--pairs` also each two of them together, up to
-texts of so many bytes (262,144), and runs `values` of the program on them. Prints a Markdown table of those whose user
-time or memory at the end takes more than 60 ms or 30 MiB above a small text's, and grew by more than 1.5 times what text
-and report grew by. It finds what to look at: it decides nothing.
+Grows each dimension of a text (`growth_mir.py`) by twos, alone, and with `--pairs` also each two of them
+together, up to texts of so many bytes (262,144), and runs `values` of the program on them. Prints a Markdown
+table of those whose user time or memory at the end takes more than 60 ms or 30 MiB above a small text's, and
+grew by more than 1.5 times what text and report grew by. It finds what to look at: it decides nothing.
 """
 
 import argparse
@@ -19,8 +19,8 @@ from growth_mir import DIMENSIONS, grown
 from measure import run
 
 # The most that a dimension can be.
-MOST = {"universals": 255, "structs": 1_000, "references": 2_040, "regions": 60_000, "variables": 60_000,
-        "parameters": 60_000, "fields": 60_000}
+MOST = {"universals": 255, "structs": 1_000, "references": 2_040, "regions": 60_000,
+        "variables": 60_000, "parameters": 60_000, "fields": 60_000}
 
 
 def measured(args, folder, sizes):
@@ -90,7 +90,8 @@ def main():
                 found += 1
                 for sizes, size, time, peak, told in steps[-3:]:
                     listed = ", ".join(f"{name} {number}" for name, number in sizes.items())
-                    print(f"| {' and '.join(names)} | {listed} | {size} | {time:.3f} | {peak:.1f} | {told} |", flush=True)
+                    print(f"| {' and '.join(names)} | {listed} | {size} | {time:.3f} | {peak:.1f} "
+                          f"| {told} |", flush=True)
     print(f"\n{len(groups)} groups of dimensions, {found} to look at")
     return 0
 

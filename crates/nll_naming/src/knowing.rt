@@ -113,11 +113,7 @@ fn nodes_known(
 ///
 /// # Cost
 /// Linear in the type, and for each node one look-up of a name and a byte (not proved).
-pub fn is_known(
-    alloc: Global,
-    scope: &Scope<'_>,
-    text: &TypeText<'_>,
-) -> Result<bool, Memory>
+pub fn is_known(alloc: Global, scope: &Scope<'_>, text: &TypeText<'_>) -> Result<bool, Memory>
     ensures { IfOk result
         (λ known. known ≡ naming.is_known (scope_of scope.now) (written text.now)) }
 {
