@@ -1,8 +1,8 @@
 //! Problems of bodies: the graph, the base elements that liveness gives, and the constraints that
 //! the statements ask. It knows no text.
 //!
-//! Reading order: `error`, `body_problem`, `facts`, `constraints`, `known`, `alike`, `laws`. The definitions are in
-//! specs/.
+//! Reading order: `error`, `body_problem`, `facts`, `constraints`, `known`, `alike`, `laws`. The
+//! definitions are in specs/.
 #![tactic(auto)]
 
 mod alike;
