@@ -147,8 +147,8 @@ fn is_marked(region_free: &[bool], place: &Place) -> bool {
 }
 
 // A digest of two places, unless one of them is of a variable that is marked.
-fn digest_of_places(region_free: &[bool], kind: u64, place: &Place, source: &Place) -> Option<u64> {
-    if is_marked(region_free, place) || is_marked(region_free, source) {
+fn digest_of_places(free: &[bool], kind: u64, place: &Place, source: &Place) -> Option<u64> {
+    if is_marked(free, place) || is_marked(free, source) {
         None
     } else {
         Some(with_place(with_place(kind, place), source))

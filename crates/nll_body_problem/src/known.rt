@@ -119,8 +119,8 @@ fn push(
     Ok(())
 }
 
-/// Adds the pairs that what stands at a point asks, where it is costly to work them out and they may
-/// be asked again.
+/// Adds the pairs that what stands at a point asks, where they may be asked again and it is costly
+/// to work them out.
 pub(crate) fn remember(
     alloc: Global,
     known: &mut Known,

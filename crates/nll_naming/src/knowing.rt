@@ -12,7 +12,7 @@ ghost use Rattle.nll_naming.specs.Naming.{is_among};
 ghost use Rattle.nll_naming.specs.Judging.{scope_of};
 ghost use Rattle.nll_naming.specs.Knowing.{AreTold, argument_is_known};
 
-use crate::judging::find;
+use crate::judging::{both, find};
 use crate::scope::Scope;
 use nll_sets::Memory;
 use nll_type_grammar::{Argument, TypeNode, TypeText};
@@ -82,11 +82,12 @@ fn node_known(scope: &Scope<'_>, node: &TypeNode<'_>, done: &[bool]) -> bool
         TypeNode::Int => true,
         TypeNode::Reference(region, _, part) => {
             let (_, is_region) = find(scope.regions, region);
-            is_region && done[*part]
+            both(is_region, done[*part])
         }
         TypeNode::Tuple(parts) => parts_known(done, parts.as_slice()),
         TypeNode::Named(name, arguments) => {
-            name_known(scope, name) && arguments_known(scope, arguments.as_slice(), done)
+            let known = name_known(scope, name);
+            both(known, arguments_known(scope, arguments.as_slice(), done))
         }
     }
 }
