@@ -1,8 +1,8 @@
 -- The base facts of runs: which they are, that they ascend, and what one run or one fact more adds.
-use Rattle.std.proofs.Common.{◌≡◌, ◌↔◌, ◌⊎◌, ℕ, zero, suc, ◌+◌, ◌-◌, ◌<◌, ◌≤◌, List, [], ◌∷◌, ◌++◌, map, AllPairs, Contains, length, get_or, set, take, refl, sym, ap, ◌∙◌, subst, inl, inr, ⊎_elim, arith, length-append}
-use Rattle.std.specs.List.{flat_map, range_with_len}
+use Rattle.std.proofs.Common.{◌≡◌, ◌↔◌, ◌⊎◌, ℕ, zero, suc, ◌+◌, ◌-◌, ◌<◌, List, [], ◌∷◌, ◌++◌, map, AllPairs, Contains, length, get_or, set, take, refl, sym, ap, ◌∙◌, subst, inl, inr, ⊎_elim, arith, length-append}
+use Rattle.std.specs.List.{range_with_len}
 use Rattle.std.proofs.lemmas.Bool.{cases_lt}
-use Rattle.std.proofs.lemmas.List.{append-nil, get_or_append_left, get_or-append_right, get_or_default, take_all, take_more, take_more_set, length-set}
+use Rattle.std.proofs.lemmas.List.{append-nil, get_or_append_left, get_or-append_right, take_all, take_more, take_more_set, length-set}
 use Rattle.std.proofs.lemmas.List.Elements.{Contains-append_left, Contains-append_right, Contains-append_cases, Contains-get_or, Contains-push, Contains-push_cases}
 use Rattle.std.proofs.lemmas.List.FromFn.{length-map-range_with_len, get_or-map-range_with_len, map-range_with_len_more}
 use Rattle.std.proofs.lemmas.Grind.{flat_map-append}
@@ -10,8 +10,8 @@ use Rattle.indexmap.specs.IndexSet.{insert_all, insert_key}
 use Rattle.nll_problem.specs.Building.{AddsFact, same_pair}
 use Rattle.nll_problem.specs.Bases.{distinct}
 use Rattle.nll_problem.specs.BaseRuns.{IsInBaseRun, IsInBaseRuns, facts_of, facts_of_runs, IsProper, IsApart, AreLeast, AddsRun}
-use Rattle.nll_problem.specs.Merging.{run_at, GoesOn}
-use Rattle.nll_problem.specs.Problem.{IsEarlier, IsOnce, SameSet}
+use Rattle.nll_problem.specs.Merging.{run_at}
+use Rattle.nll_problem.specs.Problem.{IsEarlier, SameSet}
 use Rattle.nll_problem.specs.declared.base_run.BaseRun.{BaseRun}
 use Rattle.nll_problem.proofs.BaseLemmas.{adds_distinct, distinct_same}
 use Rattle.nll_problem.proofs.FactLemmas.{adds_pair}

@@ -72,11 +72,33 @@ fn touches_last(runs: &[BaseRun], place: usize, run: &BaseRun) -> bool
     last.region == run.region && run.first <= last.end
 }
 
-/// How many runs begin no later than at a point of a region.
+/// Whether a point is in a run of a region.
 ///
 /// # Cost
 /// Logarithmic in the number of runs (not proved).
-pub(crate) fn begun(runs: &[BaseRun], region: RegionId, point: u32) -> usize
+pub(crate) fn has_point(runs: &[BaseRun], region: RegionId, point: u32) -> bool
+    requires { AreLeast runs.now }
+    ensures { IsTrue result ↔ IsInBaseRuns runs.now region point }
+{
+    let place = begun(runs, region, point);
+    ends_past(runs, place, region, point)
+}
+
+// Whether there is a run in front of a place, of a region, and it ends past a point.
+fn ends_past(runs: &[BaseRun], place: usize, region: RegionId, point: u32) -> bool
+    requires { place ≤ length runs.now }
+    ensures { let last = run_at runs.now (place - 1) in
+        IsTrue result ↔ ((0 < place) × (last.region ≡ region) × (point < last.end)) }
+{
+    if place == 0 {
+        return false;
+    }
+    let last = runs[place - 1];
+    last.region == region && point < last.end
+}
+
+// How many runs begin no later than at a point of a region.
+fn begun(runs: &[BaseRun], region: RegionId, point: u32) -> usize
     requires { AreLeast runs.now }
     ensures bound { result ≤ length runs.now }
     ensures before { (k : ℕ) → k < result → BeginsBy (run_at runs.now k) region point }

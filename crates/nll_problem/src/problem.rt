@@ -8,7 +8,7 @@ ghost use Rattle.nll_problem.specs.Building as building;
 use crate::base_run::BaseRun;
 use crate::constraint::Constraint;
 use crate::graph::Graph;
-use crate::merging::begun;
+use crate::merging::has_point;
 use crate::region::RegionId;
 use nll_sets::Element;
 use std::marker::Model;
@@ -170,9 +170,7 @@ impl Problem {
     fn has_base(&self, region: RegionId, point: u32) -> bool
         ensures { IsTrue result ↔ Contains self.now.bases (region, point) }
     {
-        let runs = self.bases.as_slice();
-        let begun = begun(runs, region, point);
-        begun > 0 && runs[begun - 1].region == region && point < runs[begun - 1].end
+        has_point(self.bases.as_slice(), region, point)
     }
 
     // Whether a number is a universal region.
