@@ -20,8 +20,8 @@ base_run_cmp s t =
 abbrev pub GetsBaseRun : BaseRun → List (ℕ × ℕ) → List (ℕ × ℕ) → Type 0
 GetsBaseRun s old new = (r p : ℕ) → Contains new (r, p) ↔ (Contains old (r, p) ⊎ IsInBaseRun s r p)
 
--- of the region of the run, the pairs have what lies in it before one that they have; they have none
--- of a later region
+-- of the region of the run, the pairs have what lies in it before one that they have; they have
+-- none of a later region
 abbrev pub ComesNext : BaseRun → List (ℕ × ℕ) → Type 0
 ComesNext s pairs = (r q : ℕ) → Contains pairs (r, q)
     → (r < s.region)

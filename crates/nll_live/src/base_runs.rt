@@ -1,4 +1,5 @@
-//! The pairs of a region and a point that runs stand for.
+//! Runs of base elements that are put behind others, and the pairs of a region and a point that
+//! they stand for.
 
 ghost use Rattle.std.specs.Prelude.{◌≡◌, ◌↔◌, ◌-◌, ◌^◌, ◌<◌, ◌≤◌, ℕ, [], length};
 ghost use Rattle.std.specs.Prelude.{AllPairs, Contains, IfOk, OnOk};
@@ -13,8 +14,7 @@ use nll_problem::{BaseRun, RegionId};
 use nll_sets::{Memory, Run};
 use std::alloc::Global;
 
-/// Puts the runs of base elements of each of the regions behind the others: it must hold at all points of the
-/// runs.
+/// Puts a run of base elements of each of the regions, for each of these runs, behind the others.
 pub(crate) fn push_all(
     base_runs: &mut Vec<BaseRun>,
     regions: &[RegionId],
@@ -30,7 +30,7 @@ pub(crate) fn push_all(
     Ok(())
 }
 
-// Puts the runs of base elements of one region behind the others.
+// The same of one region.
 fn push_runs(base_runs: &mut Vec<BaseRun>, region: RegionId, runs: &[Run]) -> Result<(), Memory>
     requires { (k : ℕ) → k < length runs.now → last_of runs.now k < 2 ^ 32 - 1 }
     ensures { OnOk result (Gains (λ r p. (region ≡ r) × IsInRuns runs.now p)

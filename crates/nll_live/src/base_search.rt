@@ -194,8 +194,8 @@ fn room_for(alloc: Global, points: u32) -> Result<Room, Memory>
     })
 }
 
-// Puts the runs of base elements of these regions behind the others, at the points from which a walk leads to
-// one of the list. The room's marks are of earlier variables.
+// Puts the runs of base elements of these regions behind the others, at the points from which a
+// walk leads to one of the list. The room's marks are of earlier variables.
 fn push_found(
     alloc: Global,
     body: &Body,
