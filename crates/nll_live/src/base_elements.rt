@@ -9,8 +9,8 @@ ghost use Rattle.nll_live.specs.LiveSets.{AreLiveSets};
 ghost use Rattle.nll_problem.specs.BaseRuns.{IsInBaseRuns};
 ghost use Rattle.nll_live.specs.BaseRuns.{Gains};
 
-use crate::live_sets::LiveSets;
 use crate::base_runs::{pairs_of, push_all};
+use crate::live_sets::LiveSets;
 use nll_body::Body;
 use nll_problem::{BaseRun, RegionId};
 use nll_sets::Memory;

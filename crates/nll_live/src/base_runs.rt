@@ -100,7 +100,12 @@ fn push_base_run(pairs: &mut Vec<(RegionId, u32)>, base_run: BaseRun) -> Result<
     ensures small { OnOk result (AreSmall pairs.new.items) }
 {
     let next = next_point(pairs.as_slice(), base_run.region);
-    push_points(pairs, base_run.region, base_run.first.max(next), base_run.end)?;
+    push_points(
+        pairs,
+        base_run.region,
+        base_run.first.max(next),
+        base_run.end,
+    )?;
     Ok(())
 }
 

@@ -18,7 +18,7 @@ returns-clause-each c =
     (λ (adds : AddsBases c.as_slice.result.now c.args.builder.now c.add_bases-told.new.builder) r p.
     let live = c.in_ok-live.ensures.each r p in (
       λ h. live.0 (subst (λ (xs : List BaseRun). IsInBaseRuns xs r p) c.as_slice.ensures.value
-      (⊎_elim
+          (⊎_elim
           (λ old. absurd (let none = subst (λ (xs : List (ℕ × ℕ)). Contains xs (r, p)) c.requires.none old in omega (arith, none.1)))
           (λ new. new)
           ((adds.each r p).0 h))),
