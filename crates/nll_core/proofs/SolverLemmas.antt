@@ -4,7 +4,7 @@ use Rattle.std.proofs.lemmas.Bool.{true≢false, cases_eq}
 use Rattle.std.proofs.lemmas.List.{get_or_default, get_or-replicate, length-replicate}
 use Rattle.nll_sets.specs.Runs.{IsWithin}
 use Rattle.nll_sets.specs.declared.run.Run.{Run}
-use Rattle.nll_problem.specs.BaseRuns.{IsInBaseRun, IsInBaseRuns}
+use Rattle.nll_problem.specs.BaseRuns.{IsInBaseRuns}
 use Rattle.nll_problem.specs.Graph.{element_count}
 use Rattle.nll_problem.specs.Problem.{Problem, IsBase, IsUniversal, end_of}
 use Rattle.nll_problem.specs.Solution.{Asks, Satisfies, Least}

@@ -1,6 +1,6 @@
 -- How values grow towards the least solution of a problem.
 -- Source: project's choice. Private contracts alone cite this file.
-use Rattle.std.specs.Prelude.{◌≡◌, ◌⊎◌, ℕ, ◌+◌, ◌<◌, ◌≤◌, Bool, true, false, IsTrue}
+use Rattle.std.specs.Prelude.{◌≡◌, ◌⊎◌, ℕ, ◌<◌, Bool, true, false, IsTrue}
 use Rattle.std.specs.Prelude.{List, length, Contains, sum_by}
 use Rattle.nll_problem.specs.Problem.{Problem, IsUniversal, end_of}
 use Rattle.nll_problem.specs.Solution.{Asks, Satisfies}

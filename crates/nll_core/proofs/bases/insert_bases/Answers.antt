@@ -1,4 +1,4 @@
-use Rattle.std.proofs.Common.{◌≡◌, ◌-◌, ◌<◌, Contains, List, length, get_or, take, subst, sym, refl, arith}
+use Rattle.std.proofs.Common.{◌-◌, ◌<◌, Contains, List, subst, sym, refl, arith}
 use Rattle.std.proofs.lemmas.List.{take_all}
 use Rattle.nll_problem.specs.BaseRuns.{IsInBaseRuns}
 use Rattle.nll_problem.specs.declared.base_run.BaseRun.{BaseRun}
