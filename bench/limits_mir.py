@@ -31,6 +31,7 @@ def limits():
     yield from declaration_limits()
     yield from point_limits()
     yield from constraint_limits()
+    yield from long_lives()
     yield from long_lines()
     yield from size_limits()
     yield from many_reads()
@@ -111,6 +112,21 @@ def constraint_limits():
     yield "constraints_at_limit", with_body(declared, *[b"_1 = copy _2"] * 512), "ok"
     yield "constraints_past_limit", with_body(declared, *[b"_1 = copy _2"] * 513), (
         "limit constraints")
+
+
+def long_lives():
+    """Variables that are live at many points, so that what it means is a few long runs."""
+    plain = let(b"int", *[b"int"] * 4_000)
+    reads = [b"read _%d" % number for number in range(1, 4_001)]
+    yield "plain_variables_live_long", with_body(plain, *[b"nop"] * 60_000, *reads), "ok"
+    names = [b"'r%d" % i for i in range(2_047)]
+    regions = [b"region " + name for name in names]
+    references = [b"&%s int" % name for name in names]
+    tuple_type = b"(" + b", ".join(references) + b")"
+    yield "many_regions_live_long", with_body(
+        regions + let(b"int", tuple_type), *[b"nop"] * 200_000, b"read _1"), "ok"
+    yield "many_references_live_long", with_body(
+        regions + let(b"int", *references), *[b"nop"] * 60_000, *reads[:2_047]), "ok"
 
 
 LINES = {

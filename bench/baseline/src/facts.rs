@@ -1,6 +1,7 @@
 //! The reader of facts texts, version 1: one pass over the bytes, no allocation for a line.
 
-use crate::problem::{Constraint, Labels, Problem, Universals};
+use crate::problem::{join, push_point, Constraint, Labels, Problem, Universals};
+use crate::runs::Run;
 use crate::tables::{Edges, KeySet, Names};
 use crate::text::{
     Cursor, Format, Kind, What, CONSTRAINTS, EDGES, POINTS, REGIONS, UNIVERSALS,
@@ -23,7 +24,7 @@ pub struct Facts<'t> {
     outlives: Vec<Universals>,
     edges: Edges,
     returns: Vec<bool>,
-    bases: Vec<Vec<u32>>,
+    bases: Vec<Vec<Run>>,
     constraints: Vec<Constraint>,
     known_constraints: KeySet,
 }
@@ -146,7 +147,7 @@ impl<'t> Facts<'t> {
         self.enter(FACTS_GROUP)?;
         let region = self.names.number_of(name).ok_or(Kind::Unknown)?;
         self.in_range(p)?;
-        self.bases[region as usize].push(p);
+        push_point(&mut self.bases[region as usize], p);
         Ok(())
     }
 
@@ -171,10 +172,7 @@ impl<'t> Facts<'t> {
     /// The problem of all lines: each fact once.
     pub fn finish(self) -> Problem<'t> {
         let Facts { mut bases, mut constraints, .. } = self;
-        for points in bases.iter_mut().filter(|points| !points.windows(2).all(|w| w[0] < w[1])) {
-            points.sort_unstable();
-            points.dedup();
-        }
+        bases.iter_mut().for_each(join);
         constraints.sort_unstable();
         Problem {
             points: self.points,

@@ -116,8 +116,8 @@ impl<'g> Owner<'g> {
                 let end = problem.points + region;
                 self.grow(region, slot, Run { first: end, last: end });
             }
-            for points in problem.bases[region as usize].chunk_by(|a, b| a + 1 == *b) {
-                self.grow(region, slot, Run { first: points[0], last: points[points.len() - 1] });
+            for &run in &problem.bases[region as usize] {
+                self.grow(region, slot, run);
             }
         }
         self.settle();

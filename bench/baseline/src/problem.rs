@@ -1,5 +1,6 @@
 //! The problem that a text means, and its counts.
 
+use crate::runs::Run;
 use crate::tables::Lists;
 
 /// `('sup: 'sub) @ at`.
@@ -28,13 +29,42 @@ pub struct Problem<'t> {
     pub successors: Lists,
     /// For each point whether it is a return point.
     pub returns: Vec<bool>,
-    /// For each region its base elements but those that universals have by themselves, ascending.
-    pub bases: Vec<Vec<u32>>,
+    /// For each region its base elements but those that universals have by themselves, by as few
+    /// runs as can be, ascending.
+    pub bases: Vec<Vec<Run>>,
     /// Ascending by sub-region and point.
     pub constraints: Vec<Constraint>,
     /// For each universal those that an `outlives` line puts below it.
     pub outlives: Vec<Universals>,
     pub labels: Labels,
+}
+
+/// Puts a point behind the others.
+pub fn push_point(runs: &mut Vec<Run>, p: u32) {
+    match runs.last_mut() {
+        Some(run) if run.last + 1 == p => run.last = p,
+        _ => runs.push(Run { first: p, last: p }),
+    }
+}
+
+/// Sorts runs, and joins those that touch.
+pub fn join(runs: &mut Vec<Run>) {
+    if runs.windows(2).all(|w| w[0].last + 1 < w[1].first) {
+        return;
+    }
+    runs.sort_unstable_by_key(|run| run.first);
+    runs.dedup_by(|next, before| {
+        let touches = next.first <= before.last + 1;
+        if touches {
+            before.last = before.last.max(next.last);
+        }
+        touches
+    });
+}
+
+/// How many points runs have that are joined.
+pub fn count(runs: &[Run]) -> usize {
+    runs.iter().map(|run| (run.last + 1 - run.first) as usize).sum()
 }
 
 impl Problem<'_> {

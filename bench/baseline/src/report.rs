@@ -1,7 +1,7 @@
 //! What the program prints: counts, value lines and faults.
 
 use crate::body::Body;
-use crate::problem::{Labels, Problem, Universals};
+use crate::problem::{count, Labels, Problem, Universals};
 use crate::runs::Runs;
 use crate::solve::Row;
 use crate::world::Step;
@@ -16,7 +16,7 @@ pub fn counts(problem: &Problem, out: &mut impl Write) -> io::Result<()> {
         problem.successors.items.len(),
         problem.regions(),
         problem.universals,
-        problem.bases.iter().map(Vec::len).sum::<usize>(),
+        problem.bases.iter().map(|runs| count(runs)).sum::<usize>(),
         problem.constraints.len(),
     )
 }

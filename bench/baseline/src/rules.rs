@@ -1,7 +1,8 @@
 //! The problem of a body: liveness, drop regions, and what its statements ask.
 
 use crate::body::{Body, Call, Line, Make, CONST};
-use crate::problem::{Constraint, Labels, Problem};
+use crate::problem::{count, join, push_point, Constraint, Labels, Problem};
+use crate::runs::Run;
 use crate::shapes::{Form, Shape, Source, Typed, DEREFERENCE, STATIC_ITEM};
 use crate::tables::Lists;
 use crate::text::CONSTRAINTS;
@@ -143,7 +144,7 @@ fn drop_regions(body: &Body, typed: Typed) -> Vec<u32> {
 }
 
 /// For each region its base points: where a variable with it in its type is live.
-pub fn bases(body: &Body, successors: &Lists) -> Vec<Vec<u32>> {
+pub fn bases(body: &Body, successors: &Lists) -> Vec<Vec<Run>> {
     let (mut used, mut dropped) = (Vec::new(), Vec::new());
     for (p, line) in body.lines.iter().enumerate() {
         uses(body, line, |variable| used.push((variable, p as u32)));
@@ -162,7 +163,8 @@ pub fn bases(body: &Body, successors: &Lists) -> Vec<Vec<u32>> {
     let mut bases = vec![Vec::new(); body.names.list.len()];
     let mut add = |regions: Vec<u32>, variable: u32, points: &[u32]| {
         if !regions.is_empty() && !points.is_empty() {
-            let live = liveness.live(variable, points);
+            let mut live = Vec::new();
+            liveness.live(variable, points).into_iter().for_each(|p| push_point(&mut live, p));
             regions.iter().for_each(|&region| bases[region as usize].extend_from_slice(&live));
         }
     };
@@ -173,10 +175,7 @@ pub fn bases(body: &Body, successors: &Lists) -> Vec<Vec<u32>> {
             add(drop_regions(body, typed), variable, dropped.of(variable));
         }
     }
-    for points in bases.iter_mut().filter(|points| !points.windows(2).all(|w| w[0] < w[1])) {
-        points.sort_unstable();
-        points.dedup();
-    }
+    bases.iter_mut().for_each(join);
     bases
 }
 
@@ -376,7 +375,7 @@ fn constraints(body: &Body, successors: &Lists) -> Option<Vec<Constraint>> {
 
 /// How many pairs of a region and one of its base points a body has.
 pub fn base_count(body: &Body<'_>) -> usize {
-    bases(body, &successors(body)).iter().map(Vec::len).sum()
+    bases(body, &successors(body)).iter().map(|runs| count(runs)).sum()
 }
 
 /// The problem of a body, or None where its constraints are too many.

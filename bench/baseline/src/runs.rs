@@ -255,9 +255,9 @@ fn base_values(problem: &Problem) -> Vec<Runs> {
         let end = problem.points + region;
         value.insert(Run { first: end, last: end });
     }
-    for (region, points) in problem.bases.iter().enumerate() {
-        for &p in points {
-            values[region].insert(Run { first: p, last: p });
+    for (region, runs) in problem.bases.iter().enumerate() {
+        for &run in runs {
+            values[region].insert(run);
         }
     }
     values

@@ -172,8 +172,8 @@ impl<'p> Solver<'p> {
             dirty: vec![true; regions],
             fresh: vec![Vec::new(); regions],
         };
-        for (region, points) in problem.bases.iter().enumerate() {
-            for &p in points {
+        for (region, runs) in problem.bases.iter().enumerate() {
+            for p in runs.iter().flat_map(|run| run.first..=run.last) {
                 solver.values[region].insert(p, words);
             }
         }

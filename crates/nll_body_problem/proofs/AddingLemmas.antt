@@ -1,18 +1,21 @@
 -- Facts that come to a problem, and constraints for which there is no room.
-use Rattle.std.proofs.Common.{◌≡◌, ◌⊎◌, ◌↔◌, ℕ, ◌<◌, ◌≤◌, Bool, true, false, not, List, [], ◌∷◌, ◌++◌, Contains, length, take, drop, Some, None, inl, inr, refl, sym, ap, ◌∙◌, subst, ⊎_elim, arith, length-append}
+use Rattle.std.proofs.Common.{◌≡◌, ◌⊎◌, ◌↔◌, ℕ, ◌+◌, ◌<◌, ◌≤◌, Bool, true, false, not, List, [], ◌∷◌, ◌++◌, Contains, length, get_or, take, drop, Some, None, inl, inr, refl, sym, ap, ◌∙◌, subst, ⊎_elim, arith, length-append}
 use Rattle.std.specs.Prelude.{◌&&◌}
 use Rattle.std.proofs.lemmas.Bool.{lt-ltb, leb-true}
 use Rattle.std.proofs.lemmas.List.{take-append-drop}
 use Rattle.std.proofs.lemmas.List.Elements.{Contains-push, Contains-push_cases, Contains-append_left}
 use Rattle.std.proofs.lemmas.Map.Made.{length-le_from_is_member, IsDistinct-from_AllPairs}
 use Rattle.nll_problem.specs.Answers.{AddsFact}
+use Rattle.nll_problem.specs.BaseRuns.{AddsRun}
 use Rattle.nll_problem.specs.Building.{first_error, same_constraint, is_point, is_region, has_constraint, is_full, constraint_error}
 use Rattle.nll_problem.specs.Limits.{most_constraints}
 use Rattle.nll_problem.specs.Problem.{Problem, IsOnce, IsSound}
+use Rattle.nll_problem.specs.declared.base_run.BaseRun.{BaseRun}
 use Rattle.nll_problem.specs.declared.constraint.Constraint.{Constraint}
 use Rattle.nll_problem.specs.declared.error.BuildError.{BuildError}
 use Rattle.nll_problem.specs.declared.error.BuildError.TheVariants.{PointRange, RegionRange, Limit, Memory}
 use Rattle.nll_problem.specs.declared.error.Kind.TheVariants.{Constraints}
+use Rattle.nll_problem.proofs.BaseRunLemmas.{in_next}
 use Rattle.nll_problem.proofs.FactLemmas.{exact_equivalence, constraint_is, constraint_same, constraint_found, once_constraint_absent}
 use Rattle.nll_body_problem.specs.Adding.{AddsOutlives, AddsBases, AddsConstraints, Overflows, IsRefused, IsOfPair, IsOfPairs}
 
@@ -55,13 +58,25 @@ outlives_more front x old mid new h adds same = record {
 }
 
 pub bases_none : (q : Problem) → AddsBases [] q q
-bases_none q = record { others = refl; each = λ x. (inl, ⊎_elim (λ o. o) (λ n. absurd (nothing x n))) }
+bases_none q = record { others = refl; each = λ r p. (inl, ⊎_elim (λ o. o) (λ h. absurd (omega (arith, h.1.1)))) }
 
-pub bases_more : (front : List (ℕ × ℕ)) (x : ℕ × ℕ) (old mid new : Problem) → AddsBases front old mid → AddsFact mid.bases new.bases x
-    → new ≡ record mid { bases = new.bases } → AddsBases (front ++ x ∷ []) old new
-bases_more front x old mid new h adds same = record {
-  others = same ∙ ap (λ (q : Problem). record q { bases = new.bases }) h.others;
-  each = grown old.bases mid.bases new.bases front x h.each adds;
+pub bases_more : (runs : List BaseRun) (n : ℕ) (run : BaseRun) → n < length runs → run ≡ get_or runs n run → (old mid new : Problem) → AddsBases (take n runs) old mid → AddsRun mid.bases new.bases run
+    → new ≡ record mid { bases = new.bases } → AddsBases (take (n + 1) runs) old new
+bases_more runs n run within is old mid new front adds same = record {
+  others = same ∙ ap (λ (q : Problem). record q { bases = new.bases }) front.others;
+  each = λ r p.
+      let next = in_next runs n run within is r p in (
+        λ h. ⊎_elim
+            (λ before. ⊎_elim inl (λ b. inr (next.1 (inl b))) ((front.each r p).0 before))
+            (λ own. inr (next.1 (inr own)))
+            ((adds.each r p).0 h),
+        ⊎_elim
+            (λ before. (adds.each r p).1 (inl ((front.each r p).1 (inl before))))
+            (λ b. ⊎_elim
+            (λ before. (adds.each r p).1 (inl ((front.each r p).1 (inr before))))
+            (λ own. (adds.each r p).1 (inr own))
+            (next.0 b)),
+      );
 }
 
 -- ---- constraints, kind by kind

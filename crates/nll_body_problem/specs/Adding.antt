@@ -1,10 +1,12 @@
 -- How the problem of a body comes about, one kind of facts after another.
 -- Source: project's choice. Private contracts alone cite this file.
 use Rattle.std.specs.Prelude.{◌≡◌, ◌⊎◌, ◌↔◌, ◌<◌, ℕ, List, length, Contains}
+use Rattle.nll_problem.specs.BaseRuns.{IsInBaseRuns}
 use Rattle.nll_problem.specs.Building.{bare_problem}
 use Rattle.nll_problem.specs.Graph.{Graph}
 use Rattle.nll_problem.specs.Limits.{most_constraints}
 use Rattle.nll_problem.specs.Problem.{Problem, IsOnce, IsUniversal}
+use Rattle.nll_problem.specs.declared.base_run.BaseRun.{BaseRun}
 use Rattle.nll_problem.specs.declared.constraint.Constraint.{Constraint}
 use Rattle.nll_problem.specs.declared.error.BuildError.{BuildError}
 use Rattle.nll_problem.specs.declared.error.BuildError.TheVariants.{Limit, Memory}
@@ -25,20 +27,21 @@ pub record AddsOutlives (facts : List (ℕ × ℕ)) (old new : Problem) : Type 0
   pub others : new ≡ record old { outlives = new.outlives }
   pub each : (x : ℕ × ℕ) → Contains new.outlives x ↔ (Contains old.outlives x ⊎ Contains facts x)
 
--- The base facts of the list came to those of the problem.
-pub record AddsBases (facts : List (ℕ × ℕ)) (old new : Problem) : Type 0 where
+-- The base facts of the runs came to those of the problem.
+pub record AddsBases (runs : List BaseRun) (old new : Problem) : Type 0 where
   pub others : new ≡ record old { bases = new.bases }
-  pub each : (x : ℕ × ℕ) → Contains new.bases x ↔ (Contains old.bases x ⊎ Contains facts x)
+  pub each : (r p : ℕ)
+      → Contains new.bases (r, p) ↔ (Contains old.bases (r, p) ⊎ IsInBaseRuns runs r p)
 
 -- all facts of the list are of universal regions of the problem
 abbrev pub AreOfUniversals : List (ℕ × ℕ) → Problem → Type 0
 AreOfUniversals facts q =
     (a b : ℕ) → Contains facts (a, b) → IsUniversal q a × IsUniversal q b
 
--- all facts of the list are of a region and a point of the problem
-abbrev pub AreOfPoints : List (ℕ × ℕ) → Problem → Type 0
-AreOfPoints facts q =
-    (r p : ℕ) → Contains facts (r, p) → (r < q.regions) × (p < q.graph.points)
+-- all facts of the runs are of a region and a point of the problem
+abbrev pub AreOfPoints : List BaseRun → Problem → Type 0
+AreOfPoints runs q =
+    (r p : ℕ) → IsInBaseRuns runs r p → (r < q.regions) × (p < q.graph.points)
 
 -- ---- constraints
 

@@ -10,7 +10,7 @@ use crate::constraints::add_constraints;
 use crate::error::{RuleError, told_of};
 use crate::facts::{add_bases, add_outlives, add_regions};
 use nll_body::Body;
-use nll_live::live_bases;
+use nll_live::live_runs;
 use nll_problem::{BuildError, Problem, ProblemBuilder};
 use std::alloc::Global;
 
@@ -97,7 +97,7 @@ fn add_live(alloc: Global, body: &Body, builder: &mut ProblemBuilder) -> Result<
         ((r p : ℕ) → Contains builder.new.bases (r, p) ↔ IsBaseOf body.now r p) }
     ensures err { IfErr result (λ e. e ≡ BuildError.Memory) }
 {
-    let live = live_bases(alloc, body)?;
+    let live = live_runs(alloc, body)?;
     let told = add_bases(builder, live.as_slice());
     drop(live);
     told

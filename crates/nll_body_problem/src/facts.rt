@@ -2,12 +2,13 @@
 
 ghost use Rattle.std.specs.Prelude.{◌≡◌, ◌+◌, ◌<◌, ◌≤◌, IfErr, OnOk};
 ghost use Rattle.nll_problem.specs.Answers.{AddsFact};
+ghost use Rattle.nll_problem.specs.BaseRuns.{AddsRun, IsProper};
 ghost use Rattle.nll_problem.specs.Limits.{most_regions};
 ghost use Rattle.nll_problem.specs.Problem.{IsUniversal};
 ghost use Rattle.nll_body_problem.specs.Adding.{AddsBases, AddsOutlives};
 ghost use Rattle.nll_body_problem.specs.Adding.{AreOfPoints, AreOfUniversals};
 
-use nll_problem::{BuildError, ProblemBuilder, RegionId};
+use nll_problem::{BaseRun, BuildError, ProblemBuilder, RegionId};
 
 /// Adds the regions that aren't universal, so that there are this many in all.
 pub(crate) fn add_regions(builder: &mut ProblemBuilder, universals: u32, count: usize)
@@ -61,30 +62,26 @@ fn add_fact(builder: &mut ProblemBuilder, fact: (u32, u32)) -> Result<(), BuildE
     Ok(())
 }
 
-/// Adds base facts.
-pub(crate) fn add_bases(
-    builder: &mut ProblemBuilder,
-    facts: &[(RegionId, u32)],
-) -> Result<(), BuildError>
-    requires { AreOfPoints facts.now builder.old }
-    ensures ok { OnOk result (AddsBases facts.now builder.old builder.new) }
+/// Adds base facts, by runs.
+pub(crate) fn add_bases(builder: &mut ProblemBuilder, runs: &[BaseRun]) -> Result<(), BuildError>
+    requires { AreOfPoints runs.now builder.old }
+    ensures ok { OnOk result (AddsBases runs.now builder.old builder.new) }
     ensures err { IfErr result (λ e. e ≡ BuildError.Memory) }
 {
-    for fact in facts {
-        add_base(builder, *fact)?;
+    for run in runs {
+        add_run(builder, *run)?;
     }
     Ok(())
 }
 
-// Adds a base fact.
-fn add_base(builder: &mut ProblemBuilder, fact: (RegionId, u32)) -> Result<(), BuildError>
-    requires region { fact.0 < builder.old.regions }
-    requires point { fact.1 < builder.old.graph.points }
-    ensures ok { OnOk result (AddsFact builder.old.bases builder.new.bases fact) }
+// Adds the base facts of a run.
+fn add_run(builder: &mut ProblemBuilder, run: BaseRun) -> Result<(), BuildError>
+    requires region { IsProper run → run.region < builder.old.regions }
+    requires points { IsProper run → run.end ≤ builder.old.graph.points }
+    ensures ok { OnOk result (AddsRun builder.old.bases builder.new.bases run) }
     ensures others { builder.new ≡ record builder.old { bases = builder.new.bases } }
     ensures err { IfErr result (λ e. e ≡ BuildError.Memory) }
 {
-    let (region, point) = fact;
-    builder.base(region, point)?;
+    builder.base_run(run)?;
     Ok(())
 }

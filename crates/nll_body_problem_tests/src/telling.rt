@@ -2,7 +2,7 @@
 use nll_body::Body;
 use nll_body_problem::problem_of;
 use nll_mir_text::read_mir;
-use nll_problem::Problem;
+use nll_problem::{BaseRun, Problem};
 use nll_worked_texts::text_of;
 use std::alloc::{AllocError, Global};
 
@@ -12,8 +12,16 @@ fn write_facts(out: &mut String, problem: &Problem) -> Result<(), AllocError> {
     for (longer, shorter) in problem.outlives_facts() {
         write!(out, "outlives {} {}|", longer.0, shorter.0)?;
     }
-    for (region, point) in problem.bases() {
-        write!(out, "base {} {point}|", region.0)?;
+    for run in problem.base_runs() {
+        write_run(out, run)?;
+    }
+    Ok(())
+}
+
+// Writes the base facts of a run.
+fn write_run(out: &mut String, run: &BaseRun) -> Result<(), AllocError> {
+    for point in run.first..run.end {
+        write!(out, "base {} {point}|", run.region.0)?;
     }
     Ok(())
 }

@@ -1,7 +1,6 @@
 pub mod SearchLemmas
 pub mod GrowingLemmas
 pub mod SolverLemmas
-pub mod BaseLemmas
 pub mod FaultLemmas
 pub mod LineLemmas
 pub mod LandingLemmas

@@ -1,13 +1,18 @@
 -- The solver: the base elements, a round over the constraints, and the least solution at the end of the rounds.
-use Rattle.std.proofs.Common.{◌≡◌, ◌↔◌, ℕ, ◌+◌, ◌<◌, ◌≤◌, Bool, true, false, ◌||◌, List, replicate, Contains, IsTrue, length, get_or, refl, sym, ap, ◌∙◌, subst, inl, inr, ⊎_elim, arith}
+use Rattle.std.proofs.Common.{◌≡◌, ◌↔◌, ℕ, ◌+◌, ◌<◌, ◌≤◌, Bool, true, false, ◌||◌, List, replicate, take, Contains, IsTrue, length, get_or, refl, sym, ap, ◌∙◌, subst, inl, inr, ⊎_elim, arith}
 use Rattle.std.proofs.lemmas.Bool.{true≢false, cases_eq}
 use Rattle.std.proofs.lemmas.List.{get_or_default, get_or-replicate, length-replicate}
+use Rattle.nll_sets.specs.Runs.{IsWithin}
+use Rattle.nll_sets.specs.declared.run.Run.{Run}
+use Rattle.nll_problem.specs.BaseRuns.{IsInBaseRuns}
 use Rattle.nll_problem.specs.Graph.{element_count}
 use Rattle.nll_problem.specs.Problem.{Problem, IsBase, IsUniversal, end_of}
 use Rattle.nll_problem.specs.Solution.{Asks, Satisfies, Least}
 use Rattle.nll_core.specs.Values.{set_of, holds, IsHeld, with_element, IsShaped}
 use Rattle.nll_core.specs.Growing.{Gains, Tells, IsBelow, StaysBelow, IsMet, IsClosed}
+use Rattle.nll_problem.specs.declared.base_run.BaseRun.{BaseRun}
 use Rattle.nll_problem.specs.declared.constraint.Constraint.{Constraint}
+use Rattle.nll_problem.proofs.BaseRunLemmas.{run_there, in_next}
 use Rattle.nll_problem.proofs.WalkLemmas.{reaches_weaker}
 use Rattle.nll_core.proofs.GrowingLemmas.{held_one, gains_none, gains_one, gains_append, gains_weaker, tells_none, tells_append}
 
@@ -61,27 +66,24 @@ module _ (q : Problem) where
             (cases_eq r count);
       }
 
-  -- The facts before `count` of a list of base facts are held.
-  pub record Listing (facts : List (ℕ × ℕ)) (old new : List (List Bool)) (count : ℕ) : Type 0 where
+  -- The points of the first `count` runs of base facts are held.
+  pub record Listing (runs : List BaseRun) (old new : List (List Bool)) (count : ℕ) : Type 0 where
     pub gains : Gains (IsBase q) old new
-    pub covers : (k r e : ℕ) → k < count → get_or facts k (r, e) ≡ (r, e) → IsHeld new r e
+    pub covers : (r e : ℕ) → IsInBaseRuns (take count runs) r e → IsHeld new r e
 
-  pub listing_first : (facts : List (ℕ × ℕ)) (old : List (List Bool)) → Listing facts old old 0
-  listing_first facts old = record { gains = gains_none (IsBase q) old; covers = λ k r e h is. absurd (omega arith) }
+  pub listing_first : (runs : List BaseRun) (old : List (List Bool)) → Listing runs old old 0
+  listing_first runs old = record { gains = gains_none (IsBase q) old; covers = λ r e h. absurd (omega (arith, h.1.1)) }
 
-  -- one more of them
-  pub listing_more : (facts : List (ℕ × ℕ)) (old new : List (List Bool)) (count r e : ℕ) → Contains q.bases (r, e) → ((s f : ℕ) → get_or facts count (s, f) ≡ (s, f) → (s ≡ r) × (f ≡ e)) → Listing facts old new count
-      → r < length new → e < length (set_of new r) → Listing facts old (with_element new r e) (count + 1)
-  listing_more facts old new count r e listed only f within below =
-      let last : Gains (IsBase q) new (with_element new r e) = gains_one new r e within below (IsBase q) (inl listed) in
-      record {
-        gains = gains_append (IsBase q) _ _ _ f.gains last;
-        covers = λ k s x h is. ⊎_elim
-            (λ same. let at = only s x (subst (λ i. get_or facts i (s, x) ≡ (s, x)) same is) in
-            subst (λ a. IsHeld (with_element new r e) a x) (sym at.0) (subst (IsHeld (with_element new r e) r) (sym at.1) (held_one new r e within below)))
-            (λ other. last.kept s x (f.covers k s x (omega arith) is))
-            (cases_eq k count);
-      }
+  -- those of one run more
+  pub listing_more : (runs : List BaseRun) (old now new : List (List Bool)) (count : ℕ) (run : BaseRun) (own : Run) → own.first ≡ run.first → own.last + 1 ≡ run.end → count < length runs → run ≡ get_or runs count run → ((r e : ℕ) → IsInBaseRuns runs r e ↔ Contains q.bases (r, e)) → Listing runs old now count
+      → Gains (λ r e. (r ≡ run.region) × IsWithin own e) now new → ((e : ℕ) → IsWithin own e → IsHeld new run.region e) → Listing runs old new (count + 1)
+  listing_more runs old now new count run own begins ends within is each f g covers = record {
+    gains = gains_append (IsBase q) _ _ _ f.gains (gains_weaker _ (IsBase q) (λ r e h. inl ((each r e).0 (run, run_there runs count run within is, (sym h.0, omega (arith, h.1.0, begins), omega (arith, h.1.1, ends))))) now new g);
+    covers = λ r e h. ⊎_elim
+        (λ there. g.kept r e (f.covers r e there))
+        (λ h. subst (λ x. IsHeld new x e) h.0 (covers e (omega (arith, h.1, begins), omega (arith, h.2, ends))))
+        ((in_next runs count run within is r e).0 h);
+  }
 
   -- empty values that gained the base elements hold just these
   pub base_exact : (first middle new : List (List Bool)) → ((r e : ℕ) → IsHeld first r e → ⊥) → Gains (IsBase q) first middle → Gains (IsBase q) middle new

@@ -1,7 +1,7 @@
 -- How values grow towards the least solution of a problem.
 -- Source: project's choice. Private contracts alone cite this file.
-use Rattle.std.specs.Prelude.{◌≡◌, ◌⊎◌, ℕ, ◌+◌, ◌<◌, ◌≤◌, Bool, true, false, IsTrue}
-use Rattle.std.specs.Prelude.{List, length, Contains, slice_index_or, sum_by}
+use Rattle.std.specs.Prelude.{◌≡◌, ◌⊎◌, ℕ, ◌<◌, Bool, true, false, IsTrue}
+use Rattle.std.specs.Prelude.{List, length, Contains, sum_by}
 use Rattle.nll_problem.specs.Problem.{Problem, IsUniversal, end_of}
 use Rattle.nll_problem.specs.Solution.{Asks, Satisfies}
 use Rattle.nll_core.specs.Search.{missing}
@@ -45,17 +45,6 @@ HoldsEnds q values = (r : ℕ) → IsUniversal q r → IsHeld values r (end_of q
 -- the values hold what the base facts say
 abbrev pub HoldsFacts : Problem → List (List Bool) → Type 0
 HoldsFacts q values = (r e : ℕ) → Contains q.bases (r, e) → IsHeld values r e
-
--- the base fact at a place of the list
-abbrev pub base_at : List (ℕ × ℕ) → ℕ → ℕ × ℕ
-base_at facts k = slice_index_or facts k (0, 0)
-
--- The facts at the places from one up to another give one region points that follow each other by
--- number, of which this is the last.
-pub record AreBaseRun (facts : List (ℕ × ℕ)) (from to last : ℕ) : Type 0 where
-  pub regions : (k : ℕ) → from ≤ k → k < to → (base_at facts k).0 ≡ (base_at facts from).0
-  pub points : (k : ℕ) → from ≤ k → k < to → (base_at facts k).1 + from ≡ (base_at facts from).1 + k
-  pub ends : last + from + 1 ≡ (base_at facts from).1 + to
 
 -- the constraint asks the region r, its `sup`, for e
 abbrev pub IsAskedBy : Problem → List (List Bool) → Constraint → ℕ → ℕ → Type 0

@@ -3,8 +3,7 @@
 ghost use Rattle.std.specs.Prelude.{◌≡◌, ℕ, ◌≤◌, ◌<◌, ◌↔◌, length, IfOk, OnOk};
 ghost use Rattle.nll_problem.specs.Problem.{IsBase};
 ghost use Rattle.nll_core.specs.Values.{set_of, IsHeld, IsShaped};
-ghost use Rattle.nll_core.specs.Growing.{AreBaseRun, Gains};
-ghost use Rattle.nll_core.specs.Growing.{HoldsPoints, HoldsEnds, HoldsFacts};
+ghost use Rattle.nll_core.specs.Growing.{Gains, HoldsPoints, HoldsEnds, HoldsFacts};
 
 use crate::values::Values;
 use nll_problem::{Problem, RegionId};
@@ -63,34 +62,9 @@ fn insert_bases(problem: &Problem, values: &mut Values) -> Result<(), Memory>
     ensures gains { OnOk result (Gains (IsBase problem.now) values.old values.new) }
     ensures covers { OnOk result (HoldsFacts problem.now values.new) }
 {
-    let facts = problem.bases();
-    let mut place = 0;
-    while place < facts.len() {
-        let (region, first) = facts[place];
-        let (end, last) = base_run_end(facts, place);
-        values.insert_run(region, Run { first, last })?;
-        place = end;
+    let runs = problem.base_runs();
+    for run in runs {
+        values.insert_run(run.region, run.points())?;
     }
     Ok(())
-}
-
-/// The place up to which, from one on, the facts give one region points that follow each other by
-/// number, and the last of these points.
-pub fn base_run_end(facts: &[(RegionId, u32)], place: usize) -> (usize, u32)
-    requires { place < length facts.now }
-    ensures more { place < result.0 }
-    ensures bound { result.0 ≤ length facts.now }
-    ensures run { AreBaseRun facts.now place result.0 result.1 }
-{
-    let (region, mut last) = facts[place];
-    let mut end = place + 1;
-    while end < facts.len() {
-        let (other, point) = facts[end];
-        if other != region || point.checked_sub(1) != Some(last) {
-            return (end, last);
-        }
-        last = point;
-        end += 1;
-    }
-    (end, last)
 }

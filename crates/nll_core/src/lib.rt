@@ -33,7 +33,7 @@ mod stretches;
 mod values;
 mod walk;
 
-pub use bases::{base_run_end, base_values};
+pub use bases::base_values;
 pub use fault_check::faults;
 pub use frontier::Frontier;
 pub use nll_problem::{

@@ -13,9 +13,10 @@ use Rattle.nll_body.proofs.RangeLemmas.{region_within, drop_region_within}
 use Rattle.nll_live.proofs.WalkLemmas.{live_within}
 use Rattle.nll_live.specs.Live.{UsesAt, DropsAt, AsksForUse, AsksForDrop, IsBaseOf}
 use Rattle.nll_live.specs.LiveSets.{AreSetsOf}
-use Rattle.nll_live.specs.Stretches.{Covers, Gains}
-use Rattle.nll_live.specs.declared.stretch.Stretch.{Stretch}
-use Rattle.nll_live.proofs.StretchLemmas.{gains_none, gains_append, gains_as}
+use Rattle.nll_problem.specs.BaseRuns.{IsInBaseRuns}
+use Rattle.nll_live.specs.BaseRuns.{Gains}
+use Rattle.nll_problem.specs.declared.base_run.BaseRun.{BaseRun}
+use Rattle.nll_live.proofs.BaseRunLemmas.{gains_none, gains_append, gains_as}
 use Rattle.nll_live.proofs.GatheringLemmas.{contains_none}
 
 -- each variable has a type
@@ -27,7 +28,7 @@ some_type body x within = by (slice_get_cases body.variables x).1
     by (inr h) = absurd (omega (arith, h.0))
 
 -- a variable asks for its regions where it is live
-pub asked : (body : BodyText) (x : ℕ) (regions : List ℕ) (runs : List Run) (wants : TypeTree → ℕ → Type 0) (live : ℕ → Type 0) (old new : List Stretch) → x < length body.variables
+pub asked : (body : BodyText) (x : ℕ) (regions : List ℕ) (runs : List Run) (wants : TypeTree → ℕ → Type 0) (live : ℕ → Type 0) (old new : List BaseRun) → x < length body.variables
     → ((t : TypeTree) → HasType body x t → (r : ℕ) → Contains regions r ↔ wants t r) → ((p : ℕ) → IsInRuns runs p ↔ live p)
     → Gains (λ r p. Contains regions r × IsInRuns runs p) old new
     → Gains (λ r p. (t : TypeTree) × HasType body x t × live p × wants t r) old new
@@ -38,7 +39,7 @@ asked body x regions runs wants live old new within each in_runs =
     ))
 
 -- a variable asks for its regions at the points of these walks, which are those where it is live
-pub asked_of : (body : BodyText) (x : ℕ) (regions : List ℕ) (wants : TypeTree → ℕ → Type 0) (walks live : ℕ → Type 0) (old new : List Stretch) → x < length body.variables
+pub asked_of : (body : BodyText) (x : ℕ) (regions : List ℕ) (wants : TypeTree → ℕ → Type 0) (walks live : ℕ → Type 0) (old new : List BaseRun) → x < length body.variables
     → ((t : TypeTree) → HasType body x t → (r : ℕ) → Contains regions r ↔ wants t r) → ((p : ℕ) → walks p ↔ live p)
     → Gains (λ r p. Contains regions r × walks p) old new
     → Gains (λ r p. (t : TypeTree) × HasType body x t × live p × wants t r) old new
@@ -61,10 +62,10 @@ runs_of_set body holds sets x runs are within made p = (
 abbrev pub IsAsked : BodyText → ℕ → ℕ → ℕ → Type 0
 IsAsked body n r p = (x : ℕ) × (x < n) × (AsksForUse body x r p ⊎ AsksForDrop body x r p)
 
-pub asked_first : (body : BodyText) (r p : ℕ) → Covers [] r p ↔ IsAsked body 0 r p
+pub asked_first : (body : BodyText) (r p : ℕ) → IsInBaseRuns [] r p ↔ IsAsked body 0 r p
 asked_first body r p = (λ h. absurd (contains_none h.0 h.1), λ h. absurd (omega (arith, h.1)))
 
-pub asked_step : (body : BodyText) (n : ℕ) (old mid new : List Stretch) → ((r p : ℕ) → Covers old r p ↔ IsAsked body n r p) → Gains (AsksForUse body n) old mid → Gains (AsksForDrop body n) mid new → (r p : ℕ) → Covers new r p ↔ IsAsked body (n + 1) r p
+pub asked_step : (body : BodyText) (n : ℕ) (old mid new : List BaseRun) → ((r p : ℕ) → IsInBaseRuns old r p ↔ IsAsked body n r p) → Gains (AsksForUse body n) old mid → Gains (AsksForDrop body n) mid new → (r p : ℕ) → IsInBaseRuns new r p ↔ IsAsked body (n + 1) r p
 asked_step body n old mid new before f g r p = (
   λ h. ⊎_elim
       (λ was. ⊎_elim
@@ -79,7 +80,7 @@ asked_step body n old mid new before f g r p = (
       (cases_lt h.0 n),
 )
   where
-    last : AsksForUse body n r p ⊎ AsksForDrop body n r p → Covers new r p
+    last : AsksForUse body n r p ⊎ AsksForDrop body n r p → IsInBaseRuns new r p
     last (inl h) = (g r p).1 (inl ((f r p).1 (inr h)))
     last (inr h) = (g r p).1 (inr h)
 
@@ -111,15 +112,15 @@ base_within body sound r p h = by h.0 h.1
 
 -- ---- a loop over the variables, of one kind
 
-module _ (asks : ℕ → ℕ → ℕ → Type 0) (first : List Stretch) where
-  -- the stretches got those that the first variables ask for
-  abbrev pub AreAskedTo : ℕ → List Stretch → Type 0
+module _ (asks : ℕ → ℕ → ℕ → Type 0) (first : List BaseRun) where
+  -- the runs got those that the first variables ask for
+  abbrev pub AreAskedTo : ℕ → List BaseRun → Type 0
   AreAskedTo n now = Gains (λ r p. (x : ℕ) × (x < n) × asks x r p) first now
 
   pub asked_to_first : AreAskedTo 0 first
   asked_to_first = gains_none (λ r p. (x : ℕ) × (x < 0) × asks x r p) first (λ r p h. omega (arith, h.1))
 
-  pub asked_to_step : (n : ℕ) (mid new : List Stretch) → AreAskedTo n mid → Gains (asks n) mid new → AreAskedTo (n + 1) new
+  pub asked_to_step : (n : ℕ) (mid new : List BaseRun) → AreAskedTo n mid → Gains (asks n) mid new → AreAskedTo (n + 1) new
   asked_to_step n mid new before more =
       gains_as (λ r p. ((x : ℕ) × (x < n) × asks x r p) ⊎ asks n r p) (λ r p. (x : ℕ) × (x < n + 1) × asks x r p) first new (λ r p. (
         ⊎_elim (λ h. (h.0, omega (arith, h.1), h.2)) (λ h. (n, omega arith, h)),
@@ -130,7 +131,7 @@ module _ (asks : ℕ → ℕ → ℕ → Type 0) (first : List Stretch) where
       ))
       (gains_append (λ r p. (x : ℕ) × (x < n) × asks x r p) (asks n) first mid new before more)
 
-  pub asked_to_last : (n : ℕ) (now : List Stretch) → ((x r p : ℕ) → asks x r p → x < n) → AreAskedTo n now → Gains (λ r p. (x : ℕ) × asks x r p) first now
+  pub asked_to_last : (n : ℕ) (now : List BaseRun) → ((x r p : ℕ) → asks x r p → x < n) → AreAskedTo n now → Gains (λ r p. (x : ℕ) × asks x r p) first now
   asked_to_last n now all =
       gains_as (λ r p. (x : ℕ) × (x < n) × asks x r p) (λ r p. (x : ℕ) × asks x r p) first now (λ r p. (
         λ h. (h.0, h.2),
@@ -145,7 +146,7 @@ pub drop_declared : (body : BodyText) (x r p : ℕ) → AsksForDrop body x r p �
 drop_declared body x r p h = slice_get_within body.variables x h.0 h.1
 
 -- what uses and drops ask for together are the base elements
-pub both_asked : (body : BodyText) (mid new : List Stretch) → Gains (λ r p. (x : ℕ) × AsksForUse body x r p) [] mid → Gains (λ r p. (x : ℕ) × AsksForDrop body x r p) mid new → (r p : ℕ) → Covers new r p ↔ IsBaseOf body r p
+pub both_asked : (body : BodyText) (mid new : List BaseRun) → Gains (λ r p. (x : ℕ) × AsksForUse body x r p) [] mid → Gains (λ r p. (x : ℕ) × AsksForDrop body x r p) mid new → (r p : ℕ) → IsInBaseRuns new r p ↔ IsBaseOf body r p
 both_asked body mid new uses drops r p = (
   λ h. ⊎_elim
       (λ before. ⊎_elim

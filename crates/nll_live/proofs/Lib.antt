@@ -4,6 +4,6 @@ pub mod MarkLemmas
 pub mod WalkLemmas
 pub mod SearchLemmas
 pub mod SetLemmas
-pub mod StretchLemmas
+pub mod BaseRunLemmas
 pub mod PairLemmas
 pub mod AskLemmas

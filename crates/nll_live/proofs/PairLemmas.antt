@@ -6,8 +6,8 @@ use Rattle.std.proofs.lemmas.List.{get_or_default}
 use Rattle.std.proofs.lemmas.List.Elements.{Contains-get_or, Contains-push, Contains-push_cases, Contains-append_left}
 use Rattle.std.proofs.lemmas.List.Quantifiers.{all_pairs_push}
 use Rattle.nll_problem.specs.Problem.{IsEarlier}
-use Rattle.nll_live.specs.Stretches.{GetsPoints, GetsStretch, ComesNext, AreSmall}
-use Rattle.nll_live.specs.declared.stretch.Stretch.{Stretch}
+use Rattle.nll_live.specs.BaseRuns.{GetsPoints, GetsBaseRun, ComesNext, AreSmall}
+use Rattle.nll_problem.specs.declared.base_run.BaseRun.{BaseRun}
 
 -- all pairs come before this one
 abbrev pub AllBefore : List (ℕ × ℕ) → ℕ → ℕ → Type 0
@@ -119,9 +119,9 @@ module _ (pairs : List (ℕ × ℕ)) (ascending : AllPairs IsEarlier pairs) (reg
   pub last_reached : (d e : ℕ × ℕ) → (at_end d).0 ≡ region → (p : ℕ) → p < (at_end e).1 + 1 → (q : ℕ) × (p ≤ q) × Contains pairs (region, q)
   last_reached d e same p low = ((at_end e).1, omega (arith, low), subst (λ r. Contains pairs (r, (at_end e).1)) (ap (λ (x : ℕ × ℕ). x.0) (same_end e d) ∙ same) (last_there e))
 
--- ---- one stretch
+-- ---- one run
 
-module _ (s : Stretch) (old : List (ℕ × ℕ)) (next : ComesNext s old) where
+module _ (s : BaseRun) (old : List (ℕ × ℕ)) (next : ComesNext s old) where
   pub none_behind : (r p : ℕ) → Contains old (r, p) → r ≤ s.region
   none_behind r p h = ⊎_elim (λ low. omega (arith, low)) (λ on. omega (arith, on.0)) (next r p h)
 
@@ -132,9 +132,9 @@ module _ (s : Stretch) (old : List (ℕ × ℕ)) (next : ComesNext s old) where
         (λ on. inr (on.0, omega (arith, behind, above p (subst (λ k. Contains old (k, p)) on.0 h))))
         (next r p h)
 
-    -- what of the stretch isn't behind what is there is there already
-    pub stretch_got : (new : List (ℕ × ℕ)) → (first ≡ s.first) ⊎ (first ≡ upto) → ((p : ℕ) → p < upto → (q : ℕ) × (p ≤ q) × Contains old (s.region, q)) → GetsPoints s.region first s.end old new → GetsStretch s old new
-    stretch_got new which reached gets r p = (
+    -- what of the run isn't behind what is there is there already
+    pub base_run_got : (new : List (ℕ × ℕ)) → (first ≡ s.first) ⊎ (first ≡ upto) → ((p : ℕ) → p < upto → (q : ℕ) × (p ≤ q) × Contains old (s.region, q)) → GetsPoints s.region first s.end old new → GetsBaseRun s old new
+    base_run_got new which reached gets r p = (
       λ h. ⊎_elim inl (λ on. inr (on.0, omega (arith, on.1, begins), on.2)) ((gets r p).0 h),
       λ h. (gets r p).1 (⊎_elim inl (λ on. ⊎_elim
           (λ low. inl (subst (λ k. Contains old (k, p)) on.0 (there p on.1 low)))
@@ -147,5 +147,5 @@ module _ (s : Stretch) (old : List (ℕ × ℕ)) (next : ComesNext s old) where
             let q = reached p (⊎_elim (λ is. absurd (omega (arith, is, from, low))) (λ is. omega (arith, is, low)) which) in
             ⊎_elim (λ less. absurd (omega (arith, less))) (λ on. on.1 p from q.1) (next s.region q.0 q.2)
 
-    pub small_got : (new : List (ℕ × ℕ)) → s.end < 4294967296 → AreSmall old → GetsStretch s old new → AreSmall new
+    pub small_got : (new : List (ℕ × ℕ)) → s.end < 4294967296 → AreSmall old → GetsBaseRun s old new → AreSmall new
     small_got new ends small gets r p h = ⊎_elim (small r p) (λ on. omega (arith, on.2, ends)) ((gets r p).0 h)

@@ -2,4 +2,4 @@ pub mod Live
 pub mod LiveSets
 pub mod Gathering
 pub mod Marks
-pub mod Stretches
+pub mod BaseRuns

@@ -6,13 +6,13 @@ ghost use Rattle.nll_problem.specs.Problem.{IsEarlier};
 ghost use Rattle.nll_body.specs.Sound.{IsSound};
 ghost use Rattle.nll_live.specs.Live.{AsksForUse, AsksForDrop, IsBaseOf};
 ghost use Rattle.nll_live.specs.LiveSets.{AreLiveSets};
-ghost use Rattle.nll_live.specs.Stretches.{Covers, Gains};
+ghost use Rattle.nll_problem.specs.BaseRuns.{IsInBaseRuns};
+ghost use Rattle.nll_live.specs.BaseRuns.{Gains};
 
+use crate::base_runs::{pairs_of, push_all};
 use crate::live_sets::LiveSets;
-use crate::stretch::Stretch;
-use crate::stretches::{pairs_of, push_all};
 use nll_body::Body;
-use nll_problem::RegionId;
+use nll_problem::{BaseRun, RegionId};
 use nll_sets::Memory;
 use std::alloc::Global;
 
@@ -35,9 +35,9 @@ pub fn bases(alloc: Global, body: &Body, sets: &LiveSets) -> Result<Vec<(RegionI
     ensures within { IfOk result (λ v. (r p : ℕ) → Contains v.items (r, p)
         → (r < length body.now.names) × (p < length body.now.points)) }
 {
-    let mut stretches = Vec::new(alloc);
-    let pairs = pairs_asked_for(alloc, body, sets, &mut stretches);
-    drop(stretches);
+    let mut base_runs = Vec::new(alloc);
+    let pairs = pairs_asked_for(alloc, body, sets, &mut base_runs);
+    drop(base_runs);
     pairs
 }
 
@@ -46,76 +46,76 @@ fn pairs_asked_for(
     alloc: Global,
     body: &Body,
     sets: &LiveSets,
-    stretches: &mut Vec<Stretch>,
+    base_runs: &mut Vec<BaseRun>,
 ) -> Result<Vec<(RegionId, u32)>, Memory>
     requires sets { AreLiveSets body.now sets.now }
-    requires nothing { stretches.old.items ≡ [] }
+    requires nothing { base_runs.old.items ≡ [] }
     ensures each { IfOk result (λ v. (r p : ℕ) → Contains v.items (r, p) ↔ IsBaseOf body.now r p) }
     ensures ascending { IfOk result (λ v. AllPairs IsEarlier v.items) }
     ensures within { IfOk result (λ v. (r p : ℕ) → Contains v.items (r, p)
         → (r < length body.now.names) × (p < length body.now.points)) }
 {
-    push_variables(alloc, body, sets, stretches)?;
-    let pairs = pairs_of(alloc, stretches)?;
+    push_variables(alloc, body, sets, base_runs)?;
+    let pairs = pairs_of(alloc, base_runs)?;
     Ok(pairs)
 }
 
-// Puts the stretches that each variable asks for into an empty list.
+// Puts the runs of base elements that each variable asks for into an empty list.
 fn push_variables(
     alloc: Global,
     body: &Body,
     sets: &LiveSets,
-    stretches: &mut Vec<Stretch>,
+    base_runs: &mut Vec<BaseRun>,
 ) -> Result<(), Memory>
     requires sets { AreLiveSets body.now sets.now }
-    requires nothing { stretches.old.items ≡ [] }
+    requires nothing { base_runs.old.items ≡ [] }
     ensures each { OnOk result
-        ((r p : ℕ) → Covers stretches.new.items r p ↔ IsBaseOf body.now r p) }
+        ((r p : ℕ) → IsInBaseRuns base_runs.new.items r p ↔ IsBaseOf body.now r p) }
     ensures sound { OnOk result (IsSound body.now) }
 {
     for variable in 0..body.variables() {
-        push_uses(alloc, body, sets, variable as u32, stretches)?;
-        push_drops(alloc, body, sets, variable as u32, stretches)?;
+        push_uses(alloc, body, sets, variable as u32, base_runs)?;
+        push_drops(alloc, body, sets, variable as u32, base_runs)?;
     }
     Ok(())
 }
 
-// Puts the stretches that a variable asks for where it is use-live behind the others.
+// Puts the runs of base elements that a variable asks for where it is use-live behind the others.
 fn push_uses(
     alloc: Global,
     body: &Body,
     sets: &LiveSets,
     variable: u32,
-    stretches: &mut Vec<Stretch>,
+    base_runs: &mut Vec<BaseRun>,
 ) -> Result<(), Memory>
     requires sets { AreLiveSets body.now sets.now }
     requires variable { variable < length body.now.variables }
     requires few { length body.now.points < 2 ^ 32 }
     ensures { OnOk result (Gains (AsksForUse body.now variable)
-        stretches.old.items stretches.new.items) }
+        base_runs.old.items base_runs.new.items) }
 {
     let regions = body.var_regions(alloc, variable)?;
-    let told = push_all(stretches, regions.as_slice(), sets.use_runs(variable));
+    let told = push_all(base_runs, regions.as_slice(), sets.use_runs(variable));
     drop(regions);
     told
 }
 
-// Puts the stretches that a variable asks for where it is drop-live behind the others.
+// Puts the runs of base elements that a variable asks for where it is drop-live behind the others.
 fn push_drops(
     alloc: Global,
     body: &Body,
     sets: &LiveSets,
     variable: u32,
-    stretches: &mut Vec<Stretch>,
+    base_runs: &mut Vec<BaseRun>,
 ) -> Result<(), Memory>
     requires sets { AreLiveSets body.now sets.now }
     requires variable { variable < length body.now.variables }
     requires few { length body.now.points < 2 ^ 32 }
     ensures { OnOk result (Gains (AsksForDrop body.now variable)
-        stretches.old.items stretches.new.items) }
+        base_runs.old.items base_runs.new.items) }
 {
     let regions = body.var_drop_regions(alloc, variable)?;
-    let told = push_all(stretches, regions.as_slice(), sets.drop_runs(variable));
+    let told = push_all(base_runs, regions.as_slice(), sets.drop_runs(variable));
     drop(regions);
     told
 }

@@ -2,25 +2,24 @@
 //! before the next is looked at, and a variable that asks for nothing isn't looked at.
 
 ghost use Rattle.std.specs.Prelude.{◌≡◌, ◌↔◌, ◌+◌, ◌^◌, ◌<◌, ◌≤◌, ℕ, [], length, map, slice_index};
-ghost use Rattle.std.specs.Prelude.{AllPairs, Contains, IfOk, OnOk, replicate};
-ghost use Rattle.nll_problem.specs.Problem.{IsEarlier};
+ghost use Rattle.std.specs.Prelude.{Contains, IfOk, OnOk, replicate};
 ghost use Rattle.nll_body.specs.Bodies.{IsGraphOf};
 ghost use Rattle.nll_body.specs.Sound.{IsSound};
 ghost use Rattle.nll_live.specs.Gathering.{AreListed};
 ghost use Rattle.nll_live.specs.Live.{AsksForUse, AsksForDrop, DropsAt, IsBaseOf, IsLive, UsesAt};
-ghost use Rattle.nll_live.specs.Stretches.{Covers, Gains};
+ghost use Rattle.nll_problem.specs.BaseRuns.{IsInBaseRuns};
+ghost use Rattle.nll_live.specs.BaseRuns.{Gains};
 
+use crate::base_runs::push_all;
 use crate::gathering::{drops_by_variable, uses_by_variable};
 use crate::live_points::find_set;
-use crate::stretch::Stretch;
-use crate::stretches::{pairs_of, push_all};
 use nll_body::Body;
-use nll_problem::{Predecessors, RegionId};
+use nll_problem::{BaseRun, Predecessors, RegionId};
 use nll_sets::Memory;
 use std::alloc::Global;
 
-/// The base elements of regions that come of the liveness of variables, as `bases` gives them of the
-/// sets that `liveness` makes.
+/// The base elements of regions that come of the liveness of variables, by runs: for each variable
+/// and each region that it asks for those of the points where it is live, in no order.
 ///
 /// # Errors
 /// - `Memory`.
@@ -28,50 +27,36 @@ use std::alloc::Global;
 /// # Cost
 /// The uses and drops of all variables; for each variable whose type has a region, the points where
 /// it is live and the edges that lead to them; and for each region of its type the runs of these
-/// points, sorting all these, and the pairs that come out (not proved).
+/// points, which are what comes out (not proved).
 ///
 /// # Source
 /// RFC 2094, "Liveness" and "Drop".
-pub fn live_bases(alloc: Global, body: &Body) -> Result<Vec<(RegionId, u32)>, Memory>
-    ensures each { IfOk result (λ v. (r p : ℕ) → Contains v.items (r, p) ↔ IsBaseOf body.now r p) }
-    ensures ascending { IfOk result (λ v. AllPairs IsEarlier v.items) }
-    ensures within { IfOk result (λ v. (r p : ℕ) → Contains v.items (r, p)
+pub fn live_runs(alloc: Global, body: &Body) -> Result<Vec<BaseRun>, Memory>
+    ensures each { IfOk result (λ v. (r p : ℕ) → IsInBaseRuns v.items r p ↔ IsBaseOf body.now r p) }
+    ensures within { IfOk result (λ v. (r p : ℕ) → IsInBaseRuns v.items r p
         → (r < length body.now.names) × (p < length body.now.points)) }
 {
-    let mut stretches = Vec::new(alloc);
-    let pairs = pairs_found(alloc, body, &mut stretches);
-    drop(stretches);
-    pairs
+    let mut runs = Vec::new(alloc);
+    match push_live(alloc, body, &mut runs) {
+        Ok(()) => Ok(runs),
+        Err(memory) => {
+            drop(runs);
+            Err(memory)
+        }
+    }
 }
 
-// The base elements. The empty list is for its own use.
-fn pairs_found(
-    alloc: Global,
-    body: &Body,
-    stretches: &mut Vec<Stretch>,
-) -> Result<Vec<(RegionId, u32)>, Memory>
-    requires nothing { stretches.old.items ≡ [] }
-    ensures each { IfOk result (λ v. (r p : ℕ) → Contains v.items (r, p) ↔ IsBaseOf body.now r p) }
-    ensures ascending { IfOk result (λ v. AllPairs IsEarlier v.items) }
-    ensures within { IfOk result (λ v. (r p : ℕ) → Contains v.items (r, p)
-        → (r < length body.now.names) × (p < length body.now.points)) }
-{
-    push_live(alloc, body, stretches)?;
-    let pairs = pairs_of(alloc, stretches)?;
-    Ok(pairs)
-}
-
-// Puts the stretches that variables ask for into an empty list.
-fn push_live(alloc: Global, body: &Body, stretches: &mut Vec<Stretch>) -> Result<(), Memory>
-    requires nothing { stretches.old.items ≡ [] }
+// Puts the runs of base elements that variables ask for into an empty list.
+fn push_live(alloc: Global, body: &Body, base_runs: &mut Vec<BaseRun>) -> Result<(), Memory>
+    requires nothing { base_runs.old.items ≡ [] }
     ensures each { OnOk result
-        ((r p : ℕ) → Covers stretches.new.items r p ↔ IsBaseOf body.now r p) }
+        ((r p : ℕ) → IsInBaseRuns base_runs.new.items r p ↔ IsBaseOf body.now r p) }
     ensures sound { OnOk result (IsSound body.now) }
 {
     // No effect at run time. The proof reads from this call that the body is sound.
     let _ = body.points();
     let previous = Predecessors::of(alloc, body.graph())?;
-    let told = push_both(alloc, body, &previous, stretches);
+    let told = push_both(alloc, body, &previous, base_runs);
     drop(previous);
     told
 }
@@ -81,48 +66,48 @@ fn push_both(
     alloc: Global,
     body: &Body,
     previous: &Predecessors<'_>,
-    stretches: &mut Vec<Stretch>,
+    base_runs: &mut Vec<BaseRun>,
 ) -> Result<(), Memory>
     requires shown { IsGraphOf body.now previous.now }
-    requires nothing { stretches.old.items ≡ [] }
+    requires nothing { base_runs.old.items ≡ [] }
     ensures { OnOk result
-        ((r p : ℕ) → Covers stretches.new.items r p ↔ IsBaseOf body.now r p) }
+        ((r p : ℕ) → IsInBaseRuns base_runs.new.items r p ↔ IsBaseOf body.now r p) }
 {
-    push_uses(alloc, body, previous, stretches)?;
-    push_drops(alloc, body, previous, stretches)?;
+    push_uses(alloc, body, previous, base_runs)?;
+    push_drops(alloc, body, previous, base_runs)?;
     Ok(())
 }
 
-// Puts the stretches that variables ask for where they are use-live behind the others.
+// Puts the runs of base elements that variables ask for where they are use-live behind the others.
 fn push_uses(
     alloc: Global,
     body: &Body,
     previous: &Predecessors<'_>,
-    stretches: &mut Vec<Stretch>,
+    base_runs: &mut Vec<BaseRun>,
 ) -> Result<(), Memory>
     requires { IsGraphOf body.now previous.now }
     ensures { OnOk result (Gains (λ r p. (x : ℕ) × AsksForUse body.now x r p)
-        stretches.old.items stretches.new.items) }
+        base_runs.old.items base_runs.new.items) }
 {
     let lists = uses_by_variable(alloc, body)?;
-    let told = push_each_use(alloc, body, previous, lists.as_slice(), stretches);
+    let told = push_each_use(alloc, body, previous, lists.as_slice(), base_runs);
     drop(lists);
     told
 }
 
-// Puts the stretches that variables ask for where they are drop-live behind the others.
+// Puts the runs of base elements that variables ask for where they are drop-live behind the others.
 fn push_drops(
     alloc: Global,
     body: &Body,
     previous: &Predecessors<'_>,
-    stretches: &mut Vec<Stretch>,
+    base_runs: &mut Vec<BaseRun>,
 ) -> Result<(), Memory>
     requires { IsGraphOf body.now previous.now }
     ensures { OnOk result (Gains (λ r p. (x : ℕ) × AsksForDrop body.now x r p)
-        stretches.old.items stretches.new.items) }
+        base_runs.old.items base_runs.new.items) }
 {
     let lists = drops_by_variable(alloc, body)?;
-    let told = push_each_drop(alloc, body, previous, lists.as_slice(), stretches);
+    let told = push_each_drop(alloc, body, previous, lists.as_slice(), base_runs);
     drop(lists);
     told
 }
@@ -133,13 +118,13 @@ fn push_each_use(
     body: &Body,
     previous: &Predecessors<'_>,
     lists: &[Vec<u32>],
-    stretches: &mut Vec<Stretch>,
+    base_runs: &mut Vec<BaseRun>,
 ) -> Result<(), Memory>
     requires shown { IsGraphOf body.now previous.now }
     requires listed { AreListed (length body.now.variables) (UsesAt body.now)
         (length body.now.points) (map (λ list. list.items) lists.now) }
     ensures { OnOk result (Gains (λ r p. (x : ℕ) × AsksForUse body.now x r p)
-        stretches.old.items stretches.new.items) }
+        base_runs.old.items base_runs.new.items) }
 {
     let mut room = room_for(alloc, body.points())?;
     for variable in 0..body.variables() {
@@ -153,7 +138,7 @@ fn push_each_use(
             list,
             regions.as_slice(),
             &mut room,
-            stretches,
+            base_runs,
         )?;
     }
     Ok(())
@@ -165,13 +150,13 @@ fn push_each_drop(
     body: &Body,
     previous: &Predecessors<'_>,
     lists: &[Vec<u32>],
-    stretches: &mut Vec<Stretch>,
+    base_runs: &mut Vec<BaseRun>,
 ) -> Result<(), Memory>
     requires shown { IsGraphOf body.now previous.now }
     requires listed { AreListed (length body.now.variables) (DropsAt body.now)
         (length body.now.points) (map (λ list. list.items) lists.now) }
     ensures { OnOk result (Gains (λ r p. (x : ℕ) × AsksForDrop body.now x r p)
-        stretches.old.items stretches.new.items) }
+        base_runs.old.items base_runs.new.items) }
 {
     let mut room = room_for(alloc, body.points())?;
     for variable in 0..body.variables() {
@@ -185,7 +170,7 @@ fn push_each_drop(
             list,
             regions.as_slice(),
             &mut room,
-            stretches,
+            base_runs,
         )?;
     }
     Ok(())
@@ -209,8 +194,8 @@ fn room_for(alloc: Global, points: u32) -> Result<Room, Memory>
     })
 }
 
-// Puts the stretches of these regions behind the others, at the points from which a walk leads to
-// one of the list. The room's marks are of earlier variables.
+// Puts the runs of base elements of these regions behind the others, at the points from which a
+// walk leads to one of the list. The room's marks are of earlier variables.
 fn push_found(
     alloc: Global,
     body: &Body,
@@ -219,7 +204,7 @@ fn push_found(
     list: &[u32],
     regions: &[RegionId],
     room: &mut Room,
-    stretches: &mut Vec<Stretch>,
+    base_runs: &mut Vec<BaseRun>,
 ) -> Result<(), Memory>
     requires shown { IsGraphOf body.now previous.now }
     requires variable { variable < length body.now.variables }
@@ -229,7 +214,7 @@ fn push_found(
     requires fresh { (p : ℕ) → slice_index room.old.marks.items p ≤ variable }
     ensures gains { OnOk result
         (Gains (λ r p. Contains regions.now r × IsLive body.now (Contains list.now) variable p)
-        stretches.old.items stretches.new.items) }
+        base_runs.old.items base_runs.new.items) }
     ensures width { OnOk result (length room.new.marks.items ≡ length body.now.points) }
     ensures fresh { OnOk result ((p : ℕ) → slice_index room.new.marks.items p ≤ variable + 1) }
 {
@@ -247,6 +232,6 @@ fn push_found(
         marks,
         &mut room.found,
     )?;
-    push_all(stretches, regions, set.as_runs())?;
+    push_all(base_runs, regions, set.as_runs())?;
     Ok(())
 }

@@ -2,19 +2,18 @@
 //! regions that come of it. It knows no text.
 //!
 //! Reading order: `live_sets`, `live_points`, `base_elements`, `base_search`; `gathering`, `search`,
-//! `stretch`, `stretches`. The definitions are in specs/.
+//! `base_runs`. The definitions are in specs/.
 #![tactic(auto)]
 
 mod base_elements;
+mod base_runs;
 mod base_search;
 mod gathering;
 mod live_points;
 mod live_sets;
 mod search;
-mod stretch;
-mod stretches;
 
 pub use base_elements::bases;
-pub use base_search::live_bases;
+pub use base_search::live_runs;
 pub use live_points::liveness;
 pub use live_sets::LiveSets;

@@ -5,9 +5,9 @@ ghost use Rattle.nll_live.specs.LiveSets.{AreLiveSets};
 
 use crate::live_rounds::{is_flagged, live_by_rounds};
 use nll_body::Body;
-use nll_live::{LiveSets, bases, live_bases, liveness};
+use nll_live::{LiveSets, bases, live_runs, liveness};
 use nll_mir_text::read_mir;
-use nll_problem::RegionId;
+use nll_problem::{BaseRun, RegionId};
 use nll_reading::{TextError, TextKind};
 use nll_sets::Memory;
 use std::alloc::{AllocError, Global};
@@ -74,14 +74,35 @@ fn write_variables(out: &mut String, body: &Body, sets: &LiveSets) -> Result<(),
     Ok(())
 }
 
-// Writes the base elements of a body that are found without sets, where they are others than these.
+// Puts the base elements of a run behind others.
+fn push_run(pairs: &mut Vec<(RegionId, u32)>, run: &BaseRun) -> Result<(), AllocError> {
+    for point in run.first..run.end {
+        pairs.push((run.region, point))?;
+    }
+    Ok(())
+}
+
+// The base elements of runs, ascending, each once.
+fn pairs_of(alloc: Global, runs: &[BaseRun]) -> Result<Vec<(RegionId, u32)>, AllocError> {
+    let mut pairs = Vec::new(alloc);
+    for run in runs {
+        push_run(&mut pairs, run)?;
+    }
+    pairs.sort_unstable();
+    pairs.dedup();
+    Ok(pairs)
+}
+
+// Writes the base elements of a body that are found by runs, where they are others than these.
 fn write_others(
     alloc: Global,
     out: &mut String,
     body: &Body,
     pairs: &[(RegionId, u32)],
 ) -> Result<(), Memory> {
-    let found = live_bases(alloc, body)?;
+    let runs = live_runs(alloc, body)?;
+    let found = pairs_of(alloc, runs.as_slice())?;
+    drop(runs);
     let written = if found.as_slice() == pairs {
         Ok(())
     } else {

@@ -9,3 +9,5 @@ pub mod ProblemLemmas
 pub mod WalkLemmas
 pub mod OrderLemmas
 pub mod IndexLemmas
+pub mod BaseRunLemmas
+pub mod MergingLemmas

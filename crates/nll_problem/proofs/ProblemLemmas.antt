@@ -2,8 +2,10 @@
 use Rattle.std.proofs.Common.{◌≡◌, ℕ, ◌+◌, ◌<◌, ◌≤◌, List, [], ◌⊎◌, AllPairs, Contains, length, refl, subst, ⊎_elim, arith}
 use Rattle.nll_problem.specs.Graph.{Graph, IsSound as IsSoundGraph}
 use Rattle.nll_problem.specs.Limits.{most_regions, most_constraints}
+use Rattle.nll_problem.specs.BaseRuns.{IsInBaseRun}
 use Rattle.nll_problem.specs.Building.{bare_problem}
 use Rattle.nll_problem.specs.Problem.{Problem, IsSound, IsFinished, IsEarlier, IsOnce, IsUniversal, SameSet, SameProblem}
+use Rattle.nll_problem.specs.declared.base_run.BaseRun.{BaseRun}
 use Rattle.nll_problem.specs.declared.constraint.Constraint.{Constraint}
 use Rattle.nll_problem.proofs.OrderLemmas.{ascending_once}
 use Rattle.nll_problem.proofs.SameLemmas.{same_set}
@@ -89,6 +91,13 @@ module _ (q : Problem) (s : IsSound q) where
       (s.bases_in_range x y)
       (λ is. subst (λ (z : ℕ × ℕ). (z.0 < q.regions) × (z.1 < q.graph.points)) is (region, point))
       (only (x, y) h)) once
+
+  -- those of a run
+  pub sound_run : (new : List (ℕ × ℕ)) (run : BaseRun) → ((r p : ℕ) → Contains new (r, p) → Contains q.bases (r, p) ⊎ IsInBaseRun run r p) → IsOnce new → run.region < q.regions → run.end ≤ q.graph.points → IsSound (record q { bases = new })
+  sound_run new run only once region points = sound_other_bases new (λ r p h. ⊎_elim
+      (s.bases_in_range r p)
+      (λ own. (omega (arith, own.0, region), omega (arith, own.2, points)))
+      (only r p h)) once
 
   pub sound_constraints : (new : List Constraint) (c : Constraint) → ((d : Constraint) → Contains new d → Contains q.constraints d ⊎ (c ≡ d)) → IsOnce new → c.sup < q.regions → c.sub < q.regions → c.at < q.graph.points → length new ≤ most_constraints → IsSound (record q { constraints = new })
   sound_constraints new c only once sup sub at room = record {

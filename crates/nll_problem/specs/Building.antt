@@ -9,6 +9,7 @@ use Rattle.nll_problem.specs.GraphBuilding as of_graph
 use Rattle.nll_problem.specs.Graph.{Graph}
 use Rattle.nll_problem.specs.Limits.{most_regions, most_constraints}
 use Rattle.nll_problem.specs.Problem.{Problem, problem_of}
+use Rattle.nll_problem.specs.declared.base_run.BaseRun.{BaseRun}
 use Rattle.nll_problem.specs.declared.constraint.Constraint.{Constraint}
 use Rattle.nll_problem.specs.declared.error.BuildError.{BuildError}
 use Rattle.nll_problem.specs.declared.error.BuildError.TheVariants.{PointRange, RegionRange, Limit}
@@ -68,6 +69,13 @@ outlives_error q a b =
 abbrev pub base_error : Problem → ℕ → ℕ → Option BuildError
 base_error q r p =
     first_error ((not (is_point q p), PointRange) ∷ (not (is_region q r), RegionRange) ∷ [])
+
+-- of a run of base facts: none where it has no point
+abbrev pub base_run_error : Problem → BaseRun → Option BuildError
+base_run_error q run = first_error (
+    (nat_lt run.first run.end && not (nat_le run.end q.graph.points), PointRange)
+    ∷ (nat_lt run.first run.end && not (is_region q run.region), RegionRange)
+    ∷ [])
 
 -- of a constraint
 abbrev pub constraint_error : Problem → Constraint → Option BuildError

@@ -12,3 +12,5 @@ pub mod Turning
 pub mod Bases
 pub mod ConstraintIndex
 pub mod Adjacency
+pub mod BaseRuns
+pub mod Merging

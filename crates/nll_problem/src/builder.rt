@@ -1,16 +1,19 @@
 //! The builder of a problem.
 
-ghost use Rattle.std.specs.Prelude.{◌≡◌, ◌⊎◌, ◌+◌, ◌<◌, IsTrue, IsFalse, length};
+ghost use Rattle.std.specs.Prelude.{◌≡◌, ◌⊎◌, ◌+◌, ◌<◌, ◌≤◌, IsTrue, IsFalse, length};
 ghost use Rattle.std.specs.Prelude.{OnOk, OnErr, IfOk, IsOkAnd};
 ghost use Rattle.nll_problem.specs.Answers.{Answers, AddsFact};
+ghost use Rattle.nll_problem.specs.BaseRuns.{AddsRun, IsProper};
 ghost use Rattle.nll_problem.specs.Building as building;
 ghost use Rattle.nll_problem.specs.Building.{AnswersExactly, bare_problem};
-ghost use Rattle.nll_problem.specs.Building.{base_error, constraint_error, has_constraint, is_full};
+ghost use Rattle.nll_problem.specs.Building.{base_error, base_run_error, constraint_error};
+ghost use Rattle.nll_problem.specs.Building.{has_constraint, is_full};
 ghost use Rattle.nll_problem.specs.Building.{outlives_error, region_error};
 ghost use Rattle.nll_problem.specs.GraphBuilding.{bare_graph, edge_error, graph_error};
 ghost use Rattle.nll_problem.specs.GraphBuilding.{return_error};
 ghost use Rattle.nll_problem.specs.Problem.{IsSound, SameProblem};
 
+use crate::base_run::BaseRun;
 use crate::bases::Bases;
 use crate::constraint::Constraint;
 use crate::constraint_set::ConstraintSet;
@@ -187,6 +190,31 @@ impl ProblemBuilder {
         Ok(())
     }
 
+    /// Adds a run of base elements to its region. A run without a point adds nothing.
+    ///
+    /// # Errors
+    /// - `PointRange`: one of them isn't a point.
+    /// - `RegionRange`: they are some, and the region isn't one of the problem.
+    /// - `Memory`.
+    pub fn base_run(&mut self, run: BaseRun) -> Result<(), BuildError>
+        ensures answers { Answers (base_run_error self.old run) result }
+        ensures ok { OnOk result (AddsRun self.old.bases self.new.bases run) }
+        ensures others { self.new ≡ record self.old { bases = self.new.bases } }
+        ensures err { OnErr result (self.new ≡ self.old) }
+    {
+        if run.first >= run.end {
+            return Ok(());
+        }
+        if run.end > self.graph.points() {
+            return Err(BuildError::PointRange);
+        }
+        if !self.is_region(run.region) {
+            return Err(BuildError::RegionRange);
+        }
+        self.add_run(run)?;
+        Ok(())
+    }
+
     /// Adds a constraint.
     ///
     /// # Errors
@@ -304,6 +332,19 @@ impl ProblemBuilder {
         ensures err { OnErr result (self.new ≡ self.old) }
     {
         self.bases.insert(region, point)?;
+        Ok(())
+    }
+
+    // Adds a run of base elements to its region.
+    fn add_run(&mut self, run: BaseRun) -> Result<(), Memory>
+        requires proper { IsProper run }
+        requires region { run.region < self.old.regions }
+        requires points { run.end ≤ self.old.graph.points }
+        ensures ok { OnOk result (AddsRun self.old.bases self.new.bases run) }
+        ensures others { self.new ≡ record self.old { bases = self.new.bases } }
+        ensures err { OnErr result (self.new ≡ self.old) }
+    {
+        self.bases.insert_run(run)?;
         Ok(())
     }
 

@@ -1,10 +1,11 @@
 //! Problems of location-aware regions over a control-flow graph: what they are, and what they mean.
 //! It knows no text and no names.
 //!
-//! Reading order: `region`, `constraint`, `graph`, `graph_builder`, `predecessors`, `problem`,
-//! `builder`, `constraint_index`. The definitions are in specs/.
+//! Reading order: `region`, `constraint`, `base_run`, `graph`, `graph_builder`, `predecessors`,
+//! `problem`, `builder`, `constraint_index`. The definitions are in specs/.
 #![tactic(auto)]
 
+mod base_run;
 mod bases;
 mod builder;
 mod chain;
@@ -15,6 +16,7 @@ mod error;
 mod graph;
 mod graph_builder;
 mod limits;
+mod merging;
 mod outlives;
 mod predecessors;
 mod problem;
@@ -23,6 +25,7 @@ mod rows;
 mod rows_builder;
 mod turning;
 
+pub use base_run::BaseRun;
 pub use builder::ProblemBuilder;
 pub use constraint::Constraint;
 pub use constraint_index::ConstraintIndex;

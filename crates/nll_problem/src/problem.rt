@@ -1,11 +1,14 @@
 //! Problems: regions over a graph, their base elements and the constraints between them.
 
-ghost use Rattle.std.specs.Prelude.{◌≡◌, ◌↔◌, AllPairs, Contains, IsTrue};
+ghost use Rattle.std.specs.Prelude.{◌≡◌, ◌↔◌, ℕ, AllPairs, Contains, IsTrue};
+ghost use Rattle.nll_problem.specs.BaseRuns.{AreLeast, IsInBaseRuns, facts_of_runs};
 ghost use Rattle.nll_problem.specs.Problem.{IsBase, IsEarlier, IsFinished, IsSound, problem_of};
 ghost use Rattle.nll_problem.specs.Building as building;
 
+use crate::base_run::BaseRun;
 use crate::constraint::Constraint;
 use crate::graph::Graph;
+use crate::merging::has_point;
 use crate::region::RegionId;
 use nll_sets::Element;
 use std::marker::Model;
@@ -18,7 +21,7 @@ use std::marker::Model;
 pub struct Problem {
     graph: Graph,
     regions: u32,
-    bases: Vec<(RegionId, u32)>,
+    bases: Vec<BaseRun>,
     constraints: Vec<Constraint>,
     outlives: Vec<(RegionId, RegionId)>,
 }
@@ -38,29 +41,33 @@ impl Drop for Problem {
 
 impl Model for Problem {
     ghost use Rattle.nll_problem.specs.Problem as spec;
+    ghost use Rattle.nll_problem.specs.BaseRuns.{AreLeast, facts_of_runs};
     ghost use Rattle.nll_problem.specs.Problem.{IsFinished, problem_of};
 
     ghost Value = { spec.Problem };
 
-    ghost view = { λ q.
-        problem_of q.graph q.regions q.bases.items q.constraints.items q.outlives.items };
+    ghost view = { λ q. problem_of q.graph q.regions (facts_of_runs q.bases.items)
+        q.constraints.items q.outlives.items };
 
-    ghost invariant = { λ q. IsFinished
-        (problem_of q.graph q.regions q.bases.items q.constraints.items q.outlives.items) };
+    ghost invariant = { λ q. IsFinished (problem_of q.graph q.regions
+        (facts_of_runs q.bases.items) q.constraints.items q.outlives.items)
+        × AreLeast q.bases.items };
 }
 
 impl Problem {
-    // The problem of these parts, whose base facts and outlives facts ascend.
+    // The problem of these parts, whose base facts, by runs, and outlives facts ascend.
     pub(crate) fn of(
         graph: Graph,
         regions: u32,
-        bases: Vec<(RegionId, u32)>,
+        bases: Vec<BaseRun>,
         constraints: Vec<Constraint>,
         outlives: Vec<(RegionId, RegionId)>,
     ) -> Problem
-        requires { IsFinished
-            (problem_of graph regions bases.items constraints.items outlives.items) }
-        ensures { result ≡ problem_of graph regions bases.items constraints.items outlives.items }
+        requires finished { IsFinished (problem_of graph regions (facts_of_runs bases.items)
+            constraints.items outlives.items) }
+        requires least { AreLeast bases.items }
+        ensures { result ≡ problem_of graph regions (facts_of_runs bases.items)
+            constraints.items outlives.items }
     {
         Problem {
             graph,
@@ -111,11 +118,14 @@ impl Problem {
         self.constraints.as_slice()
     }
 
-    /// The base facts, ascending by their regions and those of one region by their points, each
-    /// once.
-    pub fn bases(&self) -> &[(RegionId, u32)]
-        ensures value { result.now ≡ self.now.bases }
-        ensures ascending { AllPairs IsEarlier result.now }
+    /// The base facts, by as few runs as make them up, ascending by their regions and those of one
+    /// region by their points.
+    pub fn base_runs(&self) -> &[BaseRun]
+        ensures value { facts_of_runs result.now ≡ self.now.bases }
+        ensures each { (r p : ℕ)
+            → IsInBaseRuns result.now r p ↔ Contains self.now.bases (r, p) }
+        ensures least { AreLeast result.now }
+        ensures ascending { AllPairs IsEarlier self.now.bases }
         ensures sound { IsSound self.now }
     {
         self.bases.as_slice()
@@ -145,7 +155,7 @@ impl Problem {
     /// region holds from the start.
     ///
     /// # Cost
-    /// Logarithmic in the number of base facts (not proved).
+    /// Logarithmic in the number of runs of base facts (not proved).
     pub fn is_base(&self, region: RegionId, element: Element) -> bool
         ensures { IsTrue result ↔ IsBase self.now region element }
     {
@@ -160,7 +170,7 @@ impl Problem {
     fn has_base(&self, region: RegionId, point: u32) -> bool
         ensures { IsTrue result ↔ Contains self.now.bases (region, point) }
     {
-        self.bases.binary_search(&(region, point)).is_ok()
+        has_point(self.bases.as_slice(), region, point)
     }
 
     // Whether a number is a universal region.

@@ -1,5 +1,5 @@
 //! Calls of a builder: what they answer, and the problems that they make.
-use super::calls::Call::{Base, Holds, Next, Outlives, Region, Ret};
+use super::calls::Call::{Base, Holds, Next, Outlives, Region, Ret, Run};
 use super::calls::Calls;
 use super::rows::Asked::{Behind, Made, New};
 use super::rows::{Row, compare_rows};
@@ -94,6 +94,21 @@ const CALLS: &[Row] = &[
         "base facts of no point, which is told first",
         Behind((2, 2), REGION, &[Base(2, 2), Base(3, 2)]),
         "Err(PointRange)|Err(PointRange)|",
+    ),
+    (
+        "runs of base facts: to the last point, past it, of no region, of neither, and of no point",
+        Behind(
+            (2, 2),
+            REGION,
+            &[
+                Run(2, 0, 2),
+                Run(2, 1, 3),
+                Run(3, 0, 2),
+                Run(3, 1, 3),
+                Run(3, 3, 3),
+            ],
+        ),
+        "Ok(())|Err(PointRange)|Err(RegionRange)|Err(PointRange)|Ok(())|",
     ),
     (
         "constraints of the last region, of none and on none",
@@ -196,6 +211,27 @@ const MADE: &[Row] = &[
             Facts,
         ),
         "0 to [] from []|1 to [] from []|out []|0: 0 1 2|1: 1|2: 0 1|1 has 1|2 has 0|2 has 1|",
+    ),
+    (
+        "base facts and runs of them that go on, overlap, touch and are empty",
+        Made(
+            (5, 1),
+            &[
+                Region,
+                Region,
+                Run(2, 3, 5),
+                Run(1, 1, 3),
+                Base(1, 3),
+                Run(1, 0, 2),
+                Base(2, 0),
+                Run(2, 2, 4),
+                Run(1, 4, 4),
+            ],
+            Facts,
+        ),
+        "0 to [] from []|1 to [] from []|2 to [] from []|3 to [] from []|4 to [] from []|out []|\
+         0: 0 1 2 3 4 5|1: 0 1 2 3|2: 0 2 3 4|1 has 0|1 has 1|1 has 2|1 has 3|\
+         2 has 0|2 has 2|2 has 3|2 has 4|",
     ),
     (
         "a constraint and outlives facts",

@@ -2,6 +2,7 @@
 use super::telling::{OfProblem, tell};
 use super::transcript::Transcript;
 use nll_core::{BuildError, Constraint, ProblemBuilder, RegionId};
+use nll_problem::BaseRun;
 
 /// A call of a builder.
 #[derive(Clone, Copy)]
@@ -11,6 +12,8 @@ pub enum Call {
     Next(u32, u32),
     Ret(u32),
     Base(u32, u32),
+    // The region, the first point and the end.
+    Run(u32, u32, u32),
     // The larger region, the smaller one and the point.
     Holds(u32, u32, u32),
 }
@@ -53,7 +56,8 @@ fn random_call(seed: u32, place: u32) -> Call {
     match number % 8 {
         0 => Call::Next(first, second),
         1 => Call::Next(first, (first + 1) % 9),
-        2 | 3 | 4 => Call::Base(first, second),
+        2 | 3 => Call::Base(first, second),
+        4 => Call::Run(first, second, 9.min(second + third)),
         5 if third < 3 => Call::Ret(first),
         _ => Call::Holds(first, second, third),
     }
@@ -67,6 +71,11 @@ fn make(builder: &mut ProblemBuilder, call: Call) -> Result<(), BuildError> {
         Call::Next(from, to) => builder.next(from, to),
         Call::Ret(point) => builder.ret(point),
         Call::Base(region, point) => builder.base(RegionId(region), point),
+        Call::Run(region, first, end) => builder.base_run(BaseRun {
+            region: RegionId(region),
+            first,
+            end,
+        }),
         Call::Holds(sup, sub, at) => builder.constraint(Constraint {
             sup: RegionId(sup),
             sub: RegionId(sub),

@@ -8,7 +8,7 @@ use nll_core::{
     Element, ElementSet, Elements, Graph, Memory, Problem, RegionId, Values, faults, solve,
 };
 use nll_cut::Cut;
-use nll_problem::{ConstraintIndex, Predecessors};
+use nll_problem::{BaseRun, ConstraintIndex, Predecessors};
 use std::alloc::Global;
 
 /// What is asked of a problem.
@@ -56,10 +56,17 @@ pub fn write_graph(out: &mut Transcript, graph: &Graph) {
     out.say("|");
 }
 
+// Writes the base facts of a run.
+fn write_run(out: &mut Transcript, run: &BaseRun) {
+    for point in run.first..run.end {
+        out.pair(run.region.0, " has ", point, "|");
+    }
+}
+
 // Writes the base facts, the constraints and the outlives facts.
 fn write_lists(out: &mut Transcript, problem: &Problem) {
-    for (region, point) in problem.bases() {
-        out.pair(region.0, " has ", *point, "|");
+    for run in problem.base_runs() {
+        write_run(out, run);
     }
     for constraint in problem.constraints() {
         out.pair(constraint.sup.0, " holds ", constraint.sub.0, " at ");

@@ -1,44 +1,46 @@
-use Rattle.std.proofs.Common.{◌≡◌, ◌<◌, ℕ, Contains, get_or, length, refl, ap, arith}
-use Rattle.std.proofs.lemmas.List.{get_or_default}
-use Rattle.nll_sets.specs.declared.run.Run.{Run}
-use Rattle.nll_core.specs.Growing.{base_at}
-use Rattle.nll_core.proofs.BaseLemmas.{of_run, listing_run}
+use Rattle.std.proofs.Common.{◌-◌, ◌<◌, Contains, List, subst, sym, refl, arith}
+use Rattle.std.proofs.lemmas.List.{take_all}
+use Rattle.nll_problem.specs.BaseRuns.{IsInBaseRuns}
+use Rattle.nll_problem.specs.declared.base_run.BaseRun.{BaseRun}
+use Rattle.nll_problem.proofs.BaseRunLemmas.{run_there}
+use Rattle.nll_core.proofs.SolverLemmas.{listing_first, listing_more}
 use Rattle.nll_core.proofs.bases.insert_bases.Goals as goal
-use Rattle.nll_core.proofs.bases.insert_bases.Goals.{After-base_run_end-end}
+use Rattle.nll_core.proofs.bases.insert_bases.Goals.{After-run-item}
 
--- the fact at the place
-fact : (c : After-base_run_end-end) → ◌≡◌ {A = ℕ × ℕ} (get_or c.bases-facts.result.now c.loop-place.place c.index-facts-place.result) (base_at c.bases-facts.result.now c.loop-place.place)
-fact c = get_or_default c.bases-facts.result.now c.loop-place.place c.index-facts-place.result (0, 0) c.loop-place-test.true
+-- the run is one of the problem's
+there : (c : After-run-item) → Contains c.base_runs-runs.result.now c.run-item.result
+there c = run_there c.base_runs-runs.result.now c.loop-run.run-index c.run-item.result c.loop-run-test.true c.run-item.is
 
--- the last one of its run
-last : (c : After-base_run_end-end) → Contains c.args.problem.now.bases ((get_or c.bases-facts.result.now c.loop-place.place c.index-facts-place.result).0, c.base_run_end-end.result.1)
-last c =
-    let run = c.base_run_end-end.ensures.run in
-    of_run c.args.problem.now c.bases-facts.result.now c.loop-place.place c.base_run_end-end.result.0 c.base_run_end-end.result.1 _ c.base_run_end-end.result.1 c.bases-facts.ensures.value run c.base_run_end-end.ensures.bound (ap (λ (x : ℕ × ℕ). x.0) (fact c))
-    (omega (arith, run.ends, c.base_run_end-end.ensures.more)) (omega arith) c.base_run_end-end.ensures.more
+proper : (c : After-run-item) → c.run-item.result.first < c.run-item.result.end
+proper c = c.base_runs-runs.ensures.least.proper c.run-item.result (there c)
 
-region : (c : After-base_run_end-end) → (get_or c.bases-facts.result.now c.loop-place.place c.index-facts-place.result).0 < length c.loop-place.values
-region c =
-    let range = c.bases-facts.ensures.sound.bases_in_range _ _ (last c) in
-    omega (arith, range.0, c.loop-place.invariant.1.gains.width, c.requires.regions)
+-- and so its last point is a base element
+last : (c : After-run-item) → Contains c.args.problem.now.bases (c.run-item.result.region, c.run-item.result.end - 1)
+last c = (c.base_runs-runs.ensures.each c.run-item.result.region (c.run-item.result.end - 1)).0 (c.run-item.result, there c, (refl, omega (arith, proper c), omega (arith, proper c)))
 
 pub insert_run-requires-clause-region : goal.insert_run-requires-clause-region
-insert_run-requires-clause-region c = region (goal.at.insert_run-requires-clause-region c).After-base_run_end-end
+insert_run-requires-clause-region c =
+    let range = c.base_runs-runs.ensures.sound.bases_in_range _ _ (last (goal.at.insert_run-requires-clause-region c).After-run-item) in
+    omega (arith, range.0, c.loop-run.invariant.gains.width, c.requires.regions)
+
+pub points-requires : goal.points-requires
+points-requires c = proper (goal.at.points-requires c).After-run-item
+
+pub insert_run-requires-clause-proper : goal.insert_run-requires-clause-proper
+insert_run-requires-clause-proper c = omega (arith, proper (goal.at.insert_run-requires-clause-proper c).After-run-item, c.points.ensures.first, c.points.ensures.last)
 
 pub insert_run-requires-clause-below : goal.insert_run-requires-clause-below
 insert_run-requires-clause-below c =
-    let r = (get_or c.bases-facts.result.now c.loop-place.place c.index-facts-place.result).0 in
-    let range = c.bases-facts.ensures.sound.bases_in_range _ _ (last (goal.at.insert_run-requires-clause-below c).After-base_run_end-end) in
-    omega (arith, range.1, c.loop-place.invariant.1.gains.widths r, c.requires.elements r range.0)
+    let range = c.base_runs-runs.ensures.sound.bases_in_range _ _ (last (goal.at.insert_run-requires-clause-below c).After-run-item) in
+    omega (arith, range.1, c.points.ensures.last, c.loop-run.invariant.gains.widths c.run-item.result.region, c.requires.elements c.run-item.result.region range.0)
 
-pub loop-place-preserved : goal.loop-place-preserved
-loop-place-preserved c =
-    let facts = c.bases-facts.result.now in
-    let place = c.loop-place.place in
-    let is = fact (goal.at.loop-place-preserved c).After-base_run_end-end in
-    let first : ◌≡◌ {A = ℕ × ℕ} (get_or facts place c.index-facts-place-in-loop-place.result) (base_at facts place) = get_or_default facts place c.index-facts-place-in-loop-place.result (0, 0) c.loop-place-test.true in
-    let run : Run = record { first = (get_or facts place c.index-facts-place-in-loop-place.result).1; last = c.base_run_end-end.result.1 } in (
-      c.base_run_end-end.ensures.bound,
-      listing_run c.args.problem.now facts _ _ _ place c.base_run_end-end.result.0 c.base_run_end-end.result.1 run (get_or facts place c.index-facts-place.result).0 c.bases-facts.ensures.value c.base_run_end-end.ensures.run c.base_run_end-end.ensures.more c.base_run_end-end.ensures.bound
-          (ap (λ (x : ℕ × ℕ). x.0) is) (ap (λ (x : ℕ × ℕ). x.1) first) refl c.loop-place.invariant.1 c.in_ok-insert_run.ensures.gains c.in_ok-insert_run.ensures.covers,
-    )
+pub loop-run-init : goal.loop-run-init
+loop-run-init c = listing_first c.args.problem.now c.base_runs-runs.result.now c.args.values.now
+
+pub loop-run-preserved : goal.loop-run-preserved
+loop-run-preserved c = listing_more c.args.problem.now c.base_runs-runs.result.now _ _ _ c.loop-run.run-index c.run-item.result c.points.result c.points.ensures.first c.points.ensures.last c.loop-run-test.true c.run-item.is c.base_runs-runs.ensures.each c.loop-run.invariant c.in_ok-insert_run.ensures.gains c.in_ok-insert_run.ensures.covers
+
+pub returns-clause-covers : goal.returns-clause-covers
+returns-clause-covers c = λ r e h. c.loop-run.invariant.covers r e
+    (subst (λ (xs : List BaseRun). IsInBaseRuns xs r e) (sym (take_all c.loop-run.run-index c.base_runs-runs.result.now (omega arith)))
+    ((c.base_runs-runs.ensures.each r e).1 h))

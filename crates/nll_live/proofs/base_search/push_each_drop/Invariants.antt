@@ -7,5 +7,5 @@ abbrev pub invariant-loop-variable : goal.invariant-loop-variable
 invariant-loop-variable l = record {
   width : length l.room.marks.items ≡ length l.body.points;
   fresh : (p : ℕ) → slice_index l.room.marks.items p ≤ l.variable;
-  asked : AreAskedTo (AsksForDrop l.body) l.fn.stretches.items l.variable l.stretches.items;
+  asked : AreAskedTo (AsksForDrop l.body) l.fn.base_runs.items l.variable l.base_runs.items;
 }

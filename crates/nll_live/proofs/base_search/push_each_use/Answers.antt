@@ -34,8 +34,8 @@ loop-variable-preserved c =
     record {
       width = c.in_ok-push_found.ensures.width;
       fresh = c.in_ok-push_found.ensures.fresh;
-      asked = asked_to_step (AsksForUse body) c.args.stretches.now.items x c.loop-variable.stretches.items c.push_found.new.stretches.items c.loop-variable.invariant.asked
-          (asked_of body x c.as_slice.result.now HasRegion (IsLive body (Contains list) x) (IsUseLive body x) c.loop-variable.stretches.items c.push_found.new.stretches.items within
+      asked = asked_to_step (AsksForUse body) c.args.base_runs.now.items x c.loop-variable.base_runs.items c.push_found.new.base_runs.items c.loop-variable.invariant.asked
+          (asked_of body x c.as_slice.result.now HasRegion (IsLive body (Contains list) x) (IsUseLive body x) c.loop-variable.base_runs.items c.push_found.new.base_runs.items within
           (rw c.as_slice.ensures.value c.in_ok-regions.ensures.each)
           (λ p. (
             live_same body (Contains list) (UsesAt body x) x p (λ q k. ((c.requires.listed.each x q within).0 (subst (λ row. Contains row q) (list_is d) k)).0),
@@ -46,6 +46,6 @@ loop-variable-preserved c =
 
 pub returns : goal.returns
 returns c =
-    asked_to_last (AsksForUse c.args.body.now) c.args.stretches.now.items c.loop-variable.variable c.loop-variable.stretches.items
+    asked_to_last (AsksForUse c.args.body.now) c.args.base_runs.now.items c.loop-variable.variable c.loop-variable.base_runs.items
     (λ x r p h. omega (arith, use_declared c.args.body.now x r p h, c.variables-variable-end.ensures.value))
     c.loop-variable.invariant.asked

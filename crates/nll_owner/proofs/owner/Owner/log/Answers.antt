@@ -1,4 +1,4 @@
-use Rattle.std.proofs.Common.{sym, subst, Contains, arith}
+use Rattle.std.proofs.Common.{subst, Contains, arith}
 use Rattle.nll_owner.proofs.OwnerLemmas.{clock_low}
 use Rattle.nll_owner.proofs.owner.Owner.log.Goals as goal
 

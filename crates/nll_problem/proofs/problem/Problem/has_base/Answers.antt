@@ -1,14 +1,13 @@
-use Rattle.std.proofs.Common.{ℕ, AllPairs, Contains, sym, subst, ◌∙◌}
-use Rattle.nll_problem.specs.Problem.{IsEarlier}
-use Rattle.nll_problem.proofs.BaseLemmas.{searched}
+use Rattle.std.proofs.Common.{List, subst, sym}
+use Rattle.nll_problem.specs.BaseRuns.{IsInBaseRuns}
+use Rattle.nll_problem.specs.declared.base_run.BaseRun.{BaseRun}
+use Rattle.nll_problem.proofs.BaseRunLemmas.{facts_have}
 use Rattle.nll_problem.proofs.problem.Problem.has_base.Goals as goal
 
 pub returns : goal.returns
 returns c =
-    let pair : ℕ × ℕ = (c.args.region, c.args.point) in
-    let is = c.deref.ensures.value in
-    let found = searched c.deref.result.now pair (subst (AllPairs IsEarlier) (sym is) c.self.invariant.bases_ascend) c.binary_search.result c.binary_search.ensures.bound c.binary_search.ensures.position in
+    let have = facts_have c.self.inside.bases.items c.args.region c.args.point in
     rw (← c.self.view_is) (
-      λ h. subst (λ xs. Contains {X = ℕ × ℕ} xs pair) is (found.0 (sym c.is_ok.ensures.value ∙ h)),
-      λ h. c.is_ok.ensures.value ∙ found.1 (subst (λ xs. Contains {X = ℕ × ℕ} xs pair) (sym is) h),
+      λ h. have.1 (subst (λ (xs : List BaseRun). IsInBaseRuns xs c.args.region c.args.point) c.as_slice.ensures.value (c.has_point.ensures.0 h)),
+      λ h. c.has_point.ensures.1 (subst (λ (xs : List BaseRun). IsInBaseRuns xs c.args.region c.args.point) (sym c.as_slice.ensures.value) (have.0 h)),
     )

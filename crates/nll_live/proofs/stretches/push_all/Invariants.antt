@@ -1,7 +1,0 @@
-use Rattle.std.proofs.Common.{Contains, take}
-use Rattle.nll_sets.specs.Runs.{IsInRuns}
-use Rattle.nll_live.specs.Stretches.{Gains}
-use Rattle.nll_live.proofs.stretches.push_all.Given as goal
-
-abbrev pub invariant-loop-region : goal.invariant-loop-region
-invariant-loop-region l = Gains (λ r p. Contains (take l.region-index l.regions) r × IsInRuns l.runs p) l.fn.stretches.items l.stretches.items

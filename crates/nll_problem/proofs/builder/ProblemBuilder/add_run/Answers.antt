@@ -1,0 +1,7 @@
+use Rattle.nll_problem.proofs.ProblemLemmas.{sound_run}
+use Rattle.nll_problem.proofs.builder.ProblemBuilder.add_run.Goals as goal
+
+pub invariant_of-self-2 : goal.invariant_of-self-2
+invariant_of-self-2 c =
+    sound_run _ c.self.invariant _ c.args.run (λ r p. (c.in_ok-insert_run.ensures.ok.each r p).0) c.in_ok-insert_run.ensures.once
+    (rw (← c.self.view_is) at c.requires.region) (rw (← c.self.view_is) at c.requires.points)
