@@ -1,7 +1,8 @@
 """Which constraint of a chain is named for it: the one that rustc would name.
 
 rustc ranks the categories of constraints, and takes of equal ones the one that is nearest to the
-lifetime that is to be outlived.
+lifetime that is to be outlived. Where that is a return, and the `impl` of the result asks what comes
+next to it, rustc names the latter.
 """
 
 from typing import NamedTuple, Optional
@@ -40,4 +41,7 @@ def of_step(facts, step):
 def of_chain(facts, steps):
     """The reason that is named, of a chain whose first step is next to what is to be outlived."""
     found = [reason for reason in (of_step(facts, step) for step in steps) if reason]
-    return min(found, key=Blame.rank, default=None)
+    best = min(range(len(found)), key=lambda at: found[at].rank(), default=None)
+    if best and found[best].word == "return" and found[best - 1].word == "opaque":
+        best -= 1
+    return None if best is None else found[best]

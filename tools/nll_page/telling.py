@@ -8,7 +8,7 @@ from typing import NamedTuple, Optional
 
 from . import blame, loans, words
 from .beside import Place
-from .snippets import snippet, whole_line
+from .snippets import borrowed, snippet, whole_line
 from .words import Code
 
 # What a constraint of a category does with what stands at its place.
@@ -92,7 +92,15 @@ def stop(content, named):
 
 def of_loan(content, fault):
     """A loan that something goes against."""
-    return Telling(fault.place, fault.code, loan_head(content, fault), loan_cause(content, fault))
+    return Telling(place_of_loan(content, fault), fault.code, loan_head(content, fault),
+                   loan_cause(content, fault))
+
+
+def place_of_loan(content, fault):
+    """rustc's place: of what a closure uses, the variable without the `&` before it."""
+    loan = fault.loan
+    is_use = loan.by_closure and loan.home and fault.place == loan.home
+    return borrowed(content.source, fault.place) if is_use else fault.place
 
 
 def loan_head(content, fault):
