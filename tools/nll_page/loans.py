@@ -90,7 +90,8 @@ def each_once(found):
 def marks_of_end(one):
     """By what a loan's end is known again: the loan, or the variable and where it is borrowed."""
     loan = one.loan
-    place = loan.home if loan.by_closure and loan.home else loan.place
+    is_use = loan.by_closure and loan.home and one.code != "E0373"
+    place = loan.home if is_use else loan.place
     return {("end", one.number), *([("end", loan.what.lstrip("*"), place)] if place else [])}
 
 
