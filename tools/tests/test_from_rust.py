@@ -82,7 +82,7 @@ class Shown(unittest.TestCase):
     def test_figures_of_the_text(self):
         """What docs/FROM-RUST.md says of points and regions of examples/three.rs."""
         with folder_of_links() as folder:
-            printed("./nllc.sh rust examples/three.rs", folder)
+            printed("tools/nll-facts examples/three.rs", folder)
             said = {}
             for name in ("news", "fixed", "longer"):
                 path = os.path.join(folder, "out", "rust", "three", f"{name}.facts")
