@@ -167,7 +167,7 @@ class Loans(unittest.TestCase):
         content = self.content(*TEXT)
         [one] = telling.all_of(content)
         self.assertEqual(telling.lines(content, one), [
-            "a.rs:2:5: E0506: `a` assigns to what line 1 has borrowed as mutable",
+            "a.rs:2:5: E0506: `a` is assigned to, and line 1 has borrowed it as mutable",
             "    the loan of line 1 (`&a`) is in force: its region `'x` holds line 2, since the same line "
             "uses it"])
 
