@@ -1,7 +1,7 @@
 //! Facts texts.
 use super::line::Line;
 use super::regions::Regions;
-use super::slow::Said;
+use super::slow::{Said, write_counts};
 use super::spelling::is;
 use nll_problem::Kind;
 use nll_reading::TextKind::{Limit, Range, Syntax};
@@ -98,11 +98,6 @@ impl<'a> Said<'a> for Facts<'a> {
     }
 
     fn write(&self, out: &mut String) {
-        let _ = out.push_str("'static:");
-        for point in 0..self.points {
-            let _ = write!(out, " {point}");
-        }
-        let _ = out.push_str("|");
-        self.regions.write_others(out);
+        write_counts(out, self.points, self.regions.counts(), 0);
     }
 }

@@ -3,7 +3,7 @@
 use super::facts::Facts;
 use super::lists::{Cut, Schedule};
 use super::mir::Mir;
-use super::quick::{write_cut, write_schedule, write_text};
+use super::quick::{write_cut, write_facts, write_mir, write_schedule};
 use super::slow::write_slowly;
 use nll_worked_texts::{CALLED, DROPPED, MOVED, REBORROW, RETURNED, TWO_BORROWS, text_of};
 use std::alloc::Global;
@@ -23,9 +23,10 @@ enum Format {
 fn told_quickly(alloc: Global, format: Format, text: &[u8]) -> String {
     let mut out = String::new(alloc);
     match format {
+        Format::Facts => write_facts(alloc, &mut out, text),
+        Format::Mir => write_mir(alloc, &mut out, text),
         Format::Cut => write_cut(alloc, &mut out, text),
         Format::Schedule => write_schedule(alloc, &mut out, text, 2),
-        _ => write_text(alloc, &mut out, text),
     }
     out
 }

@@ -3,7 +3,7 @@ use super::line::Line;
 use super::points::read_point;
 use super::regions::Regions;
 use super::shapes::{Struct, Tokens, copy, is_large, part_at, parts_of, put_all};
-use super::slow::Said;
+use super::slow::{Said, write_counts};
 use super::spelling::{Bytes, is, is_among, is_region};
 use super::types::{read_fields, read_type};
 use nll_problem::Kind;
@@ -20,9 +20,10 @@ pub struct Mir<'a> {
     pub structs: Vec<Struct<'a>>,
     // The shapes of the variables' types.
     pub variables: Vec<Tokens<'a>>,
-    // How many blocks there are to be, and how many points each that is there has.
+    // How many blocks there are to be, how many there are, and how many points.
     blocks: u64,
-    sizes: Vec<u64>,
+    begun: u64,
+    points: u64,
     // Whether the last block lacks its terminator.
     owes: bool,
 }
@@ -101,7 +102,8 @@ impl<'a> Mir<'a> {
             structs: Vec::new(alloc),
             variables: Vec::new(alloc),
             blocks: 0,
-            sizes: Vec::new(alloc),
+            begun: 0,
+            points: 0,
             owes: false,
         }
     }
@@ -181,18 +183,15 @@ impl<'a> Mir<'a> {
     // Reads what stands behind `block`.
     fn begin_block(&mut self, line: &mut Line<'a>) {
         let number = line.number("bb");
-        let begun = self.sizes.len() as u64;
-        line.wrong_if(number != begun || number >= self.blocks, Range);
-        let _ = self.sizes.push(0);
+        line.wrong_if(number != self.begun || number >= self.blocks, Range);
+        self.begun = self.begun.saturating_add(1);
         self.owes = true;
     }
 
     // Reads a statement or terminator.
     fn add_point(&mut self, line: &mut Line<'a>, first: Bytes<'a>) {
         self.owes = !read_point(self, line, first);
-        if let Some(size) = self.sizes.last_mut() {
-            *size = size.saturating_add(1);
-        }
+        self.points = self.points.saturating_add(1);
     }
 
     // Reads what stands behind the first word of a declaration.
@@ -214,7 +213,7 @@ impl<'a> Mir<'a> {
         match group {
             6 => self.count_blocks(line),
             7 => self.begin_block(line),
-            8 => line.wrong_if((self.sizes.len() as u64) < self.blocks, Range),
+            8 => line.wrong_if(self.begun < self.blocks, Range),
             _ => self.add_point(line, first),
         }
     }
@@ -255,18 +254,7 @@ impl<'a> Said<'a> for Mir<'a> {
     }
 
     fn write(&self, out: &mut String) {
-        let _ = out.push_str("'static:");
-        for block in 0..self.sizes.len() {
-            write_block(out, block, self.sizes[block]);
-        }
-        let _ = out.push_str("|");
-        self.regions.write_others(out);
-    }
-}
-
-// Writes the points of a block.
-fn write_block(out: &mut String, block: usize, size: u64) {
-    for place in 0..size {
-        let _ = write!(out, " bb{block}/{place}");
+        let variables = self.variables.len();
+        write_counts(out, self.points, self.regions.counts(), variables);
     }
 }

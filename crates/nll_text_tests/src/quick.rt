@@ -1,37 +1,31 @@
 //! What the readers of the program say of texts, as text.
-use super::slow::write_fault;
-use nll_answer::{AnswerError, Command, answer};
+use super::slow::{write_counts, write_fault};
 use nll_cut_text::read_cut;
+use nll_facts::read_facts;
+use nll_mir_text::read_mir;
 use nll_schedule_text::read_schedule;
 use std::alloc::Global;
-use std::str;
 
-// Writes what stands before a mark in a line, and a bar.
-fn write_before(out: &mut String, line: &str, mark: &str) {
-    if let Some((before, _)) = line.split_once(mark) {
-        let _ = out.push_str(before);
-        let _ = out.push_str("|");
-    }
-}
-
-// Writes what a report of values tells of points and regions: the points of `'static`, and the
-// names of the others.
-fn write_report(out: &mut String, report: &[u8]) {
-    let mut mark = " end(";
-    for line in str::from_utf8(report).unwrap_or("").split('\n') {
-        write_before(out, line, mark);
-        mark = ":";
-    }
-}
-
-/// Writes the points and the names of the regions of a facts text or MIR text, or its fault.
-pub fn write_text(alloc: Global, out: &mut String, text: &[u8]) {
-    match answer(alloc, Command::Values, text) {
-        Ok((report, _)) => write_report(out, report.as_slice()),
-        Err(AnswerError::Text(error)) => write_fault(out, error.line, error.kind),
-        Err(_) => {
-            let _ = out.push_str("no answer");
+/// Writes how much a facts text has, or its fault.
+pub fn write_facts(alloc: Global, out: &mut String, text: &[u8]) {
+    match read_facts(alloc, text) {
+        Ok(facts) => {
+            let universals = facts.problem.universals() as usize;
+            let regions = (facts.problem.regions() as usize, universals);
+            write_counts(out, u64::from(facts.problem.points()), regions, 0);
         }
+        Err(error) => write_fault(out, error.line, error.kind),
+    }
+}
+
+/// Writes how much a MIR text has, or its fault.
+pub fn write_mir(alloc: Global, out: &mut String, text: &[u8]) {
+    match read_mir(alloc, text) {
+        Ok(body) => {
+            let regions = (body.regions(), body.universals() as usize);
+            write_counts(out, u64::from(body.points()), regions, body.variables());
+        }
+        Err(error) => write_fault(out, error.line, error.kind),
     }
 }
 

@@ -48,18 +48,8 @@ impl<'a> Regions<'a> {
         line.wrong_if(!is_among(universals, name), Unknown);
     }
 
-    /// Writes the names behind the first one.
-    pub fn write_others(&self, out: &mut String) {
-        for at in 1..self.names.len() {
-            write_name(out, self.names[at]);
-        }
+    /// How many regions there are, and how many of them are universal.
+    pub fn counts(&self) -> (usize, usize) {
+        (self.names.len(), self.universals)
     }
-}
-
-// Writes a name, and a bar.
-fn write_name(out: &mut String, name: &[u8]) {
-    for byte in name {
-        let _ = out.push(char::from(*byte));
-    }
-    let _ = out.push_str("|");
 }

@@ -67,6 +67,15 @@ pub fn write_fault(out: &mut String, line: u64, kind: TextKind) {
     let _ = write!(out, "line {line}: {kind:?}");
 }
 
+/// Writes how many points, regions, universal regions among these, and variables a text has.
+pub fn write_counts(out: &mut String, points: u64, regions: (usize, usize), variables: usize) {
+    let (all, universals) = regions;
+    let _ = write!(
+        out,
+        "{points} points, {all} regions, {universals} universal, {variables} variables"
+    );
+}
+
 /// Writes what a text of a kind says, or its fault. Nothing is said before.
 pub fn write_slowly<'a, S: Said<'a>>(
     alloc: Global,
