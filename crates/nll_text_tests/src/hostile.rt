@@ -49,7 +49,12 @@ fn told_slowly(alloc: Global, format: Format, text: &[u8]) -> String {
 }
 
 // Bytes that mean something in a text, stand beside those that do, or are of no UTF-8.
-const BYTES: &[u8] = &[0, 9, 10, 13, 32, 35, 39, 45, 48, 57, 62, 127, 128, 195, 255];
+const BYTES: &[u8] = &[
+    0, 9, 10, 13, 32, 35, 38, 39, 41, 44, 45, 46, 48, 49, 50, 51, 52, 57, 62, 127, 128, 195, 255,
+];
+
+// A piece that is left out has at most so many bytes.
+const LONGEST: usize = 12;
 
 // A facts text of each form of line, with a remark that has a letter of two bytes.
 const FACTS: &str = "nll-facts 1|points 2|universal 'a|outlives 'a 'a|# \u{e9}|region 'x|next 0 1|\
@@ -126,6 +131,31 @@ fn compare_changes(rt: &impl Abort, alloc: Global, format: Format, text: &mut [u
     }
 }
 
+// The same of a text without a piece of it. The number tells where it stood.
+fn compare_without(
+    rt: &impl Abort,
+    alloc: Global,
+    format: Format,
+    text: &[u8],
+    (begin, end): (usize, usize),
+) {
+    let mut rest = Vec::new(alloc);
+    for at in 0..text.len() {
+        if at < begin || end <= at {
+            let _ = rest.push(text[at]);
+        }
+    }
+    compare(rt, alloc, format, rest.as_slice(), (begin, 1));
+}
+
+// The same of each piece that begins at a place.
+fn compare_pieces(rt: &impl Abort, alloc: Global, format: Format, text: &[u8], begin: usize) {
+    for length in 1..=LONGEST {
+        let end = begin.saturating_add(length);
+        compare_without(rt, alloc, format, text, (begin, end));
+    }
+}
+
 // Both readers tell the same of each beginning of a text.
 #[test]
 fn beginnings_are_read(rt: HostRuntime) {
@@ -141,5 +171,16 @@ fn changed_texts_are_read(rt: HostRuntime) {
     for (format, lines) in TEXTS {
         let mut text = text_of(rt.alloc(), lines).expect(&rt, "memory");
         compare_changes(&rt, rt.alloc(), *format, text.as_mut_slice());
+    }
+}
+
+// Both readers tell the same of a text without any short piece of it.
+#[test]
+fn torn_texts_are_read(rt: HostRuntime) {
+    for (format, lines) in TEXTS {
+        let text = text_of(rt.alloc(), lines).expect(&rt, "memory");
+        for begin in 0..text.len() {
+            compare_pieces(&rt, rt.alloc(), *format, text.as_slice(), begin);
+        }
     }
 }

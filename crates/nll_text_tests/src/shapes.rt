@@ -98,15 +98,15 @@ pub fn parts_of(alloc: Global, shape: &[Bytes<'_>]) -> Vec<(usize, usize)> {
     parts
 }
 
-/// The tokens of a part.
+/// The tokens of a part; none where there is no part.
 pub fn part_at<'t, 'a: 't>(
     shape: &'t [Bytes<'a>],
     part: Option<&(usize, usize)>,
 ) -> &'t [Bytes<'a>] {
-    match part {
-        Some((begin, end)) => shape.get(*begin..*end).unwrap_or(&[]),
-        None => &[],
-    }
+    let (begin, end) = part.copied().unwrap_or((0, 0));
+    let end = end.min(shape.len());
+    let begin = begin.min(end);
+    &shape[begin..end]
 }
 
 /// A struct: its name, its parameters, regions among them, and its fields as a tuple's shape.
