@@ -7,8 +7,6 @@
 #[cfg(test)]
 mod bodies;
 #[cfg(test)]
-mod changes;
-#[cfg(test)]
 mod comparing;
 #[cfg(test)]
 mod limits;

@@ -50,7 +50,8 @@ fn told_slowly(alloc: Global, format: Format, text: &[u8]) -> String {
 
 // Bytes that mean something in a text, stand beside those that do, or are of no UTF-8.
 const BYTES: &[u8] = &[
-    0, 9, 10, 13, 32, 35, 38, 39, 41, 44, 45, 46, 48, 49, 50, 51, 52, 57, 62, 127, 128, 195, 255,
+    0, 9, 10, 13, 32, 35, 36, 38, 39, 41, 44, 45, 46, 48, 49, 50, 51, 52, 57, 62, 127, 128, 195,
+    255,
 ];
 
 // A piece that is left out has at most so many bytes.
@@ -79,6 +80,18 @@ const CUT: &str = "nll-cut 1|0|# as before|65535||12|";
 const SCHEDULE: &str = "nll-schedule 1|load 0|owe 0|clear 0|take 0 1|push 0 1|load 1|owe 1|\
     push 1 0|clear 1|take 1 0|owe 1|clear 1|take 0 1|owe 0|clear 0|leave 1|push 0 1|take 1 0|\
     owe 1|clear 1|push 1 0|take 0 1|owe 0|clear 0|leave 0|leave 1|";
+
+// MIR texts that read a place whose type has 4,096 nodes, and one of 4,097.
+const LARGE: &[&str] = &[
+    "nll-mir 1|struct A<T +>((T, T, T, T, T, T, T, T, T, T, T, T, T, T, T))|\
+    struct B<T +>(A<(T, T, T, T, T, T, T, T, T, T, T, T, T, T, T, T)>)|\
+    struct C<T +>(B<(T, T, T, T, T, T, T, T, T, T, T, T, T, T, T, T)>)|\
+    let _0: C<int>|blocks 1|block bb0|read _0.0.0.0|stop|end|",
+    "nll-mir 1|struct A<T +>((T, T, T, T, T, T, T, T, T, T, T, T, T, T, T, int))|\
+    struct B<T +>(A<(T, T, T, T, T, T, T, T, T, T, T, T, T, T, T, T)>)|\
+    struct C<T +>(B<(T, T, T, T, T, T, T, T, T, T, T, T, T, T, T, T)>)|\
+    let _0: C<int>|blocks 1|block bb0|read _0.0.0.0|stop|end|",
+];
 
 const TEXTS: &[(Format, &str)] = &[
     (Format::Mir, TWO_BORROWS),
@@ -182,5 +195,14 @@ fn torn_texts_are_read(rt: HostRuntime) {
         for begin in 0..text.len() {
             compare_pieces(&rt, rt.alloc(), *format, text.as_slice(), begin);
         }
+    }
+}
+
+// Both readers tell the same of a type that is as large as it may be, and of a larger one.
+#[test]
+fn large_types_are_read(rt: HostRuntime) {
+    for lines in LARGE {
+        let text = text_of(rt.alloc(), lines).expect(&rt, "memory");
+        compare(&rt, rt.alloc(), Format::Mir, text.as_slice(), (0, 0));
     }
 }

@@ -1,8 +1,8 @@
 //! Tests of the readers of texts of all formats, beside slow readers that were written after the
 //! definitions alone.
 //!
-//! Reading order: `spelling`, `line`, `slow`; `lists`, `regions`, `facts`; `shapes`, `types`, `mir`,
-//! `points`; `quick`, `hostile`.
+//! Reading order: `spelling`, `line`, `slow`; `lists`, `regions`, `facts`; `shapes`, `types`,
+//! `mir`, `points`; `quick`, `hostile`.
 #![tactic(auto)]
 
 #[cfg(test)]
