@@ -16,9 +16,13 @@ use Rattle.nll_naming.specs.Naming.{Scope, is_among, is_known, are_known, argume
 use Rattle.nll_naming.specs.Knowing.{AreTold, argument_is_known}
 use Rattle.nll_naming.proofs.JudgingLemmas.{rest_below}
 
+-- what is told of a first and the others is told of the others, where the first is true
+pub told_of_others : (a b c : Bool) → a ≡ true → a && b ≡ c → b ≡ c
+told_of_others a b c first all = rw first at all
+
 -- the types among the first of some arguments, and among the others, are below what all are
 pub first_below : (n : ℕ) (a : Argument) (args : List Argument) → AreBelow n (types_among (a ∷ args)) → AreBelow n (types_among (a ∷ []))
-first_below n (arguments.Region r) args b = λ k l. absurd (omega arith)
+first_below n (arguments.Region r) args b k l = absurd (omega (arith, l))
 first_below n (arguments.Type i) args b zero l = b 0 (omega arith)
 first_below n (arguments.Type i) args b (suc k) l = absurd (omega arith)
 
