@@ -119,7 +119,10 @@ module _ (regions : Regions) (structs : StructNames) (variables : Variables) (i 
 
   -- a type of the statement has a name that isn't known
   pub unknown_types : list_all (λ t. is_known scope (written t)) (types_written (statement_of i)) ≡ false → knows declared_in (as_written i) ≡ false
-  unknown_types none = sym (knows_is _ _ false refl refl (sym none)) ∙ ends_false _ _
+  unknown_types none =
+      let declared : Bool = list_all (λ x. nat_lt x (length variables.types.items)) (variables_written (statement_of i)) in
+      let names : Bool = list_all (is_among regions.names) (map (λ r. r.now) (regions_written (statement_of i))) in
+      sym (knows_is declared names false refl refl (sym none)) ∙ ends_false declared names
 
 -- what is judged of the statement stands, where the types and the structs are the same
 pub judged_same : (regions : Regions) (structs : StructNames) (old new : Variables) (i : Statement Name WrittenType) (j : JudgedPoint)
