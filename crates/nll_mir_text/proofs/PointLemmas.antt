@@ -112,6 +112,18 @@ module _ (regions : Regions) (structs : StructNames) (variables : Variables) (i 
         ∙ ap (types_are_small (structs_of variables.table.structs) (map tree variables.types.items)) same_meaning));
   }
 
+  ends_false : (a b : Bool) → (a && b && false) ≡ false
+  ends_false true true = refl
+  ends_false true false = refl
+  ends_false false b = refl
+
+  -- a type of the statement has a name that isn't known
+  pub unknown_types : list_all (λ t. is_known scope (written t)) (types_written (statement_of i)) ≡ false → knows declared_in (as_written i) ≡ false
+  unknown_types none =
+      let declared : Bool = list_all (λ x. nat_lt x (length variables.types.items)) (variables_written (statement_of i)) in
+      let names : Bool = list_all (is_among regions.names) (map (λ r. r.now) (regions_written (statement_of i))) in
+      sym (knows_is declared names false refl refl (sym none)) ∙ ends_false declared names
+
 -- what is judged of the statement stands, where the types and the structs are the same
 pub judged_same : (regions : Regions) (structs : StructNames) (old new : Variables) (i : Statement Name WrittenType) (j : JudgedPoint)
     → new.types.items ≡ old.types.items → new.table.structs ≡ old.table.structs
@@ -129,6 +141,12 @@ abbrev told : Bool → Bool → Bool → Bool → Bool → Bool → Bool → Opt
 told order known range shape size points edges =
     cond order (Some Syntax) (cond known (Some Unknown) (cond range (Some Range) (cond shape (Some Shape)
     (cond size (Some TypeSize) (cond points (Some (Limit Points)) (cond edges (Some (Limit Edges)) None))))))
+
+-- a name or a variable isn't declared
+pub undeclared : (s : Said) (i : Statement Name WrittenType) → is_in_order s (at_point i) ≡ true → knows s i ≡ false → first_fault s (at_point i) ≡ Some Unknown
+undeclared s i order none =
+    let rest : Bool → Bool → Option TextKind = λ a b. told a b (not (has_targets s i)) (not (shapes_fit s i)) (not (types_are_small s.structs s.variables (statement_meant s i))) (nat_le most_points (length s.points)) (nat_lt most_edges (edge_count s.points + edges_from i)) in
+    ap (λ b. rest b (not (knows s i))) (ap not order) ∙ ap (λ b. rest false b) (ap not none)
 
 module _ (s : Said) (i : Statement Name WrittenType) (order : is_in_order s (at_point i) ≡ true) (known : knows s i ≡ true) where
   abbrev by : Bool → Bool → Bool → Bool → Bool → Option TextKind

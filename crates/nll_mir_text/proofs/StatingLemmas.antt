@@ -1,10 +1,10 @@
 -- What is judged of types and of statements.
-use Rattle.std.proofs.Common.{◌≡◌, ℕ, Bool, true, false, List, [], ◌∷◌, ◌++◌, length, map, refl, sym, ap, ◌∙◌, subst, arith}
+use Rattle.std.proofs.Common.{◌≡◌, ℕ, zero, suc, ◌<◌, get_or, Bool, true, false, List, [], ◌∷◌, ◌++◌, length, map, refl, sym, ap, ◌∙◌, subst, arith}
 use Rattle.std.specs.Prelude.{◌&&◌, nat_lt}
 use Rattle.std.specs.List.{list_all, flat_map}
 use Rattle.std.specs.Borrow.{Bor}
 use Rattle.std.proofs.lemmas.List.{append-nil, append_assoc, map_push}
-use Rattle.std.proofs.lemmas.List.Folds.{list_all-append}
+use Rattle.std.proofs.lemmas.List.Folds.{list_all-append, list_all-map}
 use Rattle.nll_types.specs.Places.{path_of}
 use Rattle.nll_types.specs.Types.{TypeTree}
 use Rattle.nll_types.specs.Shapes.{shape_of}
@@ -26,6 +26,7 @@ use Rattle.nll_typing.specs.Judging.{HaveShapes}
 use Rattle.nll_typing.proofs.FoundLemmas.{below_later, shapes_later}
 use Rattle.nll_mir_text.specs.declared.judging.JudgedType.{JudgedType}
 use Rattle.nll_mir_text.specs.declared.judging_types.JudgedTypes.{JudgedTypes}
+use Rattle.nll_mir_text.proofs.CallLemmas.{same_types}
 use Rattle.nll_mir_text.specs.MirReading.{AreShapes, IsOfType}
 use Rattle.nll_mir_text.specs.Stating.{is_bound, operand_within, argument_within, AreOfTypes, AddsTypes}
 
@@ -35,6 +36,30 @@ and_true false = refl
 
 all_push : {X : Type 0} (p : X → Bool) (xs : List X) (x : X) → list_all p (xs ++ x ∷ []) ≡ (list_all p xs && p x)
 all_push p xs x = list_all-append p xs (x ∷ []) ∙ ap (λ b. list_all p xs && b) (and_true (p x))
+
+and_false : (b : Bool) → (b && false) ≡ false
+and_false true = refl
+and_false false = refl
+
+-- ---- names that aren't known
+
+-- of these one doesn't pass
+pub one_false : {X : Type 0} (p : X → Bool) (xs : List X) (k : ℕ) (x : X) → k < length xs → x ≡ get_or xs k x → p x ≡ false → list_all p xs ≡ false
+one_false p [] k x within at none = absurd (omega (arith, within))
+one_false p (y ∷ xs) zero x within at none = ap (λ z. p z && list_all p xs) (sym at) ∙ ap (λ b. b && list_all p xs) none
+one_false p (y ∷ xs) (suc k) x within at none = ap (λ b. p y && b) (one_false p xs k x (omega (arith, within)) at none) ∙ and_false (p y)
+
+-- of the types of a call's arguments, or its result's, one isn't known
+pub argument_unknown : (p : List TypeNode → Bool) (args : List (KeptOperand × List TypeNode)) (t : List TypeNode) → list_all (λ a. p a.1) args ≡ false → list_all p (map (λ a. a.1) (arguments_of args) ++ t ∷ []) ≡ false
+argument_unknown p args t none =
+    all_push p (map (λ a. a.1) (arguments_of args)) t
+    ∙ ap (λ b. b && p t) (ap (list_all p) (sym (same_types args)) ∙ (list_all-map p (λ a. a.1) args ∙ none))
+
+pub result_unknown : (p : List TypeNode → Bool) (ts : List (List TypeNode)) (t : List TypeNode) → p t ≡ false → list_all p (ts ++ t ∷ []) ≡ false
+result_unknown p ts t none = all_push p ts t ∙ (ap (λ b. list_all p ts && b) none ∙ and_false (list_all p ts))
+
+pub made_unknown : (p : List TypeNode → Bool) (t : List TypeNode) → p t ≡ false → list_all p (t ∷ []) ≡ false
+made_unknown p t none = ap (λ b. b && true) none
 
 -- ---- bounds
 

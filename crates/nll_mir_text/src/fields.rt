@@ -9,11 +9,12 @@ ghost use Rattle.nll_types.specs.Views.{tree, trees};
 ghost use Rattle.nll_type_grammar.specs.TypeTexts.{written};
 ghost use Rattle.nll_mir_grammar.specs.Lines.{parameter_of};
 ghost use Rattle.nll_mir_grammar.specs.Tuples.{IsTuple, parts};
-ghost use Rattle.nll_naming.specs.Naming.{all_meant};
+ghost use Rattle.nll_naming.specs.Naming.{all_meant, are_known};
 ghost use Rattle.nll_mir_text.specs.MirSaid.{regions_in, types_in};
 ghost use Rattle.nll_typing.specs.Typing as typing;
 ghost use Rattle.nll_mir_text.specs.Declaring.{AreJudged, own_scope, region_marks, type_marks};
 
+use crate::judging::has_unknown;
 use crate::own_names::OwnNames;
 use crate::parameters::push_marks;
 use crate::tables::StructNames;
@@ -58,6 +59,26 @@ fn has_small_parts(shapes: &Shapes, shape: usize) -> bool
         Node::Tuple(parts) => are_small(shapes, parts.as_slice()),
         _ => true,
     }
+}
+
+/// Whether the fields of a struct are large, and have a name that isn't known.
+pub fn are_unknown_fields(
+    alloc: Global,
+    own: &OwnNames,
+    structs: &StructNames,
+    fields: &TypeText<'_>,
+) -> Result<bool, Memory>
+    requires { IsTuple (written fields.now) }
+    ensures { IfOk result (λ unknown. unknown ≡ true
+        → are_known (own_scope own.now structs.now) (parts (written fields.now)) ≡ false) }
+{
+    let scope = Scope {
+        regions: &own.regions,
+        parameters: &own.types,
+        structs: &structs.names,
+        kinds: structs.kinds.as_slice(),
+    };
+    has_unknown(alloc, &scope, fields)
 }
 
 /// Judges the fields of a struct, and puts their shapes into the table.

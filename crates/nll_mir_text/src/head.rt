@@ -13,8 +13,8 @@ ghost use Rattle.nll_mir_text.specs.MirReading.{IsDue, IsTaken, IsRefused};
 ghost use Rattle.nll_mir_text.specs.MirReading.{struct_form, scope_in, IsOfType};
 ghost use Rattle.nll_mir_text.specs.Declaring.{AreJudged, AreOwn, own_scope};
 
-use crate::fields::{JudgedFields, declaration, judge_fields};
-use crate::judging::{JudgedType, judge_type, type_meant};
+use crate::fields::{JudgedFields, are_unknown_fields, declaration, judge_fields};
+use crate::judging::{JudgedType, is_unknown_type, judge_type, type_meant};
 use crate::limits::{MAX_STRUCTS, MAX_VARIABLES};
 use crate::own_names::{OwnNames, gather_names, redeclares};
 use crate::parameters::kinds;
@@ -120,6 +120,10 @@ impl Reader {
         ensures refused { IfErr result
             (IsRefused (said_by self.old) (forms.variable number (written text.now))) }
     {
+        let unknown = is_unknown_type(self.alloc, &self.regions, &self.structs, text)?;
+        if unknown {
+            return Err(TextKind::Unknown);
+        }
         let table = &mut self.variables.table;
         let judged = judge_type(self.alloc, &self.regions, &self.structs, table, text)?;
         self.add_judged_variable(number, text, judged)
@@ -181,8 +185,12 @@ impl Reader {
         ensures taken { OnOk result (IsTaken (said_by self.old) (struct_form text.now) self.new) }
         ensures refused { IfErr result (IsRefused (said_by self.old) (struct_form text.now)) }
     {
-        let table = &mut self.variables.table;
         let fields = text.fields.as_type();
+        let unknown = are_unknown_fields(self.alloc, own, &self.structs, fields)?;
+        if unknown {
+            return Err(TextKind::Unknown);
+        }
+        let table = &mut self.variables.table;
         let judged = judge_fields(self.alloc, own, &self.structs, table, fields)?;
         self.add_judged_struct(own, text, judged)
     }

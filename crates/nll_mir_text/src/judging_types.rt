@@ -1,13 +1,16 @@
 //! Judging the types that are written in a statement.
 
-ghost use Rattle.std.specs.Prelude.{◌≡◌, ◌∷◌, [], map, IfOk, OnOk};
+ghost use Rattle.std.specs.Prelude.{◌≡◌, ◌∷◌, [], false, true, map, IfOk, OnOk};
+ghost use Rattle.std.specs.List.{list_all};
 ghost use Rattle.nll_types.specs.Table.{Extends};
 ghost use Rattle.nll_statements.specs.Kept.{call_of, statement_of};
 ghost use Rattle.nll_statements.specs.Statements.{types_written};
+ghost use Rattle.nll_type_grammar.specs.TypeTexts.{written};
+ghost use Rattle.nll_naming.specs.Naming.{is_known};
 ghost use Rattle.nll_mir_text.specs.MirReading.{scope_in};
 ghost use Rattle.nll_mir_text.specs.Stating.{AreOfTypes, AddsTypes};
 
-use crate::judging::judge_type;
+use crate::judging::{is_unknown_type, judge_type};
 use crate::tables::{Regions, StructNames};
 use nll_sets::Memory;
 use nll_statements::{Call, Statement};
@@ -25,6 +28,65 @@ pub struct JudgedTypes {
     pub fit: bool,
     /// The numbers of their shapes, in order.
     pub shapes: SmallVec<usize, 4>,
+}
+
+// Whether one of the types of a call's arguments is large, and has a name that isn't known.
+fn any_unknown(
+    alloc: Global,
+    regions: &Regions,
+    structs: &StructNames,
+    arguments: &[(Operand, TypeText<'_>)],
+) -> Result<bool, Memory>
+    requires { structs.now.none ≡ [] }
+    ensures { IfOk result (λ unknown. unknown ≡ true
+        → list_all (λ a. is_known (scope_in regions.now structs.now) (written a.1)) arguments.now
+        ≡ false) }
+{
+    for argument in arguments {
+        let unknown = is_unknown_type(alloc, regions, structs, &argument.1)?;
+        if unknown {
+            return Ok(true);
+        }
+    }
+    Ok(false)
+}
+
+// Whether a type in a call is large, and has a name that isn't known.
+fn is_unknown_call(
+    alloc: Global,
+    regions: &Regions,
+    structs: &StructNames,
+    call: &Call<&[u8], TypeText<'_>>,
+) -> Result<bool, Memory>
+    requires { structs.now.none ≡ [] }
+    ensures { IfOk result (λ unknown. unknown ≡ true
+        → list_all (λ t. is_known (scope_in regions.now structs.now) (written t))
+        (types_written (call_of call.now)) ≡ false) }
+{
+    let unknown = any_unknown(alloc, regions, structs, call.arguments.as_slice())?;
+    if unknown {
+        return Ok(true);
+    }
+    is_unknown_type(alloc, regions, structs, &call.result)
+}
+
+/// Whether a type that is written in a statement is large, and has a name that isn't known.
+pub fn are_unknown_types(
+    alloc: Global,
+    regions: &Regions,
+    structs: &StructNames,
+    statement: &Statement<&[u8], TypeText<'_>>,
+) -> Result<bool, Memory>
+    requires { structs.now.none ≡ [] }
+    ensures { IfOk result (λ unknown. unknown ≡ true
+        → list_all (λ t. is_known (scope_in regions.now structs.now) (written t))
+        (types_written (statement_of statement.now)) ≡ false) }
+{
+    match statement {
+        Statement::Make(made) => is_unknown_type(alloc, regions, structs, &made.ty),
+        Statement::Call(call) => is_unknown_call(alloc, regions, structs, call),
+        _ => Ok(false),
+    }
 }
 
 // Judges a further type.

@@ -9,6 +9,7 @@ ghost use Rattle.nll_mir_text.specs.MirReading.{IsTaken, IsRefused};
 ghost use Rattle.nll_mir_text.specs.Stating.{as_written, IsOfPoint};
 ghost use Rattle.nll_mir_grammar.specs.declared.line.Line.TheVariants as lines;
 
+use crate::judging_types::are_unknown_types;
 use crate::knowing::targets_are_blocks;
 use crate::meaning::statement_meant;
 use crate::reader::Reader;
@@ -106,6 +107,10 @@ impl Reader {
         ensures refused { IfErr result
             (IsRefused (said_by self.old) (form_of (lines.At statement.now))) }
     {
+        let unknown = are_unknown_types(self.alloc, &self.regions, &self.structs, statement)?;
+        if unknown {
+            return Err(TextKind::Unknown);
+        }
         let variables = &mut self.variables;
         let judged = judge_point(
             self.alloc,

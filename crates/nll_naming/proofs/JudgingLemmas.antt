@@ -26,7 +26,7 @@ use Rattle.nll_naming.specs.Naming.{Scope, is_among, all_meant, regions_meant, t
 use Rattle.nll_naming.specs.Judging.{IsJudged, AreJudged, judged_at, region_is_known, is_region, HaveShapes}
 use Rattle.nll_naming.specs.declared.judged.Judged.{Judged}
 
-rest_below : (n i : ℕ) (is : List ℕ) → AreBelow n (i ∷ is) → AreBelow n is
+pub rest_below : (n i : ℕ) (is : List ℕ) → AreBelow n (i ∷ is) → AreBelow n is
 rest_below n i is b = λ k l. b (suc k) (omega arith)
 
 and_true : (a : Bool) → a && true ≡ a

@@ -1,3 +1,4 @@
 pub mod JudgingLemmas
 pub mod MeaningLemmas
 pub mod NodeLemmas
+pub mod KnowingLemmas

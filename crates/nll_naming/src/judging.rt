@@ -140,7 +140,7 @@ fn shapes_of(alloc: Global, done: &[Judged], parts: &[usize]) -> Result<Vec<usiz
 }
 
 // Whether both hold.
-fn both(one: bool, other: bool) -> bool
+pub(crate) fn both(one: bool, other: bool) -> bool
     ensures { result ≡ one && other }
 {
     one && other

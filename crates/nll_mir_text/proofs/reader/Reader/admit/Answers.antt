@@ -1,9 +1,11 @@
-use Rattle.std.proofs.Common.{length, map, sym, ap, ◌∙◌, subst, arith}
+use Rattle.std.proofs.Common.{length, map, sym, ap, ◌∙◌, subst, arith, inr}
 use Rattle.nll_types.specs.Declarations.{structs_of}
 use Rattle.nll_mir_text.specs.MirReading.{AreKinds}
 use Rattle.nll_mir_text.specs.declared.tables.Variables.{Variables}
 use Rattle.nll_mir_text.proofs.ShapeLemmas.{shapes_extended}
-use Rattle.nll_mir_text.proofs.PointLemmas.{judged_same}
+use Rattle.nll_mir_text.specs.MirReading.{said_by}
+use Rattle.nll_mir_text.specs.Stating.{as_written}
+use Rattle.nll_mir_text.proofs.PointLemmas.{judged_same, undeclared, unknown_types}
 use Rattle.nll_mir_text.proofs.reader.Reader.admit.Goals as goal
 
 pub admit_judged-requires-clause-due : goal.admit_judged-requires-clause-due
@@ -42,3 +44,9 @@ admit_judged-requires-clause-judged c =
     let e = c.in_ok-judged.ensures in
     let told = judged_same c.args.self.now.regions c.args.self.now.structs c.args.self.now.variables c.judge_point.new.variables _ _ (ap (λ (v : Variables). v.types.items) e.others) e.structs e.judged in
     record { known = told.known; fits = told.fits; fits_small = told.fits_small }
+
+pub returns-then-unknown-clause-refused : goal.returns-then-unknown-clause-refused
+returns-then-unknown-clause-refused c =
+    let self = c.args.self.now in
+    inr (undeclared (said_by self) (as_written c.args.statement.now) c.requires.order
+    (unknown_types self.regions self.structs self.variables c.args.statement.now (c.in_ok-unknown.ensures c.if-unknown.true)))
