@@ -29,7 +29,10 @@ fn header_version(line: &[u8]) -> Option<Version>
 pub fn is_mir_header(line: &[u8]) -> bool
     ensures { IsTrue result ↔ IsMirHeader line.now }
 {
-    header_version(line).is_some()
+    match header_version(line) {
+        Some(_version) => true,
+        None => false,
+    }
 }
 
 // The version of which the first line of a text is the header.

@@ -206,8 +206,8 @@ fn read_freeing(alloc: Global, reader: &mut Reader, text: Vec<u8>) -> Result<(),
     let mut number = 1;
     let first = read_first(alloc, reader, text.as_slice(), &mut number);
     drop(text);
-    let (version, left) = first?;
-    read_parts(alloc, reader, version, left, number)?;
+    let first = first?;
+    read_parts(alloc, reader, first.0, first.1, number)?;
     Ok(())
 }
 

@@ -175,17 +175,19 @@ impl Reader {
         requires ready { IsReady self.old }
         requires texts { HasTexts (form_of line) }
         requires few { HasFewParameters (form_of line) }
-        ensures taken { OnOk result (IsTaken (said_by self.old) (form_of line.entry) self.new) }
-        ensures of_version { OnOk result
-            (versions.is_of_version version (form_of line.entry) ≡ true) }
+        ensures taken { OnOk result (IsTaken (said_by self.old) (form_of line.entry) self.new
+            × (versions.is_of_version version (form_of line.entry) ≡ true)) }
         ensures refused { IfErr result
             (IsRefusedIn version (said_by self.old) (form_of line.entry)) }
     {
         match is_of_version(self.alloc, version, &line) {
-            Ok(true) => self.take(line),
-            Ok(false) => {
-                drop(line);
-                Err(TextKind::Syntax)
+            Ok(fits) => {
+                if fits {
+                    self.take(line)
+                } else {
+                    drop(line);
+                    Err(TextKind::Syntax)
+                }
             }
             Err(memory) => {
                 drop(line);

@@ -33,3 +33,9 @@ returns-in-Tuple-clause-judged c = rw c.in-Tuple.is (rw c.as_slice.ensures.value
 
 pub returns-in-Named-clause-judged : goal.returns-in-Named-clause-judged
 returns-in-Named-clause-judged c = rw c.in-Named.is (rw c.as_slice-in-Named.ensures.value at c.judge_named.ensures.judged)
+
+pub returns-in-Function-clause-structs : goal.returns-in-Function-clause-structs
+returns-in-Function-clause-structs c = c.judge_function.ensures.structs
+
+pub returns-in-Function-clause-extends : goal.returns-in-Function-clause-extends
+returns-in-Function-clause-extends c = c.judge_function.ensures.extends
