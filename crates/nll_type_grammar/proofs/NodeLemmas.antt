@@ -25,7 +25,7 @@ pub length_from : (known : List WrittenType) (ns : List TypeNode) → length (ty
 length_from known [] = omega arith
 length_from known (n ∷ ns) = omega (arith, length_from (known ++ type_over known n ∷ []) ns, length-append known (type_over known n ∷ []))
 
-from_push : (known : List WrittenType) (ns : List TypeNode) (n : TypeNode) → types_from known (ns ++ n ∷ []) ≡ types_from known ns ++ type_over (types_from known ns) n ∷ []
+pub from_push : (known : List WrittenType) (ns : List TypeNode) (n : TypeNode) → types_from known (ns ++ n ∷ []) ≡ types_from known ns ++ type_over (types_from known ns) n ∷ []
 from_push known [] n = refl
 from_push known (m ∷ ns) n = from_push (known ++ type_over known m ∷ []) ns n
 

@@ -1,6 +1,6 @@
 //! Whether a function is written in a type.
 
-ghost use Rattle.std.specs.Prelude.{◌≡◌, ◌∷◌, [], List, false, map, IfOk};
+ghost use Rattle.std.specs.Prelude.{◌≡◌, ◌∷◌, [], List, ℕ, false, map, IfOk};
 ghost use Rattle.nll_type_grammar.specs.WrittenTypes.{WrittenType};
 ghost use Rattle.nll_type_grammar.specs.Functions as spec;
 ghost use Rattle.nll_type_grammar.specs.TypeTexts.{at, all_at, arguments_at, type_over, types_from};
@@ -78,12 +78,27 @@ fn has_function_over(marks: &[bool], node: &TypeNode<'_>) -> bool
 fn marks_of(alloc: Global, nodes: &[TypeNode<'_>]) -> Result<Vec<bool>, Memory>
     ensures { IfOk result (λ v. v.items ≡ map spec.has_function (types_from [] nodes.now)) }
 {
-    let mut marks = Vec::with_capacity(alloc, nodes.len())?;
+    let mut marks = Vec::new(alloc);
     for node in nodes {
         let mark = has_function_over(marks.as_slice(), node);
-        marks.push_reserved(mark);
+        marks.push(mark)?;
     }
     Ok(marks)
+}
+
+// Whether a node is a function.
+fn is_function(node: &TypeNode<'_>) -> bool
+    ensures { result ≡ false → (known : List WrittenType)
+        → ((k : ℕ) → spec.has_function (at known k) ≡ false)
+        → spec.has_function (type_over known node.now) ≡ false }
+{
+    match node {
+        TypeNode::Int => false,
+        TypeNode::Reference(_, _, _) => false,
+        TypeNode::Tuple(_) => false,
+        TypeNode::Named(_, _) => false,
+        TypeNode::Function(_, _) => true,
+    }
 }
 
 // Whether one of the nodes is a function.
@@ -91,7 +106,7 @@ fn has_function_node(nodes: &[TypeNode<'_>]) -> bool
     ensures { result ≡ false → spec.has_function (written nodes.now) ≡ false }
 {
     for node in nodes {
-        if let TypeNode::Function(_, _) = node {
+        if is_function(node) {
             return true;
         }
     }
