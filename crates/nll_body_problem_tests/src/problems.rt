@@ -139,7 +139,8 @@ const SECOND: &[(&str, &str)] = &[
     ),
     (
         "nll-mir 2|region '1|region '2|struct D<T = > drop (T)|let _0: int|\
-        let _1: D<fn(&'1 int) -> &'2 int>|blocks 2|block bb0|nop|drop _1 -> bb1|block bb1|return|end|",
+        let _1: D<fn(&'1 int) -> &'2 int>|blocks 2|block bb0|nop|drop _1 -> bb1|block bb1|return|\
+        end|",
         "3 regions|base 1 0|base 1 1|base 2 0|base 2 1|",
     ),
     // A text of version 1 means in version 2 what it means in version 1.

@@ -1,5 +1,5 @@
--- Which lines a MIR text of each version has: version 2 has all forms, and version 1 those without a
--- function type and without a contravariant parameter.
+-- Which lines a MIR text of each version has: version 2 has all forms, and version 1 those without
+-- a function type and without a contravariant parameter.
 -- Source: project's choice; docs/FORMATS.md says the same in words.
 use Rattle.std.specs.Prelude.{◌≡◌, ℕ, Bool, true, false, not, ◌&&◌, List, codes}
 use Rattle.std.specs.List.{list_all}

@@ -147,11 +147,11 @@ fn read_parts(
     ensures ready { OnOk result (IsReady reader.new) }
     ensures ended { OnOk result ((said_by reader.new).reached ≡ 8) }
     ensures read { OnOk result ((all : List (List ℕ))
-        → IsAmid version all (lines_in (option_map (λ v. v.items) first)) (said_by reader.old) before
-        → HasRead version all reader.new) }
+        → IsAmid version all (lines_in (option_map (λ v. v.items) first))
+        (said_by reader.old) before → HasRead version all reader.new) }
     ensures fault { IfErr result (λ error. (all : List (List ℕ))
-        → IsAmid version all (lines_in (option_map (λ v. v.items) first)) (said_by reader.old) before
-        → RefusesBody version all error) }
+        → IsAmid version all (lines_in (option_map (λ v. v.items) first))
+        (said_by reader.old) before → RefusesBody version all error) }
 {
     let mut number = before;
     let mut left = first;

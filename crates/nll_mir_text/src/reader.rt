@@ -170,7 +170,7 @@ impl Reader {
         self.accept(line)
     }
 
-    // Takes in a line of a form, unless it isn't of the version, or something else is wrong with it.
+    // Takes in a line of a form, unless it isn't of the version or something else is wrong with it.
     fn take_of_version(&mut self, version: Version, line: Line<'_>) -> Result<(), TextKind>
         requires ready { IsReady self.old }
         requires texts { HasTexts (form_of line) }

@@ -12,8 +12,8 @@ use crate::bytes::{is_sign, split_gap, split_word};
 use crate::error::LexError;
 use crate::token::Token;
 
-// The token that a `-` with these bytes behind it begins with, and the rest: an arrow is longer than
-// a sign.
+// The token that a `-` with these bytes behind it begins with, and the rest: an arrow is longer
+// than a sign.
 fn dash_token(after: &[u8]) -> (Token<'_>, &[u8])
     ensures { BeginsWith (45 ∷ after.now) (view result.0) result.1.now }
 {
