@@ -3,7 +3,7 @@
 use crate::body::{Body, Call, Line, Make, CONST};
 use crate::problem::{count, join, push_point, Constraint, Labels, Problem};
 use crate::runs::Run;
-use crate::shapes::{Form, Shape, Source, Typed, DEREFERENCE, STATIC_ITEM};
+use crate::shapes::{Form, Shape, Sign, Source, Typed, DEREFERENCE, STATIC_ITEM};
 use crate::tables::Lists;
 use crate::text::CONSTRAINTS;
 
@@ -182,8 +182,8 @@ pub fn bases(body: &Body, successors: &Lists) -> Vec<Vec<Run>> {
 /// What the statements of a body ask, one key for each constraint, some perhaps more than once.
 struct Asking<'b, 't> {
     body: &'b Body<'t>,
-    /// For each shape that was compared whether its items stand at invariant positions.
-    signs: Vec<Option<Box<[bool]>>>,
+    /// For each shape that was compared the signs of its items' positions.
+    signs: Vec<Option<Box<[Sign]>>>,
     pairs: Vec<(u32, u32)>,
     /// What is compared: the items of two types.
     one: Vec<u32>,
@@ -248,12 +248,14 @@ impl Asking<'_, '_> {
         }
         let signs = self.signs[at].get_or_insert_with(|| {
             let mut signs = Vec::new();
-            self.body.shapes.push_signs(shape, false, &mut signs);
+            self.body.shapes.push_signs(shape, Sign::Covariant, &mut signs);
             signs.into_boxed_slice()
         });
-        for ((&a, &b), &invariant) in self.one.iter().zip(&self.other).zip(signs.iter()) {
-            self.pairs.push((a, b));
-            if invariant {
+        for ((&a, &b), &sign) in self.one.iter().zip(&self.other).zip(signs.iter()) {
+            if !matches!(sign, Sign::Contravariant) {
+                self.pairs.push((a, b));
+            }
+            if !matches!(sign, Sign::Covariant) {
                 self.pairs.push((b, a));
             }
         }
