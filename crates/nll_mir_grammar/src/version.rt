@@ -4,8 +4,7 @@ ghost use Rattle.std.specs.Prelude.{◌≡◌, IfOk, not, map};
 ghost use Rattle.std.specs.List.{list_all};
 ghost use Rattle.nll_type_grammar.specs.Functions.{has_function};
 ghost use Rattle.nll_type_grammar.specs.TypeTexts.{written};
-ghost use Rattle.nll_mir_grammar.specs.Lines.{argument_of, form_of, parameter_of, point_form};
-ghost use Rattle.nll_mir_grammar.specs.Lines.{struct_form};
+ghost use Rattle.nll_mir_grammar.specs.Lines.{form_of, parameter_of, point_form, struct_form};
 ghost use Rattle.nll_mir_grammar.specs.Versions as spec;
 
 use crate::line::{Line, ParameterText, StructText};
@@ -67,7 +66,7 @@ fn is_first_type(alloc: Global, ty: &TypeText<'_>) -> Result<bool, Memory>
 // Whether the types of a call's parameters may stand in a text of version 1.
 fn are_first_arguments(alloc: Global, arguments: &[(Operand, TypeText<'_>)]) -> Result<bool, Memory>
     ensures { IfOk result (λ b. b ≡ list_all (λ t. not (has_function t))
-        (map (λ a. a.1) (map argument_of arguments.now))) }
+        (map (λ a. written a.1) arguments.now)) }
 {
     for argument in arguments {
         if !is_first_type(alloc, &argument.1)? {
