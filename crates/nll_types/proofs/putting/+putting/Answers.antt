@@ -48,9 +48,9 @@ put_in-returns-in-Function t c =
     let regions = c.args.regions.now in
     let types = trees c.args.types.now in
     let inputs = rw c.as_slice-in-Function.ensures.value at c.put_in_all-inputs.ensures in
-    let returned = rw c.deref-in-Function.ensures at c.put_in-in-Function.ensures in
+    let returned = rw c.deref-in-Function.ensures at c.put_in.ensures in
     rw (ap tree c.in-Function.is ∙ tree_function _ _)
-    (handed_both c.function.result c.put_in_all-inputs.result c.put_in-in-Function.result _ _ _ _ inputs returned c.function.ensures
+    (handed_both c.function.result c.put_in_all-inputs.result c.put_in.result _ _ _ _ inputs returned c.function.ensures
     (λ u v w p o q. q ∙ (ap (λ z. function z (tree w)) p ∙ ap (function (put_in_all regions types (trees c.in-Function.inputs.items))) o)))
 
 pub put_in_all-returns-in_err-put : goal.put_in_all-returns-in_err-put
