@@ -13,6 +13,7 @@ and these modules are the ones that give it.
     beside       what a text says beside its problem
     loans        loans and what goes against them   captures  where closures use what they borrow
     accesses     what statements do to places       places    reads places of MIR
+    destructors  which borrowed places a destructor looks at
     errors       which function rustc's errors belong to
     convert      makes a problem of all this     text         writes it as a facts text
     jobs         many functions side by side     answers      what nllc says of a text

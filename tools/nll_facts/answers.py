@@ -33,10 +33,20 @@ def make_ready() -> None:
 
 
 def check(path: str, seconds: float) -> list[str]:
-    """The lines of `nllc check` that tell a fault; refuses where it doesn't answer in time."""
+    """The lines of `nllc check` that tell a fault."""
+    return [line for line in answer("check", path, seconds) if line.startswith("fault ")]
+
+
+def values(path: str, seconds: float) -> str:
+    """What `nllc values` prints."""
+    return "\n".join(answer("values", path, seconds))
+
+
+def answer(command: str, path: str, seconds: float) -> list[str]:
+    """The lines that `nllc` prints; refuses where it doesn't answer in time."""
     program = find_nllc()
     try:
-        done = subprocess.run([program, "check", path], stdin=subprocess.DEVNULL, check=False,
+        done = subprocess.run([program, command, path], stdin=subprocess.DEVNULL, check=False,
                               capture_output=True, timeout=seconds)
     except subprocess.TimeoutExpired:
         raise Refusal(f"no answer in {seconds:.0f} s; give it more by --seconds, "
@@ -47,4 +57,4 @@ def check(path: str, seconds: float) -> list[str]:
     if done.returncode not in (0, 1):
         said = done.stderr.decode(errors="replace").strip().splitlines() or ["it says not why"]
         raise Refusal(f"nllc ends with status {done.returncode}: {said[-1]}")
-    return [line for line in lines if line.startswith("fault ")]
+    return lines

@@ -2,9 +2,10 @@
 
 import os
 import re
-from dataclasses import dataclass
+from dataclasses import dataclass, replace
 from typing import Optional
 
+from .destructors import DROP_FUNCTION, destroyed_by
 from .mir import Span, read_body
 from .refusal import Refusal
 
@@ -17,6 +18,7 @@ class Dump:
     """The files of one function: its name for a person, its tables' folder, its MIR, its lines.
 
     The value of a constant is a body of its own too, which is answered where it is asked for alone.
+    `destructors` are the types of the same crate that have one.
     """
 
     name: str
@@ -25,6 +27,7 @@ class Dump:
     mir: str
     span: Optional[Span]
     is_function: bool = True
+    destructors: frozenset[str] = frozenset()
 
     def has(self, place: tuple[str, int]) -> bool:
         """Whether a line of a file is one of the function's."""
@@ -50,10 +53,13 @@ def find_dumps(facts: str, mir: str, crate: str, root: str = "") -> list[Dump]:
     """
     folders = sorted(os.listdir(facts)) if os.path.isdir(facts) else []
     dumps = []
+    destructors: set[str] = set()
     for folder in folders:
         mir_path = find_mir(mir, crate, folder)
         if mir_path is not None:
             dumps.append(dump_of(os.path.join(facts, folder), mir_path, root))
+            destructors |= destroyed_in(mir_path, root)
+    dumps = [replace(dump, destructors=frozenset(destructors)) for dump in dumps]
     return sorted(dumps, key=lambda dump: (dump.span or Span("", 0, 0), dump.file_name))
 
 
@@ -76,24 +82,37 @@ def dump_of(facts: str, mir_path: str, root: str) -> Dump:
     return Dump(name, file_name(os.path.basename(facts)), facts, mir_path, span, body.is_function)
 
 
+def destroyed_in(mir_path: str, root: str) -> set[str]:
+    """The type whose destructor is the function of a dump, if it is one."""
+    body = read_body(mir_path)
+    found = IMPL_AT.search(body.path) if DROP_FUNCTION.fullmatch(body.path) else None
+    return destroyed_by(body, impl_header(found, root)) if found else set()
+
+
 def file_name(folder: str) -> str:
     """The name of rustc's folder without what shells and people stumble over."""
     return re.sub(r"[^\w.-]+", "", folder).lstrip("-.") or "function"
 
 
 def impl_name(found: re.Match, root: str) -> str:
-    """The type of an `impl`, read from the source where rustc says only where it stands."""
+    """The type of an `impl`."""
+    header = impl_header(found, root)
+    return header and type_name(header) or found[0]
+
+
+def impl_header(found: re.Match, root: str) -> Optional[str]:
+    """How an `impl` begins, read from the source where rustc says only where it stands."""
     try:
         with open(os.path.join(root, found[1]), encoding="utf-8") as file:
             lines = file.read().split("\n")[int(found[2]) - 1:int(found[4])]
     except (OSError, UnicodeDecodeError):
-        return found[0]
+        return None
     if not lines:
-        return found[0]
+        return None
     last = len(lines) - 1
     lines[last] = lines[last][:int(found[5]) - 1]
     lines[0] = lines[0][int(found[3]) - 1:]
-    return type_name(" ".join(lines)) or found[0]
+    return " ".join(lines)
 
 
 def type_name(header: str) -> Optional[str]:

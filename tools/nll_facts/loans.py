@@ -6,6 +6,7 @@ from typing import NamedTuple, Optional
 
 from .accesses import accesses
 from .captures import capture_of
+from .destructors import Path, path_to
 from .dumps import Dump
 from .mir import Body, Span
 from .places import Place, overlap, read_place
@@ -13,9 +14,8 @@ from .tables import Location, Tables
 
 BORROW = re.compile(r" = &(mut |fake (?:shallow |deep )?)?")
 
-# A borrow of what a field's reference leads to: it goes on when the field is gone, so that only a
-# destructor can go against it.
-BEHIND = re.compile(r"\(\*\([^()]*: &")
+# How what is borrowed goes away.
+ENDING = ("ends", "drops", "leaves")
 
 # The type of what a closure has borrowed: there it is as if it were `mut`.
 ENVIRONMENT = re.compile(r"\{(?:closure|coroutine|async|gen)")
@@ -36,6 +36,7 @@ class Loan:
     place: Place
     target: Optional[int]
     span: Optional[Span]
+    path: Path
     home: Optional[Span] = None
     is_capture: bool = False
     is_unique: bool = False
@@ -57,6 +58,7 @@ class Loans:
 
     def __init__(self, dump: Dump, tables: Tables, body: Body):
         self.body = body
+        self.destructors = dump.destructors
         self.uses: dict[int, set[Location]] = {}
         for variable, spot in tables.var_used_at:
             self.uses.setdefault(variable, set()).add(spot.location)
@@ -84,7 +86,9 @@ class Loans:
         home = capture.use if capture else root.span if root and not root.name else None
         is_unique = capture is not None and kind == "mut" and root is not None \
             and not root.is_mutable and not ENVIRONMENT.search(root.type)
-        return Loan(region, location, kind, place, variable, span, home, capture is not None, is_unique)
+        path = path_to(text, way.end(), lambda number: self.body.locals[number].type)
+        return Loan(region, location, kind, place, variable, span, path, home, capture is not None,
+                    is_unique)
 
     def against(self) -> list[Against]:
         """What goes against which loans, in the order of the points."""
@@ -134,7 +138,15 @@ class Loans:
     def more_exactly(self, way: str, location: Location, loan: Loan) -> str:
         if way == "drops" and self.is_replaced(location):
             return "assigns"
-        if way == "drops" and BEHIND.search(self.body.statements[loan.location].text):
+        if way in ENDING and self.is_seen_by_destructor(way, loan):
             return "destroys"
         made = self.issued.get(location)
         return "unique" if way == "mut" and made and made.is_unique else way
+
+    def is_seen_by_destructor(self, way: str, loan: Loan) -> bool:
+        """Whether the destructor of a type looks at what is borrowed, when what is around it goes away.
+
+        What stands behind a reference goes on when the reference is gone: then a destructor alone, be it
+        of another crate, can go against the borrow.
+        """
+        return loan.path.is_seen_by(self.destructors) or (way == "drops" and loan.path.is_behind)

@@ -115,10 +115,13 @@ def answer_text(path: str, in_full: bool) -> Answer:
 def tell_all(checked: Checked, answers: list[Answer]) -> None:
     """The lines of all functions that have any, the names of the others, and what else rustc refuses."""
     places = {tuple(place) for answer in answers for place in answer.said.get("places", ())}
-    silent, loud = [], set()
+    places |= {(place[0], code) for answer in answers
+               for place, code in zip(answer.said.get("places", ()), answer.said.get("codes", ()))
+               if not is_named(checked.errors, *place)}
+    silent, loud, shown = [], set(), set()
     for (dump, problem), answer in zip(checked.problems, answers):
         lines = [answer.failure] if answer.failure else told(problem, answer.said, places,
-                                                                   checked.errors)
+                                                                   checked.errors, shown)
         if lines:
             print(f"{answer.said.get('name', problem.function)}: "
                   f"{'no answer' if answer.failure else verdict(answer.said)}")
@@ -154,16 +157,28 @@ def verdict(said: dict[str, Any]) -> str:
 
 
 def told(problem: Problem, said: dict[str, Any], places: set[tuple],
-         errors: list[Error]) -> list[str]:
-    """A function's lines; `places` are those of all functions' faults, the errors are rustc's."""
+         errors: list[Error], shown: set[tuple]) -> list[str]:
+    """A function's lines; `places` are those of all functions' faults, the errors are rustc's.
+
+    Of a fault whose column rustc doesn't name `places` has the line and the code.
+    An error of rustc that is of a closure and of the function around it is shown once.
+    """
     lines = [*said["lines"], *said["explained"]]
     if said["asked_to_explain"]:
         lines += [f"needs of the function around it that {need}" for need in said["needs"]]
     for line, column, words, why in said["differences"]:
-        if (line, column) not in places:
+        is_told = not places.isdisjoint({(line, column), (line, words.split(":")[0])})
+        if not is_told and (line, column, words) not in shown:
+            shown.add((line, column, words))
             lines += [f"{problem.source}:{line}:{column}: {version()}: {words}; nllc: no fault there",
                       f"    {why}"]
-    for line, column in said["places"]:
-        if not any(error.line == line and column in (0, error.column) for error in errors):
+    for (line, column), code in zip(said["places"], said["codes"]):
+        if not is_named(errors, line, column) and not any(
+                code and (error.line, error.code) == (line, code) for error in errors):
             lines.append(f"{problem.source}:{line}:{column}: {version()} names no error there")
     return lines
+
+
+def is_named(errors: list[Error], line: int, column: int) -> bool:
+    """Whether rustc names an error there; of a place of which the line alone is known, on the line."""
+    return any(error.line == line and column in (0, error.column) for error in errors)

@@ -1,4 +1,4 @@
-"""The table at the end of many functions: a row for each file of the source, faults below."""
+"""The table at the end of many functions: a row for each file of the source, faults and loans below."""
 
 from typing import Iterable
 
@@ -6,11 +6,13 @@ from nll_page.words import plural
 
 from .jobs import Row
 
-HEAD = ("Source", "Functions", "Points", "Seconds", "Faults")
+HEAD = ("Source", "Functions", "Points", "Seconds", "Faults", "Loans")
 
 
 def table(rows: list[Row], answered: bool) -> str:
-    """The table, then a line for each fault and for each function that has no answer."""
+    """The table, then a line for each fault, for each loan that something goes against, and for each
+    function that has no answer.
+    """
     by_source: dict[str, list[Row]] = {}
     for row in rows:
         by_source.setdefault(row.source or "?", []).append(row)
@@ -20,9 +22,10 @@ def table(rows: list[Row], answered: bool) -> str:
 
 
 def cells(name: str, rows: list[Row], answered: bool) -> tuple[str, ...]:
-    faults = str(sum(len(row.faults) for row in rows)) if answered else "-"
+    counts = [str(sum(len(found) for found in some)) if answered else "-"
+              for some in ([row.faults for row in rows], [row.loans for row in rows])]
     return (name, str(len(rows)), str(sum(row.points for row in rows)),
-            f"{sum(row.seconds for row in rows):.1f}", faults)
+            f"{sum(row.seconds for row in rows):.1f}", *counts)
 
 
 def aligned(lines: list[tuple[str, ...]]) -> Iterable[str]:
@@ -41,5 +44,7 @@ def told(rows: list[Row]) -> Iterable[str]:
         place = f"{row.source}:{row.line}: {row.function}"
         for fault in row.faults:
             yield f"{place}: {fault.removeprefix('fault ')}  ({row.path})"
+        for where, words in row.loans:
+            yield f"{row.source}:{where}: {row.function}: {words}  ({row.path})"
         if row.failure:
             yield f"{place}: no answer: {row.failure}"

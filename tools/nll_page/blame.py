@@ -1,9 +1,11 @@
 """Which constraint of a chain is named for it: the one that rustc would name.
 
 rustc ranks the categories of constraints, and takes of equal ones the one that is nearest to the
-lifetime that is to be outlived.
+lifetime that is to be outlived. Where that is a return, and what comes next to it is asked by the
+`impl` of the result, and by nothing else, rustc names the latter.
 """
 
+from collections import deque
 from typing import NamedTuple, Optional
 
 from . import words
@@ -40,4 +42,23 @@ def of_step(facts, step):
 def of_chain(facts, steps):
     """The reason that is named, of a chain whose first step is next to what is to be outlived."""
     found = [reason for reason in (of_step(facts, step) for step in steps) if reason]
-    return min(found, key=Blame.rank, default=None)
+    best = min(range(len(found)), key=lambda at: found[at].rank(), default=None)
+    if best and found[best].word == "return" and found[best - 1].word == "opaque" \
+            and not is_asked_otherwise(facts, steps[-1].constraint.sup, steps[0].constraint.sub):
+        best -= 1
+    return None if best is None else found[best]
+
+
+def is_asked_otherwise(facts, region, goal):
+    """Whether the region must outlive the other one by constraints that aren't of the result's `impl`."""
+    asked = facts.remarks.beside.asked
+    seen = {region}
+    todo = deque(seen)
+    while todo and goal not in seen:
+        for constraint in facts.by_sup.get(todo.popleft(), ()):
+            pair = facts.names[constraint.sup], facts.names[constraint.sub]
+            is_of_result = {one.word for one in asked.get(pair, ())} == {"opaque"}
+            if constraint.sub not in seen and not is_of_result:
+                seen.add(constraint.sub)
+                todo.append(constraint.sub)
+    return goal in seen

@@ -208,6 +208,7 @@ def answer(out, content, in_full):
         "asked_to_explain": in_full,
         "needs": [visible(words.plain(telling.of_need(content, pair))) for pair in content.needs],
         "places": [one.place[:2] for one in told if one.place],
+        "codes": [one.code for one in told if one.place],
         "differences": [[line, column, visible(said), visible(words.plain(why))]
                         for line, column, said, why in differences.differences(content)],
         "loans": len(content.loans),

@@ -5,11 +5,18 @@ from .words import Code
 
 
 def differences(content):
-    """rustc's errors that are none of this function's faults, each with a sentence on why."""
+    """rustc's errors that are none of this function's faults, each with a sentence on why.
+
+    A loan that rustc tells by its code on the same line is the same, whichever column it names.
+    """
     beside = content.facts.remarks.beside
-    found = {one.place[:2] for one in telling.all_of(content) if one.place}
+    told = [one for one in telling.all_of(content) if one.place]
+    found = {one.place[:2] for one in told}
+    by_line = {(one.place.line, one.code) for one in told if one.code} \
+        - {(line, words.split(":")[0]) for line, column, words in beside.rustc if (line, column) in found}
     return [(line, column, words, reason(content, line, column, words))
-            for line, column, words in beside.rustc if found.isdisjoint({(line, column), (line, 0)})]
+            for line, column, words in beside.rustc if found.isdisjoint({(line, column), (line, 0)})
+            and (line, words.split(":")[0]) not in by_line]
 
 
 def reason(content, line, column, words):

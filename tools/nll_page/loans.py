@@ -80,11 +80,19 @@ def each_once(found):
     """Without what rustc wouldn't say again: of the same loan's end, of the same access."""
     told = set()
     for one in found:
-        ends = one.against.way in ENDING
-        marks = {("end", one.number)} if ends else {one.place, (one.place and one.place[:2], one.code)}
+        marks = marks_of_end(one) if one.against.way in ENDING else \
+            {one.place, (one.place and one.place[:2], one.code)}
         if told.isdisjoint(marks):
             yield one
         told |= marks
+
+
+def marks_of_end(one):
+    """By what a loan's end is known again: the loan, or the variable and where it is borrowed."""
+    loan = one.loan
+    is_use = loan.by_closure and loan.home and one.code != "E0373"
+    place = loan.home if is_use else loan.place
+    return {("end", one.number), *([("end", loan.what.lstrip("*"), place)] if place else [])}
 
 
 def fault(facts, number, loan, against, cause):
@@ -120,7 +128,7 @@ def end_of_loan(facts, loan, against, cause):
     named = blame.of_chain(facts, cause.steps) if facts.is_universal(cause.region) else None
     category = named.word if named else ""
     if against.way == "destroys":
-        return "E0713", loan.place
+        return "E0713", loan.home if loan.by_closure and loan.home else loan.place
     if loan.by_closure and category in ("return", "argument", "opaque"):
         return "E0373", loan.place
     if category in ("return", "yield"):

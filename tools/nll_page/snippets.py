@@ -1,6 +1,9 @@
 """What stands at a place of the source, on one line."""
 
+import re
+
 MOST_LETTERS = 50
+BORROW = re.compile(r"&\s*(?:mut\b\s*)?")
 
 
 def snippet(source, place):
@@ -25,3 +28,11 @@ def whole_line(source, number):
         return ""
     words = source.lines[number - source.first].partition("//")[0].strip()
     return words if len(words) <= MOST_LETTERS else words[:MOST_LETTERS - 3].rstrip() + " .."
+
+
+def borrowed(source, place):
+    """The place of what is borrowed, behind the `&` with which the place begins, if it does."""
+    if source is None or place is None or not 0 <= place.line - source.first < len(source.lines):
+        return place
+    found = BORROW.match(source.lines[place.line - source.first], max(place.column - 1, 0))
+    return place._replace(column=found.end() + 1) if found else place

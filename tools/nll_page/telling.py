@@ -8,7 +8,7 @@ from typing import NamedTuple, Optional
 
 from . import blame, loans, words
 from .beside import Place
-from .snippets import snippet, whole_line
+from .snippets import borrowed, snippet, whole_line
 from .words import Code
 
 # What a constraint of a category does with what stands at its place.
@@ -18,6 +18,11 @@ DEEDS = {"return": "returned", "yield": "yielded", "constant": "made a constant"
          "capture": "captured", "predicate": "asked", "opaque": "the type of the result"}
 ACTS = {"mut": "borrows as mutable", "unique": "borrows as mutable", "late": "borrows as mutable",
         "shared": "borrows", "moves": "moves", "assigns": "assigns to", "reads": "uses", "looks": "looks at"}
+# The same, of a place of the source that is no more than what it is done to.
+SUFFERED = {"mut": "is borrowed as mutable", "unique": "is borrowed as mutable", "late": "is borrowed as mutable",
+            "shared": "is borrowed", "moves": "is moved", "assigns": "is assigned to", "reads": "is used",
+            "looks": "is looked at"}
+PATH = re.compile(r"\**[A-Za-z_]\w*(?:\.\w+)*")
 
 OF_VARIABLE = re.compile(r"the type of (\w+)(?::|;|$)")
 
@@ -92,23 +97,53 @@ def stop(content, named):
 
 def of_loan(content, fault):
     """A loan that something goes against."""
-    return Telling(fault.place, fault.code, loan_head(content, fault), loan_cause(content, fault))
+    return Telling(place_of_loan(content, fault), fault.code, loan_head(content, fault),
+                   loan_cause(content, fault))
+
+
+def place_of_loan(content, fault):
+    """rustc's place: of what a closure uses, the variable without the `&` before it."""
+    loan = fault.loan
+    is_use = loan.by_closure and loan.home and fault.place == loan.home
+    return borrowed(content.source, fault.place) if is_use else fault.place
 
 
 def loan_head(content, fault):
     """What is wrong, at rustc's place."""
     if fault.against.way in loans.ENDING:
         return ending_head(content, fault)
-    loan = fault.loan
     code = snippet(content.source, fault.against.place)
-    who = [Code(code), " "] if code else ["this "]
-    as_mutable = " as mutable" if loan.kind in ("mut", "unique") else ""
+    return path_head(content, fault, code) if PATH.fullmatch(code) else deed_head(content, fault, code)
+
+
+def path_head(content, fault, path):
+    """What is done to what stands there."""
+    loan = fault.loan
+    done = [Code(path), " ", SUFFERED[fault.against.way], ", and "]
     if loan.kind == "fake":
-        return [*who, ACTS[fault.against.way], " what the ", Code("match"), " is looking at"]
-    if loan.at == fault.against.point:
-        return [*who, ACTS[fault.against.way], f" what it has borrowed{as_mutable} in an earlier turn of the loop"]
-    return [*who, ACTS[fault.against.way], " what ", *where_made(content, loan),
-            f" has borrowed{as_mutable}"]
+        return [*done, "the ", Code("match"), " is looking at it"]
+    by = ["an earlier turn of the loop"] if is_of_earlier_turn(fault) else where_made(content, loan)
+    return [*done, *by, f" has borrowed it{as_mutable(loan)}"]
+
+
+def deed_head(content, fault, code):
+    """What the statement there does."""
+    loan = fault.loan
+    does = [*([Code(code)] if code else ["this"]), " ", ACTS[fault.against.way], " what "]
+    if loan.kind == "fake":
+        return [*does, "the ", Code("match"), " is looking at"]
+    if is_of_earlier_turn(fault):
+        return [*does, f"it has borrowed{as_mutable(loan)} in an earlier turn of the loop"]
+    return [*does, *where_made(content, loan), f" has borrowed{as_mutable(loan)}"]
+
+
+def as_mutable(loan):
+    return " as mutable" if loan.kind in ("mut", "unique") else ""
+
+
+def is_of_earlier_turn(fault):
+    """Whether the borrow itself goes against the loan that it made before."""
+    return fault.loan.at == fault.against.point
 
 
 def ending_head(content, fault):

@@ -4,6 +4,7 @@ import json
 import lzma
 import os
 import re
+import shutil
 import subprocess
 import sys
 import tempfile
@@ -29,6 +30,18 @@ from nll_facts.text import facts_text  # noqa: E402
 
 POINT = re.compile(r"# point (\d+): (?:line (\d+): )?(.*)")
 REGION = re.compile(r"# region '(\w+): (?:line (\d+): )?(.*)")
+
+
+KNOWN = "1.95."      # the release that the stored dumps are of, and that docs/FROM-RUST.md shows
+
+
+def rustc_release():
+    """`1.95.0 ..` of the rustc that the tools take; nothing where there is none."""
+    rustc = shutil.which(os.environ.get("RUSTC") or "rustc")
+    if not rustc:
+        return ""
+    done = subprocess.run([rustc, "--version"], capture_output=True, check=False, text=True)
+    return done.stdout.removeprefix("rustc ")
 
 
 def source_path(source):

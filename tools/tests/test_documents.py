@@ -5,6 +5,7 @@ import re
 import subprocess
 import sys
 import unittest
+from concurrent.futures import ThreadPoolExecutor
 
 ROOT = pathlib.Path(__file__).resolve().parents[2]
 DOCUMENTS = ["README.md", "docs/LEARNING.md", "docs/TUTORIAL.md"]
@@ -39,12 +40,14 @@ def answered(command):
 
 class Documents(unittest.TestCase):
     def test_shown_answers(self):
-        for document in DOCUMENTS:
-            asked = [(command, lines) for command, lines in shown(document) if ANSWER.search(command)]
-            self.assertTrue(asked, document)
-            for command, lines in asked:
+        asked = [(document, command, lines) for document in DOCUMENTS
+                 for command, lines in shown(document) if ANSWER.search(command)]
+        self.assertEqual({document for document, _, _ in asked}, set(DOCUMENTS))
+        with ThreadPoolExecutor() as pool:
+            answers = pool.map(answered, [command for _, command, _ in asked])
+            for (document, command, lines), answer in zip(asked, answers):
                 with self.subTest(document=document, command=command):
-                    self.assertEqual(answered(command), lines)
+                    self.assertEqual(answer, lines)
 
     def test_shown_texts(self):
         """A text that the tutorial shows in part stands line by line, in this order, in its example."""

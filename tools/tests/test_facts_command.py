@@ -11,22 +11,13 @@ import unittest
 
 import facts_support as support
 
-KNOWN = "1.95."
 FACTS = os.path.join(support.TOOLS, "nll-facts")
 RUST = os.path.join(support.ROOT, "nllc.sh")
 
 
-def version():
-    rustc = shutil.which(os.environ.get("RUSTC") or "rustc")
-    if not rustc:
-        return ""
-    done = subprocess.run([rustc, "--version"], capture_output=True, check=False, text=True)
-    return done.stdout.removeprefix("rustc ")
-
-
-VERSION = version()
+VERSION = support.rustc_release()
 needs_rustc = unittest.skipUnless(VERSION, "no rustc")
-needs_known = unittest.skipUnless(VERSION.startswith(KNOWN), f"no rustc {KNOWN}x")
+needs_known = unittest.skipUnless(VERSION.startswith(support.KNOWN), f"no rustc {support.KNOWN}x")
 
 
 class Room(unittest.TestCase):
@@ -167,18 +158,21 @@ class Crate(Room):
         self.write("ws/two/Cargo.toml", '[package]\nname = "two"\nversion = "0.1.0"\n'
                    '[dependencies]\none = { path = "../one" }\n')
         self.write("ws/two/src/main.rs", "fn main() {\n    one::f(&3);\n}\n"
-                   "pub fn bad<'a>(x: &'a u8) -> &'static u8 {\n    x\n}\n")
+                   "pub fn bad<'a>(x: &'a u8) -> &'static u8 {\n    x\n}\n"
+                   "pub fn worse(mut x: u8) -> u8 {\n    let y = &x;\n    x = 3;\n    *y\n}\n")
         program = self.write("nllc", "#!/bin/sh\nexec python3 "
                              f"{support.ROOT}/bench/reference.py \"$@\"\n")
         os.chmod(program, 0o755)
         done = support.run(FACTS, "--crate", self.path("ws"), "-o", self.path("o"), "--",
                            "--workspace", "--offline", env=os.environ | {"NLLC": program})
         self.assertEqual(done.returncode, 0, done.stderr)
-        self.assertRegex(done.stdout, r"one/src/lib\.rs +1 +2 +\d+\.\d +0\n")
-        self.assertRegex(done.stdout, r"two/src/main\.rs +2 +\d+ +\d+\.\d +1\n")
+        self.assertRegex(done.stdout, r"one/src/lib\.rs +1 +2 +\d+\.\d +0 +0\n")
+        self.assertRegex(done.stdout, r"two/src/main\.rs +3 +\d+ +\d+\.\d +1 +1\n")
+        self.assertIn("two/src/main.rs:9:5: worse: E0506: `x = 3` assigns to what line 8 has borrowed",
+                      done.stdout)
         self.assertIn("two/src/main.rs:4: bad: 'a must outlive 'static", done.stdout)
         self.assertEqual([name for name in self.left() if name.startswith("o/")],
-                         ["o/one/f.facts", "o/two/bad.facts", "o/two/main.facts"])
+                         ["o/one/f.facts", "o/two/bad.facts", "o/two/main.facts", "o/two/worse.facts"])
 
 
 @needs_known

@@ -187,17 +187,19 @@ class Writing(unittest.TestCase):
 
 
 class TableAtTheEnd(unittest.TestCase):
-    def test_rows_sums_faults(self):
-        rows = [Row("f", "a.rs", 3, "o/f.facts", 10, 0.25, ["fault 'a must outlive 'b"]),
+    def test_rows_sums_faults_loans(self):
+        rows = [Row("f", "a.rs", 3, "o/f.facts", 10, 0.25, ["fault 'a must outlive 'b"],
+                    [("5:9", "E0506: `x = 3` assigns to what line 4 has borrowed")]),
                 Row("g", "b.rs", 1, "o/g.facts", 2, 0.5, failure="no answer in 60 s")]
         self.assertEqual(table(rows, answered=True), """\
-Source   Functions  Points  Seconds  Faults
--------  ---------  ------  -------  ------
-a.rs             1      10      0.2       1
-b.rs             1       2      0.5       0
--------  ---------  ------  -------  ------
-2 files          2      12      0.8       1
+Source   Functions  Points  Seconds  Faults  Loans
+-------  ---------  ------  -------  ------  -----
+a.rs             1      10      0.2       1      1
+b.rs             1       2      0.5       0      0
+-------  ---------  ------  -------  ------  -----
+2 files          2      12      0.8       1      1
 a.rs:3: f: 'a must outlive 'b  (o/f.facts)
+a.rs:5:9: f: E0506: `x = 3` assigns to what line 4 has borrowed  (o/f.facts)
 b.rs:1: g: no answer: no answer in 60 s
 """)
 

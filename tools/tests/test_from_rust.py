@@ -15,12 +15,15 @@ import tempfile
 import unittest
 from concurrent.futures import ThreadPoolExecutor
 
+import facts_support as support
+
 ROOT = pathlib.Path(__file__).resolve().parents[2]
 DOCUMENTS = ("docs/FROM-RUST.md", "README.md")
 COMMAND = re.compile(r"    \$ ((?:\./nllc\.sh (?:rust|page)|tools/nll-facts --crate) .*)")
 NUMBERED = re.compile(r" {3,5}(\d{1,2})  (.*)")
 SECONDS = re.compile(r" +\d+\.\d\b(?= |$)")
-RELEASE = "rustc 1.95."
+needs_known = unittest.skipUnless(support.rustc_release().startswith(support.KNOWN),
+                                  f"no rustc {support.KNOWN}x, the release that is shown")
 
 
 def blocks(lines):
@@ -63,16 +66,8 @@ def write(document):
     path.write_text("\n".join(lines))
 
 
-def has_rustc():
-    try:
-        said = subprocess.run(["rustc", "--version"], capture_output=True, text=True, check=False).stdout
-    except OSError:
-        return False
-    return said.startswith(RELEASE)
-
-
 class Shown(unittest.TestCase):
-    @unittest.skipUnless(has_rustc(), "there is no rustc of the release that is shown")
+    @needs_known
     def test_commands(self):
         shown = {command: [line[4:] for line in lines[begin:end]]
                  for lines in ((ROOT / name).read_text().split("\n") for name in DOCUMENTS)
@@ -83,11 +78,11 @@ class Shown(unittest.TestCase):
                 with self.subTest(command=command):
                     self.assertEqual(without_seconds(answer), without_seconds(lines))
 
-    @unittest.skipUnless(has_rustc(), "there is no rustc of the release that is shown")
+    @needs_known
     def test_figures_of_the_text(self):
         """What docs/FROM-RUST.md says of points and regions of examples/three.rs."""
         with folder_of_links() as folder:
-            printed("./nllc.sh rust examples/three.rs", folder)
+            printed("tools/nll-facts examples/three.rs", folder)
             said = {}
             for name in ("news", "fixed", "longer"):
                 path = os.path.join(folder, "out", "rust", "three", f"{name}.facts")

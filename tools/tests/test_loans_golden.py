@@ -4,13 +4,14 @@ rustc's errors stand in loans/errors.tsv; store_facts.py writes them down. Dumps
 these tests need no rustc; where it is at hand, another test compares the errors with fresh ones.
 """
 
+import os
 import re
 import unittest
 
 import facts_support as support
 import page_support
 from nll_facts.errors import LIFETIMES, LOANS
-from nll_page import chains, differences, faults, telling
+from nll_page import chains, differences, faults, source as sources, telling
 from nll_page.facts import read_facts
 from nll_page.loans import loan_faults
 from nll_page.page import Content, Fault
@@ -21,22 +22,23 @@ KINDS = ("E0499", "E0502", "E0505", "E0506", "E0597", "E0515", "E0716", "E0503",
 FN = re.compile(r"\s*(?:pub )?(?:async )?fn (\w+)")
 
 
-def content_of(text):
-    """What a page shows of a text, without the source."""
+def content_of(text, source=None):
+    """What a page shows of a text, where a source is named with its lines."""
     facts = read_facts(text.encode(), "TEXT")
     values = quick_values(facts)
     found = faults.faults(facts, values)
     needs = faults.needs(facts, found)
     wrong = [Fault(sup, sub, chains.chain(facts, values, sup, sub))
              for sup, sub in found if (sup, sub) not in needs]
-    return Content(facts, values, wrong, "TEXT", None, "", "", list(loan_faults(facts, values)), needs)
+    lines = sources.read(os.path.join(support.HERE, support.source_path(source)), facts) if source else None
+    return Content(facts, values, wrong, "TEXT", lines, "", "", list(loan_faults(facts, values)), needs)
 
 
 def found_in(source):
     """The code, line and column of each fault of a source."""
     found = set()
     for text in support.stored_texts(source).values():
-        for one in telling.all_of(content_of(text)):
+        for one in telling.all_of(content_of(text, source)):
             found.add((one.code, one.place.line, one.place.column))
     return found
 

@@ -4,9 +4,10 @@ import unittest
 
 import page_support
 from nll_facts.accesses import accesses
+from nll_facts.destructors import destroyed_by, path_to
 from nll_facts.dumps import Dump
 from nll_facts.errors import own_errors
-from nll_facts.mir import Span, reason_of
+from nll_facts.mir import Body, Local, Span, reason_of
 from nll_facts.places import Place, overlap, read_place
 from nll_facts.rustc import Error, read_error
 from nll_page import blame, loans, telling
@@ -42,6 +43,35 @@ class Places(unittest.TestCase):
         self.assertFalse(overlap(one, other))
         self.assertFalse(overlap(one, Place(2, ("0",))))
         self.assertTrue(overlap(Place(1, ("[]",)), Place(1, ("[]",))))
+
+
+class Destructors(unittest.TestCase):
+    def owners(self, text, kind):
+        path = path_to(text, 0, lambda _: kind)
+        return path.owners, path.is_behind
+
+    def test_types_whose_fields_a_place_goes_through(self):
+        for text, kind, owners, is_behind in (
+                ("_1", "S", (), False),
+                ("(_1.0: T)", "m::S<'_, u8>", ("m::S<'_, u8>",), False),
+                ("(*((_1.0: T<'_>).1: &mut u8))", "S", ("S", "T<'_>"), True),
+                ("((*_1).0: T)", "Box<S<(u8, u8)>, A>", ("S<(u8, u8)>",), False),
+                ("((*_1).0: T)", "&mut S", ("S",), True),
+                ("(_1[_2].0: T)", "[S<[u8; 2]>; 3]", ("S<[u8; 2]>",), False),
+                ("((_1 as Some).0: T)", "Option<T>", ("Option<T>",), False)):
+            with self.subTest(text=text, kind=kind):
+                self.assertEqual(self.owners(text, kind), (owners, is_behind))
+
+    def test_whether_one_of_them_has_a_destructor(self):
+        path = path_to("((_1.0: m::T<u8>).1: u8)", 0, lambda _: "S")
+        self.assertTrue(path.is_seen_by({"m::T"}))
+        self.assertFalse(path.is_seen_by({"T"}))
+
+    def test_whose_destructor_a_function_is(self):
+        body = Body("f::<impl at a.rs:1:2: 1:19>::drop", locals={1: Local("&mut In<'_>")})
+        self.assertEqual(destroyed_by(body, "impl Drop for In<'_>"), {"In", "f::In"})
+        self.assertEqual(destroyed_by(body, "impl In<'_>"), set())
+        self.assertEqual(destroyed_by(body, None), set())
 
 
 class Accesses(unittest.TestCase):
@@ -167,7 +197,7 @@ class Loans(unittest.TestCase):
         content = self.content(*TEXT)
         [one] = telling.all_of(content)
         self.assertEqual(telling.lines(content, one), [
-            "a.rs:2:5: E0506: `a` assigns to what line 1 has borrowed as mutable",
+            "a.rs:2:5: E0506: `a` is assigned to, and line 1 has borrowed it as mutable",
             "    the loan of line 1 (`&a`) is in force: its region `'x` holds line 2, since the same line "
             "uses it"])
 

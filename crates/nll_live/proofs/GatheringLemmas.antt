@@ -1,16 +1,18 @@
 -- Points in lists, one list a variable.
-use Rattle.std.proofs.Common.{◌≡◌, ◌⊎◌, ◌↔◌, ℕ, ◌+◌, ◌<◌, ◌≤◌, List, [], ◌∷◌, ◌++◌, Contains, length, get_or, replicate, take, Some, None, slice_get, inl, inr, refl, sym, ap, ◌∙◌, subst, ⊎_elim, arith}
+use Rattle.std.proofs.Common.{◌≡◌, ◌⊎◌, ◌↔◌, ℕ, ◌+◌, ◌<◌, ◌≤◌, List, [], ◌∷◌, ◌++◌, AllPairs, Contains, length, get_or, replicate, take, Some, None, slice_get, inl, inr, refl, sym, ap, ◌∙◌, subst, ⊎_elim, arith}
 use Rattle.std.proofs.lemmas.Bool.{cases_lt, cases_eq}
 use Rattle.std.proofs.lemmas.List.{length-replicate, get_or-replicate, get_or-set_same, get_or-set_other, get_or_past, length-set, take_more}
-use Rattle.std.proofs.lemmas.List.Elements.{Contains-push, Contains-push_cases, Contains-append_left}
-use Rattle.std.proofs.lemmas.Option.{slice_get_cases}
+use Rattle.std.proofs.lemmas.List.Elements.{Contains-get_or, Contains-push, Contains-push_cases, Contains-append_left}
+use Rattle.std.proofs.lemmas.List.Quantifiers.{all_pairs_push}
+use Rattle.std.proofs.lemmas.Option.{slice_get_cases, slice_get_within}
 use Rattle.nll_problem.specs.Rows.{row_at, with_item}
 use Rattle.nll_types.specs.Types.{TypeTree}
 use Rattle.nll_statements.specs.Statements.{Statement}
 use Rattle.nll_statements.specs.Effects.{variables_used, defined, dropped}
 use Rattle.nll_body.specs.Bodies.{BodyText, StandsAt}
 use Rattle.nll_live.specs.Live.{UsesAt, DropsAt, DefinesAt}
-use Rattle.nll_live.specs.Gathering.{IsListed, Lists, AreListed}
+use Rattle.nll_live.specs.Gathering.{IsListed, Lists, AreListed, AscendBelow}
+use Rattle.nll_live.specs.Lows.{AreDefined}
 
 pub contains_none : {X : Type 0} (x : X) → Contains [] x → ⊥
 contains_none x h = absurd (omega (arith, h.1))
@@ -182,3 +184,56 @@ listed_within count holds n lists f x p listed = ⊎_elim
     (λ low. let is = (f.each x p low).0 listed in (low, is.0, is.1))
     (λ high. absurd (contains_none p (subst (λ row. Contains row p) (get_or_past lists x [] (omega (arith, high, f.counted))) listed)))
     (cases_lt x count)
+
+-- ---- order
+
+none_ascends : AllPairs ◌<◌ []
+none_ascends i j d low within = absurd (omega (arith, within))
+
+-- no point is listed yet
+pub ascend_first : (count : ℕ) → AscendBelow 0 (replicate count [])
+ascend_first count x = ⊎_elim
+    (λ low. here (get_or-replicate count x [] [] low))
+    (λ high. here (get_or_past (replicate count []) x [] (omega (arith, high, length-replicate {A = List ℕ} count []))))
+    (cases_lt x count)
+  where
+    here : row_at (replicate count []) x ≡ [] → AllPairs ◌<◌ (row_at (replicate count []) x) × ((p : ℕ) → IsListed (replicate count []) x p → p < 0)
+    here none = (subst (AllPairs ◌<◌) (sym none) none_ascends, λ p h. absurd (contains_none p (subst (λ row. Contains row p) none h)))
+
+-- lists that have points below one have points below a later one
+pub ascend_later : (m n : ℕ) (lists : List (List ℕ)) → m ≤ n → AscendBelow m lists → AscendBelow n lists
+ascend_later m n lists more h x = ((h x).0, λ p c. omega (arith, more, (h x).1 p c))
+
+-- a point that comes later is put into one list
+pub ascend_one : (lists : List (List ℕ)) (x p : ℕ) → x < length lists → AscendBelow p lists → AscendBelow (p + 1) (with_item lists x p)
+ascend_one lists x p within h y = ⊎_elim
+    (λ is. subst (λ z. AllPairs ◌<◌ (row_at (with_item lists x p) z) × ((q : ℕ) → IsListed (with_item lists x p) z q → q < p + 1)) (sym is) here)
+    (λ isnt.
+    let same : row_at (with_item lists x p) y ≡ row_at lists y = get_or-set_other lists x y (row_at lists x ++ p ∷ []) [] isnt in
+    (subst (AllPairs ◌<◌) (sym same) (h y).0, λ q c. omega (arith, (h y).1 q (subst (λ row. Contains row q) same c))))
+    (cases_eq y x)
+  where
+    at : row_at (with_item lists x p) x ≡ row_at lists x ++ p ∷ []
+    at = get_or-set_same lists x (row_at lists x ++ p ∷ []) [] within
+
+    here : AllPairs ◌<◌ (row_at (with_item lists x p) x) × ((q : ℕ) → IsListed (with_item lists x p) x q → q < p + 1)
+    here = (
+      subst (AllPairs ◌<◌) (sym at) (all_pairs_push ◌<◌ (row_at lists x) p (h x).0 (λ k d low. (h x).1 (get_or (row_at lists x) k d) (Contains-get_or (row_at lists x) k d low))),
+      λ q c. ⊎_elim
+          (λ there. omega (arith, (h x).1 q there))
+          (λ is. omega (arith, is))
+          (Contains-push_cases (row_at lists x) p q (subst (λ row. Contains row q) at c)),
+    )
+
+-- all points are listed, so the lists are of the definitions
+pub definitions_listed : (body : BodyText) (n : ℕ) (lists : List (List ℕ)) → length body.points ≤ n → AreListed (length body.variables) (DefinesAt body) n lists → AscendBelow n lists → AreDefined body lists
+definitions_listed body n lists all listed ascending = record {
+  counted = listed.counted;
+  each = λ x h. record {
+    each = λ p. (
+      λ c. ((listed.each x p (omega (arith, h, listed.counted))).0 c).0,
+      λ d. (listed.each x p (omega (arith, h, listed.counted))).1 (d, omega (arith, all, slice_get_within body.points p d.0 d.1)),
+    );
+    ascending = (ascending x).0;
+  };
+}

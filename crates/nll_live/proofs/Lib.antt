@@ -2,6 +2,7 @@ pub mod VectorLemmas
 pub mod GatheringLemmas
 pub mod MarkLemmas
 pub mod WalkLemmas
+pub mod ChainLemmas
 pub mod SearchLemmas
 pub mod SetLemmas
 pub mod BaseRunLemmas

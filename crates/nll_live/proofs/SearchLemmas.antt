@@ -1,56 +1,110 @@
 -- How far a search has come.
-use Rattle.std.proofs.Common.{◌↔◌, ℕ, ◌+◌, ◌<◌, ◌≤◌, List, [], length, sym, subst, arith, Contains}
+use Rattle.std.proofs.Common.{◌≡◌, ◌↔◌, ℕ, ◌+◌, ◌<◌, ◌≤◌, List, [], length, sym, subst, arith, Contains, ⊎_elim, ◌∙◌}
 use Rattle.std.specs.Prelude.{slice_index}
 use borrow.Author.Count.{below_more}
+use Rattle.std.proofs.lemmas.Bool.{cases_lt}
 use Rattle.std.proofs.lemmas.List.Elements.{Contains-get_or}
 use Rattle.std.proofs.lemmas.Option.{slice_get_within}
 use Rattle.nll_problem.specs.Graph.{Graph, IsNext}
 use Rattle.nll_body.specs.Bodies.{BodyText, GoesOn, IsGraphOf}
 use Rattle.nll_live.specs.Live.{GoesOnUndefined, IsLive}
-use Rattle.nll_live.specs.Marks.{IsMarked, AreFound, Marks}
-use Rattle.nll_live.proofs.MarkLemmas.{marks_append, marks_weaker, at_each, contains_at}
-use Rattle.nll_live.proofs.WalkLemmas.{live_end, live_before, live_inside}
+use Rattle.nll_live.specs.Chains.{AreStarts, IsChain}
+use Rattle.nll_live.specs.Lows.{AreDefinitions, IsLow}
+use Rattle.nll_live.specs.Marks.{IsMarked, IsCovered, IsReached, AreFound, ReachesMore}
+use Rattle.nll_live.proofs.MarkLemmas.{reaches_append, reaches_weaker, reached_kept, at_each, contains_at}
+use Rattle.nll_live.proofs.ChainLemmas.{follows, live_along}
+use Rattle.nll_live.proofs.WalkLemmas.{live_end, live_before, live_inside, live_within}
 
--- Of the points that are found the variable is live; the ends are among them, and so is what goes on to those looked at.
-pub record Searching (body : BodyText) (x turn : ℕ) (ends first marks list : List ℕ) (place : ℕ) : Type 0 where
-  pub more : Marks (IsLive body (Contains ends) x) turn first marks [] list
-  pub found : AreFound marks turn list
-  pub within : place ≤ length list
-  pub begun : (p : ℕ) → Contains ends p → IsMarked marks turn p
-  pub closed : (k : ℕ) → k < place → (q : ℕ) → GoesOnUndefined body x q (slice_index list k) → IsMarked marks turn q
+-- A stretch of points at which the variable is live, and of which each but the first follows the one before it alone.
+pub record IsLiveStretch (body : BodyText) (x : ℕ) (ends : List ℕ) (low height : ℕ) : Type 0 where
+  pub proper : low ≤ height
+  pub chain : IsChain (GoesOn body) low height
+  pub live : (p : ℕ) → low ≤ p → p ≤ height → IsLive body (Contains ends) x p
 
-module _ (body : BodyText) (x turn : ℕ) (ends first : List ℕ) where
-  pub search_first : (marks list : List ℕ) → Marks (Contains ends) turn first marks [] list → AreFound marks turn list → ((k : ℕ) → k < length ends → IsMarked marks turn (slice_index ends k)) → Searching body x turn ends first marks list 0
-  search_first marks list put found covers = record {
-    more = marks_weaker (Contains ends) (IsLive body (Contains ends) x) turn first marks [] list (live_end body (Contains ends) x) put;
+-- What is reached are such stretches; the ends are among it, and so is what goes on to the low points looked at.
+pub record Searching (body : BodyText) (x turn : ℕ) (ends first tops marks heights lows : List ℕ) (place : ℕ) : Type 0 where
+  pub more : ReachesMore (λ low p. IsLiveStretch body x ends low p) turn first tops [] marks heights lows
+  pub found : AreFound marks heights turn lows
+  pub within : place ≤ length lows
+  pub begun : (p : ℕ) → Contains ends p → IsReached marks heights turn p
+  pub closed : (k : ℕ) → k < place → (q : ℕ) → GoesOnUndefined body x q (slice_index lows k) → IsReached marks heights turn q
+
+module _ (body : BodyText) (x turn : ℕ) (ends first tops starts definitions : List ℕ) (all : (k : ℕ) → k < length ends → slice_index ends k < length body.points) (fresh : (p : ℕ) → slice_index first p < turn) (are : AreStarts (GoesOn body) (length body.points) starts) (defined : AreDefinitions body x definitions) where
+  ends_within : (p : ℕ) → Contains ends p → p < length body.points
+  ends_within = at_each (λ p. p < length body.points) ends all
+
+  -- a search that comes to a point where the variable is live gets such a stretch
+  stretch : (low p : ℕ) → IsLive body (Contains ends) x p → IsLow (slice_index starts p) definitions p low → IsLiveStretch body x ends low p
+  stretch low p live is =
+      let within = live_within body (Contains ends) x ends_within p live in
+      record {
+        proper = is.before;
+        chain = follows body (Contains ends) x starts definitions are defined p low within is;
+        live = live_along body (Contains ends) x starts definitions are defined p low within is live;
+      }
+
+  pub search_first : (marks heights lows : List ℕ) → ReachesMore (λ low p. Contains ends p × IsLow (slice_index starts p) definitions p low) turn first tops [] marks heights lows → AreFound marks heights turn lows
+      → ((k : ℕ) → k < length ends → IsReached marks heights turn (slice_index ends k)) → Searching body x turn ends first tops marks heights lows 0
+  search_first marks heights lows put found covers = record {
+    more = reaches_weaker _ (λ low p. IsLiveStretch body x ends low p) turn first tops [] marks heights lows (λ low p c. stretch low p (live_end body (Contains ends) x p c.0) c.1) put;
     found = found;
     within = omega arith;
-    begun = at_each (IsMarked marks turn) ends covers;
+    begun = at_each (IsReached marks heights turn) ends covers;
     closed = λ k h. absurd (omega arith);
   }
 
-  pub search_step : (marks list : List ℕ) (place : ℕ) (next longer : List ℕ) → place < length list → Searching body x turn ends first marks list place
-      → Marks (λ p. GoesOnUndefined body x p (slice_index list place)) turn marks next list longer → AreFound next turn longer
-      → ((p : ℕ) → GoesOnUndefined body x p (slice_index list place) → IsMarked next turn p)
-      → Searching body x turn ends first next longer (place + 1)
-  search_step marks list place next longer h s put found covers = record {
-    more = marks_append _ turn first marks next [] list longer s.more
-        (marks_weaker _ (IsLive body (Contains ends) x) turn marks next list longer
-        (λ p c. live_before body (Contains ends) x p (slice_index list place) c (s.more.cause place (omega arith) h)) put);
-    found = found;
-    within = omega (arith, put.longer);
-    begun = λ p c. put.kept p (s.begun p c);
-    closed = below_more (λ k. (q : ℕ) → GoesOnUndefined body x q (slice_index longer k) → IsMarked next turn q) place
-        (λ k b q c. put.kept q (s.closed k b q (subst (GoesOnUndefined body x q) (put.front k (omega arith)) c)))
-        (λ q c. covers q (subst (GoesOnUndefined body x q) (put.front place h) c));
-  }
+  -- what is marked is the low end of such a stretch
+  marked_stretch : (marks heights lows : List ℕ) (place : ℕ) → Searching body x turn ends first tops marks heights lows place → (low : ℕ) → IsMarked marks turn low → IsLiveStretch body x ends low (slice_index heights low)
+  marked_stretch marks heights lows place s low m = ⊎_elim
+      (λ old. absurd (omega (arith, fresh low, old.0)))
+      (λ one. subst (IsLiveStretch body x ends low) (sym one.2) one.1)
+      (s.more.cause low m)
 
-  pub search_last : (marks list : List ℕ) (place : ℕ) → length list ≤ place → Searching body x turn ends first marks list place → (p : ℕ) → Contains list p ↔ IsLive body (Contains ends) x p
-  search_last marks list place h s p = (
-    at_each (IsLive body (Contains ends) x) list (λ k l. s.more.cause k (omega arith) l) p,
-    λ live. contains_at list p (s.found.listed p (live_inside body (Contains ends) x (IsMarked marks turn) s.begun
-        (λ q r m step. let at = s.found.listed r m in s.closed at.0 (omega (arith, at.1)) q (subst (GoesOnUndefined body x q) (sym at.2) step)) p live)),
-  )
+  pub search_step : (marks heights lows : List ℕ) (place : ℕ) (next raised longer : List ℕ) → place < length lows → Searching body x turn ends first tops marks heights lows place
+      → ReachesMore (λ low p. GoesOnUndefined body x p (slice_index lows place) × IsLow (slice_index starts p) definitions p low) turn marks heights lows next raised longer → AreFound next raised turn longer
+      → ((p : ℕ) → GoesOnUndefined body x p (slice_index lows place) → IsReached next raised turn p)
+      → Searching body x turn ends first tops next raised longer (place + 1)
+  search_step marks heights lows place next raised longer h s put found covers =
+      let here = marked_stretch marks heights lows place s (slice_index lows place) (s.found.marked place h) in
+      let live = here.live (slice_index lows place) (omega arith) here.proper in
+      record {
+        more = reaches_append _ turn first tops [] marks heights lows next raised longer s.more
+            (reaches_weaker _ (λ low p. IsLiveStretch body x ends low p) turn marks heights lows next raised longer
+            (λ low p c. stretch low p (live_before body (Contains ends) x p (slice_index lows place) c.0 live) c.1) put);
+        found = found;
+        within = omega (arith, put.longer);
+        begun = λ p c. reached_kept _ turn marks heights lows next raised longer put p (s.begun p c);
+        closed = below_more (λ k. (q : ℕ) → GoesOnUndefined body x q (slice_index longer k) → IsReached next raised turn q) place
+            (λ k b q c. reached_kept _ turn marks heights lows next raised longer put q (s.closed k b q (subst (GoesOnUndefined body x q) (put.front k (omega arith)) c)))
+            (λ q c. covers q (subst (GoesOnUndefined body x q) (put.front place h) c));
+      }
+
+  module _ (marks heights lows : List ℕ) (place : ℕ) (done : length lows ≤ place) (s : Searching body x turn ends first tops marks heights lows place) where
+    stretch_at : (low : ℕ) → Contains lows low → IsLiveStretch body x ends low (slice_index heights low)
+    stretch_at low c = marked_stretch marks heights lows place s low (at_each (IsMarked marks turn) lows s.found.marked low c)
+
+    -- what goes on to a point that is reached, and doesn't define the variable, is reached
+    reached_before : (q r : ℕ) → IsReached marks heights turn r → GoesOnUndefined body x q r → IsReached marks heights turn q
+    reached_before q r m step = ⊎_elim
+        (λ above.
+        let next : q + 1 ≡ r = ((marked_stretch marks heights lows place s m.0 m.1).chain r above m.3 q).0 step.1 in
+        (m.0, m.1, omega (arith, above, next), omega (arith, m.3, next)))
+        (λ upto.
+        let is : m.0 ≡ r = omega (arith, upto, m.2) in
+        let at = s.found.listed m.0 m.1 in
+        s.closed at.0 (omega (arith, at.1, done)) q (subst (GoesOnUndefined body x q) (sym (at.2 ∙ is)) step))
+        (cases_lt m.0 r)
+
+    pub search_last : (p : ℕ) → IsCovered heights lows p ↔ IsLive body (Contains ends) x p
+    search_last p = (
+      λ c. (stretch_at c.0 c.1).live p c.2 c.3,
+      λ live.
+          let r = live_inside body (Contains ends) x (IsReached marks heights turn) s.begun reached_before p live in
+          (r.0, contains_at lows r.0 (s.found.listed r.0 r.1), r.2, r.3),
+    )
+
+    pub search_proper : (low : ℕ) → Contains lows low → low ≤ slice_index heights low
+    search_proper low c = (stretch_at low c).proper
 
 -- ---- points that go on to a point
 

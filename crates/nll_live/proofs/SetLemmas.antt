@@ -1,14 +1,17 @@
 -- Sets of points, one a variable.
-use Rattle.std.proofs.Common.{◌≡◌, ◌↔◌, ℕ, ◌+◌, ◌<◌, Bool, true, false, List, [], ◌∷◌, ◌++◌, Contains, length, get_or, set, replicate, take, Result, Ok, Err, refl, sym, ap, ◌∙◌, subst, ⊎_elim, arith, length-append}
+use Rattle.std.proofs.Common.{◌≡◌, ◌↔◌, ℕ, ◌+◌, ◌<◌, ◌≤◌, Bool, true, false, List, [], ◌∷◌, ◌++◌, Contains, length, get_or, replicate, take, Result, Ok, Err, refl, sym, ap, ◌∙◌, subst, ⊎_elim, arith, length-append}
 use Rattle.std.specs.Prelude.{slice_index_or, IfOk, OnOk}
-use Rattle.std.proofs.lemmas.Bool.{cases_lt, cases_eq, false≢true}
-use Rattle.std.proofs.lemmas.List.{length-replicate, get_or-replicate, get_or-set_same, get_or-set_other, get_or_append_left, get_or_push, get_or_past, length-set, take_more}
+use Rattle.std.proofs.lemmas.Bool.{cases_lt, false≢true}
+use Rattle.std.proofs.lemmas.List.{length-replicate, get_or-replicate, get_or_append_left, get_or_push, get_or_past, take_more}
 use Rattle.std.proofs.lemmas.List.Elements.{Contains-push, Contains-push_cases, Contains-append_left}
 use Rattle.nll_sets.specs.ElementSet.{flag}
+use Rattle.nll_sets.specs.Runs.{Fills}
+use Rattle.nll_sets.specs.declared.run.Run.{Run}
 use Rattle.nll_body.specs.Bodies.{BodyText}
 use Rattle.nll_live.specs.Live.{IsLive}
 use Rattle.nll_live.specs.Gathering.{IsListed, AreListed}
 use Rattle.nll_live.specs.LiveSets.{IsIn, AreSetsOf}
+use Rattle.nll_live.specs.Marks.{IsCovered}
 use Rattle.nll_live.proofs.GatheringLemmas.{contains_none}
 use Rattle.nll_live.proofs.WalkLemmas.{live_same}
 
@@ -23,15 +26,15 @@ on_ok (Err e) P Q f h = tt
 
 -- ---- the set of a list
 
--- The set has the first n of the points.
-pub record Holds (points : List ℕ) (n width : ℕ) (flags : List Bool) : Type 0 where
+-- The set has what the first n of the points cover.
+pub record Covers (heights lows : List ℕ) (n width : ℕ) (flags : List Bool) : Type 0 where
   pub wide : length flags ≡ width
-  pub each : (p : ℕ) → (flag flags p ≡ true) ↔ Contains (take n points) p
+  pub each : (p : ℕ) → (flag flags p ≡ true) ↔ IsCovered heights (take n lows) p
 
-pub holds_first : (points : List ℕ) (width : ℕ) → Holds points 0 width (replicate width false)
-holds_first points width = record {
+pub covers_first : (heights lows : List ℕ) (width : ℕ) → Covers heights lows 0 width (replicate width false)
+covers_first heights lows width = record {
   wide = length-replicate width false;
-  each = λ p. (λ h. absurd (none_in p h), λ h. absurd (contains_none p h));
+  each = λ p. (λ h. absurd (none_in p h), λ h. absurd (contains_none h.0 h.1));
 }
   where
     none_in : (p : ℕ) → flag (replicate width false) p ≡ true → ⊥
@@ -40,22 +43,22 @@ holds_first points width = record {
         (λ high. false≢true (sym (get_or_past (replicate width false) p false (omega (arith, high, length-replicate width false))) ∙ h))
         (cases_lt p width)
 
-pub holds_step : (points : List ℕ) (n width : ℕ) (old : List Bool) → n < length points → get_or points n 0 < width → Holds points n width old → Holds points (n + 1) width (set old (get_or points n 0) true)
-holds_step points n width old within small h =
-    let e = get_or points n 0 in
-    let more = take_more points n 0 within in
+pub covers_step : (heights lows : List ℕ) (n width : ℕ) (old new : List Bool) (run : Run) → n < length lows → run.first ≡ get_or lows n 0 → run.last ≡ get_or heights (get_or lows n 0) 0 → Covers heights lows n width old → Fills old new run → Covers heights lows (n + 1) width new
+covers_step heights lows n width old new run within first last h f =
+    let e = get_or lows n 0 in
+    let more = take_more lows n 0 within in
     record {
-      wide = length-set old e true ∙ h.wide;
-      each = λ p. ⊎_elim
-          (λ is. (
-            λ _. subst (λ xs. Contains xs p) (sym more) (subst (Contains (take n points ++ e ∷ [])) (sym is) (Contains-push (take n points) e)),
-            λ _. subst (λ q. flag (set old e true) q ≡ true) (sym is) (get_or-set_same old e true false (omega (arith, small, h.wide))),
-          ))
-          (λ isnt. (
-            λ on. subst (λ xs. Contains xs p) (sym more) (Contains-append_left (take n points) (e ∷ []) p ((h.each p).0 (sym (get_or-set_other old e p true false isnt) ∙ on))),
-            λ there. get_or-set_other old e p true false isnt ∙ (h.each p).1 (⊎_elim (λ old_one. old_one) (λ is. absurd (isnt (sym is))) (Contains-push_cases (take n points) e p (subst (λ xs. Contains xs p) more there))),
-          ))
-          (cases_eq p e);
+      wide = f.width ∙ h.wide;
+      each = λ p. (
+        λ on. ⊎_elim
+            (λ was. let c = (h.each p).0 was in (c.0, subst (λ xs. Contains xs c.0) (sym more) (Contains-append_left (take n lows) (e ∷ []) c.0 c.1), c.2, c.3))
+            (λ now. (e, subst (λ xs. Contains xs e) (sym more) (Contains-push (take n lows) e), omega (arith, first, now.0), omega (arith, last, now.1)))
+            (f.cause p on),
+        λ c. ⊎_elim
+            (λ there. f.kept p ((h.each p).1 (c.0, there, c.2, c.3)))
+            (λ is. f.filled p (omega (arith, first, is, c.2)) (omega (arith, last, subst (λ k. p ≤ get_or heights k 0) (sym is) c.3)))
+            (Contains-push_cases (take n lows) e c.0 (subst (λ xs. Contains xs c.0) more c.1)),
+      );
     }
 
 -- ---- one set a variable

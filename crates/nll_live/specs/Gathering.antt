@@ -1,6 +1,6 @@
 -- How points are listed by the variables that they use or drop.
 -- Source: project's choice. Private contracts alone cite this file.
-use Rattle.std.specs.Prelude.{◌≡◌, ◌⊎◌, ◌↔◌, ℕ, ◌<◌, List, length, Contains}
+use Rattle.std.specs.Prelude.{◌≡◌, ◌⊎◌, ◌↔◌, ℕ, ◌<◌, List, length, AllPairs, Contains}
 use Rattle.nll_problem.specs.Rows.{row_at}
 
 -- p is in the list of x
@@ -18,3 +18,8 @@ pub record AreListed (count : ℕ) (holds : ℕ → ℕ → Type 0) (n : ℕ) (l
   where
     pub counted : length lists ≡ count
     pub each : (x p : ℕ) → x < count → IsListed lists x p ↔ (holds x p × (p < n))
+
+-- each list ascends, and has points below n alone
+abbrev pub AscendBelow : ℕ → List (List ℕ) → Type 0
+AscendBelow n lists =
+    (x : ℕ) → AllPairs ◌<◌ (row_at lists x) × ((p : ℕ) → IsListed lists x p → p < n)

@@ -1,18 +1,21 @@
-//! The base elements that liveness gives regions, variable by variable: the points of one are let go
-//! before the next is looked at, and a variable that asks for nothing isn't looked at.
+//! The base elements that liveness gives regions, variable by variable: the points of one are let
+//! go before the next is looked at, and a variable that asks for nothing isn't looked at.
 
 ghost use Rattle.std.specs.Prelude.{◌≡◌, ◌↔◌, ◌+◌, ◌^◌, ◌<◌, ◌≤◌, ℕ, [], length, map, slice_index};
-ghost use Rattle.std.specs.Prelude.{Contains, IfOk, OnOk, replicate};
+ghost use Rattle.std.specs.Prelude.{Contains, IfOk, OnOk};
 ghost use Rattle.nll_body.specs.Bodies.{IsGraphOf};
 ghost use Rattle.nll_body.specs.Sound.{IsSound};
 ghost use Rattle.nll_live.specs.Gathering.{AreListed};
 ghost use Rattle.nll_live.specs.Live.{AsksForUse, AsksForDrop, DropsAt, IsBaseOf, IsLive, UsesAt};
+ghost use Rattle.nll_live.specs.Lows.{AreWays};
 ghost use Rattle.nll_problem.specs.BaseRuns.{IsInBaseRuns};
 ghost use Rattle.nll_live.specs.BaseRuns.{Gains};
 
 use crate::base_runs::push_all;
 use crate::gathering::{drops_by_variable, uses_by_variable};
 use crate::live_points::find_set;
+use crate::search::Room;
+use crate::ways::{Ways, ways_of};
 use nll_body::Body;
 use nll_problem::{BaseRun, Predecessors, RegionId};
 use nll_sets::Memory;
@@ -25,9 +28,10 @@ use std::alloc::Global;
 /// - `Memory`.
 ///
 /// # Cost
-/// The uses and drops of all variables; for each variable whose type has a region, the points where
-/// it is live and the edges that lead to them; and for each region of its type the runs of these
-/// points, which are what comes out (not proved).
+/// The points and their edges; the uses, drops and definitions of all variables; for each variable
+/// whose type has a region, its uses and drops, and the chains of points where it is live, cut at
+/// its definitions, with the edges that lead to them; and for each region of its type the runs of
+/// these points, which are what comes out (not proved).
 ///
 /// # Source
 /// RFC 2094, "Liveness" and "Drop".
@@ -56,13 +60,13 @@ fn push_live(alloc: Global, body: &Body, base_runs: &mut Vec<BaseRun>) -> Result
     // No effect at run time. The proof reads from this call that the body is sound.
     let _ = body.points();
     let previous = Predecessors::of(alloc, body.graph())?;
-    let told = push_both(alloc, body, &previous, base_runs);
+    let told = push_over(alloc, body, &previous, base_runs);
     drop(previous);
     told
 }
 
 // The same, over the predecessors of the body's points.
-fn push_both(
+fn push_over(
     alloc: Global,
     body: &Body,
     previous: &Predecessors<'_>,
@@ -73,8 +77,29 @@ fn push_both(
     ensures { OnOk result
         ((r p : ℕ) → IsInBaseRuns base_runs.new.items r p ↔ IsBaseOf body.now r p) }
 {
-    push_uses(alloc, body, previous, base_runs)?;
-    push_drops(alloc, body, previous, base_runs)?;
+    let ways = ways_of(alloc, body, previous)?;
+    let told = push_both(alloc, body, previous, &ways, base_runs);
+    drop(ways);
+    told
+}
+
+// The same, by what searches in the body go by.
+fn push_both(
+    alloc: Global,
+    body: &Body,
+    previous: &Predecessors<'_>,
+    ways: &Ways,
+    base_runs: &mut Vec<BaseRun>,
+) -> Result<(), Memory>
+    requires shown { IsGraphOf body.now previous.now }
+    requires ways { AreWays body.now ways.now.starts.items
+        (map (λ list. list.items) ways.now.definitions.items) }
+    requires nothing { base_runs.old.items ≡ [] }
+    ensures { OnOk result
+        ((r p : ℕ) → IsInBaseRuns base_runs.new.items r p ↔ IsBaseOf body.now r p) }
+{
+    push_uses(alloc, body, previous, ways, base_runs)?;
+    push_drops(alloc, body, previous, ways, base_runs)?;
     Ok(())
 }
 
@@ -83,14 +108,17 @@ fn push_uses(
     alloc: Global,
     body: &Body,
     previous: &Predecessors<'_>,
+    ways: &Ways,
     base_runs: &mut Vec<BaseRun>,
 ) -> Result<(), Memory>
-    requires { IsGraphOf body.now previous.now }
+    requires shown { IsGraphOf body.now previous.now }
+    requires ways { AreWays body.now ways.now.starts.items
+        (map (λ list. list.items) ways.now.definitions.items) }
     ensures { OnOk result (Gains (λ r p. (x : ℕ) × AsksForUse body.now x r p)
         base_runs.old.items base_runs.new.items) }
 {
     let lists = uses_by_variable(alloc, body)?;
-    let told = push_each_use(alloc, body, previous, lists.as_slice(), base_runs);
+    let told = push_each_use(alloc, body, previous, ways, lists.as_slice(), base_runs);
     drop(lists);
     told
 }
@@ -100,14 +128,17 @@ fn push_drops(
     alloc: Global,
     body: &Body,
     previous: &Predecessors<'_>,
+    ways: &Ways,
     base_runs: &mut Vec<BaseRun>,
 ) -> Result<(), Memory>
-    requires { IsGraphOf body.now previous.now }
+    requires shown { IsGraphOf body.now previous.now }
+    requires ways { AreWays body.now ways.now.starts.items
+        (map (λ list. list.items) ways.now.definitions.items) }
     ensures { OnOk result (Gains (λ r p. (x : ℕ) × AsksForDrop body.now x r p)
         base_runs.old.items base_runs.new.items) }
 {
     let lists = drops_by_variable(alloc, body)?;
-    let told = push_each_drop(alloc, body, previous, lists.as_slice(), base_runs);
+    let told = push_each_drop(alloc, body, previous, ways, lists.as_slice(), base_runs);
     drop(lists);
     told
 }
@@ -117,16 +148,19 @@ fn push_each_use(
     alloc: Global,
     body: &Body,
     previous: &Predecessors<'_>,
+    ways: &Ways,
     lists: &[Vec<u32>],
     base_runs: &mut Vec<BaseRun>,
 ) -> Result<(), Memory>
     requires shown { IsGraphOf body.now previous.now }
+    requires ways { AreWays body.now ways.now.starts.items
+        (map (λ list. list.items) ways.now.definitions.items) }
     requires listed { AreListed (length body.now.variables) (UsesAt body.now)
         (length body.now.points) (map (λ list. list.items) lists.now) }
     ensures { OnOk result (Gains (λ r p. (x : ℕ) × AsksForUse body.now x r p)
         base_runs.old.items base_runs.new.items) }
 {
-    let mut room = room_for(alloc, body.points())?;
+    let mut room = Room::of(alloc, body.points())?;
     for variable in 0..body.variables() {
         let list = lists[variable].as_slice();
         let regions = body.var_regions(alloc, variable as u32)?;
@@ -134,6 +168,7 @@ fn push_each_use(
             alloc,
             body,
             previous,
+            ways,
             variable as u32,
             list,
             regions.as_slice(),
@@ -149,16 +184,19 @@ fn push_each_drop(
     alloc: Global,
     body: &Body,
     previous: &Predecessors<'_>,
+    ways: &Ways,
     lists: &[Vec<u32>],
     base_runs: &mut Vec<BaseRun>,
 ) -> Result<(), Memory>
     requires shown { IsGraphOf body.now previous.now }
+    requires ways { AreWays body.now ways.now.starts.items
+        (map (λ list. list.items) ways.now.definitions.items) }
     requires listed { AreListed (length body.now.variables) (DropsAt body.now)
         (length body.now.points) (map (λ list. list.items) lists.now) }
     ensures { OnOk result (Gains (λ r p. (x : ℕ) × AsksForDrop body.now x r p)
         base_runs.old.items base_runs.new.items) }
 {
-    let mut room = room_for(alloc, body.points())?;
+    let mut room = Room::of(alloc, body.points())?;
     for variable in 0..body.variables() {
         let list = lists[variable].as_slice();
         let regions = body.var_drop_regions(alloc, variable as u32)?;
@@ -166,6 +204,7 @@ fn push_each_drop(
             alloc,
             body,
             previous,
+            ways,
             variable as u32,
             list,
             regions.as_slice(),
@@ -176,30 +215,13 @@ fn push_each_drop(
     Ok(())
 }
 
-// What searches have for their own use: the marks of earlier ones, and a list.
-#[derive(Drop)]
-struct Room {
-    marks: Vec<u32>,
-    found: Vec<u32>,
-}
-
-// Room for searches among so many points, with the marks of none.
-fn room_for(alloc: Global, points: u32) -> Result<Room, Memory>
-    ensures { IfOk result (λ room. room.marks.items ≡ replicate points 0) }
-{
-    let marks = Vec::from_elem(alloc, 0, points as usize)?;
-    Ok(Room {
-        marks,
-        found: Vec::new(alloc),
-    })
-}
-
 // Puts the runs of base elements of these regions behind the others, at the points from which a
 // walk leads to one of the list. The room's marks are of earlier variables.
 fn push_found(
     alloc: Global,
     body: &Body,
     previous: &Predecessors<'_>,
+    ways: &Ways,
     variable: u32,
     list: &[u32],
     regions: &[RegionId],
@@ -207,31 +229,26 @@ fn push_found(
     base_runs: &mut Vec<BaseRun>,
 ) -> Result<(), Memory>
     requires shown { IsGraphOf body.now previous.now }
+    requires ways { AreWays body.now ways.now.starts.items
+        (map (λ list. list.items) ways.now.definitions.items) }
     requires variable { variable < length body.now.variables }
     requires points { (p : ℕ) → Contains list.now p → p < length body.now.points }
     requires few { length body.now.points < 2 ^ 32 }
     requires width { length room.old.marks.items ≡ length body.now.points }
+    requires tall { length room.old.heights.items ≡ length body.now.points }
     requires fresh { (p : ℕ) → slice_index room.old.marks.items p ≤ variable }
     ensures gains { OnOk result
         (Gains (λ r p. Contains regions.now r × IsLive body.now (Contains list.now) variable p)
         base_runs.old.items base_runs.new.items) }
     ensures width { OnOk result (length room.new.marks.items ≡ length body.now.points) }
+    ensures tall { OnOk result (length room.new.heights.items ≡ length body.now.points) }
     ensures fresh { OnOk result ((p : ℕ) → slice_index room.new.marks.items p ≤ variable + 1) }
 {
     // Most variables of most bodies have types without regions.
     if regions.is_empty() {
         return Ok(());
     }
-    let marks = &mut room.marks;
-    let set = find_set(
-        alloc,
-        body,
-        previous,
-        variable,
-        list,
-        marks,
-        &mut room.found,
-    )?;
+    let set = find_set(alloc, body, previous, ways, variable, list, room)?;
     push_all(base_runs, regions, set.as_runs())?;
     Ok(())
 }

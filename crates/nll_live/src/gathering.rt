@@ -1,8 +1,10 @@
-//! The points of a body by the variables that they use or drop.
+//! The points of a body by the variables that they use, drop or define.
 
-ghost use Rattle.std.specs.Prelude.{◌≡◌, ◌<◌, ℕ, [], length, map, replicate, Contains, IfOk, OnOk};
-ghost use Rattle.nll_live.specs.Live.{UsesAt, DropsAt};
-ghost use Rattle.nll_live.specs.Gathering.{AreListed, Lists};
+ghost use Rattle.std.specs.Prelude.{◌≡◌, ◌+◌, ◌<◌, ℕ, [], length, map, replicate, Contains, IfOk};
+ghost use Rattle.std.specs.Prelude.{OnOk};
+ghost use Rattle.nll_live.specs.Live.{DefinesAt, DropsAt, UsesAt};
+ghost use Rattle.nll_live.specs.Gathering.{AreListed, AscendBelow, Lists};
+ghost use Rattle.nll_live.specs.Lows.{AreDefined};
 
 use nll_body::Body;
 use nll_sets::Memory;
@@ -33,6 +35,20 @@ pub(crate) fn drops_by_variable(alloc: Global, body: &Body) -> Result<Vec<Vec<u3
 {
     let mut lists = empty_lists(alloc, body.variables())?;
     match list_drops(&mut lists, body) {
+        Ok(()) => Ok(lists),
+        Err(memory) => {
+            drop(lists);
+            Err(memory)
+        }
+    }
+}
+
+/// For each variable the points that define it, ascending.
+pub(crate) fn definitions_by_variable(alloc: Global, body: &Body) -> Result<Vec<Vec<u32>>, Memory>
+    ensures { IfOk result (λ lists. AreDefined body.now (map (λ list. list.items) lists.items)) }
+{
+    let mut lists = empty_lists(alloc, body.variables())?;
+    match list_definitions(&mut lists, body) {
         Ok(()) => Ok(lists),
         Err(memory) => {
             drop(lists);
@@ -76,6 +92,17 @@ fn list_drops(lists: &mut Vec<Vec<u32>>, body: &Body) -> Result<(), Memory>
     Ok(())
 }
 
+// Puts each point into the list of the variable that it defines.
+fn list_definitions(lists: &mut Vec<Vec<u32>>, body: &Body) -> Result<(), Memory>
+    requires { map (λ list. list.items) lists.old.items ≡ replicate (length body.now.variables) [] }
+    ensures { OnOk result (AreDefined body.now (map (λ list. list.items) lists.new.items)) }
+{
+    for point in 0..body.points() {
+        list_definition_of(lists, body, point)?;
+    }
+    Ok(())
+}
+
 // Puts a point into the lists of the variables that it uses.
 fn list_uses_of(
     lists: &mut Vec<Vec<u32>>,
@@ -105,6 +132,20 @@ fn list_drop_of(lists: &mut Vec<Vec<u32>>, body: &Body, point: u32) -> Result<()
     Ok(())
 }
 
+// Puts a point into the list of the variable that it defines.
+fn list_definition_of(lists: &mut Vec<Vec<u32>>, body: &Body, point: u32) -> Result<(), Memory>
+    requires { point < length body.now.points }
+    ensures lists { OnOk result (Lists (λ x. DefinesAt body.now x point) point
+        (map (λ list. list.items) lists.old.items) (map (λ list. list.items) lists.new.items)) }
+    ensures ascending { OnOk result (AscendBelow point (map (λ list. list.items) lists.old.items)
+        → AscendBelow (point + 1) (map (λ list. list.items) lists.new.items)) }
+{
+    if let Some(variable) = body.defines(point) {
+        list_at(lists, variable, point)?;
+    }
+    Ok(())
+}
+
 // Puts a point into the lists of these variables.
 fn list_at_all(lists: &mut Vec<Vec<u32>>, variables: &[u32], point: u32) -> Result<(), Memory>
     ensures { OnOk result (Lists (Contains variables.now) point
@@ -118,8 +159,10 @@ fn list_at_all(lists: &mut Vec<Vec<u32>>, variables: &[u32], point: u32) -> Resu
 
 // Puts a point into the list of a variable, where there is one.
 fn list_at(lists: &mut Vec<Vec<u32>>, variable: u32, point: u32) -> Result<(), Memory>
-    ensures { OnOk result (Lists (λ x. x ≡ variable) point
+    ensures lists { OnOk result (Lists (λ x. x ≡ variable) point
         (map (λ list. list.items) lists.old.items) (map (λ list. list.items) lists.new.items)) }
+    ensures ascending { OnOk result (AscendBelow point (map (λ list. list.items) lists.old.items)
+        → AscendBelow (point + 1) (map (λ list. list.items) lists.new.items)) }
 {
     if (variable as usize) < lists.len() {
         let list = &mut lists[variable as usize];

@@ -8,13 +8,16 @@ ghost use Rattle.nll_sets.specs.ElementSet.{flag};
 ghost use Rattle.nll_live.specs.Gathering.{IsListed};
 ghost use Rattle.nll_live.specs.Live.{IsLive, IsUseLive, IsDropLive};
 ghost use Rattle.nll_live.specs.LiveSets.{AreLiveSets, AreSetsOf};
+ghost use Rattle.nll_live.specs.Lows.{AreWays};
+ghost use Rattle.nll_live.specs.Marks.{IsCovered};
 
 use crate::gathering::{drops_by_variable, uses_by_variable};
 use crate::live_sets::LiveSets;
-use crate::search::search_back;
+use crate::search::{Room, search_back};
+use crate::ways::{Ways, ways_of};
 use nll_body::Body;
 use nll_problem::Predecessors;
-use nll_sets::{Element, ElementSet, Memory, RunSet};
+use nll_sets::{ElementSet, Memory, Run, RunSet};
 use std::alloc::Global;
 
 /// The points where each variable of a body is use-live, and those where it is drop-live.
@@ -23,8 +26,9 @@ use std::alloc::Global;
 /// - `Memory`.
 ///
 /// # Cost
-/// For each variable the points where it is live and the edges that lead to them, and sorting these
-/// points (not proved).
+/// The points and their edges; the uses, drops and definitions of all variables; and for each
+/// variable its uses and drops, and the chains of points where it is live, cut at its definitions,
+/// with the edges that lead to them, and sorting these chains (not proved).
 ///
 /// # Source
 /// RFC 2094, "Liveness".
@@ -32,18 +36,36 @@ pub fn liveness(alloc: Global, body: &Body) -> Result<LiveSets, Memory>
     ensures { IfOk result (AreLiveSets body.now) }
 {
     let previous = Predecessors::of(alloc, body.graph())?;
-    let sets = both_sets(alloc, body, &previous);
+    let sets = sets_over(alloc, body, &previous);
     drop(previous);
     sets
 }
 
 // The same, over the predecessors of the body's points.
-fn both_sets(alloc: Global, body: &Body, previous: &Predecessors<'_>) -> Result<LiveSets, Memory>
+fn sets_over(alloc: Global, body: &Body, previous: &Predecessors<'_>) -> Result<LiveSets, Memory>
     requires { IsGraphOf body.now previous.now }
     ensures { IfOk result (AreLiveSets body.now) }
 {
-    let uses = use_live_sets(alloc, body, previous)?;
-    match drop_live_sets(alloc, body, previous) {
+    let ways = ways_of(alloc, body, previous)?;
+    let sets = both_sets(alloc, body, previous, &ways);
+    drop(ways);
+    sets
+}
+
+// The same, by what searches in the body go by.
+fn both_sets(
+    alloc: Global,
+    body: &Body,
+    previous: &Predecessors<'_>,
+    ways: &Ways,
+) -> Result<LiveSets, Memory>
+    requires shown { IsGraphOf body.now previous.now }
+    requires ways { AreWays body.now ways.now.starts.items
+        (map (λ list. list.items) ways.now.definitions.items) }
+    ensures { IfOk result (AreLiveSets body.now) }
+{
+    let uses = use_live_sets(alloc, body, previous, ways)?;
+    match drop_live_sets(alloc, body, previous, ways) {
         Ok(drops) => Ok(LiveSets::of(uses, drops)),
         Err(memory) => {
             drop(uses);
@@ -57,12 +79,15 @@ fn use_live_sets(
     alloc: Global,
     body: &Body,
     previous: &Predecessors<'_>,
+    ways: &Ways,
 ) -> Result<Vec<RunSet>, Memory>
-    requires { IsGraphOf body.now previous.now }
+    requires shown { IsGraphOf body.now previous.now }
+    requires ways { AreWays body.now ways.now.starts.items
+        (map (λ list. list.items) ways.now.definitions.items) }
     ensures { IfOk result (λ sets. AreSetsOf body.now (IsUseLive body.now) sets.items) }
 {
     let lists = uses_by_variable(alloc, body)?;
-    let sets = live_sets(alloc, body, previous, lists.as_slice());
+    let sets = live_sets(alloc, body, previous, ways, lists.as_slice());
     drop(lists);
     sets
 }
@@ -72,12 +97,15 @@ fn drop_live_sets(
     alloc: Global,
     body: &Body,
     previous: &Predecessors<'_>,
+    ways: &Ways,
 ) -> Result<Vec<RunSet>, Memory>
-    requires { IsGraphOf body.now previous.now }
+    requires shown { IsGraphOf body.now previous.now }
+    requires ways { AreWays body.now ways.now.starts.items
+        (map (λ list. list.items) ways.now.definitions.items) }
     ensures { IfOk result (λ sets. AreSetsOf body.now (IsDropLive body.now) sets.items) }
 {
     let lists = drops_by_variable(alloc, body)?;
-    let sets = live_sets(alloc, body, previous, lists.as_slice());
+    let sets = live_sets(alloc, body, previous, ways, lists.as_slice());
     drop(lists);
     sets
 }
@@ -87,23 +115,22 @@ fn live_sets(
     alloc: Global,
     body: &Body,
     previous: &Predecessors<'_>,
+    ways: &Ways,
     lists: &[Vec<u32>],
 ) -> Result<Vec<RunSet>, Memory>
     requires shown { IsGraphOf body.now previous.now }
+    requires ways { AreWays body.now ways.now.starts.items
+        (map (λ list. list.items) ways.now.definitions.items) }
     requires counted { length lists.now ≡ length body.now.variables }
     requires points { (x p : ℕ) → IsListed (map (λ list. list.items) lists.now) x p
         → p < length body.now.points }
     ensures { IfOk result (λ sets. AreSetsOf body.now
         (λ x. IsLive body.now (IsListed (map (λ list. list.items) lists.now) x) x) sets.items) }
 {
-    let mut marks = Vec::from_elem(alloc, 0, body.points() as usize)?;
-    let mut found = Vec::new(alloc);
+    let mut room = Room::of(alloc, body.points())?;
     let mut sets = Vec::new(alloc);
-    let told = find_sets(
-        alloc, body, previous, lists, &mut marks, &mut found, &mut sets,
-    );
-    drop(marks);
-    drop(found);
+    let told = find_sets(alloc, body, previous, ways, lists, &mut room, &mut sets);
+    drop(room);
     match told {
         Ok(()) => Ok(sets),
         Err(memory) => {
@@ -113,75 +140,113 @@ fn live_sets(
     }
 }
 
-// Puts the sets into an empty list. Marks and points are for its own use.
+// Puts the sets into an empty list. The room's marks are of no turn.
 fn find_sets(
     alloc: Global,
     body: &Body,
     previous: &Predecessors<'_>,
+    ways: &Ways,
     lists: &[Vec<u32>],
-    marks: &mut Vec<u32>,
-    found: &mut Vec<u32>,
+    room: &mut Room,
     sets: &mut Vec<RunSet>,
 ) -> Result<(), Memory>
     requires shown { IsGraphOf body.now previous.now }
+    requires ways { AreWays body.now ways.now.starts.items
+        (map (λ list. list.items) ways.now.definitions.items) }
     requires counted { length lists.now ≡ length body.now.variables }
     requires points { (x p : ℕ) → IsListed (map (λ list. list.items) lists.now) x p
         → p < length body.now.points }
-    requires width { length marks.old.items ≡ length body.now.points }
-    requires fresh { (p : ℕ) → slice_index marks.old.items p ≤ 0 }
+    requires width { length room.old.marks.items ≡ length body.now.points }
+    requires tall { length room.old.heights.items ≡ length body.now.points }
+    requires fresh { (p : ℕ) → slice_index room.old.marks.items p ≤ 0 }
     requires nothing { sets.old.items ≡ [] }
     ensures { OnOk result (AreSetsOf body.now
         (λ x. IsLive body.now (IsListed (map (λ list. list.items) lists.now) x) x) sets.new.items) }
 {
     for variable in 0..body.variables() {
         let list = lists[variable].as_slice();
-        let set = find_set(alloc, body, previous, variable as u32, list, marks, found)?;
+        let set = find_set(alloc, body, previous, ways, variable as u32, list, room)?;
         sets.push(set)?;
     }
     Ok(())
 }
 
-/// The points from which a walk leads to one of the list, for a variable. Marks and points are for
-/// its own use; the marks are of earlier variables.
+/// The points from which a walk leads to one of the list, for a variable. The room's marks are of
+/// earlier variables.
 pub(crate) fn find_set(
     alloc: Global,
     body: &Body,
     previous: &Predecessors<'_>,
+    ways: &Ways,
     variable: u32,
     list: &[u32],
-    marks: &mut Vec<u32>,
-    found: &mut Vec<u32>,
+    room: &mut Room,
 ) -> Result<RunSet, Memory>
     requires shown { IsGraphOf body.now previous.now }
+    requires ways { AreWays body.now ways.now.starts.items
+        (map (λ list. list.items) ways.now.definitions.items) }
     requires variable { variable < length body.now.variables }
     requires points { (p : ℕ) → Contains list.now p → p < length body.now.points }
-    requires width { length marks.old.items ≡ length body.now.points }
-    requires fresh { (p : ℕ) → slice_index marks.old.items p ≤ variable }
-    ensures width { OnOk result (length marks.new.items ≡ length body.now.points) }
-    ensures fresh { OnOk result ((p : ℕ) → slice_index marks.new.items p ≤ variable + 1) }
+    requires width { length room.old.marks.items ≡ length body.now.points }
+    requires tall { length room.old.heights.items ≡ length body.now.points }
+    requires fresh { (p : ℕ) → slice_index room.old.marks.items p ≤ variable }
+    ensures width { OnOk result (length room.new.marks.items ≡ length body.now.points) }
+    ensures tall { OnOk result (length room.new.heights.items ≡ length body.now.points) }
+    ensures fresh { OnOk result ((p : ℕ) → slice_index room.new.marks.items p ≤ variable + 1) }
     ensures set_width { IfOk result (λ set. length set ≡ length body.now.points) }
     ensures each { IfOk result (λ set. (p : ℕ)
         → (flag set p ≡ true) ↔ IsLive body.now (Contains list.now) variable p) }
 {
     let points = body.points();
-    found.clear();
-    search_back(marks, variable + 1, found, body, previous, variable, list)?;
-    // The points are a few ascending runs, which this sort merges. What is put into a set at its
-    // end costs least.
-    found.sort()?;
-    let set = set_of(alloc, points, found.as_slice())?;
-    Ok(set)
+    let starts = ways.starts.as_slice();
+    let definitions = ways.definitions[variable as usize].as_slice();
+    room.lows.clear();
+    search_back(
+        room,
+        variable + 1,
+        body,
+        previous,
+        starts,
+        definitions,
+        variable,
+        list,
+    )?;
+    set_found(alloc, points, room)
 }
 
-// The set of these points.
-fn set_of(alloc: Global, len: u32, points: &[u32]) -> Result<RunSet, Memory>
-    requires { (k : ℕ) → k < length points.now → slice_index points.now k < len }
-    ensures width { IfOk result (λ set. length set ≡ len) }
-    ensures each { IfOk result (λ set. (p : ℕ) → (flag set p ≡ true) ↔ Contains points.now p) }
+// The set of the points that lie between those of the room and their heights.
+fn set_found(alloc: Global, points: u32, room: &mut Room) -> Result<RunSet, Memory>
+    requires tall { length room.old.heights.items ≡ points }
+    requires proper { (low : ℕ) → Contains room.old.lows.items low
+        → low ≤ slice_index room.old.heights.items low }
+    requires within { (p : ℕ) → IsCovered room.old.heights.items room.old.lows.items p
+        → p < points }
+    ensures marks { room.new.marks.items ≡ room.old.marks.items }
+    ensures heights { room.new.heights.items ≡ room.old.heights.items }
+    ensures width { IfOk result (λ set. length set ≡ points) }
+    ensures each { IfOk result (λ set. (p : ℕ) → (flag set p ≡ true)
+        ↔ IsCovered room.old.heights.items room.old.lows.items p) }
 {
-    let mut set = RunSet::empty(alloc, len)?;
-    for point in points {
-        set.insert(Element(*point))?;
+    // What is put into a set at its end costs least.
+    room.lows.sort_unstable();
+    set_of(alloc, points, room.heights.as_slice(), room.lows.as_slice())
+}
+
+// The set of the points that lie between these and their heights.
+fn set_of(alloc: Global, points: u32, heights: &[u32], lows: &[u32]) -> Result<RunSet, Memory>
+    requires tall { length heights.now ≡ points }
+    requires proper { (low : ℕ) → Contains lows.now low → low ≤ slice_index heights.now low }
+    requires within { (p : ℕ) → IsCovered heights.now lows.now p → p < points }
+    ensures width { IfOk result (λ set. length set ≡ points) }
+    ensures each { IfOk result (λ set. (p : ℕ)
+        → (flag set p ≡ true) ↔ IsCovered heights.now lows.now p) }
+{
+    let mut set = RunSet::empty(alloc, points)?;
+    for low in lows {
+        set.insert_run(Run {
+            first: *low,
+            last: heights[*low as usize],
+        })?;
     }
     Ok(set)
 }

@@ -1,127 +1,189 @@
-//! The points where a variable is live, by a search backwards from its uses or drops.
+//! The points where a variable is live, by a search backwards from its uses or drops, in stretches.
 //!
-//! One array of marks serves all searches: a point that a search has found is marked with its turn,
-//! a number of its own.
+//! A search that comes to a point goes on by itself to a lower one: along a chain, up to a
+//! definition. That one is marked, and its height is the highest point that a search came from; all
+//! points between are reached. One room serves all searches: what a search has marked bears its
+//! turn, a number of its own.
 
-ghost use Rattle.std.specs.Prelude.{◌≡◌, ◌≢◌, ◌↔◌, ◌<◌, ◌≤◌, ℕ, [], length, slice_index, Contains};
-ghost use Rattle.std.specs.Prelude.{IsTrue, OnOk};
+ghost use Rattle.std.specs.Prelude.{◌≡◌, ◌≢◌, ◌↔◌, ◌<◌, ◌≤◌, ℕ, [], length, slice_index, AllPairs};
+ghost use Rattle.std.specs.Prelude.{Contains, IfOk, IsTrue, OnOk, max, replicate, slice_set};
+ghost use Rattle.nll_live.specs.Chains.{AreStarts};
 ghost use Rattle.nll_live.specs.Live.{DefinesAt, GoesOnUndefined, IsLive};
-ghost use Rattle.nll_live.specs.Marks.{AreFound, IsMarked, Marks};
-ghost use Rattle.nll_body.specs.Bodies.{IsGraphOf};
+ghost use Rattle.nll_live.specs.Lows.{AreDefinitions, IsLow};
+ghost use Rattle.nll_live.specs.Marks.{IsCovered, IsMarked};
+ghost use Rattle.nll_live.specs.Rooms.{GetsReached, HasFound, HasReached};
+ghost use Rattle.nll_body.specs.Bodies.{GoesOn, IsGraphOf};
 
+use crate::lows::low_of;
 use nll_body::Body;
 use nll_problem::Predecessors;
 use nll_sets::Memory;
+use std::alloc::Global;
 
-/// Puts the points from which a walk leads to one of these, on which no point before the last
-/// defines the variable, into an empty list, each once. The marks are all of earlier turns.
+/// What searches have for their own use: for each point the turn in which it was last marked, and
+/// its height; and the points that are marked in this turn.
+#[derive(Drop)]
+pub(crate) struct Room {
+    pub(crate) marks: Vec<u32>,
+    pub(crate) heights: Vec<u32>,
+    pub(crate) lows: Vec<u32>,
+}
+
+impl Room {
+    /// Room for searches among so many points, with the marks of none.
+    pub(crate) fn of(alloc: Global, points: u32) -> Result<Room, Memory>
+        ensures marks { IfOk result (λ room. room.marks.items ≡ replicate points 0) }
+        ensures heights { IfOk result (λ room. length room.heights.items ≡ points) }
+    {
+        let marks = Vec::from_elem(alloc, 0, points as usize)?;
+        let heights = Vec::from_elem(alloc, 0, points as usize)?;
+        Ok(Room {
+            marks,
+            heights,
+            lows: Vec::new(alloc),
+        })
+    }
+}
+
+/// Puts points and their heights into the room, between which lie those from which a walk leads to
+/// one of these ends, on which no point before the last defines the variable. The marks are all of
+/// earlier turns.
+///
+/// # Cost
+/// For each end, and for each point that goes on to one of these points, a search by halves among
+/// the definitions of the variable (not proved).
 pub(crate) fn search_back(
-    marks: &mut Vec<u32>,
+    room: &mut Room,
     turn: u32,
-    list: &mut Vec<u32>,
     body: &Body,
     previous: &Predecessors<'_>,
+    starts: &[u32],
+    definitions: &[u32],
     variable: u32,
     ends: &[u32],
 ) -> Result<(), Memory>
     requires shown { IsGraphOf body.now previous.now }
-    requires width { length marks.old.items ≡ length body.now.points }
-    requires fresh { (p : ℕ) → slice_index marks.old.items p < turn }
-    requires nothing { list.old.items ≡ [] }
+    requires starts { AreStarts (GoesOn body.now) (length body.now.points) starts.now }
+    requires definitions { AreDefinitions body.now variable definitions.now }
+    requires width { length room.old.marks.items ≡ length body.now.points }
+    requires tall { length room.old.heights.items ≡ length body.now.points }
+    requires fresh { (p : ℕ) → slice_index room.old.marks.items p < turn }
+    requires nothing { room.old.lows.items ≡ [] }
     requires ends { (k : ℕ) → k < length ends.now
         → slice_index ends.now k < length body.now.points }
-    ensures width { OnOk result (length marks.new.items ≡ length body.now.points) }
-    ensures fresh { OnOk result ((p : ℕ) → slice_index marks.new.items p ≤ turn) }
-    ensures each { OnOk result ((p : ℕ)
-        → Contains list.new.items p ↔ IsLive body.now (Contains ends.now) variable p) }
+    ensures width { OnOk result (length room.new.marks.items ≡ length body.now.points) }
+    ensures tall { OnOk result (length room.new.heights.items ≡ length body.now.points) }
+    ensures fresh { OnOk result ((p : ℕ) → slice_index room.new.marks.items p ≤ turn) }
+    ensures proper { OnOk result ((low : ℕ) → Contains room.new.lows.items low
+        → low ≤ slice_index room.new.heights.items low) }
+    ensures each { OnOk result ((p : ℕ) → IsCovered room.new.heights.items room.new.lows.items p
+        ↔ IsLive body.now (Contains ends.now) variable p) }
 {
     for point in ends {
-        visit(marks, turn, list, *point)?;
+        visit(room, turn, starts, definitions, *point)?;
     }
     let mut place = 0;
-    while place < list.len() {
-        let point = list[place];
+    while place < room.lows.len() {
+        let low = room.lows[place];
         place += 1;
-        visit_previous(marks, turn, list, body, previous, variable, point)?;
+        visit_previous(
+            room,
+            turn,
+            body,
+            previous,
+            starts,
+            definitions,
+            variable,
+            low,
+        )?;
     }
     Ok(())
 }
 
 // Visits the points that go on to a point and don't define the variable.
 fn visit_previous(
-    marks: &mut Vec<u32>,
+    room: &mut Room,
     turn: u32,
-    list: &mut Vec<u32>,
     body: &Body,
     previous: &Predecessors<'_>,
+    starts: &[u32],
+    definitions: &[u32],
     variable: u32,
     point: u32,
 ) -> Result<(), Memory>
     requires shown { IsGraphOf body.now previous.now }
+    requires starts { AreStarts (GoesOn body.now) (length body.now.points) starts.now }
+    requires definitions { AllPairs ◌<◌ definitions.now }
     requires some { 0 < turn }
-    requires found { AreFound marks.old.items turn list.old.items }
-    requires width { length marks.old.items ≡ length body.now.points }
+    requires found { HasFound room.old turn }
+    requires width { length room.old.marks.items ≡ length body.now.points }
     requires point { point < length body.now.points }
-    ensures marks { OnOk result (Marks (λ p. GoesOnUndefined body.now variable p point) turn
-        marks.old.items marks.new.items list.old.items list.new.items) }
-    ensures found { OnOk result (AreFound marks.new.items turn list.new.items) }
+    ensures reaches { OnOk result (GetsReached (λ low p. GoesOnUndefined body.now variable p point
+        × IsLow (slice_index starts.now p) definitions.now p low) turn room.old room.new) }
+    ensures found { OnOk result (HasFound room.new turn) }
     ensures all { OnOk result ((p : ℕ) → GoesOnUndefined body.now variable p point
-        → IsMarked marks.new.items turn p) }
+        → HasReached room.new turn p) }
 {
     let points = previous.previous_of(point);
-    visit_all(marks, turn, list, body, variable, points)?;
+    visit_all(room, turn, body, starts, definitions, variable, points)?;
     Ok(())
 }
 
 // Visits each of the points that doesn't define the variable.
 fn visit_all(
-    marks: &mut Vec<u32>,
+    room: &mut Room,
     turn: u32,
-    list: &mut Vec<u32>,
     body: &Body,
+    starts: &[u32],
+    definitions: &[u32],
     variable: u32,
     points: &[u32],
 ) -> Result<(), Memory>
+    requires starts { AreStarts (GoesOn body.now) (length body.now.points) starts.now }
+    requires definitions { AllPairs ◌<◌ definitions.now }
     requires some { 0 < turn }
-    requires found { AreFound marks.old.items turn list.old.items }
-    requires width { length marks.old.items ≡ length body.now.points }
+    requires found { HasFound room.old turn }
+    requires width { length room.old.marks.items ≡ length body.now.points }
     requires points { (k : ℕ) → k < length points.now
         → slice_index points.now k < length body.now.points }
-    ensures marks { OnOk result
-        (Marks (λ p. Contains points.now p × (DefinesAt body.now variable p → ⊥)) turn
-        marks.old.items marks.new.items list.old.items list.new.items) }
-    ensures found { OnOk result (AreFound marks.new.items turn list.new.items) }
+    ensures reaches { OnOk result (GetsReached (λ low p. Contains points.now p
+        × (DefinesAt body.now variable p → ⊥)
+        × IsLow (slice_index starts.now p) definitions.now p low) turn room.old room.new) }
+    ensures found { OnOk result (HasFound room.new turn) }
     ensures all { OnOk result ((p : ℕ) → Contains points.now p
-        → (DefinesAt body.now variable p → ⊥) → IsMarked marks.new.items turn p) }
+        → (DefinesAt body.now variable p → ⊥) → HasReached room.new turn p) }
 {
     for point in points {
-        visit_undefined(marks, turn, list, body, variable, *point)?;
+        visit_undefined(room, turn, body, starts, definitions, variable, *point)?;
     }
     Ok(())
 }
 
 // Visits a point, unless it defines the variable.
 fn visit_undefined(
-    marks: &mut Vec<u32>,
+    room: &mut Room,
     turn: u32,
-    list: &mut Vec<u32>,
     body: &Body,
+    starts: &[u32],
+    definitions: &[u32],
     variable: u32,
     point: u32,
 ) -> Result<(), Memory>
+    requires starts { AreStarts (GoesOn body.now) (length body.now.points) starts.now }
+    requires definitions { AllPairs ◌<◌ definitions.now }
     requires some { 0 < turn }
-    requires found { AreFound marks.old.items turn list.old.items }
-    requires width { length marks.old.items ≡ length body.now.points }
+    requires found { HasFound room.old turn }
+    requires width { length room.old.marks.items ≡ length body.now.points }
     requires point { point < length body.now.points }
-    ensures marks { OnOk result
-        (Marks (λ p. (p ≡ point) × (DefinesAt body.now variable p → ⊥)) turn
-        marks.old.items marks.new.items list.old.items list.new.items) }
-    ensures found { OnOk result (AreFound marks.new.items turn list.new.items) }
-    ensures all { OnOk result
-        ((DefinesAt body.now variable point → ⊥) → IsMarked marks.new.items turn point) }
+    ensures reaches { OnOk result (GetsReached (λ low p. (p ≡ point)
+        × (DefinesAt body.now variable p → ⊥)
+        × IsLow (slice_index starts.now p) definitions.now p low) turn room.old room.new) }
+    ensures found { OnOk result (HasFound room.new turn) }
+    ensures all { OnOk result ((DefinesAt body.now variable point → ⊥)
+        → HasReached room.new turn point) }
 {
     if !defines(body, variable, point) {
-        visit(marks, turn, list, point)?;
+        visit(room, turn, starts, definitions, point)?;
     }
     Ok(())
 }
@@ -137,19 +199,57 @@ fn defines(body: &Body, variable: u32, point: u32) -> bool
     }
 }
 
-// Marks a point and puts it into the list, unless it is marked in this turn.
-fn visit(marks: &mut Vec<u32>, turn: u32, list: &mut Vec<u32>, point: u32) -> Result<(), Memory>
+// Comes to a point, and from it by itself to a lower one.
+fn visit(
+    room: &mut Room,
+    turn: u32,
+    starts: &[u32],
+    definitions: &[u32],
+    point: u32,
+) -> Result<(), Memory>
+    requires start { slice_index starts.now point ≤ point }
+    requires definitions { AllPairs ◌<◌ definitions.now }
     requires some { 0 < turn }
-    requires found { AreFound marks.old.items turn list.old.items }
-    requires point { point < length marks.old.items }
-    ensures marks { OnOk result (Marks (λ p. p ≡ point) turn
-        marks.old.items marks.new.items list.old.items list.new.items) }
-    ensures found { OnOk result (AreFound marks.new.items turn list.new.items) }
-    ensures all { OnOk result (IsMarked marks.new.items turn point) }
+    requires found { HasFound room.old turn }
+    requires counted { length starts.now ≡ length room.old.marks.items }
+    requires point { point < length room.old.marks.items }
+    ensures reaches { OnOk result (GetsReached (λ low p. (p ≡ point)
+        × IsLow (slice_index starts.now p) definitions.now p low) turn room.old room.new) }
+    ensures found { OnOk result (HasFound room.new turn) }
+    ensures all { OnOk result (HasReached room.new turn point) }
 {
-    if marks[point as usize] != turn {
-        list.push(point)?;
-        marks[point as usize] = turn;
+    let low = low_of(starts[point as usize], definitions, point);
+    if room.marks[low as usize] == turn {
+        raise(&mut room.heights, low, point);
+        Ok(())
+    } else {
+        mark(room, turn, low, point)
     }
+}
+
+// Raises the height of a point to another one, where it is lower.
+fn raise(heights: &mut Vec<u32>, low: u32, point: u32)
+    requires { low < length heights.old.items }
+    ensures { heights.new.items
+        ≡ slice_set heights.old.items low (max (slice_index heights.old.items low) point) }
+{
+    let height = heights[low as usize];
+    heights[low as usize] = height.max(point);
+}
+
+// Marks a point, gives it a height and puts it into the list.
+fn mark(room: &mut Room, turn: u32, low: u32, point: u32) -> Result<(), Memory>
+    requires found { HasFound room.old turn }
+    requires low { low < length room.old.marks.items }
+    requires new { IsMarked room.old.marks.items turn low → ⊥ }
+    requires before { low ≤ point }
+    ensures reaches { OnOk result
+        (GetsReached (λ k p. (k ≡ low) × (p ≡ point)) turn room.old room.new) }
+    ensures found { OnOk result (HasFound room.new turn) }
+    ensures all { OnOk result (HasReached room.new turn point) }
+{
+    room.lows.push(low)?;
+    room.marks[low as usize] = turn;
+    room.heights[low as usize] = point;
     Ok(())
 }

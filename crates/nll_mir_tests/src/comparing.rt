@@ -6,10 +6,3 @@ pub fn compare(rt: &impl Abort, says: &str, told: &str, want: &str) {
     let right = told == want;
     assert!(rt; right, "{says}: {told}");
 }
-
-/// Ends the test where a place was found.
-pub fn expect_none(rt: &impl Abort, says: &str, found: Option<usize>) {
-    if let Some(place) = found {
-        assert!(rt; false, "{says}: {place}");
-    }
-}

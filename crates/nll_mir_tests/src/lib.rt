@@ -5,14 +5,9 @@
 #![tactic(auto)]
 
 #[cfg(test)]
-mod beginnings;
-#[cfg(test)]
 mod bodies;
 #[cfg(test)]
-mod changes;
-#[cfg(test)]
 mod comparing;
-#[cfg(test)]
 #[cfg(test)]
 mod limits;
 #[cfg(test)]

@@ -184,11 +184,6 @@ pub fn read_size_in_parts(rt: &impl Abort, alloc: Global, text: Vec<u8>) -> Stri
     told(rt, alloc, read_mir_parts(alloc, text), Asked::Size)
 }
 
-/// The fault of a text, where it has one.
-pub fn fault_of(alloc: Global, text: &[u8]) -> Option<TextError> {
-    read_mir(alloc, text).err()
-}
-
 /// Ends the test where something else is told of a text of lines that end with `|`.
 pub fn compare_lines(rt: &impl Abort, alloc: Global, asked: Asked, lines: &str, want: &str) {
     let text = text_of(alloc, lines).expect(rt, "memory");

@@ -21,15 +21,11 @@ mod bodies;
 #[cfg(test)]
 mod borders;
 #[cfg(test)]
-mod changes;
-#[cfg(test)]
 mod comparing;
 #[cfg(test)]
 mod fakes;
 #[cfg(test)]
 mod faults;
-#[cfg(test)]
-mod hostile;
 #[cfg(test)]
 mod labels;
 #[cfg(test)]

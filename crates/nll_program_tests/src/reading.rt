@@ -125,14 +125,3 @@ pub fn point_told(rt: &impl Abort, alloc: Global, text: &[u8], point: u32) -> St
     hand_on(rt, alloc, facts);
     out
 }
-
-/// The fault of a text, where it has one.
-pub fn fault_of(rt: &impl Abort, alloc: Global, text: &[u8]) -> Option<TextError> {
-    match read_facts(alloc, text) {
-        Ok(facts) => {
-            hand_on(rt, alloc, facts);
-            None
-        }
-        Err(error) => Some(error),
-    }
-}

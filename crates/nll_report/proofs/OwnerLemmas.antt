@@ -93,8 +93,9 @@ size_by false found e = absurd (none-some due.Length (sym e))
 
 -- a list that is taken has an owner for each region
 pub listed_ok : (regions count : ℕ) (list : List ℕ) (r : Result Cut CutError) → may_be_count count ≡ true → Answers (list_error regions count list) r
-    → IfOk r (λ c. c ≡ cut_of count list) → IfOk r (λ c. (c ≡ cut_of count list) × (length c.list ≡ regions))
+    → IfOk r (λ c. c ≡ cut_of count list) → IfOk r (λ c. (list_error regions count list ≡ None) × (c ≡ cut_of count list) × (length c.list ≡ regions))
 listed_ok regions count list (Ok c) may none is = (
+  none,
   is,
   ap (λ (x : Cut). length x.list) is ∙ eqb-true (length list) regions (size_by (eqb (length list) regions) (position (nat_le count) list) (sym (by_list regions count list may) ∙ none)),
 )

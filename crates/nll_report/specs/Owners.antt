@@ -42,13 +42,17 @@ mail_of (Some kind) = kind
 
 -- ---- the cut
 
--- the text lists the owners of the cut
-abbrev pub IsTextCut : List ℕ → ℕ → Cut → Type 0
-IsTextCut text count c = (list : List ℕ) × Means text list × (c ≡ cut_of count list)
+-- the text lists the owners of the cut, and this list is a cut of so many regions among so many
+-- owners
+abbrev pub IsTextCut : ℕ → ℕ → List ℕ → Cut → Type 0
+IsTextCut regions count text c =
+    (list : List ℕ) × Means text list × (list_error regions count list ≡ None)
+    × (c ≡ cut_of count list)
 
 -- a text of the cut file lists the owners of the cut
-abbrev pub IsListedCut : Holds → List ℕ → ℕ → Cut → Type 0
-IsListedCut holds path count c = (text : List ℕ) × holds path text × IsTextCut text count c
+abbrev pub IsListedCut : Holds → ℕ → ℕ → List ℕ → Cut → Type 0
+IsListedCut holds regions count path c =
+    (text : List ℕ) × holds path text × IsTextCut regions count text c
 
 -- so many regions are dealt in turns, or in blocks of neighbours
 abbrev pub IsDealtCut : ℕ → ℕ → Deal → Cut → Type 0
@@ -58,7 +62,7 @@ IsDealtCut regions count Blocks c =
 
 -- the cut is the one of the cut file; where there is none, the regions are dealt
 abbrev pub IsAskedCut : Holds → ℕ → ℕ → Deal → Option (List ℕ) → Cut → Type 0
-IsAskedCut holds regions count how (Some path) c = IsListedCut holds path count c
+IsAskedCut holds regions count how (Some path) c = IsListedCut holds regions count path c
 IsAskedCut holds regions count how None c = IsDealtCut regions count how c
 
 -- ---- why there is no cut

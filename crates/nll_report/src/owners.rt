@@ -223,7 +223,8 @@ fn listed_cut<T: Texts>(
 ) -> Result<Cut, Refusal>
     requires { may_be_count count ≡ true }
     ensures regions { IfOk result (λ cut. length cut.list ≡ regions) }
-    ensures listed { IfOk result (IsListedCut (T.holds texts.now) (string_bytes path) count) }
+    ensures listed { IfOk result
+        (IsListedCut (T.holds texts.now) regions count (string_bytes path)) }
     ensures err { IfErr result (IsCutFileRefused (T.holds texts.now) (T.lacks texts.now)
         regions count (string_bytes path)) }
 {
@@ -237,7 +238,7 @@ fn listed_cut<T: Texts>(
 fn cut_of_text(alloc: Global, regions: u32, count: u16, text: Vec<u8>) -> Result<Cut, Refusal>
     requires { may_be_count count ≡ true }
     ensures regions { IfOk result (λ cut. length cut.list ≡ regions) }
-    ensures listed { IfOk result (IsTextCut text.items count) }
+    ensures listed { IfOk result (IsTextCut regions count text.items) }
     ensures err { IfErr result (IsCutTextRefused regions count text.items) }
 {
     let list = read_cut(alloc, text.as_slice());
@@ -251,8 +252,8 @@ fn cut_of_text(alloc: Global, regions: u32, count: u16, text: Vec<u8>) -> Result
 // The cut of a list.
 fn cut_of_list(alloc: Global, regions: u32, count: u16, list: Vec<u16>) -> Result<Cut, Refusal>
     requires { may_be_count count ≡ true }
-    ensures ok { IfOk result (λ cut. (cut ≡ cut_of count list.items)
-        × (length cut.list ≡ regions)) }
+    ensures ok { IfOk result (λ cut. (list_error regions count list.items ≡ None)
+        × (cut ≡ cut_of count list.items) × (length cut.list ≡ regions)) }
     ensures err { IfErr result (λ e. (e ≡ Refusal.Memory) ⊎ ((why : CutError)
         × (list_error regions count list.items ≡ Some why) × IsCutRefusal why e)) }
 {

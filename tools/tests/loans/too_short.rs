@@ -252,3 +252,69 @@ pub fn inner_closure() {
     }
     show(kept);
 }
+
+pub struct Both<'o> {
+    owner: Owner<'o>,
+    name: String,
+}
+
+pub fn destructor_of_a_field<'a>(both: Both<'a>) -> &'a mut u32 {
+    &mut *both.owner.number
+}
+
+pub fn destructor_behind_a_box<'a>(owner: Box<Owner<'a>>) -> &'a mut u32 {
+    &mut *owner.number
+}
+
+pub fn no_destructor_of_the_field(both: Both) -> &'static String {
+    &both.name
+}
+
+pub struct Named {
+    name: String,
+}
+
+impl Drop for Named {
+    fn drop(&mut self) {
+        show(&self.name);
+    }
+}
+
+pub fn destructor_of_what_is_owned() {
+    let kept;
+    {
+        let named = Named { name: String::new() };
+        kept = &named.name;
+    }
+    show(kept);
+}
+
+pub fn destructor_does_not_look_at_the_whole() {
+    let kept;
+    {
+        let named = Named { name: String::new() };
+        kept = &named;
+    }
+    show(&kept.name);
+}
+
+pub fn destructor_against_a_closure(named: Named) -> Box<dyn Fn() -> usize> {
+    Box::new(|| named.name.len())
+}
+
+pub fn borrowed_inside_a_closure() {
+    let mut call: Box<dyn Fn() -> usize> = Box::new(|| 0);
+    {
+        let text = String::new();
+        call = Box::new(|| {
+            let kept = &text;
+            kept.len()
+        });
+    }
+    call();
+}
+
+pub fn iterator_by_its_result() -> impl Iterator<Item = char> {
+    let text = String::new();
+    text.chars()
+}

@@ -33,6 +33,7 @@ loop-variable-preserved c =
     let within : x < length body.variables = omega (arith, c.loop-variable-test.true, c.variables-variable-end.ensures.value) in
     record {
       width = c.in_ok-push_found.ensures.width;
+      tall = c.in_ok-push_found.ensures.tall;
       fresh = c.in_ok-push_found.ensures.fresh;
       asked = asked_to_step (AsksForDrop body) c.args.base_runs.now.items x c.loop-variable.base_runs.items c.push_found.new.base_runs.items c.loop-variable.invariant.asked
           (asked_of body x c.as_slice.result.now (IsDropRegion c.args.body.now.structs) (IsLive body (Contains list) x) (IsDropLive body x) c.loop-variable.base_runs.items c.push_found.new.base_runs.items within

@@ -7,4 +7,4 @@ pub returns-in_ok-list_at : goal.returns-in_ok-list_at
 returns-in_ok-list_at c =
     lists_as (λ x. x ≡ c.in-Some.variable) (λ x. DropsAt c.args.body.now x c.args.point) c.args.point _ _
     (drop_is c.args.body.now c.args.point c.requires c.in-Some.variable c.in-Some.ensures)
-    c.in_ok-list_at.ensures
+    c.in_ok-list_at.ensures.lists

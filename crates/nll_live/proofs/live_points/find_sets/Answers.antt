@@ -25,6 +25,7 @@ loop-variable-preserved c =
     let holds : ℕ → ℕ → Type 0 = λ y. IsLive body (IsListed (map (λ list. list.items) c.args.lists.now) y) y in
     record {
       width = c.in_ok-set.ensures.width;
+      tall = c.in_ok-set.ensures.tall;
       fresh = c.in_ok-set.ensures.fresh;
       sets = subst (AreSetsUpTo (length body.points) holds (x + 1)) (sym c.in_ok-push.ensures.items)
           (sets_step (length body.points) holds x c.loop-variable.sets.items c.in_ok-set.set c.loop-variable.invariant.sets c.in_ok-set.ensures.set_width

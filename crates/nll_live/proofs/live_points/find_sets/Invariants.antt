@@ -6,7 +6,8 @@ use Rattle.nll_live.proofs.live_points.find_sets.Given as goal
 
 abbrev pub invariant-loop-variable : goal.invariant-loop-variable
 invariant-loop-variable l = record {
-  width : length l.marks.items ≡ length l.body.points;
-  fresh : (p : ℕ) → slice_index l.marks.items p ≤ l.variable;
+  width : length l.room.marks.items ≡ length l.body.points;
+  tall : length l.room.heights.items ≡ length l.body.points;
+  fresh : (p : ℕ) → slice_index l.room.marks.items p ≤ l.variable;
   sets : AreSetsUpTo (length l.body.points) (λ x. IsLive l.body (IsListed (map (λ list. list.items) l.lists) x) x) l.variable l.sets.items;
 }

@@ -1,5 +1,5 @@
-use Rattle.nll_live.proofs.SetLemmas.{Holds}
+use Rattle.nll_live.proofs.SetLemmas.{Covers}
 use Rattle.nll_live.proofs.live_points.set_of.Given as goal
 
-abbrev pub invariant-loop-point : goal.invariant-loop-point
-invariant-loop-point l = Holds l.points l.point-index l.len l.set
+abbrev pub invariant-loop-low : goal.invariant-loop-low
+invariant-loop-low l = Covers l.heights l.lows l.low-index l.points l.set

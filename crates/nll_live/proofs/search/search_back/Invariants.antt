@@ -1,18 +1,19 @@
 use Rattle.std.proofs.Common.{ℕ, ◌+◌, ◌-◌, ◌<◌, Contains, length}
 use Rattle.std.specs.Prelude.{slice_index}
-use Rattle.nll_live.specs.Marks.{IsMarked, AreFound, Marks, unmarked}
+use Rattle.nll_live.specs.Lows.{IsLow}
+use Rattle.nll_live.specs.Marks.{IsReached, AreFound, ReachesMore, unmarked}
 use Rattle.nll_live.proofs.SearchLemmas.{Searching}
 use Rattle.nll_live.proofs.search.search_back.Given as goal
 
 abbrev pub invariant-loop-point : goal.invariant-loop-point
 invariant-loop-point l = record {
-  marks : Marks (Contains l.ends) l.turn l.fn.marks.items l.marks.items l.fn.list.items l.list.items;
-  found : AreFound l.marks.items l.turn l.list.items;
-  all : (k : ℕ) → k < l.point-index → IsMarked l.marks.items l.turn (slice_index l.ends k);
+  reaches : ReachesMore (λ low p. Contains l.ends p × IsLow (slice_index l.starts p) l.definitions p low) l.turn l.fn.room.marks.items l.fn.room.heights.items l.fn.room.lows.items l.room.marks.items l.room.heights.items l.room.lows.items;
+  found : AreFound l.room.marks.items l.room.heights.items l.turn l.room.lows.items;
+  all : (k : ℕ) → k < l.point-index → IsReached l.room.marks.items l.room.heights.items l.turn (slice_index l.ends k);
 }
 
 abbrev pub invariant-loop-place : goal.invariant-loop-place
-invariant-loop-place l = Searching l.body l.variable l.turn l.ends l.fn.marks.items l.marks.items l.list.items l.place
+invariant-loop-place l = Searching l.body l.variable l.turn l.ends l.fn.room.marks.items l.fn.room.heights.items l.room.marks.items l.room.heights.items l.room.lows.items l.place
 
 abbrev pub decreases-loop-place : goal.decreases-loop-place
-decreases-loop-place l = (length l.list.items - l.place) + unmarked l.marks.items l.turn
+decreases-loop-place l = (length l.room.lows.items - l.place) + unmarked l.room.marks.items l.turn

@@ -1,0 +1,57 @@
+//! The chains of a body's points: a point is of one chain with the point before it where that one
+//! alone goes on to it.
+
+ghost use Rattle.std.specs.Prelude.{◌≡◌, ◌<◌, ◌≤◌, ℕ, true, length, IfOk};
+ghost use Rattle.nll_problem.specs.Graph.{IsNext};
+ghost use Rattle.nll_live.specs.Chains.{AreStarts, FollowsAlone, IsChain};
+
+use nll_problem::Predecessors;
+use nll_sets::Memory;
+use std::alloc::Global;
+
+/// For each of so many points, all that there are, the first one of its chain.
+///
+/// # Cost
+/// A step for each point (not proved).
+pub(crate) fn chain_starts(
+    alloc: Global,
+    previous: &Predecessors<'_>,
+    points: u32,
+) -> Result<Vec<u32>, Memory>
+    requires { points ≡ previous.now.points }
+    ensures { IfOk result (λ starts. AreStarts (IsNext previous.now) points starts.items) }
+{
+    let mut starts = Vec::with_capacity(alloc, points as usize)?;
+    for point in 0..points {
+        let start = start_of(previous, starts.as_slice(), point);
+        starts.push(start)?;
+    }
+    Ok(starts)
+}
+
+// The first point of the chain of a point. The starts are of the points before it.
+fn start_of(previous: &Predecessors<'_>, starts: &[u32], point: u32) -> u32
+    requires point { point < previous.now.points }
+    requires starts { AreStarts (IsNext previous.now) point starts.now }
+    ensures before { result ≤ point }
+    ensures chain { IsChain (IsNext previous.now) result point }
+{
+    if follows_alone(previous, point) {
+        starts[point as usize - 1]
+    } else {
+        point
+    }
+}
+
+// Whether the point before a point alone goes on to it.
+fn follows_alone(previous: &Predecessors<'_>, point: u32) -> bool
+    requires { point < previous.now.points }
+    ensures some { result ≡ true → 0 < point }
+    ensures alone { result ≡ true → FollowsAlone (IsNext previous.now) point }
+{
+    let points = previous.previous_of(point);
+    if points.len() != 1 {
+        return false;
+    }
+    point > 0 && points[0] == point - 1
+}

@@ -1,0 +1,31 @@
+//! Tests of the readers of texts of all formats, beside slow readers that were written after the
+//! definitions alone.
+//!
+//! Reading order: `spelling`, `line`, `slow`; `lists`, `regions`, `facts`; `shapes`, `types`,
+//! `mir`, `points`; `quick`, `hostile`.
+#![tactic(auto)]
+
+#[cfg(test)]
+mod facts;
+#[cfg(test)]
+mod hostile;
+#[cfg(test)]
+mod line;
+#[cfg(test)]
+mod lists;
+#[cfg(test)]
+mod mir;
+#[cfg(test)]
+mod points;
+#[cfg(test)]
+mod quick;
+#[cfg(test)]
+mod regions;
+#[cfg(test)]
+mod shapes;
+#[cfg(test)]
+mod slow;
+#[cfg(test)]
+mod spelling;
+#[cfg(test)]
+mod types;
