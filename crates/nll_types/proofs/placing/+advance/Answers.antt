@@ -64,4 +64,5 @@ returns-in-Int-ty t c =
     step_none structs c.args.projections.now c.args.from Deref (Field c.in-Field.place) _ c.if-from-projections.false c.in-Field.is
     (⊎_elim (λ e. ap (behind structs (Field c.in-Field.place)) (ap tree e ∙ tree_int))
     (⊎_elim (λ e. ap (behind structs (Field c.in-Field.place)) (ap tree e.1 ∙ tree_parameter _))
-    (λ e. ap (behind structs (Field c.in-Field.place)) (ap tree e.3 ∙ tree_reference _ _ _))) c.in-Int-ty.is)
+    (⊎_elim (λ e. ap (behind structs (Field c.in-Field.place)) (ap tree e.3 ∙ tree_reference _ _ _))
+    (λ e. ap (behind structs (Field c.in-Field.place)) (ap tree e.2 ∙ tree_function _ _)))) c.in-Int-ty.is)

@@ -2,9 +2,9 @@ use Rattle.std.proofs.Common.{◌≤◌, ◌≡◌, ℕ, List, arith, length, ap
 use Rattle.std.proofs.lemmas.Result.{IfOk-weaker}
 use Rattle.nll_types.proofs.FailLemmas.{failed}
 use Rattle.nll_types.specs.Shapes.{ShapeList, shape_of, shapes_of, put_in_shape, put_in_shapes, reference_shape, tuple_shape, named_shape, function_shape}
-use Rattle.nll_types.specs.Table.{shapes_in, all_at}
+use Rattle.nll_types.specs.Table.{shapes_in, shape_in, all_at}
 use Rattle.nll_types.specs.Types.{TypeTree}
-use Rattle.nll_types.specs.Views.{tree}
+use Rattle.nll_types.specs.Views.{tree, trees}
 use Rattle.nll_types.specs.declared.node.Node.{Node}
 use Rattle.nll_types.proofs.ViewLemmas.{tree_int, tree_parameter, tree_reference, tree_tuple, tree_named, tree_function}
 use Rattle.nll_types.proofs.ShapingLemmas.{extends_same, extends_then, shaping_more, shaping_all, kept_at, below_more, over_function}
@@ -51,8 +51,10 @@ shape-returns-in_ok-returned-in-Function-clause-at t c = IfOk-weaker c.add-in-Fu
     let returned = (rw c.deref-in-Function.ensures at c.in_ok-returned-in-Function.ensures.at) later in
     let kept = kept_at c.shape_all-in-Function.new.shapes c.shape-in-Function.new.shapes c.in_ok-inputs-in-Function.inputs.items c.shape-in-Function.ensures.extends c.in_ok-inputs-in-Function.ensures.within in
     let same = kept_at first c.shape_all-in-Function.new.shapes c.args.arguments.now grown b in
-    at ∙ (ap (λ z. function_shape z _) (kept ∙ inputs)
-    ∙ ap (function_shape _) (returned ∙ ap (λ (z : ShapeList). put_in_shape z (shape_of (tree c.in-Function.returned.value))) same)
+    let last = shape_in c.shape-in-Function.new.shapes c.in_ok-returned-in-Function.returned in
+    let put_inputs = put_in_shapes (all_at (shapes_in first) c.args.arguments.now) (shapes_of (trees c.in-Function.inputs.items)) in
+    at ∙ (ap (λ z. function_shape z last) (kept ∙ inputs)
+    ∙ ap (function_shape put_inputs) (returned ∙ ap (λ (z : ShapeList). put_in_shape z (shape_of (tree c.in-Function.returned.value))) same)
     ∙ put first c.args.arguments.now _ _ (ap tree c.in-Function.is ∙ tree_function _ _))) c.add-in-Function.ensures.at
 
 pub shape-returns-in_ok-returned-in-Function-clause-extends : goal.shape-returns-in_ok-returned-in-Function-clause-extends
@@ -81,7 +83,7 @@ pub shape-returns-in_err-returned-in-Function-clause-extends : goal.shape-return
 shape-returns-in_err-returned-in-Function-clause-extends t c = extends_then _ _ _ c.shape_all-in-Function.ensures.extends c.shape-in-Function.ensures.extends
 
 pub shape-add-requires-in-Function : goal.shape-add-requires-in-Function
-shape-add-requires-in-Function t c = over_function _ _ _ c.in_ok-returned-in-Function.ensures.within
+shape-add-requires-in-Function t c = over_function (length c.shape-in-Function.new.shapes) c.in_ok-inputs-in-Function.inputs c.in_ok-returned-in-Function.returned c.in_ok-returned-in-Function.ensures.within
     (below_more _ _ c.in_ok-inputs-in-Function.inputs.items c.shape-in-Function.ensures.extends.longer c.in_ok-inputs-in-Function.ensures.within)
 
 pub shape-returns-in_ok-target-in-Reference-clause-extends : goal.shape-returns-in_ok-target-in-Reference-clause-extends
