@@ -1,4 +1,4 @@
-use Rattle.std.proofs.Common.{◌∙◌, ◌&&◌, ap}
+use Rattle.std.proofs.Common.{◌∙◌, ◌&&◌, ap, length}
 use Rattle.std.proofs.lemmas.Result.{IfOk-weaker}
 use Rattle.nll_types.specs.Shapes.{function_shape}
 use Rattle.nll_types.specs.Table.{all_at, shapes_in, shape_in}
@@ -8,7 +8,7 @@ use Rattle.nll_naming.proofs.JudgingLemmas.{judged_function, shapes_below}
 use Rattle.nll_naming.proofs.judging.judge_function.Goals as goal
 
 pub judged_as-requires : goal.judged_as-requires
-judged_as-requires c = over_function _ _ _ c.requires.returned (rw c.in_ok-shapes.ensures (shapes_below c.args.table.now.shapes c.args.done.now c.requires.shapes c.args.inputs.now c.requires.inputs))
+judged_as-requires c = over_function (length c.args.table.now.shapes) c.args.returned.shape c.in_ok-shapes.shapes c.requires.returned (rw c.in_ok-shapes.ensures (shapes_below c.args.table.now.shapes c.args.done.now c.requires.shapes c.args.inputs.now c.requires.inputs))
 
 pub returns-clause-extends : goal.returns-clause-extends
 returns-clause-extends c = c.judged_as.ensures.extends

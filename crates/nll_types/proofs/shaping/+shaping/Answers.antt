@@ -83,7 +83,7 @@ pub shape-returns-in_err-returned-in-Function-clause-extends : goal.shape-return
 shape-returns-in_err-returned-in-Function-clause-extends t c = extends_then _ _ _ c.shape_all-in-Function.ensures.extends c.shape-in-Function.ensures.extends
 
 pub shape-add-requires-in-Function : goal.shape-add-requires-in-Function
-shape-add-requires-in-Function t c = over_function (length c.shape-in-Function.new.shapes) c.in_ok-inputs-in-Function.inputs c.in_ok-returned-in-Function.returned c.in_ok-returned-in-Function.ensures.within
+shape-add-requires-in-Function t c = over_function (length c.shape-in-Function.new.shapes) c.in_ok-returned-in-Function.returned c.in_ok-inputs-in-Function.inputs c.in_ok-returned-in-Function.ensures.within
     (below_more _ _ c.in_ok-inputs-in-Function.inputs.items c.shape-in-Function.ensures.extends.longer c.in_ok-inputs-in-Function.ensures.within)
 
 pub shape-returns-in_ok-target-in-Reference-clause-extends : goal.shape-returns-in_ok-target-in-Reference-clause-extends
