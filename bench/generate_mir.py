@@ -12,6 +12,7 @@ Every text depends on its arguments and its seed alone.
     generate_mir.py mutations FILE --into DIR    each small change of a text
     generate_mir.py limits --into DIR [NAME ..]  texts at the limits of the format
     generate_mir.py hostile --into DIR [NAME ..] deep types, and types that grow without end
+    generate_mir.py costly --into DIR [NAME ..]  texts that mean little and repeat what they ask
 
 All but those with `--into` write to standard output. Where names are given, only these texts are made.
 """
@@ -21,6 +22,7 @@ import os
 import random
 import sys
 
+from costly_mir import all_costly
 from limits_mir import LINES, hostile, limits, line
 from small_mir import mutations, small
 from worked_mir import WORKED
@@ -123,7 +125,7 @@ def wide(regions, points):
 
 # The words of the command line
 
-FOLDERS = {"worked": WORKED.items, "limits": limits, "hostile": hostile}
+FOLDERS = {"worked": WORKED.items, "limits": limits, "hostile": hostile, "costly": all_costly}
 
 
 def save(directory, name, text):

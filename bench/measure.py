@@ -215,10 +215,12 @@ def line(args):
 def limits_row(args, name):
     """The row of one text at a limit: what `check` says of it, and the best times of both programs."""
     path = os.path.join(args.texts, name)
-    runs = {program: [] for program in (args.nllc, args.baseline)}
+    newer = ["--runs"] if args.newer else []
+    commands = {"nllc": [args.nllc, "check", path], "baseline": [args.baseline, *newer, "check", path]}
+    runs = {who: [] for who in commands}
     for _ in range(args.runs):
-        for program, found in runs.items():
-            found.append(run([program, "check", path], args.seconds))
+        for who, found in runs.items():
+            found.append(run(commands[who], args.seconds))
     ends = {(one.status, one.err) for found in runs.values() for one in found}
     same = len(ends) == 1 and None not in next(iter(ends))
     told = next(iter(ends))[1].removeprefix("nllc: ") or "no fault"
@@ -298,6 +300,8 @@ def main():
                         help="MiB that a process may take beside the text of one line")
     parser.add_argument("--texts", help="folder of the texts to measure on")
     parser.add_argument("--sizes", default="8 64")
+    parser.add_argument("--newer", action="store_true",
+                        help="of `limits`: the baseline goes by its newer solver, as nllc does")
     parser.add_argument("--parts", default="read problem check values",
                         help="what is measured of whole bodies, `bases` among it")
     parser.add_argument("--inputs", help="folder of facts and MIR texts")

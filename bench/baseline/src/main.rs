@@ -19,6 +19,7 @@ mod cut;
 mod driving;
 mod facts;
 mod ground;
+mod known;
 mod link;
 mod mir;
 mod owner;

@@ -1,9 +1,10 @@
 //! The problem of a body: liveness, drop regions, and what its statements ask.
 
 use crate::body::{Body, Call, Line, Make, CONST};
+use crate::known::{Known, Number};
 use crate::problem::{count, join, push_point, Constraint, Labels, Problem};
 use crate::runs::Run;
-use crate::shapes::{Form, Shape, Source, Typed, DEREFERENCE, STATIC_ITEM};
+use crate::shapes::{Form, Source, Typed, STATIC_ITEM};
 use crate::tables::Lists;
 use crate::text::CONSTRAINTS;
 
@@ -179,139 +180,74 @@ pub fn bases(body: &Body, successors: &Lists) -> Vec<Vec<Run>> {
     bases
 }
 
-/// What the statements of a body ask, one key for each constraint, some perhaps more than once.
+/// What the statements of a body ask, pair by pair, some perhaps more than once.
 struct Asking<'b, 't> {
     body: &'b Body<'t>,
-    /// For each shape that was compared whether its items stand at invariant positions.
-    signs: Vec<Option<Box<[bool]>>>,
+    known: Known<'b, 't>,
     pairs: Vec<(u32, u32)>,
-    /// What is compared: the items of two types.
-    one: Vec<u32>,
-    other: Vec<u32>,
     crossed: Vec<u32>,
-    spare: Vec<u32>,
 }
 
 impl Asking<'_, '_> {
-    fn items_of(&self, typed: Typed) -> &[u32] {
-        let count = self.body.shapes.items(typed.shape) as usize;
-        &self.body.items[typed.first as usize..][..count]
-    }
-
-    /// Puts the items of a place's type in `items`, and the regions of the references on which a
-    /// borrow of the place rests in `crossed`; gives the type's shape.
-    fn walk(&mut self, place: u32, items: &mut Vec<u32>) -> Shape {
-        let typed = self.body.variables[self.body.places[place as usize].variable as usize];
-        let mut shape = typed.shape;
-        items.clear();
-        items.extend_from_slice(self.items_of(typed));
+    /// The type of a place; puts the regions of the references on which a borrow of the place rests
+    /// in `crossed`.
+    fn walk(&mut self, place: u32) -> Number {
+        let body = self.body;
+        let mut number = self.known.of_variable(body.places[place as usize].variable);
         self.crossed.clear();
-        for &projection in self.body.projections(place) {
-            if let Form::Reference { mutable } = self.body.shapes.form(shape) {
+        for &projection in body.projections(place) {
+            if let Form::Reference { mutable } = body.shapes.form(self.known.shape(number)) {
                 if !mutable {
                     self.crossed.clear();
                 }
-                self.crossed.push(items[0]);
+                self.crossed.push(self.known.items(number)[0]);
             }
-            let behind = match projection {
-                DEREFERENCE => self.body.shapes.parts(shape)[0],
-                k => self.body.shapes.known_part(shape, k),
-            };
-            self.spare.clear();
-            if self.body.shapes.items(behind) > 0 {
-                self.body.shapes.items_behind((shape, items), projection, &mut self.spare);
-            }
-            std::mem::swap(items, &mut self.spare);
-            shape = behind;
+            number = self.known.behind(number, projection);
         }
-        shape
+        number
     }
 
-    /// Puts the items of an operand's type in `one`.
-    fn operand(&mut self, operand: u32) {
-        let mut one = std::mem::take(&mut self.one);
-        one.clear();
+    /// Asks that one type be a subtype of another of its shape.
+    fn want(&mut self, one: Number, other: Number) {
+        self.pairs.extend_from_slice(self.known.pairs(one, other));
+    }
+
+    /// Asks that the type of an operand be a subtype of another.
+    fn want_operand(&mut self, operand: u32, other: Number) {
         if operand != CONST {
-            self.walk(operand, &mut one);
+            let one = self.walk(operand);
+            self.want(one, other);
         }
-        self.one = one;
-    }
-
-    /// Asks for the subtyping of the items in `one` and those in `other`, of a type of this shape.
-    fn want(&mut self, shape: Shape) {
-        if self.one.is_empty() {
-            return;
-        }
-        let at = shape as usize;
-        if self.signs.len() <= at {
-            self.signs.resize(at + 1, None);
-        }
-        let signs = self.signs[at].get_or_insert_with(|| {
-            let mut signs = Vec::new();
-            self.body.shapes.push_signs(shape, false, &mut signs);
-            signs.into_boxed_slice()
-        });
-        for ((&a, &b), &invariant) in self.one.iter().zip(&self.other).zip(signs.iter()) {
-            self.pairs.push((a, b));
-            if invariant {
-                self.pairs.push((b, a));
-            }
-        }
-    }
-
-    /// Puts the items of a written type in `other`, and gives its shape.
-    fn written(&mut self, typed: Typed) -> Shape {
-        let mut other = std::mem::take(&mut self.other);
-        other.clear();
-        other.extend_from_slice(self.items_of(typed));
-        self.other = other;
-        typed.shape
-    }
-
-    /// Asks that the items in `one` are below the type of a place.
-    fn want_place(&mut self, place: u32) {
-        let mut other = std::mem::take(&mut self.other);
-        let shape = self.walk(place, &mut other);
-        self.other = other;
-        self.want(shape);
     }
 
     fn borrow(&mut self, place: u32, region: u32, borrowed: u32) {
-        self.operand(borrowed);
-        let supports = self.crossed.iter().map(|&crossed| (crossed, region));
-        self.pairs.extend(supports);
-        self.one.insert(0, region);
-        self.want_place(place);
+        let inner = self.walk(borrowed);
+        self.pairs.extend(self.crossed.iter().map(|&crossed| (crossed, region)));
+        let other = self.walk(place);
+        let one = self.known.reference(self.known.shape(other), region, inner);
+        self.want(one, other);
     }
 
     fn make(&mut self, make: &Make) {
-        let body = self.body;
-        for (k, &operand) in operands_in(body, make.operands).iter().enumerate() {
-            let field = self.body.shapes.known_part(make.made.shape, k as u32);
-            self.operand(operand);
-            let mut other = std::mem::take(&mut self.other);
-            other.clear();
-            let items = self.items_of(make.made).to_vec();
-            self.body.shapes.items_behind((make.made.shape, &items), k as u32, &mut other);
-            self.other = other;
-            self.want(field);
+        let made = self.known.written(make.made);
+        for (k, &operand) in operands_in(self.body, make.operands).iter().enumerate() {
+            let field = self.known.behind(made, k as u32);
+            self.want_operand(operand, field);
         }
-        self.written(make.made);
-        std::mem::swap(&mut self.one, &mut self.other);
-        self.want_place(make.place);
+        let place = self.walk(make.place);
+        self.want(made, place);
     }
 
     fn call(&mut self, call: &Call) {
         let body = self.body;
         let types = &body.types[call.types as usize..];
         for (&operand, &typed) in operands_in(body, call.operands).iter().zip(types) {
-            self.operand(operand);
-            let shape = self.written(typed);
-            self.want(shape);
+            let other = self.known.written(typed);
+            self.want_operand(operand, other);
         }
-        self.written(call.result);
-        std::mem::swap(&mut self.one, &mut self.other);
-        self.want_place(call.place);
+        let result = self.known.written(call.result);
+        let place = self.walk(call.place);
+        self.want(result, place);
         self.pairs.extend_from_slice(&body.pairs[call.pairs.0 as usize..call.pairs.1 as usize]);
     }
 
@@ -321,8 +257,10 @@ impl Asking<'_, '_> {
         self.pairs.clear();
         match *line {
             Line::Assign { place, operand } => {
-                self.operand(operand);
-                self.want_place(place);
+                if operand != CONST {
+                    let other = self.walk(place);
+                    self.want_operand(operand, other);
+                }
             }
             Line::Borrow { place, region, borrowed } => {
                 self.borrow(place, u32::from(region), borrowed);
@@ -345,12 +283,9 @@ fn distinct(keys: &mut Vec<u64>) -> Option<()> {
 fn constraints(body: &Body, successors: &Lists) -> Option<Vec<Constraint>> {
     let mut asking = Asking {
         body,
-        signs: Vec::new(),
+        known: Known::new(body),
         pairs: Vec::new(),
-        one: Vec::new(),
-        other: Vec::new(),
         crossed: Vec::new(),
-        spare: Vec::new(),
     };
     let mut keys = Vec::new();
     for (p, line) in body.lines.iter().enumerate() {

@@ -1,2 +1,3 @@
 pub mod BodyProblem
 pub mod Adding
+pub mod Known

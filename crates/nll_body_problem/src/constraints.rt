@@ -1,12 +1,14 @@
 //! The constraints of a body: what stands at a point asks them at each point that may come after.
 
-ghost use Rattle.std.specs.Prelude.{◌≡◌, ◌<◌, ℕ, Contains, IfErr, OnOk, length};
+ghost use Rattle.std.specs.Prelude.{◌≡◌, ◌<◌, ℕ, [], Contains, IfErr, OnOk, length};
 ghost use Rattle.nll_body.specs.Sound.{IsSound};
 ghost use Rattle.nll_rules.specs.RegionFree.{AreRegionFree};
 ghost use Rattle.nll_body_problem.specs.Adding.{AddsConstraints, AreRegions, IsRefused};
 ghost use Rattle.nll_body_problem.specs.Adding.{IsOfPair, IsOfPairs};
 ghost use Rattle.nll_body_problem.specs.BodyProblem.{IsAskedAt, IsConstraint};
+ghost use Rattle.nll_body_problem.specs.Known.{AreAskedAt, AreKnown};
 
+use crate::known::{Known, find, keep_once, nothing_known, remember};
 use nll_body::Body;
 use nll_problem::{BuildError, Constraint, ProblemBuilder, RegionId};
 use nll_rules::{asks, region_free};
@@ -25,7 +27,16 @@ pub(crate) fn add_constraints(
 {
     let free = region_free(alloc, body.structs(), body.variable_types())?;
     let mut asked = Vec::new(alloc);
-    let told = add_points(alloc, body, free.as_slice(), &mut asked, builder);
+    let mut known = nothing_known(alloc);
+    let told = add_points(
+        alloc,
+        body,
+        free.as_slice(),
+        &mut known,
+        &mut asked,
+        builder,
+    );
+    drop(known);
     drop(asked);
     told
 }
@@ -35,22 +46,71 @@ fn add_points(
     alloc: Global,
     body: &Body,
     free: &[bool],
+    known: &mut Known,
     asked: &mut Vec<(RegionId, RegionId)>,
     builder: &mut ProblemBuilder,
 ) -> Result<(), BuildError>
     requires free { AreRegionFree body.now.structs body.now.variables free.now }
+    requires none { known.old.entries.items ≡ [] }
     requires points { builder.old.graph.points ≡ length body.now.points }
     requires regions { builder.old.regions ≡ length body.now.names }
     ensures ok { OnOk result (AddsConstraints (IsConstraint body.now) builder.old builder.new) }
     ensures err { IfErr result (IsRefused (IsConstraint body.now) builder.old) }
 {
     for point in 0..body.points() {
-        add_point(alloc, body, free, point, asked, builder)?;
+        add_next(alloc, body, free, point, known, asked, builder)?;
     }
     Ok(())
 }
 
-// Adds what stands at a point asks. The list is for its own use.
+// Adds what stands at a point asks, which may be known. The list is for its own use.
+fn add_next(
+    alloc: Global,
+    body: &Body,
+    free: &[bool],
+    point: u32,
+    known: &mut Known,
+    asked: &mut Vec<(RegionId, RegionId)>,
+    builder: &mut ProblemBuilder,
+) -> Result<(), BuildError>
+    requires sound { IsSound body.now }
+    requires free { AreRegionFree body.now.structs body.now.variables free.now }
+    requires point { point < length body.now.points }
+    requires known { AreKnown body.now known.old.entries.items }
+    requires points { builder.old.graph.points ≡ length body.now.points }
+    requires regions { builder.old.regions ≡ length body.now.names }
+    ensures ok { OnOk result (AddsConstraints (IsAskedAt body.now point) builder.old builder.new) }
+    ensures known { OnOk result (AreKnown body.now known.new.entries.items) }
+    ensures err { IfErr result (IsRefused (IsAskedAt body.now point) builder.old) }
+{
+    if let Some(pairs) = find(known, free, body, point) {
+        return add_known(body, point, pairs, builder);
+    }
+    add_point(alloc, body, free, point, asked, builder)?;
+    remember(alloc, known, free, body, point, asked.as_slice())?;
+    Ok(())
+}
+
+// Adds these pairs, which what stands at a point asks.
+fn add_known(
+    body: &Body,
+    point: u32,
+    pairs: &[(RegionId, RegionId)],
+    builder: &mut ProblemBuilder,
+) -> Result<(), BuildError>
+    requires sound { IsSound body.now }
+    requires point { point < length body.now.points }
+    requires asked { AreAskedAt body.now point pairs.now }
+    requires points { builder.old.graph.points ≡ length body.now.points }
+    requires regions { builder.old.regions ≡ length body.now.names }
+    ensures ok { OnOk result (AddsConstraints (IsAskedAt body.now point) builder.old builder.new) }
+    ensures err { IfErr result (IsRefused (IsAskedAt body.now point) builder.old) }
+{
+    add_pairs(builder, body.graph().next_of(point), pairs)?;
+    Ok(())
+}
+
+// Adds what stands at a point asks, and leaves it in the list.
 fn add_point(
     alloc: Global,
     body: &Body,
@@ -65,6 +125,7 @@ fn add_point(
     requires points { builder.old.graph.points ≡ length body.now.points }
     requires regions { builder.old.regions ≡ length body.now.names }
     ensures ok { OnOk result (AddsConstraints (IsAskedAt body.now point) builder.old builder.new) }
+    ensures asked { OnOk result (AreAskedAt body.now point asked.new.items) }
     ensures err { IfErr result (IsRefused (IsAskedAt body.now point) builder.old) }
 {
     asked.clear();
@@ -76,6 +137,7 @@ fn add_point(
         body.line_at(point),
         asked,
     )?;
+    keep_once(asked);
     add_pairs(builder, body.graph().next_of(point), asked.as_slice())?;
     Ok(())
 }

@@ -1,14 +1,16 @@
 //! Problems of bodies: the graph, the base elements that liveness gives, and the constraints that
 //! the statements ask. It knows no text.
 //!
-//! Reading order: `error`, `body_problem`, `facts`, `constraints`, `laws`. The definitions are in
-//! specs/.
+//! Reading order: `error`, `body_problem`, `facts`, `constraints`, `known`, `alike`, `laws`. The
+//! definitions are in specs/.
 #![tactic(auto)]
 
+mod alike;
 mod body_problem;
 mod constraints;
 mod error;
 mod facts;
+mod known;
 mod laws;
 
 pub use body_problem::problem_of;

@@ -1,7 +1,7 @@
 //! Tests of the problems of bodies, by public calls alone. Expected values are found by hand from
 //! the definitions.
 //!
-//! Reading order: `telling`, `problems`, `limits`, `copies`.
+//! Reading order: `telling`, `problems`, `limits`, `copies`, `repeats`.
 #![tactic(auto)]
 
 #[cfg(test)]
@@ -10,5 +10,7 @@ mod copies;
 mod limits;
 #[cfg(test)]
 mod problems;
+#[cfg(test)]
+mod repeats;
 #[cfg(test)]
 mod telling;

@@ -65,6 +65,30 @@ const FURTHER: &[(&str, &str)] = &[
         return|end|",
         "4 regions|0: 1 @ 1|0: 1 @ 2|2: 3 @ 2|",
     ),
+    // Fields are copied to and fro: the first copy comes again, between others.
+    (
+        "nll-mir 1|region 'a|region 'b|struct S<'x +> (&'x int)|let _0: int|let _1: S<'a>|\
+        let _2: S<'b>|blocks 1|block bb0|_1.0 = copy _2.0|_2.0 = copy _1.0|_1.0 = copy _2.0|\
+        return|end|",
+        "3 regions|base 1 0|base 1 1|base 1 2|base 2 0|base 2 1|base 2 2|\
+        2: 1 @ 1|2: 1 @ 3|1: 2 @ 2|",
+    ),
+    // A tuple of nine references of one region is copied twice.
+    (
+        "nll-mir 1|region 'a|region 'b|let _0: int|let _1: (&'a int, &'a int, &'a int, &'a int, \
+        &'a int, &'a int, &'a int, &'a int, &'a int)|let _2: (&'b int, &'b int, &'b int, \
+        &'b int, &'b int, &'b int, &'b int, &'b int, &'b int)|blocks 1|block bb0|_1 = copy _2|\
+        _1 = copy _2|read _1|return|end|",
+        "3 regions|base 1 2|base 2 0|base 2 1|2: 1 @ 1|2: 1 @ 2|",
+    ),
+    // Borrows of one field differ in their regions alone, and the first comes again.
+    (
+        "nll-mir 1|region 'a|region 'r|region 's|region 'b|region 'c|struct S<'x +> (&'x int)|\
+        let _0: int|let _1: S<'a>|let _2: int|let _3: &'b &'c int|blocks 1|block bb0|\
+        _3 = &'r _1.0|_3 = &'s _1.0|_3 = &'r _1.0|return|end|",
+        "6 regions|base 1 0|base 1 1|base 1 2|2: 4 @ 1|2: 4 @ 3|3: 4 @ 2|\
+        1: 5 @ 1|1: 5 @ 2|1: 5 @ 3|",
+    ),
     // A field without regions is borrowed: the pair is of the references' own regions alone.
     (
         "nll-mir 1|region 'a|region 'r|struct B<T +> ((T, int))|let _0: int|let _1: B<int>|\

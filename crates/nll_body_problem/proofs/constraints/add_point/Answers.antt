@@ -4,8 +4,9 @@ use Rattle.nll_rules.specs.Asking.{Asks}
 use Rattle.nll_body.specs.Bodies.{GoesOn}
 use Rattle.nll_body.specs.Views.{meant}
 use Rattle.nll_body_problem.specs.BodyProblem.{IsAskedAt}
+use Rattle.nll_body_problem.specs.Known.{AreAskedAt}
 use Rattle.nll_body_problem.proofs.AddingLemmas.{adds_same, refused_same}
-use Rattle.nll_body_problem.proofs.PointLemmas.{asked_here, only_asked}
+use Rattle.nll_body_problem.proofs.PointLemmas.{asked_here, asked_pairs, kept_asked}
 use Rattle.nll_body_problem.proofs.RegionLemmas.{asks_below}
 use Rattle.nll_body_problem.proofs.constraints.add_point.Goals as goal
 use Rattle.nll_body_problem.proofs.constraints.add_point.Goals.{After-next_of, After-as_slice}
@@ -20,8 +21,14 @@ goes c = λ q. (λ h. (c.graph.ensures.next c.args.point q).0 ((c.next_of.ensure
 -- the pairs are what the statement asks
 pairs : (c : After-as_slice) → (x : ℕ × ℕ) → Contains c.as_slice.result.now x ↔ Asks c.args.body.now.structs c.args.body.now.variables (meant c.line_at.result.now) x
 pairs c =
-    only_asked c.args.body.now (meant c.line_at.result.now) _ _ c.clear.new.self.items c.asks.new.asked.items c.as_slice.result.now
-    c.structs.ensures c.variable_types.ensures c.clear.ensures.items c.as_slice.ensures.value c.in_ok-asks.ensures
+    kept_asked c.args.body.now (meant c.line_at.result.now) _ _ c.clear.new.self.items c.asks.new.asked.items c.keep_once.new.pairs.items c.as_slice.result.now
+    c.structs.ensures c.variable_types.ensures c.clear.ensures.items c.in_ok-asks.ensures c.keep_once.ensures c.as_slice.ensures.value
+
+pub returns-clause-asked : goal.returns-clause-asked
+returns-clause-asked c =
+    let d = (goal.at.returns-clause-asked c).After-as_slice in
+    subst (AreAskedAt c.args.body.now c.args.point) c.as_slice.ensures.value
+    (asked_pairs c.args.body.now c.args.point (meant c.line_at.result.now) c.as_slice.result.now c.line_at.ensures (pairs d))
 
 pub add_pairs-requires-clause-points : goal.add_pairs-requires-clause-points
 add_pairs-requires-clause-points c =

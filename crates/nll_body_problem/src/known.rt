@@ -1,0 +1,145 @@
+//! What statements were found to ask, so that it isn't worked out again where others ask the same.
+
+ghost use Rattle.std.specs.Prelude.{◌≡◌, ◌<◌, ◌++◌, ◌∷◌, [], MatchOption, OnOk, length};
+ghost use Rattle.nll_problem.specs.Problem.{SameSet};
+ghost use Rattle.nll_body_problem.specs.Known.{AreAskedAt, AreKnown};
+ghost use Rattle.nll_body_problem.specs.declared.known.Entry.{Entry as entry};
+
+use crate::alike::{digest_of, goes_by_part, is_same};
+use indexmap::IndexMap;
+use nll_body::{Body, Stmt};
+use nll_problem::RegionId;
+use nll_sets::Memory;
+use std::alloc::Global;
+
+// So many pairs may be repeats.
+const FEW: usize = 8;
+
+/// A point, and the pairs of regions that what stands there asks, each once.
+#[derive(Drop)]
+pub(crate) struct Entry {
+    pub(crate) point: u32,
+    pub(crate) pairs: Vec<(RegionId, RegionId)>,
+}
+
+/// What was found of points.
+///
+/// # Shape
+/// The pairs of an entry are constraints at one point that no other entry has, so that all entries
+/// have no more pairs than a body has constraints.
+#[derive(Drop)]
+pub(crate) struct Known {
+    pub(crate) entries: Vec<Entry>,
+    // By the digest of a statement, where its entry may stand: a hint, behind which the statements
+    // are compared.
+    pub(crate) places: IndexMap<u64, usize>,
+}
+
+/// Nothing is found yet.
+pub(crate) fn nothing_known(alloc: Global) -> Known
+    ensures { result.entries.items ≡ [] }
+{
+    Known {
+        entries: Vec::new(alloc),
+        places: IndexMap::new(alloc),
+    }
+}
+
+/// Keeps each pair once, where there are many.
+pub(crate) fn keep_once(pairs: &mut Vec<(RegionId, RegionId)>)
+    ensures { SameSet pairs.old.items pairs.new.items }
+{
+    if pairs.len() > FEW {
+        sort_once(pairs);
+    }
+}
+
+// Sorts pairs, and keeps each once.
+fn sort_once(pairs: &mut Vec<(RegionId, RegionId)>)
+    ensures { SameSet pairs.old.items pairs.new.items }
+{
+    pairs.sort_unstable();
+    pairs.dedup();
+}
+
+// Where the entry of a statement may stand.
+fn hint(known: &Known, region_free: &[bool], statement: &Stmt) -> usize {
+    match digest_of(region_free, statement) {
+        Some(digest) => match known.places.get(&digest).copied() {
+            Some(place) => place,
+            None => known.entries.len(),
+        },
+        None => known.entries.len(),
+    }
+}
+
+/// The pairs that what stands at a point asks, where they are known of a point with the same
+/// statement.
+pub(crate) fn find<'a>(
+    known: &'a Known,
+    region_free: &[bool],
+    body: &Body,
+    point: u32,
+) -> Option<&'a [(RegionId, RegionId)]>
+    requires known { AreKnown body.now known.now.entries.items }
+    requires point { point < length body.now.points }
+    ensures { MatchOption result Unit (λ pairs. AreAskedAt body.now point pairs.now) }
+{
+    if known.entries.is_empty() {
+        return None;
+    }
+    let statement = body.line_at(point);
+    let place = hint(known, region_free, statement);
+    if place >= known.entries.len() {
+        return None;
+    }
+    let entry = &known.entries[place];
+    if is_same(body.line_at(entry.point), statement) {
+        Some(entry.pairs.as_slice())
+    } else {
+        None
+    }
+}
+
+// Puts an entry behind the others, and remembers where it stands.
+fn push(
+    alloc: Global,
+    known: &mut Known,
+    digest: u64,
+    point: u32,
+    asked: &[(RegionId, RegionId)],
+) -> Result<(), Memory>
+    ensures { OnOk result ((e : entry) × (e.point ≡ point) × (e.pairs.items ≡ asked.now)
+        × (known.new.entries.items ≡ known.old.entries.items ++ e ∷ [])) }
+{
+    let pairs = Vec::from_slice(alloc, asked)?;
+    let place = known.entries.len();
+    known.entries.push(Entry { point, pairs })?;
+    known.places.insert(digest, place)?;
+    Ok(())
+}
+
+/// Adds the pairs that what stands at a point asks, where they may be asked again and it is costly
+/// to work them out.
+pub(crate) fn remember(
+    alloc: Global,
+    known: &mut Known,
+    region_free: &[bool],
+    body: &Body,
+    point: u32,
+    asked: &[(RegionId, RegionId)],
+) -> Result<(), Memory>
+    requires known { AreKnown body.now known.old.entries.items }
+    requires point { point < length body.now.points }
+    requires asked { AreAskedAt body.now point asked.now }
+    ensures { OnOk result (AreKnown body.now known.new.entries.items) }
+{
+    let statement = body.line_at(point);
+    if asked.len() <= FEW && !goes_by_part(statement) {
+        return Ok(());
+    }
+    match digest_of(region_free, statement) {
+        Some(digest) => push(alloc, known, digest, point, asked),
+        None => Ok(()),
+    }
+}
