@@ -3,8 +3,8 @@
 #
 #   costly.sh --nllc PATH [--runs N] [--seconds S]
 #
-# The texts: copies, borrows and calls of types of 2,047 references of one region, written out or of a struct's
-# field; one line of 64 MiB of nested references of an unknown region; switches with as many edges as the limit.
+# The texts: copies, borrows, structs made and calls by types of 2,047 references of one region, written out or of a
+# struct's field; one line of 64 MiB of nested references of an unknown region; switches with as many edges as the limit.
 # The baseline goes by its newer solver, as nllc does; the older one takes the square of such repetitions.
 # Prints a Markdown table; status 1 where ends differ or a run takes longer than the limit (60 seconds).
 set -eu

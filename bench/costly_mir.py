@@ -48,11 +48,18 @@ def repeats_borrowed(lines):
     return with_body(declared, *[b"_1 = &'x _2"] * lines)
 
 
+def repeats_made(lines):
+    """Structs that are made of a variable of 2,047 references of one region."""
+    declared = [b"region 'x", b"region 'y", b"struct S<'a +> (" + references(REFERENCES, b"'a") + b")"]
+    declared += let(b"int", b"S<'x>", references(REFERENCES, b"'y"))
+    return with_body(declared, *[b"_1 = make S<'x>(copy _2)"] * lines)
+
+
 def repeats_called(lines):
-    """Calls whose argument has the field of a struct as its type, 2,047 references of one region."""
+    """Calls whose argument is a part of the field of a struct, which has 2,047 references of one region."""
     declared = [b"region 'x", b"struct S<'a +> (" + references(REFERENCES, b"'a") + b")"]
     declared += let(b"int", b"S<'x>")
-    blocks = [b"block bb%d\n_0 = call f(copy _1: S<'x>): int -> bb%d" % (k, k + 1) for k in range(lines)]
+    blocks = [b"block bb%d\n_0 = call f(copy _1.0.0: &'x int): int -> bb%d" % (k, k + 1) for k in range(lines)]
     return text_of(*declared, b"blocks %d" % (lines + 1), *blocks, b"block bb%d" % lines, b"return", b"end")
 
 
@@ -75,6 +82,7 @@ def all_costly():
     yield "fields_of_70_regions_copied", fields_of_many_regions(5_000, 70)
     yield "repeats_copied", repeats_copied(5_000)
     yield "repeats_borrowed", repeats_borrowed(5_000)
+    yield "repeats_made", repeats_made(5_000)
     yield "repeats_called", repeats_called(5_000)
     yield "line_of_nameless", line("nameless", 64)
     yield "edges_at_limit", edges_at_limit()

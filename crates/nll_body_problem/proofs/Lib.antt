@@ -1,4 +1,5 @@
 pub mod AddingLemmas
+pub mod AlikeLemmas
 pub mod RegionLemmas
 pub mod PointLemmas
 pub mod WholeLemmas

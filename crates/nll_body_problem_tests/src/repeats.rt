@@ -1,5 +1,6 @@
-//! A body that copies fields with many references of one region again and again: what the copy asks
-//! isn't to be worked out at each line.
+//! A body that copies fields with many references of one region again and again: were what the copy
+//! asks worked out at each line, the test would take more time than it has.
+
 use super::telling::constraints_told;
 use std::alloc::{AllocError, Global};
 
@@ -7,7 +8,7 @@ use std::alloc::{AllocError, Global};
 const FURTHER: u32 = 2_046;
 
 // How many copies there are.
-const COPIES: u32 = 20_000;
+const COPIES: u32 = 200_000;
 
 // Writes the lines in front of the block: a struct with a field of references, and two variables.
 fn write_head(out: &mut String) -> Result<(), AllocError> {
@@ -40,7 +41,7 @@ fn told(alloc: Global) -> Result<String, AllocError> {
 #[test]
 fn repeated_copies_ask_one_pair_each(rt: HostRuntime) {
     match told(rt.alloc()) {
-        Ok(told) => assert!(rt; told.as_str() == "20000 constraints", "{told}"),
+        Ok(told) => assert!(rt; told.as_str() == "200000 constraints", "{told}"),
         Err(_) => assert!(rt; false, "memory"),
     }
 }
