@@ -12,7 +12,7 @@ ghost use Rattle.nll_types.specs.Types.{TypeTree};
 ghost use Rattle.nll_types.specs.Views.{tree};
 ghost use Rattle.nll_body_problem.specs.Known.{AreAlike, AreKinds, AreOfOneType, AskTheSame};
 
-use crate::kinds::{is_one_kind, is_same_type};
+use crate::kinds::{is_one_kind, is_same_region, is_same_type};
 use nll_body::Stmt;
 use nll_problem::RegionId;
 use nll_statements::{Call, Make, Statement};
@@ -126,11 +126,29 @@ fn are_like_arguments(kinds: &[usize], one: &[(Operand, Ty)], other: &[(Operand,
     true
 }
 
+// Whether two pairs of regions are one.
+fn is_same_pair(one: (RegionId, RegionId), other: (RegionId, RegionId)) -> bool
+    ensures { IsTrue result → one ≡ other }
+{
+    if !is_same_region(one.0, other.0) {
+        return false;
+    }
+    is_same_region(one.1, other.1)
+}
+
 // Whether two rows of pairs of regions are one.
 fn are_same_pairs(one: &[(RegionId, RegionId)], other: &[(RegionId, RegionId)]) -> bool
     ensures { IsTrue result → one.now ≡ other.now }
 {
-    one == other
+    if one.len() != other.len() {
+        return false;
+    }
+    for place in 0..one.len() {
+        if !is_same_pair(one[place], other[place]) {
+            return false;
+        }
+    }
+    true
 }
 
 // Whether a statement is an assignment like this one.

@@ -11,11 +11,26 @@ use nll_sets::Memory;
 use nll_types::Ty;
 use std::alloc::Global;
 
+// Whether two regions are one.
+pub(crate) fn is_same_region(one: RegionId, other: RegionId) -> bool
+    ensures { IsTrue result → one ≡ other }
+{
+    one.0 == other.0
+}
+
 // Whether two rows of regions are one.
 fn are_same_regions(one: &[RegionId], other: &[RegionId]) -> bool
     ensures { IsTrue result → one.now ≡ other.now }
 {
-    one == other
+    if one.len() != other.len() {
+        return false;
+    }
+    for place in 0..one.len() {
+        if !is_same_region(one[place], other[place]) {
+            return false;
+        }
+    }
+    true
 }
 
 /// Whether two types are one.
@@ -34,7 +49,7 @@ pub(crate) fn is_same_type(one: &Ty, other: &Ty) -> bool
         },
         Ty::Reference(region, mutable, target) => match other {
             Ty::Reference(other_region, other_mutable, other_target) => {
-                if *region != *other_region {
+                if !is_same_region(*region, *other_region) {
                     return false;
                 }
                 if *mutable != *other_mutable {
