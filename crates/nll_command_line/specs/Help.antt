@@ -1,4 +1,5 @@
--- The text of help. It is the one that the crate `clap` makes of the three commands with their options.
+-- The text of help. It is the one that the crate `clap` makes of the three commands with their
+-- options.
 -- Source: project's choice.
 use Rattle.std.specs.Prelude.{ℕ, List, [], ◌∷◌, ◌++◌, Option, None, Some, codes}
 use Rattle.nll_command_line.specs.declared.task.Task.{Task}

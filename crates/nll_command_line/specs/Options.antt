@@ -134,8 +134,8 @@ pub record Says (given : List Given) (said : Said) : Type 0 where
   pub mail : filter_map mail_in given ≡ option_to_list said.mail
   pub schedule : filter_map schedule_in given ≡ option_to_list said.schedule
 
--- The words are those others, with options among them that give this. The regions are not both dealt
--- and cut by a file.
+-- The words are those others, with options among them that give this. The regions are not both
+-- dealt and cut by a file.
 pub record AreRead (words others : List (List ℕ)) (said : Said) : Type 0 where
   pub given : List Given
   pub placed : ArePlaced given others words

@@ -29,15 +29,5 @@ fn count_before(points: &[u32], point: u32) -> usize
     ensures after { (k : ℕ) → result ≤ k → k < length points.now
         → point ≤ slice_index points.now k }
 {
-    let mut low = 0;
-    let mut high = points.len();
-    while low < high {
-        let middle = low + (high - low) / 2;
-        if points[middle] < point {
-            low = middle + 1;
-        } else {
-            high = middle;
-        }
-    }
-    low
+    points.partition_point(|at| *at < point)
 }

@@ -5,14 +5,12 @@ use Rattle.std.proofs.lemmas.List.Elements.{Contains-get_or, Contains-push, Cont
 use Rattle.std.proofs.lemmas.List.Quantifiers.{all_pairs_push}
 use Rattle.std.proofs.lemmas.List.Sums.{sum_by-cons}
 use Rattle.std.proofs.lemmas.Bool.{cases_eq, cases_lt, false≢true}
-use Rattle.nll_problem.specs.Adjacency.{edges_from, edges_of, graph_of, AreLists, HasEdgesTo, Indexes, IsIndexed, IsKept}
+use Rattle.nll_problem.specs.Adjacency.{edges_from, edges_of, graph_of, AreLists, IsKept}
 use Rattle.nll_problem.specs.Answers.{AddsFact}
 use Rattle.nll_problem.specs.GraphBuilding.{bare_graph}
 use Rattle.nll_problem.specs.Limits.{most_points, most_edges, most_universals}
-use Rattle.nll_problem.specs.Rows.{item_count, older, row_at, with_item}
+use Rattle.nll_problem.specs.Rows.{item_count, row_at, with_item}
 use Rattle.nll_problem.specs.Turning.{AreIndices}
-use Rattle.nll_problem.specs.declared.graph_builder.TheConstants.{SCANNED}
-use Rattle.nll_problem.proofs.ChainLemmas.{older_behind, older_contained}
 use Rattle.nll_problem.proofs.RowLemmas.{counted_more}
 
 -- a list without elements contains nothing
@@ -177,18 +175,6 @@ module _ (lists : List (List ℕ)) (p q : ℕ) (within : p < length lists) where
         pair_of : (a b c d : ℕ) → a ≡ b → c ≡ d → ◌≡◌ {A = ℕ × ℕ} (a, c) (b, d)
         pair_of a b c d h k = cc
 
-  -- the lists stay indexed where the index has the edges of p that will be old
-  pub indexed_grown : (index : List (ℕ × ℕ)) → IsIndexed lists index → HasEdgesTo index p (older (SCANNED - 1) (row_at lists p)) → IsIndexed (with_item lists p q) index
-  indexed_grown index indexed old = record {
-    only = λ a b h. (grown_has a b).1 (inl (indexed.only a b h));
-    old = λ a b h. ⊎_elim
-        (λ same.
-        let list : older SCANNED (row_at (with_item lists p q) a) ≡ older (SCANNED - 1) (row_at lists p) = ap (λ c. older SCANNED (row_at (with_item lists p q) c)) same ∙ (ap (older SCANNED) row_same ∙ older_behind (row_at lists p) (SCANNED - 1) q) in
-        subst (λ c. Contains {X = ℕ × ℕ} index (c, b)) (sym same) (old b (subst (λ xs. Contains xs b) list h)))
-        (λ other. indexed.old a b (subst (λ xs. Contains (older SCANNED xs) b) (row_other a other) h))
-        (cases_eq a p);
-  }
-
 -- A graph that is kept, and an edge from p to q that isn't there.
 module _ (points universals : ℕ) (next : List (List ℕ)) (returns : List ℕ) (marks : List Bool) (k : IsKept points universals next returns marks) where
   module _ (p q : ℕ) (from : p < points) (to : q < points) (absent : Contains (row_at next p) q → ⊥) where
@@ -255,17 +241,6 @@ module _ (points universals : ℕ) (next : List (List ℕ)) (returns : List ℕ)
         };
       }
 
--- an index that is as it was
-pub indexes_none : (index : List (ℕ × ℕ)) (p : ℕ) (list : List ℕ) → Indexes index index p list
-indexes_none index p list = record { kept = λ x h. h; only = λ x h. inl h }
-
--- an index that gets one more edge
-pub indexes_more : (old index new : List (ℕ × ℕ)) (p : ℕ) (list : List ℕ) (q : ℕ) → Indexes old index p list → AddsFact index new (p, q) → Contains list q → Indexes old new p list
-indexes_more old index new p list q indexes adds listed = record {
-  kept = λ x h. (adds.each x).1 (inl (indexes.kept x h));
-  only = λ x h. ⊎_elim (indexes.only x) (λ is. inr (subst (λ (z : ℕ × ℕ). (z.0 ≡ p) × Contains list z.1) is (refl, listed))) ((adds.each x).0 h);
-}
-
 -- no successors, no edges
 edges_none : (k n : ℕ) → edges_from k (replicate n []) ≡ []
 edges_none k zero = refl
@@ -319,20 +294,3 @@ kept_none points universals some_point some_universal point_limit universal_limi
         (λ within. get_or-replicate points p false false within)
         (λ past. get_or_past (replicate points false) p false (subst (λ k. k ≤ p) (sym (length-replicate points false)) past))
         (cases_lt p points)
-
--- and it needs no index
-pub indexed_none : (points : ℕ) → IsIndexed (replicate points []) []
-indexed_none points = record {
-  only = λ p q h. absurd (none_contained (p, q) h);
-  old = λ p q h. absurd (nothing_in points p q (older_contained (row_at (replicate points []) p) SCANNED q h));
-}
-
--- lists stay indexed where the index gets an edge that is there
-pub indexed_more : (next : List (List ℕ)) (index new : List (ℕ × ℕ)) (p q : ℕ) → IsIndexed next index → AddsFact index new (p, q) → Contains (row_at next p) q → IsIndexed next new
-indexed_more next index new p q indexed adds listed = record {
-  only = λ a b h. ⊎_elim
-      (indexed.only a b)
-      (λ is. subst (λ (x : ℕ × ℕ). Contains (row_at next x.0) x.1) is listed)
-      ((adds.each (a, b)).0 h);
-  old = λ a b h. (adds.each (a, b)).1 (inl (indexed.old a b h));
-}

@@ -2,7 +2,7 @@
 use Rattle.std.proofs.Common.{◌≡◌, ◌≢◌, ℕ, zero, suc, ◌+◌, ◌-◌, ◌<◌, ◌≤◌, List, [], ◌∷◌, ◌++◌, Contains, length, get_or, set, take, replicate, refl, sym, ap, ◌∙◌, subst, ⊎_elim, arith, add-one, length-append}
 use Rattle.std.proofs.Math.Seq.{take-append_seam}
 use Rattle.std.proofs.lemmas.Bool.{cases_eq, cases_lt, eq-eqb, ne_eqb}
-use Rattle.std.proofs.lemmas.List.{ext_get_or, get_or_append_left, get_or_push, get_or-map, get_or-set_other, get_or-set_same, get_or-take, get_or-replicate, get_or_past, length-replicate, length-map, length-take-le, map-set, take-append-le, take-take, take_all}
+use Rattle.std.proofs.lemmas.List.{ext_get_or, get_or_append_left, get_or_push, get_or-map, get_or-set_other, get_or-set_same, get_or-replicate, get_or_past, length-replicate, length-map, length-take-le, map-set, take-take, take_all}
 use Rattle.nll_problem.specs.Rows.{AreChains, IsLinked, chain, chain_of, chains, entry_of, item_count, older, row_at, with_item}
 use Rattle.nll_problem.specs.declared.chain.Entry.{Entry}
 use Rattle.nll_problem.proofs.RowLemmas.{counted_more, counted_none}
@@ -48,6 +48,18 @@ chain_entry entries linked place within =
     ∙ (chain_here entries place
     ∙ ap (λ xs. xs ++ (entry_of entries place).item ∷ []) (sym (chain_kept entries place (length entries) (entry_of entries place).before (linked place within) (omega arith)))))
 
+-- a row has no more items than there are entries
+chain_short : (entries : List Entry) (n head : ℕ) → length (chain entries n head) ≤ n
+chain_short entries zero head = omega arith
+chain_short entries (suc n) head = ⊎_elim
+    (λ same. subst (λ h. length (chain entries (suc n) h) ≤ suc n) (sym same)
+    (omega (arith, ap length (chain_here entries n), length-append (chain entries n (entry_of entries n).before) ((entry_of entries n).item ∷ []), chain_short entries n (entry_of entries n).before)))
+    (λ other. omega (arith, ap length (chain_past entries n head other), chain_short entries n head))
+    (cases_eq head (suc n))
+
+pub row_short : (entries : List Entry) (head : ℕ) → length (chain_of entries head) ≤ length entries
+row_short entries head = chain_short entries (length entries) head
+
 -- ---- walks
 
 -- all items are followed by none at least
@@ -64,17 +76,11 @@ older_next row list n item is =
     ∙ (take-take (length list) (length row - n) row (omega (arith, count))
     ∙ ap (λ k. take k row) count))
 
--- what so many newer ones follow is followed by one more once there is one more
-pub older_behind : (row : List ℕ) (n item : ℕ) → older (n + 1) (row ++ item ∷ []) ≡ older n row
-older_behind row n item =
-    let count : length (row ++ item ∷ []) - (n + 1) ≡ length row - n = omega (arith, length-append row (item ∷ [])) in
-    ap (λ k. take k (row ++ item ∷ [])) count ∙ take-append-le (length row - n) row (item ∷ []) (omega arith)
-
--- older items are items
-pub older_contained : (row : List ℕ) (n item : ℕ) → Contains (older n row) item → Contains row item
-older_contained row n item h =
+-- nothing is followed by more than there are
+pub older_past : (row : List ℕ) (n item : ℕ) → length row ≤ n → Contains (older n row) item → ⊥
+older_past row n item past h =
     let size = length-take-le (length row - n) row (omega arith) in
-    (h.0, omega (arith, h.1, size), sym (get_or-take (length row - n) row h.0 item (omega (arith, h.1, size))) ∙ h.2)
+    omega (arith, h.1, size, past)
 
 -- ---- one more entry
 

@@ -4,6 +4,7 @@ pub mod BaseLemmas
 pub mod RowLemmas
 pub mod ChainLemmas
 pub mod AdjacencyLemmas
+pub mod SearchLemmas
 pub mod TurningLemmas
 pub mod ProblemLemmas
 pub mod WalkLemmas

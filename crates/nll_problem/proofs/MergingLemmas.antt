@@ -1,15 +1,17 @@
 -- How sorted runs are joined where they touch, and what a search among the joined ones finds.
-use Rattle.std.proofs.Common.{◌≡◌, ◌↔◌, ◌⊎◌, ℕ, ◌+◌, ◌-◌, ◌<◌, ◌≤◌, false, List, Contains, length, get_or, take, refl, sym, ap, ◌∙◌, subst, inl, inr, ⊎_elim, arith, Ordering, Less, Equal, Greater, nat_cmp, is_lt, IsSorted, get_or-take}
+use Rattle.std.proofs.Common.{◌≡◌, ◌↔◌, ◌⊎◌, ℕ, ◌+◌, ◌-◌, ◌<◌, ◌≤◌, ◌&&◌, true, false, leb, ltb, nat_eq, List, Contains, length, get_or, take, refl, sym, ap, ◌∙◌, subst, inl, inr, ⊎_elim, arith, Ordering, Less, Equal, Greater, nat_cmp, is_lt, IsSorted, get_or-take}
 use Rattle.std.specs.Ordering.{MatchOrdering, ordering_then}
 use Rattle.std.specs.Cmp.{IsTotalOrder, then_total, on_total, nat_cmp_total, ranks}
-use Rattle.std.specs.List.Sorted.{IsPermutation}
-use Rattle.std.proofs.lemmas.Bool.{cases_lt, false≢true}
+use Rattle.std.specs.List.Sorted.{IsPartitionedBy, IsPartitionPoint, IsPermutation}
+use Rattle.std.proofs.Math.Bool.{or-true}
+use Rattle.std.proofs.lemmas.Bool.{cases_lt, eq-eqb, eqb-true, false≢true, le-leb, leb-true, lt-ltb, ltb-true, or_cases}
 use Rattle.std.proofs.lemmas.List.{get_or_default, length-take-le}
 use Rattle.std.proofs.lemmas.List.Elements.{Contains-get_or}
 use Rattle.std.proofs.lemmas.List.Sorted.{sorted_far, ranks_by, Contains-permutation, IsPermutation-sym}
 use Rattle.nll_problem.specs.BaseRuns.{IsInBaseRun, IsInBaseRuns, IsProper, IsApart, AreLeast}
-use Rattle.nll_problem.specs.Merging.{run_at, run_cmp, IsInFirst, BeginsBy, Touches, joined, Keeps, Merging}
+use Rattle.nll_problem.specs.Merging.{begins_by, run_at, run_cmp, IsInFirst, BeginsBy, Touches, joined, Keeps, Merging}
 use Rattle.nll_problem.specs.declared.base_run.BaseRun.{BaseRun}
+use Rattle.nll_problem.proofs.FactLemmas.{and_true}
 
 -- ---- runs by their places
 
@@ -273,6 +275,17 @@ module _ (old mid : List BaseRun) (kept : ℕ) (m : Merging old mid kept (length
 
 -- ---- a search
 
+begins_exact : (run : BaseRun) (r p : ℕ) → (begins_by run r p ≡ true) ↔ BeginsBy run r p
+begins_exact run r p = (
+  λ h. ⊎_elim
+      (λ less. inl (ltb-true _ _ less))
+      (λ same. let both = and_true (nat_eq run.region r) (leb run.first p) same in inr (eqb-true _ _ both.0, leb-true _ _ both.1))
+      (or_cases (ltb run.region r) (nat_eq run.region r && leb run.first p) h),
+  ⊎_elim
+      (λ less. rw (lt-ltb _ _ less) refl)
+      (λ same. rw (eq-eqb _ _ same.0, le-leb _ _ same.1) (or-true _)),
+)
+
 module _ (runs : List BaseRun) (least : AreLeast runs) where
   apart_at : (i j : ℕ) → i < j → j < length runs → IsApart (run_at runs i) (run_at runs j)
   apart_at i j before within = least.apart i j no_run before within
@@ -295,6 +308,22 @@ module _ (runs : List BaseRun) (least : AreLeast runs) where
           (λ h1. ⊎_elim (λ h2. inl (omega (arith, h1, h2))) (λ h2. inl (omega (arith, h1, h2.0))) g)
           (λ h1. ⊎_elim (λ h2. inl (omega (arith, h1.0, h2))) (λ h2. inr (h1.0 ∙ h2.0, omega (arith, h1.1, proper, h2.1))) g)
           f
+
+  -- the test by which runs are searched
+  pub begun_parted : (r p : ℕ) → IsPartitionedBy (λ run. begins_by run r p) runs
+  begun_parted r p i j d low within begun =
+      let place = get_or_default runs j d no_run within in
+      let before = get_or_default runs i d no_run (omega (arith, low, within)) in
+      ap (λ run. begins_by run r p) before
+      ∙ (begins_exact (run_at runs i) r p).1 (begun_before i j r p low within ((begins_exact (run_at runs j) r p).0 (ap (λ run. begins_by run r p) (sym place) ∙ begun)))
+
+  -- what it finds
+  module _ (n r p : ℕ) (found : IsPartitionPoint (λ run. begins_by run r p ≡ true) (λ run. begins_by run r p ≡ false) runs n) where
+    pub begun_front : (k : ℕ) → k < n → n ≤ length runs → BeginsBy (run_at runs k) r p
+    begun_front k h bound = (begins_exact (run_at runs k) r p).0 (found.0 k no_run (omega arith) h)
+
+    pub begun_behind : (k : ℕ) → n ≤ k → k < length runs → BeginsBy (run_at runs k) r p → ⊥
+    begun_behind k h within begun = false≢true (sym (found.1 k no_run h within) ∙ (begins_exact (run_at runs k) r p).1 begun)
 
   -- a point is in a run just where it is in the last that begins by it
   pub in_last_begun : (n r p : ℕ) → n ≤ length runs → ((k : ℕ) → k < n → BeginsBy (run_at runs k) r p) → ((k : ℕ) → n ≤ k → k < length runs → BeginsBy (run_at runs k) r p → ⊥)

@@ -8,6 +8,7 @@ pub mod Answers
 pub mod GraphBuilding
 pub mod Building
 pub mod Rows
+pub mod Searching
 pub mod Turning
 pub mod Bases
 pub mod ConstraintIndex

@@ -84,8 +84,3 @@ older newer row = take (length row - newer) row
 abbrev pub IsSearched : ℕ → List ℕ → ℕ → Option Bool → Type 0
 IsSearched most row item (Some found) = (found ≡ true) ↔ Contains row item
 IsSearched most row item None = Contains row item → Contains (older most row) item
-
--- the item of a row that so many newer ones follow; none where there are no more
-abbrev pub IsFollowed : ℕ → List ℕ → Option ℕ → Type 0
-IsFollowed newer row (Some item) = older newer row ≡ older (newer + 1) row ++ item ∷ []
-IsFollowed newer row None = older newer row ≡ []

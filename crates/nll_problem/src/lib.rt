@@ -23,6 +23,7 @@ mod problem;
 mod region;
 mod rows;
 mod rows_builder;
+mod searchable_rows;
 mod turning;
 
 pub use base_run::BaseRun;

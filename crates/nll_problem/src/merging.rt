@@ -3,6 +3,7 @@
 ghost use Rattle.std.specs.Prelude.{◌≡◌, ◌↔◌, ◌-◌, ◌<◌, ◌≤◌, ℕ, length, Contains, IsTrue};
 ghost use Rattle.std.specs.List.Sorted.{IsPermutation, IsSorted};
 ghost use Rattle.nll_problem.specs.BaseRuns.{AreLeast, IsInBaseRuns, IsProper};
+ghost use Rattle.nll_problem.specs.Merging as merging;
 ghost use Rattle.nll_problem.specs.Merging.{BeginsBy, Keeps, Merging, Touches, run_at, run_cmp};
 
 use crate::base_run::BaseRun;
@@ -105,22 +106,12 @@ fn begun(runs: &[BaseRun], region: RegionId, point: u32) -> usize
     ensures after { (k : ℕ) → result ≤ k → k < length runs.now
         → BeginsBy (run_at runs.now k) region point → ⊥ }
 {
-    let mut low = 0;
-    let mut high = runs.len();
-    while low < high {
-        let middle = low + (high - low) / 2;
-        if begins_by(&runs[middle], region, point) {
-            low = middle + 1;
-        } else {
-            high = middle;
-        }
-    }
-    low
+    runs.partition_point(|run| begins_by(run, region, point))
 }
 
 // Whether a run begins no later than at a point of a region.
 fn begins_by(run: &BaseRun, region: RegionId, point: u32) -> bool
-    ensures { IsTrue result ↔ BeginsBy run.now region point }
+    ensures { result ≡ merging.begins_by run.now region point }
 {
     run.region < region || (run.region == region && run.first <= point)
 }

@@ -66,7 +66,8 @@ const ERRORS: &[Row] = &[
     (
         "memory",
         Asked::Memory,
-        "Memory(())|Memory(())|Memory|Memory|Memory|Memory|Memory|Memory|Memory|Memory|Memory|Memory",
+        "Memory(())|Memory(())|Memory|Memory|Memory|Memory|\
+         Memory|Memory|Memory|Memory|Memory|Memory",
     ),
 ];
 

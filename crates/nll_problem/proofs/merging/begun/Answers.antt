@@ -1,36 +1,16 @@
-use Rattle.std.proofs.Common.{◌≡◌, ◌<◌, ◌+◌, ◌-◌, ◌/◌, length, subst, sym, ◌∙◌, arith}
-use Rattle.std.proofs.lemmas.Bool.{false≢true}
-use Rattle.std.proofs.lemmas.List.{get_or_default}
-use Rattle.nll_problem.specs.Merging.{BeginsBy, run_at}
-use Rattle.nll_problem.specs.declared.base_run.BaseRun.{BaseRun}
-use Rattle.nll_problem.proofs.MergingLemmas.{begun_before, no_run}
+use Rattle.std.proofs.Common.{◌≡◌, true, false, rules}
+use Rattle.std.specs.List.Sorted.{IsPartitionPoint}
+use Rattle.std.proofs.lemmas.List.Sorted.{IsPartitionPoint-from_clause}
+use Rattle.nll_problem.specs.Merging.{begins_by}
+use Rattle.nll_problem.proofs.MergingLemmas.{begun_behind, begun_front, begun_parted}
 use Rattle.nll_problem.proofs.merging.begun.Goals as goal
+use Rattle.nll_problem.proofs.merging.begun.Goals.{After-partition_point}
 
-pub loop-low-preserved-then-begins_by : goal.loop-low-preserved-then-begins_by
-loop-low-preserved-then-begins_by c =
-    let runs = c.args.runs.now in
-    let m = c.loop-low.low + (c.loop-low.high - c.loop-low.low) / 2 in
-    let within : m < length runs = omega (arith, c.loop-low-test.true, c.loop-low.invariant.bound) in
-    let is : c.index-runs-middle.result ≡ run_at runs m = c.index-runs-middle.is ∙ get_or_default runs m c.index-runs-middle.result no_run within in
-    let here = subst (λ (t : BaseRun). BeginsBy t c.args.region c.args.point) is (c.begins_by.ensures.0 c.if-begins_by.true) in
-    record {
-      order = omega (arith, c.loop-low-test.true);
-      bound = c.loop-low.invariant.bound;
-      before = λ k h. begun_before runs c.requires k m c.args.region c.args.point (omega (arith, h)) within here;
-      after = c.loop-low.invariant.after;
-    }
+parted : (c : After-partition_point) → IsPartitionPoint (λ run. begins_by run c.args.region c.args.point ≡ true) (λ run. begins_by run c.args.region c.args.point ≡ false) c.args.runs.now c.partition_point.result
+parted c = IsPartitionPoint-from_clause (λ run. begins_by run c.args.region c.args.point) _ _ c.partition_point.ensures.partitioned (begun_parted _ c.requires c.args.region c.args.point) (λ a r q k. search rules)
 
-pub loop-low-preserved : goal.loop-low-preserved
-loop-low-preserved c =
-    let runs = c.args.runs.now in
-    let m = c.loop-low.low + (c.loop-low.high - c.loop-low.low) / 2 in
-    let within : m < length runs = omega (arith, c.loop-low-test.true, c.loop-low.invariant.bound) in
-    let is : c.index-runs-middle.result ≡ run_at runs m = c.index-runs-middle.is ∙ get_or_default runs m c.index-runs-middle.result no_run within in
-    record {
-      order = omega arith;
-      bound = omega (arith, within);
-      before = c.loop-low.invariant.before;
-      after = λ k h low b.
-          let here = begun_before runs c.requires m k c.args.region c.args.point h low b in
-          false≢true (sym c.if-begins_by.false ∙ c.begins_by.ensures.1 (subst (λ (t : BaseRun). BeginsBy t c.args.region c.args.point) (sym is) here));
-    }
+pub returns-clause-before : goal.returns-clause-before
+returns-clause-before c = λ k h. begun_front _ c.requires _ _ _ (parted (goal.at.returns-clause-before c).After-partition_point) k h c.partition_point.ensures.bound
+
+pub returns-clause-after : goal.returns-clause-after
+returns-clause-after c = begun_behind _ c.requires _ _ _ (parted (goal.at.returns-clause-after c).After-partition_point)

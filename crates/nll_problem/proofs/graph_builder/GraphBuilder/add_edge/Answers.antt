@@ -1,7 +1,7 @@
 use Rattle.std.proofs.Common.{◌<◌, Contains, length, arith}
-use Rattle.nll_problem.specs.Adjacency.{IsIndexed, IsKept}
+use Rattle.nll_problem.specs.Adjacency.{IsKept}
 use Rattle.nll_problem.specs.Rows.{row_at, with_item}
-use Rattle.nll_problem.proofs.AdjacencyLemmas.{adds_edge, edges_counted, edges_exact, indexed_grown, kept_edge}
+use Rattle.nll_problem.proofs.AdjacencyLemmas.{adds_edge, edges_counted, edges_exact, kept_edge}
 use Rattle.nll_problem.proofs.graph_builder.GraphBuilder.add_edge.Goals as goal
 use Rattle.nll_problem.proofs.graph_builder.GraphBuilder.add_edge.Goals.{In_ok-push}
 
@@ -16,21 +16,17 @@ absent c h = (rw (← c.self.view_is) at c.requires.absent) ((edges_exact c.self
 kept : (c : In_ok-push) → IsKept c.self.inside.points c.self.inside.universals (with_item c.self.inside.next c.args.from c.args.to) c.self.inside.returns.items c.self.inside.marks.items
 kept c =
     let room = rw (← c.self.view_is) at c.requires.room in
-    kept_edge _ _ _ _ _ c.self.invariant.0 c.args.from c.args.to (rw (← c.self.view_is) at c.requires.from) (rw (← c.self.view_is) at c.requires.to) (absent c) (omega (arith, room, edges_counted c.self.inside.next))
+    kept_edge _ _ _ _ _ c.self.invariant c.args.from c.args.to (rw (← c.self.view_is) at c.requires.from) (rw (← c.self.view_is) at c.requires.to) (absent c) (omega (arith, room, edges_counted c.self.inside.next))
 
 within : (c : In_ok-push) → c.args.from < length c.self.inside.next
 within c =
     let point = rw (← c.self.view_is) at c.requires.from in
-    omega (arith, point, c.self.invariant.0.successors.listed)
-
-indexed : (c : In_ok-push) → IsIndexed (with_item c.self.inside.next c.args.from c.args.to) c.index_old.new.index.keys
-indexed c =
-    indexed_grown c.self.inside.next c.args.from c.args.to (within c) c.index_old.new.index.keys c.index_old.ensures.indexed c.in_ok-index_old.ensures.old
+    omega (arith, point, c.self.invariant.successors.listed)
 
 pub invariant_of-self-2 : goal.invariant_of-self-2
 invariant_of-self-2 c =
     let d = (goal.at.invariant_of-self-2 c).In_ok-push in
-    rw c.in_ok-push.ensures.ok (kept d, indexed d)
+    rw c.in_ok-push.ensures.ok (kept d)
 
 pub returns-clause-ok : goal.returns-clause-ok
 returns-clause-ok c =
