@@ -1,5 +1,5 @@
 #!/usr/bin/env python3
-"""Makes MIR texts (version 1): small bodies, changed texts, texts at the limits, and big ones.
+"""Makes MIR texts: small bodies, changed texts, texts at the limits, and big ones.
 
 Every text depends on its arguments and its seed alone.
 
@@ -7,7 +7,7 @@ Every text depends on its arguments and its seed alone.
     generate_mir.py ranges POINTS VARIABLES      one block, variables with short live ranges
     generate_mir.py wide REGIONS POINTS          a variable with many regions, live everywhere
     generate_mir.py line KIND MIB                one long line behind the header
-    generate_mir.py random [--seed S]            a small body
+    generate_mir.py random [--seed S] [--version V]   a small body, of version 1 or 2
     generate_mir.py worked --into DIR            the worked texts
     generate_mir.py mutations FILE --into DIR    each small change of a text
     generate_mir.py limits --into DIR [NAME ..]  texts at the limits of the format
@@ -24,7 +24,7 @@ import sys
 
 from costly_mir import all_costly
 from limits_mir import LINES, hostile, limits, line
-from small_mir import mutations, small
+from small_mir import VERSIONS, mutations, small
 from worked_mir import WORKED
 
 # Big bodies
@@ -151,7 +151,9 @@ def words():
     command = commands.add_parser("line")
     command.add_argument("kind", choices=sorted(LINES))
     command.add_argument("mebibytes", type=int)
-    commands.add_parser("random").add_argument("--seed", type=int, default=1)
+    command = commands.add_parser("random")
+    command.add_argument("--seed", type=int, default=1)
+    command.add_argument("--version", type=str.encode, choices=VERSIONS)
     command = commands.add_parser("mutations")
     command.add_argument("file")
     command.add_argument("--into", required=True)
@@ -179,7 +181,7 @@ def main():
             "ranges": lambda: ranges(args.points, args.variables),
             "wide": lambda: wide(args.regions, args.points),
             "line": lambda: line(args.kind, args.mebibytes),
-            "random": lambda: small(random.Random(args.seed)),
+            "random": lambda: small(random.Random(args.seed), args.version),
         }
         sys.stdout.buffer.write(made[args.command]())
 

@@ -225,6 +225,7 @@ UNLIKE_DOUBLES = [b"struct W<'x +> drop (&'x int)", b"struct S0<T +, U +> (T, U)
 def hostile():
     """Texts with deep types, or types that would grow without end, as `limits` gives them."""
     yield from deep_types()
+    yield from deep_functions()
     yield from growing_types()
 
 
@@ -257,6 +258,37 @@ def deep_types():
     yield "deep_unknown", text_of(b"let _0: " + nested(50_000, b"Z")), "line 2: unknown"
     yield "deep_shape", text_of(b"struct N ()", b"let _0: " + nested(50_000, b"N<int>")), (
         "line 3: shape")
+
+
+def deep_functions():
+    """Of version 2: functions that take functions, and such that give functions."""
+    top = [b"region 'r", b"struct F<T - > drop (fn(T) -> int)"]
+    same = [b"_0 = copy _1", b"_1 = move _0", b"read _0", b"live _1"]
+    ways = {"takers": (b"fn(", b") -> int", b"&'r int", 2_047),
+            "givers": (b"fn() -> ", b"", b"int", 4_095)}
+    for name, (piece, behind, leaf, count) in ways.items():
+        fits = nested(count, leaf, piece, behind)
+        large = nested(count + 1, leaf, piece, behind)
+        unlike = nested(count - 1, b"()", piece, behind)
+        yield f"deep_{name}", second(with_body(top + let(fits, fits), *same)), "ok"
+        yield f"deep_{name}_too_large", second(with_body(top + let(fits, large))), (
+            "line 5: type size")
+        yield f"deep_{name}_unlike", second(with_body(top + let(fits, unlike), b"_0 = copy _1")), (
+            "line 8: shape")
+        yield f"deep_{name}_open", second(text_of(b"let _0: " + piece * 100_000)), "line 2: syntax"
+    sink = b"F<" + nested(2_046, b"&'r int", b"fn(", b") -> int") + b">"
+    yield "deep_takers_dropped", second(text_of(
+        *top, *let(b"int", sink), b"blocks 2", b"block bb0", b"drop _1 -> bb1", b"block bb1",
+        b"return", b"end")), "ok"
+    yield "function_of_many_arguments", second(with_body(
+        let(b"fn" + tuple_of(4_094) + b" -> int"))), "ok"
+    yield "function_of_too_many_arguments", second(with_body(
+        let(b"fn" + tuple_of(4_095) + b" -> int"))), "line 2: type size"
+
+
+def second(text):
+    """The same text as one of version 2."""
+    return text.replace(b"nll-mir 1", b"nll-mir 2", 1)
 
 
 def growing_types():

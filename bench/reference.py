@@ -1,5 +1,5 @@
 #!/usr/bin/env python3
-"""A slow reader and solver of facts and MIR texts (version 1), straight from the definitions.
+"""A slow reader and solver of facts texts and MIR texts, straight from the definitions.
 
 It is the second reference beside `baseline/`: it cuts a text into lines, a line into tokens, and
 grows sets of integers in whole rounds until a round adds nothing. Only for small texts.
@@ -25,8 +25,10 @@ COMMANDS = ("read", "problem", "values", "check", "body")
 def said_in(text):
     """What a text says, as one of the two formats; raises `Refused`."""
     first = reference_text.lines_of(text)[0] if len(text) <= reference_text.LIMIT_TEXT else b""
-    form = Mir if reference_text.is_header(first, Mir.HEADER) else Facts
-    return reference_text.read(text, form())
+    for version in Mir.VERSIONS:
+        if reference_text.is_header(first, Mir.HEADER, version):
+            return reference_text.read(text, Mir(version))
+    return reference_text.read(text, Facts())
 
 
 def body_counts(said):

@@ -10,6 +10,7 @@ class Cut:
     """The numbers of the lines so far."""
 
     HEADER = b"nll-cut"
+    version = b"1"
 
     def __init__(self):
         self.owners = []

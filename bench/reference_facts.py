@@ -21,6 +21,7 @@ class Facts:
     """What the lines so far said."""
 
     HEADER = b"nll-facts"
+    version = b"1"
 
     def __init__(self):
         self.reached = 0

@@ -1,4 +1,7 @@
-"""The grammar of MIR texts (version 1): the form of a line from its tokens, one rule a function."""
+"""The grammar of MIR texts: the form of a line from its tokens, one rule a function.
+
+Version 2 has the rules of version 1, and the types of functions and the sign `-` besides.
+"""
 
 from collections import namedtuple
 
@@ -54,10 +57,12 @@ def run(rule):
 
 
 class Grammar:
-    """The rules of the grammar over the tokens of one line."""
+    """The rules of the grammar of a version, `b"1"` or `b"2"`, over the tokens of one line."""
 
-    def __init__(self, tokens):
+    def __init__(self, tokens, version):
         self.tokens = tokens
+        self.signs = b"+=-" if version == b"2" else b"+="
+        self.has_functions = version == b"2"
         self.at = 0
 
     def has(self, kind, spelled=None):
@@ -128,15 +133,16 @@ class Grammar:
             part = yield self.type_into(nodes)
             nodes.append(("reference", region, mutable, part))
         elif self.sign(b"("):
-            parts = []
-            if not self.sign(b")"):
-                parts.append((yield self.type_into(nodes)))
-                while self.sign(b","):
-                    parts.append((yield self.type_into(nodes)))
-                self.want("sign", b")")
+            parts = yield self.types_into(nodes)
             nodes.append(("tuple", parts))
         elif self.has("word", b"int"):
             nodes.append(("int",))
+        elif self.has_functions and self.has("word", b"fn"):
+            self.want("sign", b"(")
+            parts = yield self.types_into(nodes)
+            self.want("arrow")
+            parts.append((yield self.type_into(nodes)))
+            nodes.append(("function", parts))
         else:
             name, arguments = self.name(), []
             if self.sign(b"<"):
@@ -146,6 +152,16 @@ class Grammar:
                 self.want("sign", b">")
             nodes.append(("named", name, arguments))
         return len(nodes) - 1
+
+    def types_into(self, nodes):
+        """The indices of types behind a round bracket, up to the one that closes it."""
+        parts = []
+        if not self.sign(b")"):
+            parts.append((yield self.type_into(nodes)))
+            while self.sign(b","):
+                parts.append((yield self.type_into(nodes)))
+            self.want("sign", b")")
+        return parts
 
     def argument_into(self, nodes):
         """An argument: whether it is a region, and the region or the index of the type."""
@@ -217,8 +233,10 @@ class Grammar:
     def parameter(self):
         is_region = self.has("region")
         name = self.tokens[self.at - 1][1] if is_region else self.name()
-        sign = "+" if self.sign(b"+") else self.want("sign", b"=").decode()
-        return types.Parameter(is_region, name, sign, self.sign(b"?"))
+        sign = self.want("sign")
+        if sign not in self.signs:
+            raise NoForm
+        return types.Parameter(is_region, name, sign.decode(), self.sign(b"?"))
 
     def let_line(self):
         variable = self.variable()

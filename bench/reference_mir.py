@@ -1,4 +1,4 @@
-"""A slow reader of MIR texts (version 1), written straight from the definitions.
+"""A slow reader of MIR texts (versions 1 and 2), written straight from the definitions.
 
 All kinds of fault of a line are gathered, and the first in the order of kinds is told.
 """
@@ -38,9 +38,11 @@ class Mir:
     """What the lines so far said."""
 
     HEADER = b"nll-mir"
+    VERSIONS = (b"1", b"2")
 
-    def __init__(self):
+    def __init__(self, version):
         types.forget_all()
+        self.version = version
         self.reached = 0
         self.universals = [b"static"]
         self.further = []
@@ -61,7 +63,7 @@ class Mir:
         if not tokens:
             return None
         try:
-            return Grammar(tokens).line()
+            return Grammar(tokens, self.version).line()
         except NoForm:
             return None
 
@@ -151,9 +153,9 @@ class Mir:
             if region not in regions:
                 kinds.add("unknown")
             return made[part] and types.make("reference", None, mutable, (region,), (made[part],))
-        if form == "tuple":
+        if form in ("tuple", "function"):
             parts = [made[part] for part in node[1]]
-            return None if None in parts else types.make("tuple", parts=tuple(parts))
+            return None if None in parts else types.make(form, parts=tuple(parts))
         _, name, arguments = node
         kinds |= {"unknown" for is_region, name in arguments if is_region and name not in regions}
         return self.named(kinds, name, arguments, made, parameters)

@@ -9,6 +9,7 @@ class Schedule:
     """The events of the lines so far, each its word and its owners, of so many owners."""
 
     HEADER = b"nll-schedule"
+    version = b"1"
 
     def __init__(self, owners):
         self.owners = owners

@@ -15,7 +15,7 @@ DIGITS = b"0123456789"
 CAPITALS = b"ABCDEFGHIJKLMNOPQRSTUVWXYZ"
 LETTERS = CAPITALS + b"abcdefghijklmnopqrstuvwxyz"
 WORD_BYTES = LETTERS + DIGITS + b"_"
-SIGNS = b"=&()<>,:.*+?"
+SIGNS = b"=&()<>,:.*+?-"
 
 # The kinds of fault, in the order in which the first of several in one line is told.
 KINDS = [
@@ -78,9 +78,9 @@ def number_of(word):
     return int(word) if word == b"%d" % int(word) else None
 
 
-def is_header(line, name):
+def is_header(line, name, version=b"1"):
     runs = line.replace(b"\t", b" ").replace(b"\r", b" ").split(b" ")
-    return [run for run in runs if run] == [name, b"1"]
+    return [run for run in runs if run] == [name, version]
 
 
 def is_skipped(line):
@@ -91,8 +91,8 @@ def is_skipped(line):
 def read(text, said):
     """Adds to an empty `said` what a text of its format says; raises at the first faulty line.
 
-    `said` has the name in the header, `form_of` a line, all `faults` of a form, `add` for a form
-    without a fault, and whether a form or what was said `ends` the text.
+    `said` has the name and the version in the header, `form_of` a line, all `faults` of a form,
+    `add` for a form without a fault, and whether a form or what was said `ends` the text.
     """
     if len(text) > LIMIT_TEXT:
         raise refused(1, "limit text")
@@ -103,7 +103,7 @@ def read(text, said):
         if not is_utf8(line):
             kinds.add("not utf-8")
         if number == 1:
-            if not is_header(line, said.HEADER):
+            if not is_header(line, said.HEADER, said.version):
                 kinds.add("header")
         elif not is_skipped(line):
             form = said.form_of(line)

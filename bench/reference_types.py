@@ -13,11 +13,12 @@ Struct = namedtuple("Struct", "parameters drop fields")
 
 
 class Type:
-    """A type: `int`, or a parameter, reference, tuple or use of a struct.
+    """A type: `int`, or a parameter, reference, tuple, function or use of a struct.
 
     `name` is that of the parameter or of the struct, `regions` are the region of the reference or
-    the region arguments, `parts` what stands behind the reference, the parts of the tuple or the
-    type arguments. `erased` is the same type with its regions forgotten.
+    the region arguments, `parts` what stands behind the reference, the parts of the tuple, the
+    arguments of the function and then its result, or the type arguments. `erased` is the same type
+    with its regions forgotten.
     """
 
     __slots__ = ("form", "name", "mutable", "regions", "parts", "nodes", "erased")
@@ -131,23 +132,28 @@ def drop_regions(structs, t):
     return found
 
 
-def times(outer, sign):
-    """The product of two signs."""
-    return "=" if "=" in (outer, sign) else "+"
+# The product of two signs.
+TIMES = {("+", "+"): "+", ("+", "-"): "-", ("+", "="): "=",
+         ("-", "+"): "-", ("-", "-"): "+", ("-", "="): "=",
+         ("=", "+"): "=", ("=", "-"): "=", ("=", "="): "="}
 
 
 def positions(structs, t, outer="+"):
     """The positions of regions in a type, in the order of the text, as (sign, region)."""
     if t.form == "reference":
-        behind_it = times(outer, "=" if t.mutable else "+")
+        behind_it = TIMES[outer, "=" if t.mutable else "+"]
         return [(outer, t.regions[0])] + positions(structs, t.parts[0], behind_it)
     found = []
     if t.form == "tuple":
         for part in t.parts:
             found += positions(structs, part, outer)
+    if t.form == "function":
+        for part in t.parts[:-1]:
+            found += positions(structs, part, TIMES[outer, "-"])
+        found += positions(structs, t.parts[-1], outer)
     if t.form == "struct":
         for parameter, argument in arguments(structs, t):
-            sign = times(outer, parameter.sign)
+            sign = TIMES[outer, parameter.sign]
             one = [(sign, argument)] if parameter.is_region else positions(structs, argument, sign)
             found += one
     return found
@@ -157,8 +163,13 @@ def wants(structs, t, u):
     """The pairs that the subtyping of t and u asks; they are equal when regions are forgotten."""
     pairs = set()
     for (sign, a), (_, b) in zip(positions(structs, t), positions(structs, u)):
-        pairs |= {(a, b), (b, a)} if sign == "=" else {(a, b)}
+        pairs |= {"+": {(a, b)}, "-": {(b, a)}, "=": {(a, b), (b, a)}}[sign]
     return pairs
+
+
+def listed(structs, parts):
+    """Types in round brackets as they are written."""
+    return b"(" + b", ".join([spelled(structs, part) for part in parts]) + b")"
 
 
 def spelled(structs, t):
@@ -167,7 +178,9 @@ def spelled(structs, t):
         mut = b"mut " if t.mutable else b""
         return b"&'%s %s%s" % (t.regions[0], mut, spelled(structs, t.parts[0]))
     if t.form == "tuple":
-        return b"(" + b", ".join([spelled(structs, part) for part in t.parts]) + b")"
+        return listed(structs, t.parts)
+    if t.form == "function":
+        return b"fn" + listed(structs, t.parts[:-1]) + b" -> " + spelled(structs, t.parts[-1])
     if t.form == "struct" and structs[t.name].parameters:
         written = [b"'" + argument if parameter.is_region else spelled(structs, argument)
                    for parameter, argument in arguments(structs, t)]

@@ -1,4 +1,4 @@
-"""Makes small MIR texts: random bodies, and texts with small changes."""
+"""Makes small MIR texts, of both versions: random bodies, and texts with small changes."""
 
 import re
 
@@ -8,6 +8,7 @@ import reference_types as types
 NAMES = [b"a", b"b", b"c", b"1", b"01", b"2", b"end", b"Static", b"_", b"a1", b"mut", b"x_9"]
 STRUCTS = [b"W", b"V", b"P", b"T1", b"Mut"]
 PARAMETERS = [b"T", b"U", b"X_", b"Int"]
+VERSIONS = [b"1", b"2"]
 TOKEN = rb"->|'?\w+|[^\w\s]"
 
 
@@ -16,9 +17,11 @@ TOKEN = rb"->|'?\w+|[^\w\s]"
 class Small:
     """A small body, which mostly has no fault: its lines grow one after the other."""
 
-    def __init__(self, rng):
+    def __init__(self, rng, version):
         types.forget_all()
         self.rng = rng
+        self.version = version
+        self.has_functions = version == b"2"
         names = rng.sample(NAMES, k=len(NAMES))
         universals = names[:rng.choice([0, 0, 1, 2, 2, 3])]
         self.universals = [b"static"] + universals
@@ -49,7 +52,7 @@ class Small:
             for _ in range(rng.choice([0, 1, 1, 2, 3, 5, 8])):
                 self.lines.append(self.statement())
             self.lines.append(self.terminator(blocks, number == blocks - 1))
-        return self.laid_out([b"nll-mir 1"] + self.lines + [b"end"])
+        return self.laid_out([b"nll-mir " + self.version] + self.lines + [b"end"])
 
     def laid_out(self, lines):
         rng = self.rng
@@ -68,8 +71,9 @@ class Small:
         blanks = [b"", b"", b" ", b"  ", b"\t", b" \r"]
         out = self.rng.choice(blanks)
         for token in re.findall(TOKEN, one):
-            needs = is_word(out[-1:]) and is_word(token[:1])
-            out += self.rng.choice(blanks[2:] if needs else blanks) + token
+            one_word = is_word(out[-1:]) and is_word(token[:1])
+            one_arrow = out.endswith(b"-") and token == b">"
+            out += self.rng.choice(blanks[2:] if one_word or one_arrow else blanks) + token
         return out + self.rng.choice(blanks)
 
     # Types
@@ -86,6 +90,10 @@ class Small:
             part = self.type(depth - 1, regions, parameters)
             region = (rng.choice(regions),)
             return types.make("reference", None, rng.random() < 0.5, region, (part,))
+        if self.has_functions and rng.random() < 0.3:
+            count = rng.choice([1, 1, 2, 2, 3, 4])
+            parts = [self.type(depth - 1, regions, parameters) for _ in range(count)]
+            return types.make("function", parts=tuple(parts))
         if kind < 0.75 or not self.structs:
             count = rng.choice([0, 1, 2, 2, 3])
             parts = [self.type(depth - 1, regions, parameters) for _ in range(count)]
@@ -104,13 +112,15 @@ class Small:
         rng = self.rng
         regions = rng.sample(NAMES, k=rng.choice([0, 1, 1, 2]))
         names = rng.sample(PARAMETERS, k=rng.choice([0, 1, 1, 1, 2]))
-        parameters = [types.Parameter(one in regions, one, rng.choice("+="), rng.random() < 0.4)
+        signs = "+=-" if self.has_functions else "+="
+        parameters = [types.Parameter(one in regions, one, rng.choice(signs), rng.random() < 0.4)
                       for one in rng.sample(regions + names, k=len(regions + names))]
         fields = [self.field(regions + [b"static"], names)
                   for _ in range(rng.choice([0, 1, 1, 2, 3]))]
         drop = rng.random() < 0.5
         written = [(b"'" if p.is_region else b"") + p.name + b" " + p.sign.encode()
                    + (b"?" if p.marked else b"") for p in parameters]
+        # The blank before `>` keeps it from being the end of an arrow.
         listed = b"<" + b", ".join(written) + b" >" if written else b""
         inside = b", ".join([types.spelled(self.structs, field) for field in fields])
         self.lines.append(b"struct " + name + listed + (b" drop" if drop else b" ")
@@ -291,8 +301,9 @@ def is_word(byte):
     return byte.isalnum() or byte == b"_"
 
 
-def small(rng):
-    return Small(rng).text()
+def small(rng, version=None):
+    """A small body of this version, or of one taken at random."""
+    return Small(rng, version or rng.choice(VERSIONS)).text()
 
 
 # Changed texts
@@ -302,7 +313,8 @@ PIECES = [b"const", b"copy", b"move", b"mut", b"make", b"call", b"where", b"unwi
           b"live", b"dead", b"let", b"struct", b"region", b"universal", b"outlives", b"int",
           b"_0", b"_1", b"_9", b"_01", b"_", b"bb0", b"bb1", b"bb9", b"bb", b"bb00", b"0", b"1",
           b"9", b"01", b"1_0", b"999999999", b"1000000000", b"W", b"T", b"Z", b"w", b"'static",
-          b"'z", b"->", b"()", b"(int)", b"<", b">", b"= ?", b""]
+          b"'z", b"->", b"()", b"(int)", b"<", b">", b"= ?", b"fn", b"fn() -> int", b"fn(int) ->",
+          b"- ?", b""]
 PIECES += [bytes([sign]) for sign in b"=&()<>,:.*+?-"]
 
 WRONG = [b"_9 = copy _8.*", b"read _0.7", b"drop _9 -> bb99", b"goto bb999999999", b"end",
@@ -314,7 +326,9 @@ WRONG = [b"_9 = copy _8.*", b"read _0.7", b"drop _9 -> bb99", b"goto bb999999999
          b"_0 = make () ()", b"_0 = make int ()", b"_0 = & 'static _0", b"= & ( ) < > , : . * + ?",
          b"_0 = call f(const: int): int -> bb0 unwind bb0", b"- >", b"''", b"'", b"return \xff",
          b"_0 = call f(): int where 'z: 'static -> bb9", b"next 0 1", b"points 1", b"(((((",
-         b"let _1: ("]
+         b"let _1: (", b"let _1: fn(", b"let _1: fn() ->", b"let _0: fn('z) -> int", b"let _0: fn(int)",
+         b"let _9: fn(Z<'z>) -> &'z int", b"_0 = make fn(int) -> int (const)", b"read _0.0",
+         b"struct Z<T -, 'x -?> (fn(T) -> fn(&'x int) -> T)", b"struct Z<T -> (fn(T) -> T)"]
 
 
 # Struct lines with a fault, or beside one.
@@ -322,7 +336,9 @@ WRONG_STRUCTS = [b"struct Q<W +> (W)", b"struct Q<Q => (Q)", b"struct Q<'static 
                  b"struct Q<'b +, 'b =?> (&'b int)", b"struct Q<T +, T +> (T)", b"struct W ()",
                  b"struct Q<T +, W +> drop (T)", b"struct Q<'T =, T =?> (&'T T)", b"struct Q (Q)",
                  b"struct Q<T +> (T<>)", b"struct Q<T +> (T<int>)", b"struct Q (&'static W<int>)",
-                 b"struct Q (W)", b"struct Q ((), &'b int)", b"struct Q<T +> (W<T>, W<'static>)"]
+                 b"struct Q (W)", b"struct Q ((), &'b int)", b"struct Q<T +> (W<T>, W<'static>)",
+                 b"struct Q<T - > (fn(T) -> int)", b"struct Q<T -> (fn(T) -> int)", b"struct Q<'b -?> ()",
+                 b"struct Q (fn(W) -> T)", b"struct Q (fn() -> ())"]
 
 
 def change_struct(rng, text):
@@ -344,13 +360,16 @@ def mutations(text):
 
 
 # Tokens that may stand for one another: what they look like, and some more of them.
-ALIKE = [(rb"_\d+", [b"_0", b"_1", b"_2", b"_9", b"_01"]),
+ALIKE = [(rb"\Anll-mir \w", [b"nll-mir 1", b"nll-mir 2", b"nll-mir 2", b"nll-mir 3", b"nll-mir 02"]),
+         (rb"\bfn\b", [b"fn", b"", b"Fn", b"fn()", b"fn ->", b"fn (int)"]),
+         (rb"_\d+", [b"_0", b"_1", b"_2", b"_9", b"_01"]),
          (rb"bb\d+", [b"bb0", b"bb1", b"bb9", b"bb01"]),
-         (rb"\b(int|[A-Z]\w*)", [b"int", b"(int)", b"()", b"T", b"Z", b"W", b"&'static int"]),
+         (rb"\b(int|[A-Z]\w*)", [b"int", b"(int)", b"()", b"T", b"Z", b"W", b"&'static int",
+                                    b"fn() -> int", b"fn(int) -> int"]),
          (rb"(?<=\. )\d+|(?<=\.)[\d*]+", [b"0", b"1", b"2", b"*"]),
          (rb"'\w+", [b"'static", b"'z", b"'01", b"int"]),
          (rb"(copy|move) _\d+", [b"const", b"copy _0", b"move _0.*", b"copy _1.0"]),
-         (rb"\bmut\b|[+=?]", [b"mut", b"+", b"=", b"?", b""]),
+         (rb"\bmut\b|[+=?-]", [b"mut", b"+", b"=", b"-", b"?", b""]),
          (rb"\bblocks \d+", [b"blocks 0", b"blocks 1", b"blocks 2", b"blocks 1048577"])]
 
 

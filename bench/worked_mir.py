@@ -96,6 +96,31 @@ return
 end
 """
 
+# Of version 2: a function is copied, then one that takes functions.
+FUNCTION = b"""nll-mir 2
+region '1
+region '2
+region '3
+region '4
+let _0: int
+let _1: fn(&'1 int) -> &'2 int
+let _2: fn(&'3 int) -> &'4 int
+blocks 1
+block bb0
+_2 = copy _1
+read _2
+return
+end
+"""
+
+TAKER = FUNCTION.replace(b"fn(&'1 int)", b"fn(fn(&'1 int) -> int)").replace(
+    b"fn(&'3 int)", b"fn(fn(&'3 int) -> int)")
+
+# The same with a struct whose parameter is contravariant.
+SINK = FUNCTION.replace(b"let _0", b"struct F<'x -, T + > (fn(&'x int) -> T)\nlet _0").replace(
+    b"fn(&'1 int) -> &'2 int", b"F<'1, &'2 int>").replace(
+    b"fn(&'3 int) -> &'4 int", b"F<'3, &'4 int>")
+
 # A text in which each form of line and each rule of the grammar stands.
 EVERY_FORM = b"""nll-mir 1
 # every form \xc3\xa9
@@ -143,6 +168,10 @@ WORKED = {
     "two_universals": TWO_UNIVERSALS,
     "call": CALL,
     "every_form": EVERY_FORM,
+    "every_form_of_version_2": EVERY_FORM.replace(b"mir 1", b"mir 2"),
+    "function": FUNCTION,
+    "taker": TAKER,
+    "sink": SINK,
 }
 
 
@@ -191,6 +220,9 @@ ANSWERED = [
     ("no_blanks", "check", b"nll-mir 1\nregion'a\nlet _0:&'a mut&'static int\nblocks 1\nblock bb0\n"
      b"_0.*=&'a _0.*.*\nreturn\nend", ["ok"], 0),
     ("every_form", "check", EVERY_FORM, ["ok"], 0),
+    ("every_form_of_version_2", "check", WORKED["every_form_of_version_2"], ["ok"], 0),
+    ("function", "values", FUNCTION,
+     [static(*THREE), "'1: bb0/0", "'2: bb0/0 bb0/1", "'3: bb0/1", "'4: bb0/1"], 0),
 ]
 
 # A name, the text, the refusal.
@@ -252,5 +284,15 @@ REFUSED = [
      "line 10: shape"),
     ("arrow_cut_in_two", with_line(DROP, 9, b"drop _1 - > bb1"), "line 9: syntax"),
     ("facts_header", b"nll-facts 1\nlet _0: int\n", "line 2: syntax"),
-    ("header_of_another_version", b"nll-mir 2\n", "line 1: header"),
+    ("header_of_another_version", b"nll-mir 3\n", "line 1: header"),
+    ("function_in_version_1", FUNCTION.replace(b"mir 2", b"mir 1"), "line 7: syntax"),
+    ("dash_in_version_1", SINK.replace(b"mir 2", b"mir 1"), "line 6: syntax"),
+    ("dash_that_is_an_arrow", SINK.replace(b"'x -, T + >", b"T +, 'x ->"), "line 6: syntax"),
+    ("function_without_a_result", with_line(FUNCTION, 7, b"let _1: fn(int)"), "line 7: syntax"),
+    ("function_without_an_arrow", with_line(FUNCTION, 7, b"let _1: fn(int) int"), "line 7: syntax"),
+    ("function_of_another_count", with_line(FUNCTION, 8, b"let _2: fn() -> &'4 int"),
+     "line 11: shape"),
+    ("make_of_a_function", with_line(FUNCTION, 11, b"_2 = make fn() -> int ()"), "line 11: shape"),
+    ("part_of_a_function", with_line(FUNCTION, 12, b"read _2.0"), "line 12: shape"),
+    ("star_of_a_function", with_line(FUNCTION, 12, b"read _2.*"), "line 12: shape"),
 ]

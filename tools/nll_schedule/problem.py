@@ -5,7 +5,7 @@ from nll_page.refusal import Refusal
 
 
 def is_mir_text(text):
-    return text.split(b"\n", 1)[0].split() == [b"nll-mir", b"1"]
+    return text.split(b"\n", 1)[0].split() in ([b"nll-mir", b"1"], [b"nll-mir", b"2"])
 
 
 def problem_in(printed, path):

@@ -65,6 +65,7 @@ class Pages(Command):
     def test_refusals(self):
         for name, data, said in (
                 ("wrong.mir", b"nll-mir 1\nend\n", "nllc refuses the text: nllc: line 2: syntax"),
+                ("second.mir", b"nll-mir 2\nend\n", "nllc refuses the text: nllc: line 2: syntax"),
                 ("wrong.rs", b"fn f() {}\n", r"is a Rust file: ./nllc.sh rust \S*wrong.rs makes its texts"),
                 ("other", b"hello\n", "isn't a facts text")):
             with self.subTest(name=name):

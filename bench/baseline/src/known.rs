@@ -1,7 +1,7 @@
 //! Types with their regions, each kept once, and what the subtyping of two of them asks, worked out once.
 
 use crate::body::Body;
-use crate::shapes::{Form, Shape, Typed, DEREFERENCE};
+use crate::shapes::{Form, Shape, Sign, Typed, DEREFERENCE};
 use crate::tables::{hash_of, NumberMap};
 use std::collections::hash_map::{Entry, HashMap};
 
@@ -29,8 +29,8 @@ pub struct Known<'b, 't> {
     of_variables: Vec<Number>,
     behind: NumberMap,
     references: NumberMap,
-    /// For each shape that was compared whether its items stand at invariant positions.
-    signs: HashMap<Shape, Box<[bool]>>,
+    /// For each shape that was compared the signs of its items' positions.
+    signs: HashMap<Shape, Box<[Sign]>>,
     /// Where the pairs of two types begin and end in the list.
     asked: HashMap<(Number, Number), (u32, u32)>,
     pairs: Vec<(u32, u32)>,
@@ -146,15 +146,17 @@ impl<'b, 't> Known<'b, 't> {
                 let (one, other) = (self.types[one as usize], self.types[other as usize]);
                 let signs = self.signs.entry(one.shape).or_insert_with(|| {
                     let mut signs = Vec::new();
-                    self.body.shapes.push_signs(one.shape, false, &mut signs);
+                    self.body.shapes.push_signs(one.shape, Sign::Covariant, &mut signs);
                     signs.into_boxed_slice()
                 });
                 let mut pairs = Vec::with_capacity(signs.len());
                 let one = &self.items[one.first as usize..one.end as usize];
                 let other = &self.items[other.first as usize..other.end as usize];
-                for ((&a, &b), &invariant) in one.iter().zip(other).zip(signs.iter()) {
-                    pairs.push((a, b));
-                    if invariant {
+                for ((&a, &b), &sign) in one.iter().zip(other).zip(signs.iter()) {
+                    if !matches!(sign, Sign::Contravariant) {
+                        pairs.push((a, b));
+                    }
+                    if !matches!(sign, Sign::Covariant) {
                         pairs.push((b, a));
                     }
                 }

@@ -1,4 +1,4 @@
-//! The reader of MIR texts, version 1: one pass over the bytes.
+//! The reader of MIR texts, versions 1 and 2: one pass over the bytes.
 //!
 //! A line is judged while it is read: `note` keeps the first kind of fault in the order of `Kind`,
 //! and a line that turns out to have no form is `Syntax` whatever was noted.
@@ -7,7 +7,7 @@ mod lines;
 mod types;
 
 use crate::body::{Body, Line};
-use crate::shapes::{Parameter, Shape, Shapes, Struct};
+use crate::shapes::{Parameter, Shape, Shapes, Sign, Struct};
 use crate::tables::{NameMap, Names};
 use crate::text::{Cursor, Format, Kind, What, REGIONS, UNIVERSALS};
 use types::Begun;
@@ -37,6 +37,8 @@ struct Parameters<'t> {
 pub struct Reader<'t> {
     body: Body<'t>,
     struct_names: NameMap<'t>,
+    /// Whether the text is of version 2, which has types of functions and the sign `-`.
+    is_second: bool,
     reached: u8,
     /// The number of the `blocks` line, and whether a terminator is owed.
     wanted: u32,
@@ -76,6 +78,7 @@ impl<'t> Reader<'t> {
         Reader {
             body,
             struct_names: NameMap::default(),
+            is_second: false,
             reached: 0,
             wanted: 0,
             is_open: false,
@@ -232,13 +235,21 @@ impl<'t> Reader<'t> {
             is_new && self.struct_names.get(name).is_none()
         };
         self.note_if(!is_new, Kind::Duplicate);
-        let invariant = !cursor.has_sign(b'+');
-        if invariant {
-            cursor.sign(b'=')?;
-        }
+        let sign = self.parameter_sign(cursor)?;
         let marked = cursor.has_sign(b'?');
-        own.list.push(Parameter { is_region, invariant, marked });
+        own.list.push(Parameter { is_region, sign, marked });
         Ok(())
+    }
+
+    fn parameter_sign(&self, cursor: &mut Cursor<'t>) -> Result<Sign, Kind> {
+        if cursor.has_sign(b'+') {
+            return Ok(Sign::Covariant);
+        }
+        if self.is_second && cursor.has_dash() {
+            return Ok(Sign::Contravariant);
+        }
+        cursor.sign(b'=')?;
+        Ok(Sign::Invariant)
     }
 
     fn let_line(&mut self, cursor: &mut Cursor<'t>) -> Result<(), Kind> {
@@ -288,6 +299,11 @@ impl<'t> Reader<'t> {
 
 impl<'t> Format<'t> for Reader<'t> {
     const NAME: &'static [u8] = b"nll-mir";
+    const VERSIONS: &'static [&'static [u8]] = &[b"1", b"2"];
+
+    fn begin(&mut self, version: usize) {
+        self.is_second = version == 1;
+    }
 
     fn line(&mut self, cursor: &mut Cursor<'t>) -> Result<(), Kind> {
         self.form(cursor)?;

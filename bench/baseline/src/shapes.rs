@@ -34,6 +34,8 @@ pub enum Form {
     Tuple,
     /// A use of a struct, by its number; the parts are its type arguments.
     Struct(u32),
+    /// A function; the parts are its arguments and then its result.
+    Function,
 }
 
 impl Form {
@@ -44,6 +46,7 @@ impl Form {
             Form::Reference { mutable } => 2 | u64::from(mutable) << 3,
             Form::Tuple => 3,
             Form::Struct(s) => 4 | u64::from(s) << 3,
+            Form::Function => 5,
         }
     }
 }
@@ -61,11 +64,30 @@ struct Node {
     is_open: bool,
 }
 
+/// How a position stands in a type: which way subtyping is asked there.
+#[derive(Clone, Copy)]
+pub enum Sign {
+    Covariant,
+    Contravariant,
+    Invariant,
+}
+
+impl Sign {
+    /// The sign of a position of sign `inner` in what stands at a position of this sign.
+    fn times(self, inner: Sign) -> Sign {
+        match (self, inner) {
+            (Sign::Covariant, sign) | (sign, Sign::Covariant) => sign,
+            (Sign::Contravariant, Sign::Contravariant) => Sign::Covariant,
+            (Sign::Invariant, _) | (_, Sign::Invariant) => Sign::Invariant,
+        }
+    }
+}
+
 /// What a struct's parameter is.
 #[derive(Clone, Copy)]
 pub struct Parameter {
     pub is_region: bool,
-    pub invariant: bool,
+    pub sign: Sign,
     pub marked: bool,
 }
 
@@ -210,7 +232,7 @@ impl Shapes {
             return self.slots[slot] as Shape;
         }
         let own = match form {
-            Form::Int | Form::Tuple => 0,
+            Form::Int | Form::Tuple | Form::Function => 0,
             Form::Parameter(_) | Form::Reference { .. } => 1,
             Form::Struct(s) => self.structs[s as usize].types_before.len() as u32,
         };
@@ -308,23 +330,32 @@ impl Shapes {
         }
     }
 
-    /// Appends for each item of a shape whether it stands at an invariant position.
-    pub fn push_signs(&self, shape: Shape, outer: bool, out: &mut Vec<bool>) {
+    /// Appends for each item of a shape the sign of its position.
+    pub fn push_signs(&self, shape: Shape, outer: Sign, out: &mut Vec<Sign>) {
         match self.form(shape) {
             Form::Int | Form::Parameter(_) => {}
             Form::Reference { mutable } => {
                 out.push(outer);
-                self.push_signs(self.parts(shape)[0], outer || mutable, out);
+                let behind = if mutable { Sign::Invariant } else { outer };
+                self.push_signs(self.parts(shape)[0], behind, out);
             }
             Form::Tuple => {
                 for &part in self.parts(shape) {
                     self.push_signs(part, outer, out);
                 }
             }
+            Form::Function => {
+                let parts = self.parts(shape);
+                let result = parts.len() - 1;
+                for &part in &parts[..result] {
+                    self.push_signs(part, outer.times(Sign::Contravariant), out);
+                }
+                self.push_signs(parts[result], outer, out);
+            }
             Form::Struct(s) => {
                 let mut parts = self.parts(shape).iter();
                 for parameter in &self.structs[s as usize].parameters {
-                    let sign = outer || parameter.invariant;
+                    let sign = outer.times(parameter.sign);
                     if parameter.is_region {
                         out.push(sign);
                     } else if let Some(&part) = parts.next() {
@@ -416,6 +447,13 @@ impl Shapes {
                 let mut first = 0;
                 for &part in self.parts(shape) {
                     self.drop_sources(part, &items[first..], any, drop, out);
+                    first += self.items(part) as usize;
+                }
+            }
+            Form::Function => {
+                let mut first = 0;
+                for &part in self.parts(shape).iter().filter(|_| any) {
+                    self.drop_sources(part, &items[first..], true, false, out);
                     first += self.items(part) as usize;
                 }
             }

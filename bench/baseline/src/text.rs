@@ -175,6 +175,13 @@ impl<'t> Cursor<'t> {
         if self.has_sign(sign) { Ok(()) } else { Err(Kind::Syntax) }
     }
 
+    /// Whether the next token is the sign `-`, which isn't the first byte of an arrow; then it is
+    /// taken.
+    pub fn has_dash(&mut self) -> bool {
+        self.skip_blanks();
+        !self.text[self.at..].starts_with(b"->") && self.has_sign(b'-')
+    }
+
     pub fn arrow(&mut self) -> Result<(), Kind> {
         self.skip_blanks();
         if !self.text[self.at..].starts_with(b"->") {
@@ -217,6 +224,12 @@ pub trait Format<'t> {
     /// The name in the header.
     const NAME: &'static [u8];
 
+    /// The versions that are read.
+    const VERSIONS: &'static [&'static [u8]] = &[b"1"];
+
+    /// Begins a text of a version, by its number among these.
+    fn begin(&mut self, _version: usize) {}
+
     /// Reads a line that isn't skipped; on Ok the cursor stands at its line feed or before blanks.
     fn line(&mut self, cursor: &mut Cursor<'t>) -> Result<(), Kind>;
 
@@ -224,16 +237,17 @@ pub trait Format<'t> {
     fn is_ended(&self) -> bool;
 }
 
-/// Whether a first line is two runs of bytes that aren't blanks, this name and `1`.
-fn is_header(line: &[u8], name: &[u8]) -> bool {
-    let runs = line.split(|&byte| is_blank(byte)).filter(|run| !run.is_empty());
-    runs.eq([name, b"1"])
+/// Which version of a format a first line names: two runs of bytes that aren't blanks, its name and
+/// the version.
+fn version_of<'t, F: Format<'t>>(line: &[u8]) -> Option<usize> {
+    let runs = || line.split(|&byte| is_blank(byte)).filter(|run| !run.is_empty());
+    F::VERSIONS.iter().position(|&version| runs().eq([F::NAME, version]))
 }
 
 /// Whether the header of a text names this format.
 pub fn is_of<'t, F: Format<'t>>(text: &[u8]) -> bool {
     let end = text.iter().position(|&byte| byte == b'\n').unwrap_or(text.len());
-    is_header(&text[..end], F::NAME)
+    version_of::<F>(&text[..end]).is_some()
 }
 
 /// Reads a text of a format that ends with a line feed.
@@ -245,8 +259,9 @@ pub fn read<'t, F: Format<'t>>(text: &'t [u8], said: &mut F) -> Result<(), Fault
     if valid < cursor.at {
         return Err(Fault { line: 1, kind: Kind::NotUtf8 });
     }
-    if !is_header(&text[..cursor.at], F::NAME) {
-        return Err(Fault { line: 1, kind: Kind::Header });
+    match version_of::<F>(&text[..cursor.at]) {
+        None => return Err(Fault { line: 1, kind: Kind::Header }),
+        Some(version) => said.begin(version),
     }
     let mut line = 1;
     while cursor.at + 1 < text.len() {

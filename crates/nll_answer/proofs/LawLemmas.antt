@@ -4,41 +4,37 @@ use Rattle.std.specs.Prelude.{codes}
 use Rattle.nll_problem.specs.Problem.{Problem, SameProblem}
 use Rattle.nll_problem.proofs.SameLemmas.{same_set_back, same_set_chain}
 use Rattle.nll_reading.specs.Labels.{Labels}
-use Rattle.nll_reading.specs.Text.{Format, IsHeaded, IsHeader}
+use Rattle.nll_reading.specs.Text.{IsHeader}
 use Rattle.nll_reading.specs.declared.error.TextKind.{TextKind}
 use Rattle.nll_facts.specs.FactsText.{facts, Means as IsFactsOf}
 use Rattle.nll_facts.proofs.LawLemmas as facts_laws
 use Rattle.nll_body.specs.Bodies.{BodyText}
-use Rattle.nll_mir_text.specs.MirText.{mir, Means as IsBodyOf}
+use Rattle.nll_mir_text.specs.MirText.{IsMirHeader, Means as IsBodyOf}
 use Rattle.nll_mir_text.proofs.LawLemmas as mir_laws
 use Rattle.nll_body_problem.specs.BodyProblem.{IsProblemOf, HasTooMany}
 use Rattle.nll_body_problem.specs.declared.error.RuleError.TheVariants as rule
 use Rattle.nll_answer.specs.declared.error.AnswerError.{AnswerError}
 use Rattle.nll_answer.specs.declared.error.AnswerError.TheVariants.{Text, Rule, Run, Memory}
-use Rattle.nll_answer.specs.Texts.{IsOf, IsTextFault, HasProblem, IsMeaning, IsAnswerError}
+use Rattle.nll_answer.specs.Texts.{IsMir, IsTextFault, HasProblem, IsMeaning, IsAnswerError}
 use Rattle.nll_answer.proofs.MeaningLemmas.{same_head, header_of}
 
 -- ---- a text is of one format
 
--- a text that fits has its format's header
-of_format : (format : Format) (text : List ℕ) (body : List (List ℕ)) → IsHeaded format text body → IsOf format text
-of_format format text body h = (h.header, body, h.cut.cut, h.is_header)
-
 -- no line is the header of both formats
-two_headers : (line : List ℕ) → IsHeader facts line → IsHeader mir line → ⊥
+two_headers : (line : List ℕ) → IsHeader facts line → IsMirHeader line → ⊥
 two_headers line f m =
-    let kinds : codes "nll-facts" ≡ codes "nll-mir" = same_head (codes "nll-facts") (codes "nll-mir") (codes "1" ∷ []) (codes "1" ∷ []) (sym f ∙ m) in
+    let kinds : codes "nll-facts" ≡ codes "nll-mir" = same_head (codes "nll-facts") (codes "nll-mir") _ _ (sym f ∙ m.1) in
     let lengths : 9 ≡ 7 = ap length kinds in
     absurd (omega (arith, lengths))
 
-two_formats : (text : List ℕ) → IsOf facts text → IsOf mir text → ⊥
-two_formats text f m = two_headers f.0 f.3 (header_of mir text f.0 f.1 f.2 m)
+-- a text that means a problem as a facts text is no MIR text
+two_formats : (text : List ℕ) (q : Problem) (labels : Labels) → IsFactsOf text q labels → IsMir text → ⊥
+two_formats text q labels h m =
+    let headed = h.fits.headed in
+    two_headers headed.header headed.is_header (header_of text headed.header h.fits.body headed.cut.cut m)
 
-of_facts : (text : List ℕ) (q : Problem) (labels : Labels) → IsFactsOf text q labels → IsOf facts text
-of_facts text q labels h = of_format facts text h.fits.body h.fits.headed
-
-of_body : (text : List ℕ) (body : BodyText) → IsBodyOf text body → IsOf mir text
-of_body text body h = of_format mir text h.fits.body h.fits.headed
+of_body : (text : List ℕ) (body : BodyText) → IsBodyOf text body → IsMir text
+of_body text body h = (let headed = h.fits.headed in (headed.header, h.fits.body, headed.cut.cut, (h.version, headed.is_header)))
 
 -- ---- one fault
 
@@ -73,21 +69,21 @@ one_meaning_of_body body other p q ls ms same g h =
 
 pub one_meaning_lem : (text : List ℕ) (p q : Problem) (ls ms : Labels) → IsMeaning text p ls → IsMeaning text q ms → SameProblem p q × (ls ≡ ms)
 one_meaning_lem text p q ls ms (inl g) (inl h) = facts_laws.one_meaning_lem text p q ls ms g h
-one_meaning_lem text p q ls ms (inl g) (inr h) = absurd (two_formats text (of_facts text p ls g) (of_body text h.0 h.1))
-one_meaning_lem text p q ls ms (inr g) (inl h) = absurd (two_formats text (of_facts text q ms h) (of_body text g.0 g.1))
+one_meaning_lem text p q ls ms (inl g) (inr h) = absurd (two_formats text p ls g (of_body text h.0 h.1))
+one_meaning_lem text p q ls ms (inr g) (inl h) = absurd (two_formats text q ms h (of_body text g.0 g.1))
 one_meaning_lem text p q ls ms (inr g) (inr h) = one_meaning_of_body g.0 h.0 p q ls ms (mir_laws.one_meaning_lem text g.0 h.0 g.1 h.1) g.2 h.2
 
 -- ---- never both
 
 no_fault : (text : List ℕ) (q : Problem) (labels : Labels) (l : ℕ) (k : TextKind) → IsMeaning text q labels → IsTextFault text l k → ⊥
-no_fault text q labels l k (inl g) (inl h) = two_formats text (of_facts text q labels g) h.0
+no_fault text q labels l k (inl g) (inl h) = two_formats text q labels g h.0
 no_fault text q labels l k (inl g) (inr h) = facts_laws.not_both_lem text q labels l k g h.1
 no_fault text q labels l k (inr g) (inl h) = mir_laws.not_both_lem text g.0 l k g.1 h.1
 no_fault text q labels l k (inr g) (inr h) = h.0 (of_body text g.0 g.1)
 
 -- a text that means a problem means no body with too many constraints
 not_over : (text : List ℕ) (q : Problem) (labels : Labels) (body : BodyText) → IsMeaning text q labels → IsBodyOf text body → HasTooMany body → ⊥
-not_over text q labels body (inl g) means over = two_formats text (of_facts text q labels g) (of_body text body means)
+not_over text q labels body (inl g) means over = two_formats text q labels g (of_body text body means)
 not_over text q labels body (inr g) means over = g.2.few (subst HasTooMany (mir_laws.one_meaning_lem text body g.0 means g.1) over)
 
 pub no_both_lem : (text : List ℕ) (q : Problem) (labels : Labels) (e : AnswerError) → IsMeaning text q labels → e ≢ Memory → IsAnswerError text e → ⊥

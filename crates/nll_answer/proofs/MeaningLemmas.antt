@@ -5,36 +5,36 @@ use Rattle.std.proofs.lemmas.Bool.{false≢true}
 use Rattle.nll_problem.specs.Problem.{Problem}
 use Rattle.nll_text.specs.Lines.{lines_of}
 use Rattle.nll_reading.specs.Labels.{Labels}
-use Rattle.nll_reading.specs.Text.{Format, IsHeader, IsFault, IsRefusal}
+use Rattle.nll_reading.specs.Text.{IsFault, IsRefusal}
 use Rattle.nll_reading.specs.declared.error.TextError.{TextError}
 use Rattle.nll_reading.specs.declared.error.TextKind.{TextKind}
 use Rattle.nll_reading.specs.declared.error.TextKind.TheVariants as kind
 use Rattle.nll_facts.specs.FactsText.{facts}
 use Rattle.nll_body.specs.Bodies.{BodyText, labels_of}
-use Rattle.nll_mir_text.specs.MirText.{mir, Means as IsBodyOf}
+use Rattle.nll_mir_text.specs.MirText.{IsMirHeader, IsMirFault, Means as IsBodyOf}
 use Rattle.nll_answer.specs.declared.error.AnswerError.{AnswerError}
 use Rattle.nll_answer.specs.declared.error.AnswerError.TheVariants.{Text, Rule, Run, Memory}
 use Rattle.nll_body_problem.specs.BodyProblem.{HasTooMany, IsProblemOf, IsRuleError}
 use Rattle.nll_body_problem.specs.declared.error.RuleError.{RuleError}
 use Rattle.nll_body_problem.specs.declared.error.RuleError.TheVariants as rule
-use Rattle.nll_answer.specs.Texts.{IsOf, HasProblem, told_as, error_of_text, error_of_body, IsErrorOf, IsBodyError, IsAnswerError}
+use Rattle.nll_answer.specs.Texts.{IsMir, HasProblem, told_as, error_of_text, error_of_body, IsErrorOf, IsBodyError, IsAnswerError}
 
 -- lists that are the same begin alike
 pub same_head : (x y : List ℕ) (xs ys : List (List ℕ)) → x ∷ xs ≡ y ∷ ys → x ≡ y
 same_head x y xs ys e = cc
 
 -- a text has one first line
-pub header_of : (format : Format) (text header : List ℕ) (body : List (List ℕ)) → lines_of text ≡ header ∷ body → IsOf format text → IsHeader format header
-header_of format text header body cut of = subst (IsHeader format) (same_head of.0 header of.1 body (sym of.2 ∙ cut)) of.3
+pub header_of : (text header : List ℕ) (body : List (List ℕ)) → lines_of text ≡ header ∷ body → IsMir text → IsMirHeader header
+header_of text header body cut of = subst IsMirHeader (same_head of.0 header of.1 body (sym of.2 ∙ cut)) of.3
 
 -- errors as those of a facts text, of a MIR text and of its body
-pub as_facts : (text : List ℕ) (e : AnswerError) → (IsOf mir text → ⊥) → IsErrorOf facts text e → IsAnswerError text e
+pub as_facts : (text : List ℕ) (e : AnswerError) → (IsMir text → ⊥) → IsErrorOf (IsFault facts text) e → IsAnswerError text e
 as_facts text (Text error) other h = inr (other, h)
 as_facts text (Rule error) other h = absurd h
 as_facts text (Run error) other h = absurd h
 as_facts text Memory other h = tt
 
-pub as_mir : (text : List ℕ) (e : AnswerError) → IsOf mir text → IsErrorOf mir text e → IsAnswerError text e
+pub as_mir : (text : List ℕ) (e : AnswerError) → IsMir text → IsErrorOf (IsMirFault text) e → IsAnswerError text e
 as_mir text (Text error) of h = inl (of, h)
 as_mir text (Rule error) of h = absurd h
 as_mir text (Run error) of h = absurd h
@@ -51,13 +51,13 @@ abbrev is_memory : TextKind → Bool
 is_memory kind.Memory = true
 is_memory other = false
 
--- the error of a text in a format, as an answer tells it
-module _ (format : Format) (text : List ℕ) (error : TextError) (refusal : IsRefusal (IsFault format text) error) where
+-- the error of a text with such faults, as an answer tells it
+module _ (IsFaultAt : ℕ → TextKind → Type 0) (error : TextError) (refusal : IsRefusal IsFaultAt error) where
   -- the fault, where memory wasn't wanted
-  fault : (error.kind ≡ kind.Memory → ⊥) → IsFault format text error.line error.kind
+  fault : (error.kind ≡ kind.Memory → ⊥) → IsFaultAt error.line error.kind
   fault other = ⊎_elim (λ wanting. absurd (other (ap (λ (e : TextError). e.kind) wanting))) (λ found. found) refusal
 
-  told_in : (k : TextKind) → error.kind ≡ k → IsErrorOf format text (told_as error k)
+  told_in : (k : TextKind) → error.kind ≡ k → IsErrorOf IsFaultAt (told_as error k)
   told_in kind.NotUtf8 is = fault (λ memory. false≢true (ap is_memory (sym is ∙ memory)))
   told_in kind.Header is = fault (λ memory. false≢true (ap is_memory (sym is ∙ memory)))
   told_in kind.Syntax is = fault (λ memory. false≢true (ap is_memory (sym is ∙ memory)))
@@ -70,8 +70,8 @@ module _ (format : Format) (text : List ℕ) (error : TextError) (refusal : IsRe
   told_in kind.End is = fault (λ memory. false≢true (ap is_memory (sym is ∙ memory)))
   told_in kind.Memory is = tt
 
-  pub text_error : (told : AnswerError) → told ≡ error_of_text error → IsErrorOf format text told
-  text_error told is = subst (IsErrorOf format text) (sym is) (told_in error.kind refl)
+  pub text_error : (told : AnswerError) → told ≡ error_of_text error → IsErrorOf IsFaultAt told
+  text_error told is = subst (IsErrorOf IsFaultAt) (sym is) (told_in error.kind refl)
 
 -- what was read and its error, as they are handed on
 pub told_ok : {T : Type 0} (P : T → Type 0) (read : Result T TextError) (r : Result T AnswerError)
@@ -79,12 +79,12 @@ pub told_ok : {T : Type 0} (P : T → Type 0) (read : Result T TextError) (r : R
 told_ok P (Ok value) r ok err h = subst (λ x. IfOk x P) (sym ok) h
 told_ok P (Err error) r ok err h = subst (λ x. IfOk x P) (sym err) tt
 
-pub told_err : {T : Type 0} (format : Format) (text : List ℕ) (read : Result T TextError) (r : Result T AnswerError)
+pub told_err : {T : Type 0} (IsFaultAt : ℕ → TextKind → Type 0) (read : Result T TextError) (r : Result T AnswerError)
     → IfOk read (λ value. r ≡ Ok value) → IfErr read (λ error. r ≡ Err (error_of_text error))
-    → IfErr read (IsRefusal (IsFault format text)) → IfErr r (IsErrorOf format text)
-told_err format text (Ok value) r ok err h = subst (λ x. IfErr x (IsErrorOf format text)) (sym ok) tt
-told_err format text (Err error) r ok err h =
-    subst (λ x. IfErr x (IsErrorOf format text)) (sym err) (text_error format text error h (error_of_text error) refl)
+    → IfErr read (IsRefusal IsFaultAt) → IfErr r (IsErrorOf IsFaultAt)
+told_err IsFaultAt (Ok value) r ok err h = subst (λ x. IfErr x (IsErrorOf IsFaultAt)) (sym ok) tt
+told_err IsFaultAt (Err error) r ok err h =
+    subst (λ x. IfErr x (IsErrorOf IsFaultAt)) (sym err) (text_error IsFaultAt error h (error_of_text error) refl)
 
 -- the error of a body, as an answer tells it
 pub body_error : (body : BodyText) (error : RuleError) (told : AnswerError) → told ≡ error_of_body error → IsRuleError body error → IsBodyError body told

@@ -1,35 +1,35 @@
 -- Texts of either format: facts texts and MIR texts.
 -- Source: project's choice; docs/FORMATS.md says the same in words. A text is a MIR text where its
--- first line is the header of MIR texts, and is judged as a facts text where it isn't. A text whose
--- first line is no header has the same fault in each format.
+-- first line is the header of a version of MIR texts, and is judged as a facts text where it isn't.
+-- A text whose first line is no header has the same fault in each format.
 use Rattle.std.specs.Prelude.{◌≡◌, ◌⊎◌, ℕ, List, ◌∷◌}
 use Rattle.nll_problem.specs.Problem.{Problem}
 use Rattle.nll_problem.specs.declared.error.Kind.TheVariants.{Constraints}
 use Rattle.nll_text.specs.Lines.{lines_of}
 use Rattle.nll_reading.specs.Labels.{Labels}
-use Rattle.nll_reading.specs.Text.{Format, IsHeader, IsFault}
+use Rattle.nll_reading.specs.Text.{IsFault}
 use Rattle.nll_reading.specs.declared.error.TextError.{TextError}
 use Rattle.nll_reading.specs.declared.error.TextKind.{TextKind}
 use Rattle.nll_reading.specs.declared.error.TextKind.TheVariants as kind
 use Rattle.nll_facts.specs.FactsText.{facts, Means as IsFactsOf}
 use Rattle.nll_body.specs.Bodies.{BodyText, labels_of}
-use Rattle.nll_mir_text.specs.MirText.{mir, Means as IsBodyOf}
+use Rattle.nll_mir_text.specs.MirText.{IsMirHeader, IsMirFault, Means as IsBodyOf}
 use Rattle.nll_body_problem.specs.BodyProblem.{IsProblemOf, HasTooMany}
 use Rattle.nll_body_problem.specs.declared.error.RuleError.{RuleError}
 use Rattle.nll_body_problem.specs.declared.error.RuleError.TheVariants as rule
 use Rattle.nll_answer.specs.declared.error.AnswerError.{AnswerError}
 use Rattle.nll_answer.specs.declared.error.AnswerError.TheVariants.{Text, Rule, Run, Memory}
 
--- the text's first line is the header of the format
-abbrev pub IsOf : Format → List ℕ → Type 0
-IsOf format text = (header : List ℕ) × (body : List (List ℕ)) × (lines_of text ≡ header ∷ body)
-    × IsHeader format header
+-- the text's first line is the header of a version of MIR texts
+abbrev pub IsMir : List ℕ → Type 0
+IsMir text = (header : List ℕ) × (body : List (List ℕ)) × (lines_of text ≡ header ∷ body)
+    × IsMirHeader header
 
 -- the text's fault: as a MIR text where it is one, and else as a facts text
 abbrev pub IsTextFault : List ℕ → ℕ → TextKind → Type 0
 IsTextFault text line kind =
-    (IsOf mir text × IsFault mir text line kind)
-    ⊎ ((IsOf mir text → ⊥) × IsFault facts text line kind)
+    (IsMir text × IsMirFault text line kind)
+    ⊎ ((IsMir text → ⊥) × IsFault facts text line kind)
 
 -- The body has this problem, within the limit of constraints, and these are its labels.
 pub record HasProblem (body : BodyText) (q : Problem) (names : Labels) : Type 0 where
@@ -66,12 +66,12 @@ IsBodyError body (Rule (rule.Limit kind)) = (kind ≡ Constraints) × HasTooMany
 IsBodyError body Memory = Unit {0}
 IsBodyError body _ = ⊥
 
--- the error tells the text's fault in the format, or that a growth of memory was refused
-abbrev pub IsErrorOf : Format → List ℕ → AnswerError → Type 0
-IsErrorOf format text (Text error) = IsFault format text error.line error.kind
-IsErrorOf format text Memory = Unit {0}
-IsErrorOf format text (Rule error) = ⊥
-IsErrorOf format text (Run error) = ⊥
+-- the error tells such a fault, or that a growth of memory was refused
+abbrev pub IsErrorOf : (ℕ → TextKind → Type 0) → AnswerError → Type 0
+IsErrorOf fault (Text error) = fault error.line error.kind
+IsErrorOf fault Memory = Unit {0}
+IsErrorOf fault (Rule error) = ⊥
+IsErrorOf fault (Run error) = ⊥
 
 -- the error tells the text's fault, that it means a body with too many constraints, or that a
 -- growth of memory was refused

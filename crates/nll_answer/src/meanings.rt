@@ -3,18 +3,19 @@
 ghost use Rattle.std.specs.Prelude.{◌≡◌, ◌↔◌, length, Err, IfErr, IfOk, IsOkAnd, IsTrue, Ok};
 ghost use Rattle.nll_facts.specs.FactsText.{facts, Means as IsFactsOf};
 ghost use Rattle.nll_body.specs.Bodies.{labels_of};
-ghost use Rattle.nll_mir_text.specs.MirText.{mir, Means as IsBodyOf};
+ghost use Rattle.nll_mir_text.specs.MirText.{IsMirFault, Means as IsBodyOf};
+ghost use Rattle.nll_reading.specs.Text.{IsFault};
 ghost use Rattle.nll_answer.specs.Texts.{HasProblem, IsAnswerError, IsBodyError, IsErrorOf};
-ghost use Rattle.nll_answer.specs.Texts.{IsMeaning, IsOf, error_of_body, error_of_text};
+ghost use Rattle.nll_answer.specs.Texts.{IsMeaning, IsMir, error_of_body, error_of_text};
 
 use crate::error::AnswerError;
 use nll_body::Body;
 use nll_body_problem::{RuleError, problem_of};
 use nll_core::Problem;
 use nll_facts::{Facts, read_facts};
-use nll_mir_text::{read_mir, read_mir_parts};
+use nll_mir_text::{is_mir_header, read_mir, read_mir_parts};
 use nll_reading::TextError;
-use nll_text::{is_header, next_line};
+use nll_text::next_line;
 use std::alloc::Global;
 
 /// The problem that a facts text or a MIR text means, with the names of its regions and points.
@@ -54,17 +55,17 @@ pub fn read_meaning(alloc: Global, text: Vec<u8>) -> Result<Facts, AnswerError>
     }
 }
 
-// Whether the first line is the header of MIR texts.
+// Whether the first line is the header of a version of MIR texts.
 fn is_mir(text: &[u8]) -> bool
-    ensures { IsTrue result ↔ IsOf mir text.now }
+    ensures { IsTrue result ↔ IsMir text.now }
 {
     let (header, _) = next_line(text);
-    is_header(header, b"nll-mir", b"1")
+    is_mir_header(header)
 }
 
 // The problem that a MIR text means.
 fn mir_meaning(alloc: Global, text: &[u8]) -> Result<Facts, AnswerError>
-    requires { IsOf mir text.now }
+    requires { IsMir text.now }
     ensures ok { IfOk result (λ facts. IsMeaning text.now facts.problem facts.labels) }
     ensures named { IfOk result (λ facts. length facts.labels.names ≡ facts.problem.regions) }
     ensures err { IfErr result (IsAnswerError text.now) }
@@ -75,7 +76,7 @@ fn mir_meaning(alloc: Global, text: &[u8]) -> Result<Facts, AnswerError>
 
 // The same of a text that is let go before the problem of its body is made.
 fn read_mir_meaning(alloc: Global, text: Vec<u8>) -> Result<Facts, AnswerError>
-    requires { IsOf mir text.items }
+    requires { IsMir text.items }
     ensures ok { IfOk result (λ facts. IsMeaning text.items facts.problem facts.labels) }
     ensures named { IfOk result (λ facts. length facts.labels.names ≡ facts.problem.regions) }
     ensures err { IfErr result (IsAnswerError text.items) }
@@ -87,14 +88,14 @@ fn read_mir_meaning(alloc: Global, text: Vec<u8>) -> Result<Facts, AnswerError>
 // The body of a MIR text that is let go while it is read.
 fn read_body(alloc: Global, text: Vec<u8>) -> Result<Body, AnswerError>
     ensures ok { IfOk result (IsBodyOf text.items) }
-    ensures err { IfErr result (IsErrorOf mir text.items) }
+    ensures err { IfErr result (IsErrorOf (IsMirFault text.items)) }
 {
     told(read_mir_parts(alloc, text))
 }
 
 // The problem that a facts text means.
 fn facts_meaning(alloc: Global, text: &[u8]) -> Result<Facts, AnswerError>
-    requires { IsOf mir text.now → ⊥ }
+    requires { IsMir text.now → ⊥ }
     ensures ok { IfOk result (λ facts. IsMeaning text.now facts.problem facts.labels) }
     ensures named { IfOk result (λ facts. length facts.labels.names ≡ facts.problem.regions) }
     ensures err { IfErr result (IsAnswerError text.now) }
@@ -106,7 +107,7 @@ fn facts_meaning(alloc: Global, text: &[u8]) -> Result<Facts, AnswerError>
 fn facts_of(alloc: Global, text: &[u8]) -> Result<Facts, AnswerError>
     ensures ok { IfOk result (λ facts. IsFactsOf text.now facts.problem facts.labels) }
     ensures named { IfOk result (λ facts. length facts.labels.names ≡ facts.problem.regions) }
-    ensures err { IfErr result (IsErrorOf facts text.now) }
+    ensures err { IfErr result (IsErrorOf (IsFault facts text.now)) }
 {
     told(read_facts(alloc, text))
 }
@@ -114,7 +115,7 @@ fn facts_of(alloc: Global, text: &[u8]) -> Result<Facts, AnswerError>
 // The body of a MIR text.
 fn body_of(alloc: Global, text: &[u8]) -> Result<Body, AnswerError>
     ensures ok { IfOk result (IsBodyOf text.now) }
-    ensures err { IfErr result (IsErrorOf mir text.now) }
+    ensures err { IfErr result (IsErrorOf (IsMirFault text.now)) }
 {
     told(read_mir(alloc, text))
 }

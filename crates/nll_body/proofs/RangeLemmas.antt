@@ -3,7 +3,7 @@ use Rattle.std.proofs.Common.{◌≡◌, ℕ, ◌<◌, List, [], ◌∷◌, Some
 use Rattle.std.specs.Prelude.{option_and_then}
 use Rattle.std.proofs.lemmas.Option.{slice_get_within, get_or_from_slice_get}
 use Rattle.std.proofs.lemmas.List.Elements.{All-contains, All-nil, All-cons}
-use Rattle.nll_types.specs.Types.{TypeTree, TypeTrees, int, parameter, reference, tuple, named, none, more, HasRegion, AnyHasRegion}
+use Rattle.nll_types.specs.Types.{TypeTree, TypeTrees, int, parameter, reference, tuple, named, function, none, more, HasRegion, AnyHasRegion}
 use Rattle.nll_types.specs.Structs.{Struct, IsWellFormed, AreWellFormed, AreInOrder}
 use Rattle.nll_types.specs.Places.{behind, behind_all}
 use Rattle.nll_types.specs.DropRegions.{Drops, LeadsTo, IsDropRegion}
@@ -19,6 +19,8 @@ mutual
   region_within structs n (tuple ts) w r h = any_within structs n ts w r h
   region_within structs n (named s rs ts) w r (inl h) = All-contains (λ x. x < n) rs r w.3 h
   region_within structs n (named s rs ts) w r (inr h) = any_within structs n ts w.4 r h
+  region_within structs n (function ts t) w r (inl h) = any_within structs n ts w.0 r h
+  region_within structs n (function ts t) w r (inr h) = region_within structs n t w.1 r h
 
   any_within : (structs : List Struct) (n : ℕ) (ts : TypeTrees) → AreWellFormed structs n 0 ts → (r : ℕ) → AnyHasRegion ts r → r < n
   any_within structs n none w r h = absurd h
@@ -35,6 +37,7 @@ module _ (structs : List Struct) (order : AreInOrder structs) (n : ℕ) (some : 
   drops_good int u w h = absurd h
   drops_good (parameter k) u w h = absurd h
   drops_good (reference r m t) u w h = absurd h
+  drops_good (function ts t) u w h = absurd h
   drops_good (tuple ts) u w h = part_good (tuple ts) u h.0 w h.1
   drops_good (named s rs ts) u w h = part_good (named s rs ts) u h.0 w h.1
 

@@ -4,7 +4,7 @@ use Rattle.std.specs.Prelude.{◌≡◌, ℕ, Bool, List, [], ◌∷◌}
 use Rattle.std.proofs.Common.{refl, ap, ◌∙◌}
 use Rattle.std.specs.Coded.{Coded, code_by, coded_list}
 use Rattle.nll_types.specs.Types.{TypeTree, TypeTrees, int, parameter, reference, tuple, named}
-use Rattle.nll_types.specs.Types.{none, more}
+use Rattle.nll_types.specs.Types.{function, none, more}
 
 -- A step makes a type or a row of types, of those that were made last.
 pub data Step : Type 0 where
@@ -13,6 +13,7 @@ pub data Step : Type 0 where
   make_reference : ℕ → Bool → Step
   make_tuple : Step
   make_named : ℕ → List ℕ → Step
+  make_function : Step
   make_none : Step
   make_more : Step
 
@@ -28,6 +29,7 @@ abbrev mutual
   steps (reference r m t) rest = steps t (make_reference r m ∷ rest)
   steps (tuple ts) rest = steps_all ts (make_tuple ∷ rest)
   steps (named s rs ts) rest = steps_all ts (make_named s rs ∷ rest)
+  steps (function ts t) rest = steps_all ts (steps t (make_function ∷ rest))
 
   pub steps_all : TypeTrees → List Step → List Step
   steps_all none rest = make_none ∷ rest
@@ -54,6 +56,7 @@ after (make_parameter k) m = (parameter k ∷ m.0, m.1)
 after (make_reference r b) m = (reference r b (top m.0) ∷ below m.0, m.1)
 after make_tuple m = (tuple (top_row m.1) ∷ m.0, below m.1)
 after (make_named s rs) m = (named s rs (top_row m.1) ∷ m.0, below m.1)
+after make_function m = (function (top_row m.1) (top m.0) ∷ below m.0, below m.1)
 after make_none m = (m.0, none ∷ m.1)
 after make_more m = (below m.0, more (top m.0) (top_row m.1) ∷ below m.1)
 
@@ -71,6 +74,9 @@ mutual
   run_steps (reference r m t) rest xs ys = run_steps t (make_reference r m ∷ rest) xs ys
   run_steps (tuple ts) rest xs ys = run_steps_all ts (make_tuple ∷ rest) xs ys
   run_steps (named s rs ts) rest xs ys = run_steps_all ts (make_named s rs ∷ rest) xs ys
+  run_steps (function ts t) rest xs ys =
+      run_steps_all ts (steps t (make_function ∷ rest)) xs ys
+      ∙ run_steps t (make_function ∷ rest) xs (ts ∷ ys)
 
   pub run_steps_all : (ts : TypeTrees) (rest : List Step) (xs : List TypeTree)
       (ys : List TypeTrees) → run (steps_all ts rest) (xs, ys) ≡ run rest (xs, ts ∷ ys)

@@ -4,18 +4,18 @@ use Rattle.std.specs.Prelude.{slice_get, option_map}
 use Rattle.std.specs.List.{flat_map}
 use Rattle.std.proofs.lemmas.Option.{get_or_from_slice_get, slice_get_within, slice_get-map}
 use Rattle.std.proofs.lemmas.List.Elements.{Contains-push, Contains-append_left}
-use Rattle.nll_types.specs.Types.{TypeTree, TypeTrees, int, parameter, reference, tuple, named, none, more, type_at, HasRegion, AnyHasRegion}
+use Rattle.nll_types.specs.Types.{TypeTree, TypeTrees, int, parameter, reference, tuple, named, function, none, more, type_at, HasRegion, AnyHasRegion}
 use Rattle.nll_types.specs.Structs.{IsWellFormed}
 use Rattle.nll_types.specs.Places.{PlacePath, type_of}
 use Rattle.nll_types.specs.Operands.{Operand, constant, copied, moved, operand_type}
 use Rattle.nll_types.specs.declared.parameter.Sign.{Sign}
-use Rattle.nll_types.specs.declared.parameter.Sign.TheVariants.{Covariant, Invariant}
+use Rattle.nll_types.specs.declared.parameter.Sign.TheVariants.{Covariant, Contravariant, Invariant}
 use Rattle.nll_types.proofs.WellFormedLemmas.{place_good}
 use Rattle.nll_statements.specs.Statements.{Statement, assign, borrow, make, read, live, dead, nop, goto, switch, drop, call, return, stop}
 use Rattle.nll_body.specs.Bodies.{BodyText, StandsAt}
 use Rattle.nll_body.specs.Sound.{IsSound}
 use Rattle.nll_body.proofs.RangeLemmas.{region_within, part_good}
-use Rattle.nll_rules.specs.Positions.{Turn, own, target, part, region_argument, type_argument, HasRegionAt, times, sign_of}
+use Rattle.nll_rules.specs.Positions.{Turn, own, target, part, region_argument, type_argument, input, output, HasRegionAt, times, sign_of}
 use Rattle.nll_rules.specs.Subtyping.{IsAsked, SubtypeAsks}
 use Rattle.nll_rules.specs.Reborrows.{RestsOn, prefix}
 use Rattle.nll_rules.specs.Asking.{AsksSubtype, AsksPair, Asks}
@@ -68,6 +68,8 @@ at_position (reference q m t) (target n ∷ way) r h = inr (at_position t way r 
 at_position (tuple ts) (part k ∷ way) r h = any_at ts k h.0 r h.1 (at_position h.0 way r h.2)
 at_position (named s rs ts) (region_argument n k ∷ way) r h = inl (there rs k r h.2)
 at_position (named s rs ts) (type_argument n k ∷ way) r h = inr (any_at ts k h.0 r h.2 (at_position h.0 way r h.3))
+at_position (function ts u) (input k ∷ way) r h = inl (any_at ts k h.0 r h.1 (at_position h.0 way r h.2))
+at_position (function ts u) (output ∷ way) r h = inr (at_position u way r h)
 at_position int (own ∷ way) r h = absurd h
 at_position (parameter j) (own ∷ way) r h = absurd h
 at_position t way r h = absurd h
@@ -75,6 +77,7 @@ at_position t way r h = absurd h
 -- both regions of what is asked are below n, where those of the position are
 asked_below : (n : ℕ) (sign : Sign) (a b : ℕ) (x : ℕ × ℕ) → a < n → b < n → IsAsked sign a b x → (x.0 < n) × (x.1 < n)
 asked_below n Covariant a b x l m is = subst (λ (y : ℕ × ℕ). (y.0 < n) × (y.1 < n)) is (l, m)
+asked_below n Contravariant a b x l m is = subst (λ (y : ℕ × ℕ). (y.0 < n) × (y.1 < n)) is (m, l)
 asked_below n Invariant a b x l m h = ⊎_elim
     (λ is. subst (λ (y : ℕ × ℕ). (y.0 < n) × (y.1 < n)) is (l, m))
     (λ is. subst (λ (y : ℕ × ℕ). (y.0 < n) × (y.1 < n)) is (m, l))

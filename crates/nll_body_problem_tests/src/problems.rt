@@ -1,7 +1,9 @@
 //! The problems of worked texts, and of texts that ask for something in each way.
 use super::telling::problem_told;
 use nll_body_problem::one_problem;
-use nll_worked_texts::{CALLED, DROPPED, MOVED, REBORROW, RETURNED, TWO_BORROWS};
+use nll_worked_texts::{
+    CALLED, DROPPED, FUNCTIONS, MOVED, REBORROW, RETURNED, TAKERS, TWO_BORROWS,
+};
 
 // Texts, and the problems of their bodies. Regions and points go by their numbers; constraints
 // stand by the region that is outlived, the one that outlives it and the point.
@@ -21,6 +23,14 @@ const WORKED: &[(&str, &str)] = &[
     ),
     (RETURNED, "3 regions|base 1 1|base 2 0|2: 1 @ 1|"),
     (CALLED, "4 regions|base 1 0|base 2 1|3: 2 @ 1|1: 3 @ 1|"),
+    (
+        FUNCTIONS,
+        "5 regions|base 1 0|base 2 0|base 3 1|base 4 1|3: 1 @ 1|2: 4 @ 1|",
+    ),
+    (
+        TAKERS,
+        "5 regions|base 1 0|base 2 0|base 3 1|base 4 1|1: 3 @ 1|2: 4 @ 1|",
+    ),
 ];
 
 const FURTHER: &[(&str, &str)] = &[
@@ -103,9 +113,71 @@ const FURTHER: &[(&str, &str)] = &[
     ),
 ];
 
+// Texts of version 2.
+const SECOND: &[(&str, &str)] = &[
+    // An argument for a contravariant parameter, and one that may be left dangling.
+    (
+        "nll-mir 2|region '1|region '2|struct F<'x - >(fn(&'x int) -> int)|let _0: int|\
+        let _1: F<'1>|let _2: F<'2>|blocks 1|block bb0|_2 = copy _1|return|end|",
+        "3 regions|base 1 0|2: 1 @ 1|",
+    ),
+    // A function for a contravariant parameter: the sign is turned round twice.
+    (
+        "nll-mir 2|region '1|region '2|struct C<T - >(fn(T) -> int)|let _0: int|\
+        let _1: C<fn(&'1 int) -> int>|let _2: C<fn(&'2 int) -> int>|blocks 1|block bb0|\
+        _2 = copy _1|return|end|",
+        "3 regions|base 1 0|1: 2 @ 1|",
+    ),
+    // Behind a `mut` reference an argument is invariant, and so is what is behind one in an
+    // argument.
+    (
+        "nll-mir 2|region 'a|region '1|region 'b|region '2|let _0: int|\
+        let _1: &'a mut fn(&'1 int) -> int|let _2: &'b mut fn(&'2 int) -> int|blocks 1|block bb0|\
+        _2 = move _1|return|end|",
+        "5 regions|base 1 0|base 2 0|4: 2 @ 1|1: 3 @ 1|2: 4 @ 1|",
+    ),
+    (
+        "nll-mir 2|region '1|region '2|region '3|region '4|let _0: int|\
+        let _1: fn(&'1 mut &'2 int) -> int|let _2: fn(&'3 mut &'4 int) -> int|blocks 1|block bb0|\
+        _2 = copy _1|return|end|",
+        "5 regions|base 1 0|base 2 0|3: 1 @ 1|4: 2 @ 1|2: 4 @ 1|",
+    ),
+    // Two arguments; of a function without arguments its result alone.
+    (
+        "nll-mir 2|region '1|region '2|region '3|region '4|let _0: int|\
+        let _1: fn(&'1 int, &'2 int) -> int|let _2: fn(&'3 int, &'4 int) -> int|blocks 1|\
+        block bb0|_2 = copy _1|return|end|",
+        "5 regions|base 1 0|base 2 0|3: 1 @ 1|4: 2 @ 1|",
+    ),
+    (
+        "nll-mir 2|region '1|region '2|let _0: int|let _1: fn() -> &'1 int|\
+        let _2: fn() -> &'2 int|blocks 1|block bb0|_2 = copy _1|return|end|",
+        "3 regions|base 1 0|1: 2 @ 1|",
+    ),
+    // A function has no drop regions; where a struct's own drop needs its argument, those that are
+    // written in a function for it are held.
+    (
+        "nll-mir 2|region '1|let _0: int|let _1: fn(&'1 int) -> &'1 int|blocks 2|block bb0|nop|\
+        drop _1 -> bb1|block bb1|return|end|",
+        "2 regions|",
+    ),
+    (
+        "nll-mir 2|region '1|region '2|struct D<T = > drop (T)|let _0: int|\
+        let _1: D<fn(&'1 int) -> &'2 int>|blocks 2|block bb0|nop|drop _1 -> bb1|block bb1|return|\
+        end|",
+        "3 regions|base 1 0|base 1 1|base 2 0|base 2 1|",
+    ),
+    // A text of version 1 means in version 2 what it means in version 1.
+    (
+        "nll-mir 2|region '1|region '2|region '3|region '4|let _0: int|let _1: &'1 mut &'2 int|\
+        let _2: &'3 mut &'4 int|blocks 1|block bb0|_2 = move _1|read _2.*.*|return|end|",
+        "5 regions|base 1 0|base 2 0|base 3 1|base 4 1|4: 2 @ 1|1: 3 @ 1|2: 4 @ 1|",
+    ),
+];
+
 #[test]
 fn problems_are_found(rt: HostRuntime) {
-    for rows in [WORKED, FURTHER] {
+    for rows in [WORKED, FURTHER, SECOND] {
         for (lines, want) in rows {
             match problem_told(rt.alloc(), lines) {
                 Ok(told) => assert!(rt; told.as_str() == *want, "{lines}: {told}"),

@@ -3,3 +3,4 @@ pub mod GrammarLemmas
 pub mod PartLemmas
 pub mod KindLemmas
 pub mod LineLemmas
+pub mod VersionLemmas

@@ -15,8 +15,8 @@ use Rattle.nll_types.specs.declared.place.Projection.{Projection}
 use Rattle.nll_types.specs.declared.place.Projection.TheVariants.{Deref, Field}
 use Rattle.nll_types.specs.declared.parameter.Parameter.{Parameter}
 use Rattle.nll_types.specs.declared.parameter.Sign.{Sign}
-use Rattle.nll_types.specs.declared.parameter.Sign.TheVariants.{Covariant, Invariant}
-use Rattle.nll_type_grammar.specs.WrittenTypes.{Name, WrittenType, WrittenTypes, int, reference, tuple, named, spelled}
+use Rattle.nll_types.specs.declared.parameter.Sign.TheVariants.{Covariant, Contravariant, Invariant}
+use Rattle.nll_type_grammar.specs.WrittenTypes.{Name, WrittenType, WrittenTypes, int, reference, tuple, named, function, spelled}
 use Rattle.nll_type_grammar.specs.Reading.{HasNoType, IsTypeIn}
 use Rattle.nll_mir_grammar.specs.Tuples.{parts, IsTuple}
 use Rattle.nll_mir_grammar.specs.MirForms.{WrittenParameter, region_parameter, type_parameter, spelled_place, spelled_operand, dangling_mark, sign_token, block_word}
@@ -196,6 +196,7 @@ types_solid int = omega arith
 types_solid (reference r m t) = omega arith
 types_solid (tuple ts) = omega arith
 types_solid (named n args) = omega arith
+types_solid (function ts t) = omega arith
 
 -- no type stands behind the last token
 pub no_type_past : (tokens : List InLine) (at : ℕ) → length tokens ≤ at → HasNone types (from at tokens)
@@ -219,6 +220,7 @@ front_is_tuple ts inner int rest e b = absurd (let f = head_same _ _ _ _ (sym e 
 front_is_tuple ts inner (reference q m t) rest e b = absurd (signs_differ 40 38 _ _ refl (sym e ∙ b.joined))
 front_is_tuple ts inner (tuple xs) rest e b = refl
 front_is_tuple ts inner (named n args) rest e b = absurd (let f = head_same _ _ _ _ (sym e ∙ b.joined) in cc)
+front_is_tuple ts inner (function xs x) rest e b = absurd (let f = head_same _ _ _ _ (sym e ∙ b.joined) in cc)
 
 pub tuple_found : (ts : List Token) (t : WrittenType) (rest : List Token) → IsTuple t → Begins types ts t rest → Begins tuples ts (parts t) rest
 tuple_found ts t rest h b =
@@ -239,6 +241,11 @@ dangling = marks dangling_mark (sign 63)
 sign_same : (a b : Sign) → sign_token a ≡ sign_token b → a ≡ b
 sign_same Covariant Covariant e = refl
 sign_same Covariant Invariant e = absurd (signs_apart 43 61 refl e)
+sign_same Covariant Contravariant e = absurd (signs_apart 43 45 refl e)
+sign_same Contravariant Covariant e = absurd (signs_apart 45 43 refl e)
+sign_same Contravariant Contravariant e = refl
+sign_same Contravariant Invariant e = absurd (signs_apart 45 61 refl e)
+sign_same Invariant Contravariant e = absurd (signs_apart 61 45 refl e)
 sign_same Invariant Covariant e = absurd (signs_apart 61 43 refl e)
 sign_same Invariant Invariant e = refl
 

@@ -1,4 +1,5 @@
 pub mod MirForms
+pub mod Versions
 pub mod Tuples
 pub mod Lines
 pub mod Grammars

@@ -18,6 +18,7 @@ pub use Rattle.nll_mir_grammar.specs.Tuples.{parts}
 use Rattle.nll_mir_grammar.specs.declared.line.Line.{Line}
 use Rattle.nll_mir_grammar.specs.declared.line.Line.TheVariants as lines
 use Rattle.nll_mir_grammar.specs.declared.line.ParameterText.{ParameterText}
+use Rattle.nll_mir_grammar.specs.declared.line.StructText.{StructText}
 use Rattle.nll_mir_grammar.specs.declared.line.ParameterText.TheVariants as parameters
 
 -- an argument of a call in the code
@@ -39,14 +40,18 @@ parameter_of (parameters.Type n p) = type_parameter n.now p
 abbrev pub point_form : Kept (Bor (List ℕ)) (List TypeNode) → Form
 point_form s = at_point (map_statement (λ r. r.now) written (statement_of s))
 
+-- a struct line of the code
+abbrev pub struct_form : StructText → Form
+struct_form t =
+    struct_line t.name.now (map parameter_of t.parameters.items) t.has_drop
+    (parts (written t.fields))
+
 -- a line of the code
 abbrev pub form_of : Line → Form
 form_of (lines.Universal a) = universal a.now
 form_of (lines.Outlives a b) = outlives a.now b.now
 form_of (lines.Region x) = further x.now
-form_of (lines.Struct b) =
-    struct_line b.value.name.now (map parameter_of b.value.parameters.items) b.value.has_drop
-    (parts (written b.value.fields))
+form_of (lines.Struct b) = struct_form b.value
 form_of (lines.Let x t) = variable x (written t)
 form_of (lines.Blocks n) = blocks n
 form_of (lines.Block n) = block n

@@ -1,4 +1,4 @@
--- The forms of the lines of a MIR text, version 1, and how they are spelled.
+-- The forms of the lines of a MIR text, and how they are spelled.
 -- Source: project's choice; docs/FORMATS.md says the same in words.
 use Rattle.std.specs.Prelude.{◌≡◌, ℕ, ◌<◌, ◌^◌, Bool, true, false, List, [], ◌∷◌, ◌++◌, codes, map}
 use Rattle.std.specs.Prelude.{length, Option, Some, None}
@@ -11,7 +11,8 @@ use Rattle.nll_types.specs.declared.place.Projection.{Projection}
 use Rattle.nll_types.specs.declared.place.Projection.TheVariants.{Deref, Field}
 use Rattle.nll_types.specs.declared.parameter.Parameter.{Parameter}
 use Rattle.nll_types.specs.declared.parameter.Sign.{Sign}
-use Rattle.nll_types.specs.declared.parameter.Sign.TheVariants.{Covariant, Invariant}
+use Rattle.nll_types.specs.declared.parameter.Sign.TheVariants.{Covariant, Contravariant}
+use Rattle.nll_types.specs.declared.parameter.Sign.TheVariants.{Invariant}
 use Rattle.nll_type_grammar.specs.WrittenTypes.{Name, WrittenType, WrittenTypes, tuple, spelled}
 use Rattle.nll_type_grammar.specs.WrittenTypes.{mutability, HasNames, is_capital}
 use Rattle.nll_statements.specs.Statements.{Statement, assign, borrow, make, read, live, dead, nop}
@@ -69,9 +70,10 @@ parted (item ∷ items) = item ++ flat_map (λ other. sign 44 ∷ other) items
 abbrev pub in_parentheses : List (List Token) → List Token
 in_parentheses items = sign 40 ∷ (parted items ++ sign 41 ∷ [])
 
--- `+` or `=`
+-- `+`, `-` or `=`
 abbrev pub sign_token : Sign → Token
 sign_token Covariant = sign 43
+sign_token Contravariant = sign 45
 sign_token Invariant = sign 61
 
 -- `?`, or nothing
@@ -79,7 +81,7 @@ abbrev pub dangling_mark : Bool → List Token
 dangling_mark true = sign 63 ∷ []
 dangling_mark false = []
 
--- `+`, `=`, `+ ?` or `= ?`
+-- `+`, `-` or `=`, and `?` behind it or not
 abbrev pub spelled_marks : Parameter → List Token
 spelled_marks p = sign_token p.sign ∷ dangling_mark p.may_dangle
 

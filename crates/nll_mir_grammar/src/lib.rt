@@ -18,8 +18,10 @@ mod points;
 mod reading;
 mod right;
 mod type_front;
+mod version;
 mod words;
 
 pub use laws::one_form;
 pub use line::{Line, ParameterText, StructText, TupleText};
 pub use reading::line_of;
+pub use version::{Version, is_of_version};

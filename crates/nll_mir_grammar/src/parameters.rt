@@ -43,6 +43,7 @@ fn sign_at(tokens: &[Token<'_>], at: usize) -> Option<(Sign, usize)>
 {
     match token_at(tokens, at) {
         Some(Token::Sign(b'+')) => Some((Sign::Covariant, at + 1)),
+        Some(Token::Sign(b'-')) => Some((Sign::Contravariant, at + 1)),
         Some(Token::Sign(b'=')) => Some((Sign::Invariant, at + 1)),
         _ => None,
     }

@@ -7,7 +7,10 @@ use super::rows::{Table, compare_tables};
 const ORDER: &str = "
  ~ line 1: Header
 nll-facts 1| ~ line 1: Header
-nll-mir 2| ~ line 1: Header
+nll-mir 2 ~ line 1: End
+nll-mir 2| ~ line 1: End
+nll-mir 3| ~ line 1: Header
+nll-mir 12| ~ line 1: Header
 nll-mir 1 ~ line 1: End
 nll-mir 1|# a comment|| ~ line 3: End
 nll-mir 1|end| ~ line 2: Syntax
@@ -207,6 +210,69 @@ nop|drop _1 -> bb1|block bb1|return|end ~ universal 'static|region 'w|2 variable
 bb0/1 to 2 drops 1|bb1/0 returns uses 0|
 ";
 
+// Lines that version 2 has, behind the header and two declarations, and whether version 1 has them.
+const OF_SECOND: &str = "
+let _0: fn() -> int ~ line 4: Syntax
+let _0: (int, &'r fn(int) -> int) ~ line 4: Syntax
+let _0: S<fn(int) -> int> ~ line 4: Syntax
+struct F<'x - >(&'x int) ~ line 4: Syntax
+struct F<'x +, T - ?>(T) ~ line 4: Syntax
+struct F<'x ->(&'x int) ~ line 4: Syntax
+struct F(fn() -> int) ~ line 4: Syntax
+struct F<'x +>(&'x int) ~ line 4: End
+let _0: fn ~ line 4: Syntax
+let _0: Fn ~ line 4: Unknown
+";
+
+// The same in version 2. A function is known where its parts are, and a function type isn't made.
+const IN_SECOND: &str = "
+let _0: fn() -> int ~ line 4: End
+let _0: (int, &'r fn(int) -> int) ~ line 4: End
+let _0: S<fn(int) -> int> ~ line 4: End
+struct F<'x - >(&'x int) ~ line 4: End
+struct F<'x +, T - ?>(T) ~ line 4: End
+struct F<'x ->(&'x int) ~ line 4: Syntax
+struct F(fn() -> int) ~ line 4: End
+let _0: fn ~ line 4: Syntax
+let _0: fn(&'q int) -> int ~ line 4: Unknown
+let _0: fn(int) -> &'q int ~ line 4: Unknown
+let _0: fn(int) -> U ~ line 4: Unknown
+let _0: fn(S) -> int ~ line 4: Shape
+let _0: fn(int) -> S ~ line 4: Shape
+";
+
+// The lines in front of statements over functions, each ending with `|`.
+const FUNCTIONAL: &str = "nll-mir 2|region 'r|let _0: int|let _1: fn(&'r int) -> int|\
+    let _2: fn() -> int|let _3: fn(&'r int) -> &'r int|let _4: fn(&'static int) -> int|blocks 1|\
+    block bb0|";
+
+// Statements of a text with functions, and their faults.
+const OF_FUNCTIONS: &str = "
+_0 = make fn() -> int() ~ line 10: Shape
+_0 = make fn(int) -> int(const) ~ line 10: Shape
+read _1.0 ~ line 10: Shape
+read _1.* ~ line 10: Shape
+_1 = copy _2 ~ line 10: Shape
+_1 = copy _3 ~ line 10: Shape
+_1 = const ~ line 10: Shape
+_1 = copy _4 ~ line 10: End
+_0 = copy _1 ~ line 10: Shape
+_0 = call fn(copy _1: fn(&'r int) -> int): int -> bb0 ~ line 10: End
+_1 = call f(): fn(&'r int) -> int -> bb0 ~ line 10: End
+_1 = call f(): fn(&'q int) -> int -> bb0 ~ line 10: Unknown
+_1 = call f(): fn() -> int -> bb0 ~ line 10: Shape
+";
+
+// In version 1 the word behind `call` may be `fn` too, and no type of a call or of what is made may
+// have a function.
+const CALLS: &str = "
+_0 = call fn(const: int): int -> bb0 ~ line 5: End
+_0 = call f(const: fn() -> int): int -> bb0 ~ line 5: Syntax
+_0 = call f(const: int): fn() -> int -> bb0 ~ line 5: Syntax
+_0 = make fn() -> int() ~ line 5: Syntax
+_0 = make (fn() -> int)(const) ~ line 5: Syntax
+";
+
 // All these tables. In each row of `TAKEN` and `ENDED` the text only lacks its end.
 const TABLES: &[Table<'static>] = &[
     (Asked::All, ("", ""), ("", ""), ORDER),
@@ -216,6 +282,25 @@ const TABLES: &[Table<'static>] = &[
     (Asked::All, (DECLARED, "|"), ("", ""), ENDED),
     (Asked::All, ("", ""), ("", ""), CHANGED),
     (Asked::All, ("", ""), ("", ""), CUT),
+    (
+        Asked::All,
+        ("nll-mir 1|region 'r|struct S<T +>(T)|", "|"),
+        ("", ""),
+        OF_SECOND,
+    ),
+    (
+        Asked::All,
+        ("nll-mir 2|region 'r|struct S<T +>(T)|", "|"),
+        ("", ""),
+        IN_SECOND,
+    ),
+    (Asked::All, (FUNCTIONAL, "|"), ("", ""), OF_FUNCTIONS),
+    (
+        Asked::All,
+        ("nll-mir 1|let _0: int|blocks 1|block bb0|", "|"),
+        ("", ""),
+        CALLS,
+    ),
 ];
 
 // Each text has that fault, or none.

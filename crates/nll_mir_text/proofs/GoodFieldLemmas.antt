@@ -74,6 +74,10 @@ module _ (s : Scope) (structs : List Struct) (kept : AreKinds s.kinds structs) (
     well_formed (written.reference r m t) k h =
         let both = true_both _ _ k in (below _ _ both.0, well_formed t both.1 h)
     well_formed (written.tuple ts) k h = all_well_formed ts k h
+    well_formed (written.function ts t) k h =
+        let known = true_both _ _ k in
+        let has = true_both _ _ h in
+        (all_well_formed ts known.0 has.0, well_formed t known.1 has.1)
     well_formed (written.named n args) k h = by_name n args (is_among s.parameters n) refl k h (λ known has. arguments_well_formed args known has)
 
     pub all_well_formed : (ts : WrittenTypes) → are_known s ts ≡ true → have_arguments s ts ≡ true → AreWellFormed structs (length s.regions) (length s.parameters) (all_meant s ts)

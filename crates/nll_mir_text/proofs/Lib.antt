@@ -16,3 +16,4 @@ pub mod StatingLemmas
 pub mod StructLemmas
 pub mod TextLemmas
 pub mod VariableLemmas
+pub mod VersionLemmas

@@ -11,15 +11,17 @@ use Rattle.nll_problem.specs.declared.error.Kind.TheVariants.{Text}
 use Rattle.nll_reading.specs.Text.{Fits, skipped, of_form, IsFaulty, not_utf8, no_form, at_form, Says, IsCut, IsHeaded, IsText, IsFault, too_long, header_not_utf8, no_header, at_line, no_end}
 use Rattle.nll_reading.specs.declared.error.TextKind.{TextKind}
 use Rattle.nll_reading.specs.declared.error.TextKind.TheVariants.{NotUtf8, Header, Syntax, Limit, End}
-use Rattle.nll_mir_grammar.specs.MirForms.{Form, HasForm}
+use Rattle.nll_mir_grammar.specs.MirForms.{Form}
+use Rattle.nll_mir_grammar.specs.Versions.{HasFormIn}
+use Rattle.nll_mir_grammar.specs.declared.version.Version.{Version}
 use Rattle.nll_mir_text.specs.MirSaid.{Said, said}
 use Rattle.nll_mir_text.specs.MirFaults.{first_fault}
 use Rattle.nll_mir_text.specs.MirText.{mir}
 
 -- ---- a line
 
-module _ (s : Said) (line : List ℕ) (fits : (added : List Form) → Fits mir s line added → ⊥) (wrong : (kind : TextKind) → IsFaulty mir s line kind → ⊥) where
-  by_first_fault : (f : Form) (o : Option TextKind) → IsUtf8 line → is_skipped line ≡ false → HasForm line f → first_fault s f ≡ o → ⊥
+module _ (v : Version) (s : Said) (line : List ℕ) (fits : (added : List Form) → Fits (mir v) s line added → ⊥) (wrong : (kind : TextKind) → IsFaulty (mir v) s line kind → ⊥) where
+  by_first_fault : (f : Form) (o : Option TextKind) → IsUtf8 line → is_skipped line ≡ false → HasFormIn v line f → first_fault s f ≡ o → ⊥
   by_first_fault f None u k form e = fits (f ∷ []) (of_form f u k form e)
   by_first_fault f (Some kind) u k form e = wrong kind (at_form f kind u k form e)
 
@@ -35,21 +37,21 @@ module _ (s : Said) (line : List ℕ) (fits : (added : List Form) → Fits mir s
 -- ---- lines
 
 -- of lines after those of the forms `before`, the first that has a fault
-record IsFaultAfter (before : List Form) (lines : List (List ℕ)) : Type 0 where
+record IsFaultAfter (v : Version) (before : List Form) (lines : List (List ℕ)) : Type 0 where
   front : List (List ℕ)
   line : List ℕ
   back : List (List ℕ)
   cut : lines ≡ front ++ line ∷ back
   forms : List Form
-  fine : Says mir before front forms
+  fine : Says (mir v) before front forms
   kind : TextKind
-  wrong : IsFaulty mir (said forms) line kind
+  wrong : IsFaulty (mir v) (said forms) line kind
 
-lines_not_neither : (before : List Form) (lines : List (List ℕ)) → ((forms : List Form) → Says mir before lines forms → ⊥) → (IsFaultAfter before lines → ⊥) → ⊥
-lines_not_neither before [] fine faulty = fine before refl
-lines_not_neither before (line ∷ lines) fine faulty =
-    line_not_neither (said before) line
-    (λ added fit. lines_not_neither (before ++ added) lines
+lines_not_neither : (v : Version) (before : List Form) (lines : List (List ℕ)) → ((forms : List Form) → Says (mir v) before lines forms → ⊥) → (IsFaultAfter v before lines → ⊥) → ⊥
+lines_not_neither v before [] fine faulty = fine before refl
+lines_not_neither v before (line ∷ lines) fine faulty =
+    line_not_neither v (said before) line
+    (λ added fit. lines_not_neither v (before ++ added) lines
     (λ forms says. fine forms (added, fit, says))
     (λ h. faulty (record {
       front = line ∷ h.front;
@@ -74,10 +76,10 @@ lines_not_neither before (line ∷ lines) fine faulty =
 
 -- ---- a text
 
-module _ (text : List ℕ) (none : (forms : List Form) → IsText mir text forms → ⊥) (fine : (line : ℕ) (kind : TextKind) → IsFault mir text line kind → ⊥) where
-  by_body : (body : List (List ℕ)) → IsHeaded mir text body → ⊥
+module _ (v : Version) (text : List ℕ) (none : (forms : List Form) → IsText (mir v) text forms → ⊥) (fine : (line : ℕ) (kind : TextKind) → IsFault (mir v) text line kind → ⊥) where
+  by_body : (body : List (List ℕ)) → IsHeaded (mir v) text body → ⊥
   by_body body headed =
-      lines_not_neither [] body
+      lines_not_neither v [] body
       (λ forms says. fine (length (lines_of text)) End (no_end body forms headed says
       (λ ended. none forms (record { body = body; headed = headed; fine = says; ended = ended }))))
       (λ h. fine (length h.front + 2) h.kind (at_line body (length h.front) h.kind headed (record {

@@ -9,6 +9,7 @@ use Rattle.nll_reading.specs.declared.error.TextKind.TheVariants.{Syntax}
 use Rattle.nll_mir_text.specs.MirSaid.{Said, said, said_after, says, group}
 use Rattle.nll_mir_text.specs.MirFaults.{first_fault, is_in_order}
 use Rattle.nll_mir_text.specs.MirReading.{Adds}
+use Rattle.nll_mir_grammar.specs.declared.version.Version.{Version}
 use Rattle.nll_mir_text.specs.MirText.{mir}
 
 said_after_push : (s : Said) (forms : List Form) (f : Form) → said_after s (forms ++ f ∷ []) ≡ says (said_after s forms) f
@@ -133,19 +134,19 @@ ends_push forms f fine h c = ⊎_elim
     (λ same. ap (λ (s : Said). s.reached) (said_push forms f) ∙ (reached_group (said forms) f ∙ ap group same))
     (Contains-push_cases forms f end c)
 
-ends_fit : (forms : List Form) (line : List ℕ) (added : List Form) → Fits mir (said forms) line added → EndsLast forms → EndsLast (forms ++ added)
-ends_fit forms line [] (skipped u k) h = subst EndsLast (sym (append-nil forms)) h
-ends_fit forms line (f ∷ []) (of_form _ u k form fine) h = ends_push forms f fine h
-ends_fit forms line (f ∷ (g ∷ more)) fit h = elim fit [ ]
+ends_fit : (v : Version) (forms : List Form) (line : List ℕ) (added : List Form) → Fits (mir v) (said forms) line added → EndsLast forms → EndsLast (forms ++ added)
+ends_fit v forms line [] (skipped u k) h = subst EndsLast (sym (append-nil forms)) h
+ends_fit v forms line (f ∷ []) (of_form _ u k form fine) h = ends_push forms f fine h
+ends_fit v forms line (f ∷ (g ∷ more)) fit h = elim fit [ ]
 
-ends_said : (before : List Form) (lines : List (List ℕ)) (forms : List Form) → Says mir before lines forms → EndsLast before → EndsLast forms
-ends_said before [] forms h e = subst EndsLast (sym h) e
-ends_said before (line ∷ lines) forms h e = ends_said (before ++ h.0) lines forms h.2 (ends_fit before line h.0 h.1 e)
+ends_said : (v : Version) (before : List Form) (lines : List (List ℕ)) (forms : List Form) → Says (mir v) before lines forms → EndsLast before → EndsLast forms
+ends_said v before [] forms h e = subst EndsLast (sym h) e
+ends_said v before (line ∷ lines) forms h e = ends_said v (before ++ h.0) lines forms h.2 (ends_fit v before line h.0 h.1 e)
 
 -- the last group is reached where there is an `end` line
-pub reached_at_end : (lines : List (List ℕ)) (forms : List Form) → Says mir [] lines forms → Contains forms end → (said forms).reached ≡ 8
-reached_at_end lines forms h c = ends_said [] lines forms h (λ empty. absurd (omega (arith, empty.1))) c
+pub reached_at_end : (v : Version) (lines : List (List ℕ)) (forms : List Form) → Says (mir v) [] lines forms → Contains forms end → (said forms).reached ≡ 8
+reached_at_end v lines forms h c = ends_said v [] lines forms h (λ empty. absurd (omega (arith, empty.1))) c
 
 -- and have none where it isn't
-pub not_ended : (lines : List (List ℕ)) (forms : List Form) → Says mir [] lines forms → ((said forms).reached ≡ 8 → ⊥) → Contains forms end → ⊥
-not_ended lines forms h none c = none (reached_at_end lines forms h c)
+pub not_ended : (v : Version) (lines : List (List ℕ)) (forms : List Form) → Says (mir v) [] lines forms → ((said forms).reached ≡ 8 → ⊥) → Contains forms end → ⊥
+not_ended v lines forms h none c = none (reached_at_end v lines forms h c)

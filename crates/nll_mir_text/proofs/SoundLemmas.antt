@@ -28,6 +28,7 @@ use Rattle.nll_mir_text.specs.MirSaid.{Said, said, says, nothing_said, statement
 use Rattle.nll_mir_text.specs.MirFaults.{is_universal, first_fault, has_targets, shapes_fit, knows, are_declared}
 use Rattle.nll_typing.specs.Typing.{types_agree}
 use Rattle.nll_mir_text.specs.MirReading.{AreKinds}
+use Rattle.nll_mir_grammar.specs.declared.version.Version.{Version}
 use Rattle.nll_mir_text.specs.MirText.{mir, body_said}
 use Rattle.nll_mir_text.proofs.FaultLemmas.{faultless}
 use Rattle.nll_mir_text.proofs.GoodFieldLemmas.{well_formed}
@@ -538,14 +539,14 @@ module _ (s : Said) (w : IsWell s) where
 
 -- ---- all lines
 
-well_fit : (forms : List Form) (line : List ℕ) (added : List Form) → Fits mir (said forms) line added → IsWell (said forms) → IsWell (said (forms ++ added))
-well_fit forms line [] (skipped u k) w = subst (λ (fs : List Form). IsWell (said fs)) (sym (append-nil forms)) w
-well_fit forms line (f ∷ []) (of_form _ u k form fine) w = subst IsWell (sym (said_push forms f)) (well_says (said forms) w f fine)
-well_fit forms line (f ∷ (g ∷ more)) fit w = elim fit [ ]
+well_fit : (v : Version) (forms : List Form) (line : List ℕ) (added : List Form) → Fits (mir v) (said forms) line added → IsWell (said forms) → IsWell (said (forms ++ added))
+well_fit v forms line [] (skipped u k) w = subst (λ (fs : List Form). IsWell (said fs)) (sym (append-nil forms)) w
+well_fit v forms line (f ∷ []) (of_form _ u k form fine) w = subst IsWell (sym (said_push forms f)) (well_says (said forms) w f fine)
+well_fit v forms line (f ∷ (g ∷ more)) fit w = elim fit [ ]
 
-well_said : (before : List Form) (lines : List (List ℕ)) (forms : List Form) → Says mir before lines forms → IsWell (said before) → IsWell (said forms)
-well_said before [] forms h w = subst (λ (fs : List Form). IsWell (said fs)) (sym h) w
-well_said before (line ∷ lines) forms h w = well_said (before ++ h.0) lines forms h.2 (well_fit before line h.0 h.1 w)
+well_said : (v : Version) (before : List Form) (lines : List (List ℕ)) (forms : List Form) → Says (mir v) before lines forms → IsWell (said before) → IsWell (said forms)
+well_said v before [] forms h w = subst (λ (fs : List Form). IsWell (said fs)) (sym h) w
+well_said v before (line ∷ lines) forms h w = well_said v (before ++ h.0) lines forms h.2 (well_fit v before line h.0 h.1 w)
 
 -- ---- the body
 
@@ -586,6 +587,6 @@ module _ (s : Said) (w : IsWell s) (at_end : s.reached ≡ 8) where
       }
 
 -- the body that a text that fits says is sound
-pub sound_text : (text : List ℕ) (forms : List Form) → IsText mir text forms → IsSound (body_said (said forms))
-sound_text text forms fits =
-    sound_said (said forms) (well_said [] fits.body forms fits.fine well_nothing) (reached_at_end fits.body forms fits.fine fits.ended)
+pub sound_text : (v : Version) (text : List ℕ) (forms : List Form) → IsText (mir v) text forms → IsSound (body_said (said forms))
+sound_text v text forms fits =
+    sound_said (said forms) (well_said v [] fits.body forms fits.fine well_nothing) (reached_at_end v fits.body forms fits.fine fits.ended)

@@ -11,6 +11,7 @@ use Rattle.nll_reading.proofs.ReadingLemmas as lemmas
 use Rattle.nll_mir_text.specs.MirSaid.{Said, said}
 use Rattle.nll_mir_text.specs.MirReading.{Adds, ReadsLine, IsAmid, Advances, AreShort, IsReady}
 use Rattle.nll_mir_text.specs.declared.reader.Reader.{Reader}
+use Rattle.nll_mir_grammar.specs.declared.version.Version.{Version}
 use Rattle.nll_mir_text.specs.MirText.{mir}
 use Rattle.nll_mir_text.proofs.SaidLemmas.{adds_said, same_fault}
 
@@ -18,64 +19,64 @@ abbrev Same : Said → Said → Type 0
 Same s t = s ≡ t
 
 -- Of all lines those in front are read, they are of the forms and what they say is s.
-abbrev pub IsRead : List (List ℕ) → List (List ℕ) → List (List ℕ) → List Form → Said → ℕ → Type 0
-IsRead = lemmas.IsRead mir Same
+abbrev pub IsRead : Version → List (List ℕ) → List (List ℕ) → List (List ℕ) → List Form → Said → ℕ → Type 0
+IsRead v = lemmas.IsRead (mir v) Same
 
 -- nothing is read yet
-pub read_none : (all : List (List ℕ)) (s : Said) → s ≡ said [] → IsRead all [] all [] s 1
-read_none all s e = lemmas.read_none mir Same all s (sym e)
+pub read_none : (v : Version) (all : List (List ℕ)) (s : Said) → s ≡ said [] → IsRead v all [] all [] s 1
+read_none v all s e = lemmas.read_none (mir v) Same all s (sym e)
 
 -- one more line is read
-pub read_more : (all front rest : List (List ℕ)) (line : List ℕ) (after : List (List ℕ)) (forms : List Form) (s t : Said) (number : ℕ) → rest ≡ line ∷ after → IsRead all front rest forms s number → ReadsLine s line t → (more : List Form) × IsRead all (front ++ line ∷ []) after more t (number + 1)
-read_more all front rest line after forms s t number step r h =
-    lemmas.read_more mir Same same_fault Adds adds_said all front rest line after forms s t number step r h
+pub read_more : (v : Version) (all front rest : List (List ℕ)) (line : List ℕ) (after : List (List ℕ)) (forms : List Form) (s t : Said) (number : ℕ) → rest ≡ line ∷ after → IsRead v all front rest forms s number → ReadsLine v s line t → (more : List Form) × IsRead v all (front ++ line ∷ []) after more t (number + 1)
+read_more v all front rest line after forms s t number step r h =
+    lemmas.read_more (mir v) Same same_fault Adds adds_said all front rest line after forms s t number step r h
 
 -- the next line is faulty
-pub read_fault : (all front rest : List (List ℕ)) (line : List ℕ) (after : List (List ℕ)) (forms : List Form) (s : Said) (number : ℕ) → rest ≡ line ∷ after → IsRead all front rest forms s number → (kind : TextKind) → IsFaulty mir s line kind → HasFault mir all (number + 1 - 2) kind
-read_fault = lemmas.read_fault mir Same same_fault
+pub read_fault : (v : Version) (all front rest : List (List ℕ)) (line : List ℕ) (after : List (List ℕ)) (forms : List Form) (s : Said) (number : ℕ) → rest ≡ line ∷ after → IsRead v all front rest forms s number → (kind : TextKind) → IsFaulty (mir v) s line kind → HasFault (mir v) all (number + 1 - 2) kind
+read_fault v = lemmas.read_fault (mir v) Same same_fault
 
-pub read_bound : (all front rest : List (List ℕ)) (forms : List Form) (s : Said) (number : ℕ) → IsRead all front rest forms s number → number ≤ 1 + length all
-read_bound = lemmas.read_bound mir Same
+pub read_bound : (v : Version) (all front rest : List (List ℕ)) (forms : List Form) (s : Said) (number : ℕ) → IsRead v all front rest forms s number → number ≤ 1 + length all
+read_bound v = lemmas.read_bound (mir v) Same
 
 -- all lines are read
-pub read_all : (all front : List (List ℕ)) (forms : List Form) (s : Said) (number : ℕ) → IsRead all front [] forms s number → Says mir [] all forms × (said forms ≡ s) × (number ≡ 1 + length all)
-read_all = lemmas.read_all mir Same
+pub read_all : (v : Version) (all front : List (List ℕ)) (forms : List Form) (s : Said) (number : ℕ) → IsRead v all front [] forms s number → Says (mir v) [] all forms × (said forms ≡ s) × (number ≡ 1 + length all)
+read_all v = lemmas.read_all (mir v) Same
 
 -- ---- a text in parts
 
-to_amid : (all left : List (List ℕ)) (s : Said) (number : ℕ) → (front : List (List ℕ)) (forms : List Form) → IsRead all front left forms s number → IsAmid all left s number
-to_amid all left s number front forms r = record { front = front; forms = forms; cut = r.cut; place = r.place; fine = r.fine; holds = r.holds }
+to_amid : (v : Version) (all left : List (List ℕ)) (s : Said) (number : ℕ) → (front : List (List ℕ)) (forms : List Form) → IsRead v all front left forms s number → IsAmid v all left s number
+to_amid v all left s number front forms r = record { front = front; forms = forms; cut = r.cut; place = r.place; fine = r.fine; holds = r.holds }
 
-from_amid : (all left : List (List ℕ)) (s : Said) (number : ℕ) → (a : IsAmid all left s number) → IsRead all a.front left a.forms s number
-from_amid all left s number a = record { cut = a.cut; place = a.place; fine = a.fine; holds = a.holds }
+from_amid : (v : Version) (all left : List (List ℕ)) (s : Said) (number : ℕ) → (a : IsAmid v all left s number) → IsRead v all a.front left a.forms s number
+from_amid v all left s number a = record { cut = a.cut; place = a.place; fine = a.fine; holds = a.holds }
 
 -- nothing is read yet
-pub amid_none : (all : List (List ℕ)) (s : Said) → s ≡ said [] → IsAmid all all s 1
-amid_none all s e = to_amid all all s 1 [] [] (read_none all s e)
+pub amid_none : (v : Version) (all : List (List ℕ)) (s : Said) → s ≡ said [] → IsAmid v all all s 1
+amid_none v all s e = to_amid v all all s 1 [] [] (read_none v all s e)
 
 -- one more line is read
-pub amid_more : (all left : List (List ℕ)) (line : List ℕ) (after : List (List ℕ)) (s t : Said) (number : ℕ) → left ≡ line ∷ after → ReadsLine s line t → IsAmid all left s number → IsAmid all after t (number + 1)
-amid_more all left line after s t number step h a =
-    let more = read_more all a.front left line after a.forms s t number step (from_amid all left s number a) h in
-    to_amid all after t (number + 1) (a.front ++ line ∷ []) more.0 more.1
+pub amid_more : (v : Version) (all left : List (List ℕ)) (line : List ℕ) (after : List (List ℕ)) (s t : Said) (number : ℕ) → left ≡ line ∷ after → ReadsLine v s line t → IsAmid v all left s number → IsAmid v all after t (number + 1)
+amid_more v all left line after s t number step h a =
+    let more = read_more v all a.front left line after a.forms s t number step (from_amid v all left s number a) h in
+    to_amid v all after t (number + 1) (a.front ++ line ∷ []) more.0 more.1
 
 -- the next line is faulty
-pub amid_fault : (all left : List (List ℕ)) (line : List ℕ) (after : List (List ℕ)) (s : Said) (number : ℕ) → left ≡ line ∷ after → (kind : TextKind) → IsFaulty mir s line kind → IsAmid all left s number → (1 ≤ number) × HasFault mir all (number + 1 - 2) kind
-amid_fault all left line after s number step kind wrong a =
-    (omega (arith, a.place), read_fault all a.front left line after a.forms s number step (from_amid all left s number a) kind wrong)
+pub amid_fault : (v : Version) (all left : List (List ℕ)) (line : List ℕ) (after : List (List ℕ)) (s : Said) (number : ℕ) → left ≡ line ∷ after → (kind : TextKind) → IsFaulty (mir v) s line kind → IsAmid v all left s number → (1 ≤ number) × HasFault (mir v) all (number + 1 - 2) kind
+amid_fault v all left line after s number step kind wrong a =
+    (omega (arith, a.place), read_fault v all a.front left line after a.forms s number step (from_amid v all left s number a) kind wrong)
 
 -- all lines are read
-pub amid_all : (all : List (List ℕ)) (s : Said) (number : ℕ) → IsAmid all [] s number → (forms : List Form) × Says mir [] all forms × (said forms ≡ s) × (number ≡ 1 + length all)
-amid_all all s number a =
-    let done = read_all all a.front a.forms s number (from_amid all [] s number a) in (a.forms, done.0, done.1, done.2)
+pub amid_all : (v : Version) (all : List (List ℕ)) (s : Said) (number : ℕ) → IsAmid v all [] s number → (forms : List Form) × Says (mir v) [] all forms × (said forms ≡ s) × (number ≡ 1 + length all)
+amid_all v all s number a =
+    let done = read_all v all a.front a.forms s number (from_amid v all [] s number a) in (a.forms, done.0, done.1, done.2)
 
 -- nothing is taken in yet
-pub advances_none : (lines : List (List ℕ)) (r : Reader) (number : ℕ) → IsReady r → AreShort lines → Advances lines lines r number r number
-advances_none lines r number ready short = record { ready = ready; short = short; counted = refl; read = λ all amid. amid }
+pub advances_none : (v : Version) (lines : List (List ℕ)) (r : Reader) (number : ℕ) → IsReady r → AreShort lines → Advances v lines lines r number r number
+advances_none v lines r number ready short = record { ready = ready; short = short; counted = refl; read = λ all amid. amid }
 
 -- more lines are taken in
-pub advances_then : (lines some left : List (List ℕ)) (r s t : Reader) (i j k : ℕ) → Advances lines some r i s j → Advances some left s j t k → Advances lines left r i t k
-advances_then lines some left r s t i j k a b = record {
+pub advances_then : (v : Version) (lines some left : List (List ℕ)) (r s t : Reader) (i j k : ℕ) → Advances v lines some r i s j → Advances v some left s j t k → Advances v lines left r i t k
+advances_then v lines some left r s t i j k a b = record {
   ready = b.ready;
   short = b.short;
   counted = omega (arith, a.counted, b.counted);

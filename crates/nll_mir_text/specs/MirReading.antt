@@ -23,21 +23,20 @@ use Rattle.nll_reading.specs.Reading as reading
 use Rattle.nll_reading.specs.Text.{Says, IsText, IsFault, IsHeaded, IsRefusal}
 use Rattle.nll_reading.specs.declared.error.TextError.{TextError}
 use Rattle.nll_reading.specs.declared.error.TextKind.{TextKind}
-use Rattle.nll_reading.specs.declared.error.TextKind.TheVariants.{Memory}
+use Rattle.nll_reading.specs.declared.error.TextKind.TheVariants.{Memory, Syntax}
 use Rattle.nll_mir_grammar.specs.MirForms.{Form, universal, further, struct_line, at_point}
 use Rattle.nll_mir_grammar.specs.MirForms.{WrittenParameter, region_parameter, type_parameter}
-use Rattle.nll_mir_grammar.specs.Lines.{parameter_of}
-use Rattle.nll_mir_grammar.specs.Tuples.{parts}
-use Rattle.nll_mir_grammar.specs.declared.line.StructText.{StructText}
+pub use Rattle.nll_mir_grammar.specs.Lines.{struct_form}
+use Rattle.nll_mir_grammar.specs.Versions.{is_of_version}
+use Rattle.nll_mir_grammar.specs.declared.version.Version.{Version}
 use Rattle.nll_type_grammar.specs.WrittenTypes.{Name, WrittenType}
-use Rattle.nll_type_grammar.specs.TypeTexts.{written}
 use Rattle.nll_naming.specs.Naming.{Scope, is_known, has_arguments, meant}
 use Rattle.nll_mir_text.specs.declared.tables.Regions.{Regions}
 use Rattle.nll_mir_text.specs.declared.tables.StructNames.{StructNames}
 use Rattle.nll_mir_text.specs.declared.judging.JudgedType.{JudgedType}
 use Rattle.nll_mir_text.specs.MirSaid.{Said, said, says}
 use Rattle.nll_mir_text.specs.MirFaults.{is_in_order, first_fault}
-use Rattle.nll_mir_text.specs.MirText.{mir}
+use Rattle.nll_mir_text.specs.MirText.{mir, IsOfVersion, IsMirFault}
 use Rattle.nll_mir_text.specs.declared.reader.Reader.{Reader}
 
 -- ---- what a reader holds
@@ -129,12 +128,6 @@ pub record IsReady (r : Reader) : Type 0 where
 
 -- ---- one line
 
--- the form of a struct line of the code
-abbrev pub struct_form : StructText → Form
-struct_form t =
-    struct_line t.name.now (map parameter_of t.parameters.items) t.has_drop
-    (parts (written t.fields))
-
 -- the name of a parameter is UTF-8
 abbrev pub IsNamed : WrittenParameter → Type 0
 IsNamed (region_parameter a p) = IsUtf8 a
@@ -187,9 +180,16 @@ IsRefused s f kind = (kind ≡ Memory) ⊎ (first_fault s f ≡ Some kind)
 abbrev pub Adds : Said → Form → Said → Type 0
 Adds s f t = t ≡ says s f
 
--- t is what is said after a line that has no fault
-abbrev pub ReadsLine : Said → List ℕ → Said → Type 0
-ReadsLine = reading.ReadsLine mir Adds
+-- t is what is said after a line that has no fault in a text of the version
+abbrev pub ReadsLine : Version → Said → List ℕ → Said → Type 0
+ReadsLine version = reading.ReadsLine (mir version) Adds
+
+-- a line of the form is refused after lines that say s in a text of the version: for want of
+-- memory, since it isn't of the version, or with its first kind of fault
+abbrev pub IsRefusedIn : Version → Said → Form → TextKind → Type 0
+IsRefusedIn version s f kind = (kind ≡ Memory)
+    ⊎ ((kind ≡ Syntax) × (is_of_version version f ≡ false))
+    ⊎ ((is_of_version version f ≡ true) × (first_fault s f ≡ Some kind))
 
 -- ---- all lines
 
@@ -197,50 +197,55 @@ ReadsLine = reading.ReadsLine mir Adds
 abbrev pub AreShort : List (List ℕ) → Type 0
 AreShort body = AllByRecursion (λ line. length line ≤ most_bytes) body
 
--- the lines have no fault, and the reader holds what they say
-abbrev pub HasRead : List (List ℕ) → Reader → Type 0
-HasRead body r = (forms : List Form) × Says mir [] body forms × (said forms ≡ said_by r)
+-- the lines have no fault in a text of the version, and the reader holds what they say
+abbrev pub HasRead : Version → List (List ℕ) → Reader → Type 0
+HasRead version body r =
+    (forms : List Form) × Says (mir version) [] body forms × (said forms ≡ said_by r)
 
--- Of all lines those that are left are not read yet; the others have no fault, s is what they say,
--- and with the header they are so many.
-pub record IsAmid (all left : List (List ℕ)) (s : Said) (number : ℕ) : Type 0 where
+-- Of all lines those that are left are not read yet; the others have no fault in a text of the
+-- version, s is what they say, and with the header they are so many.
+pub record IsAmid (version : Version) (all left : List (List ℕ)) (s : Said) (number : ℕ)
+    : Type 0 where
   pub front : List (List ℕ)
   pub forms : List Form
   pub cut : all ≡ front ++ left
   pub place : number ≡ 1 + length front
-  pub fine : Says mir [] front forms
+  pub fine : Says (mir version) [] front forms
   pub holds : said forms ≡ s
 
 -- Of these lines some are taken in, and the others are left: the reader's tables agree, the lines
 -- that are left are short, and the number rises by one with each line that is taken in.
-pub record Advances (lines left : List (List ℕ)) (old : Reader) (before : ℕ) (new : Reader)
-    (number : ℕ) : Type 0 where
+pub record Advances (version : Version) (lines left : List (List ℕ)) (old : Reader) (before : ℕ)
+    (new : Reader) (number : ℕ) : Type 0 where
   pub ready : IsReady new
   pub short : AreShort left
   pub counted : number + length left ≡ before + length lines
-  pub read : (all : List (List ℕ)) → IsAmid all lines (said_by old) before
-      → IsAmid all left (said_by new) number
+  pub read : (all : List (List ℕ)) → IsAmid version all lines (said_by old) before
+      → IsAmid version all left (said_by new) number
 
--- The text has a header, and of the lines behind it those that are left are not taken in yet.
-pub record IsUnderWay (text : List ℕ) (left : List (List ℕ)) (r : Reader) (number : ℕ)
-    : Type 0 where
+-- The text has the header of the version, and of the lines behind it those that are left are not
+-- taken in yet.
+pub record IsUnderWay (version : Version) (text : List ℕ) (left : List (List ℕ)) (r : Reader)
+    (number : ℕ) : Type 0 where
   pub body : List (List ℕ)
-  pub headed : IsHeaded mir text body
+  pub headed : IsHeaded (mir version) text body
   pub ready : IsReady r
   pub short : AreShort left
   pub few : number + length left ≤ 2 ^ 32
-  pub amid : IsAmid body left (said_by r) number
+  pub amid : IsAmid version body left (said_by r) number
 
 -- the lines of the text that is left, and none where no text is left
 abbrev pub lines_in : Option (List ℕ) → List (List ℕ)
 lines_in None = []
 lines_in (Some text) = lines_of text
 
--- the error refuses each text that has a header and these lines behind it
-abbrev pub RefusesBody : List (List ℕ) → TextError → Type 0
-RefusesBody body error =
-    (text : List ℕ) → IsHeaded mir text body → IsRefusal (IsFault mir text) error
+-- the error refuses each text that has the header of the version and these lines behind it
+abbrev pub RefusesBody : Version → List (List ℕ) → TextError → Type 0
+RefusesBody version body error =
+    (text : List ℕ) → IsHeaded (mir version) text body
+    → IsRefusal (IsFault (mir version) text) error
 
--- the text fits, and the reader holds what its lines say
+-- the text fits in a version, and the reader holds what its lines say
 abbrev pub Holds : List ℕ → Reader → Type 0
-Holds text r = (forms : List Form) × IsText mir text forms × (said forms ≡ said_by r)
+Holds text r = (version : Version) × (forms : List Form) × IsText (mir version) text forms
+    × (said forms ≡ said_by r)

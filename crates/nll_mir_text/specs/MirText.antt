@@ -1,19 +1,24 @@
 -- MIR texts as a format, and what a MIR text means.
 -- Source: project's choice; docs/FORMATS.md says the same in words.
 use Rattle.std.specs.Prelude.{◌≡◌, ℕ, List, codes, Contains}
-use Rattle.nll_reading.specs.Text.{Format, IsText}
-use Rattle.nll_mir_grammar.specs.MirForms.{Form, HasForm, end}
+use Rattle.nll_reading.specs.Text.{Format, IsText, IsHeaded, IsHeader, IsFault}
+use Rattle.nll_reading.specs.declared.error.TextKind.{TextKind}
+use Rattle.nll_mir_grammar.specs.MirForms.{Form, end}
+use Rattle.nll_mir_grammar.specs.Versions.{HasFormIn, version_codes}
+use Rattle.nll_mir_grammar.specs.declared.version.Version.{Version}
+use Rattle.nll_mir_grammar.specs.declared.version.Version.TheVariants.{First, Second}
 use Rattle.nll_mir_text.specs.MirSaid.{Said, said}
 use Rattle.nll_mir_text.specs.MirFaults.{first_fault}
 use Rattle.nll_body.specs.Bodies.{BodyText}
 
--- MIR texts, version 1: the last line that a text needs is an `end` line
-abbrev pub mir : Format
-mir = record {
+-- MIR texts of a version: their lines have the forms of the version, and the last line that a text
+-- needs is an `end` line
+abbrev pub mir : Version → Format
+mir version = record {
   kind = codes "nll-mir";
-  version = codes "1";
+  version = version_codes version;
   Form = Form;
-  HasForm = HasForm;
+  HasForm = HasFormIn version;
   Said = Said;
   said = said;
   first_fault = first_fault;
@@ -32,8 +37,24 @@ body_said s = record {
   points = s.points;
 }
 
--- The text fits and means this body.
+-- The text fits in one of the versions, and means this body.
 pub record Means (text : List ℕ) (body : BodyText) : Type 0 where
+  pub version : Version
   pub forms : List Form
-  pub fits : IsText mir text forms
+  pub fits : IsText (mir version) text forms
   pub same : body ≡ body_said (said forms)
+
+-- The version of a text: the second where its first line is the header of version 2, and else the
+-- first.
+abbrev pub IsOfVersion : List ℕ → Version → Type 0
+IsOfVersion text First = (body : List (List ℕ)) → IsHeaded (mir Second) text body → ⊥
+IsOfVersion text Second = (body : List (List ℕ)) × IsHeaded (mir Second) text body
+
+-- The text's fault, by the line, counted from 1, and its kind: that of a text of its version.
+abbrev pub IsMirFault : List ℕ → ℕ → TextKind → Type 0
+IsMirFault text line kind =
+    (version : Version) × IsOfVersion text version × IsFault (mir version) text line kind
+
+-- the line is the header of a MIR text of some version
+abbrev pub IsMirHeader : List ℕ → Type 0
+IsMirHeader line = (version : Version) × IsHeader (mir version) line

@@ -1,23 +1,22 @@
 //! Laws of the definitions, which hold of all texts.
 
 ghost use Rattle.std.specs.Prelude.{◌≡◌, ℕ, List};
-ghost use Rattle.nll_reading.specs.Text.{IsFault};
 ghost use Rattle.nll_reading.specs.declared.error.TextKind.{TextKind};
 ghost use Rattle.nll_body.specs.Bodies.{BodyText};
 ghost use Rattle.nll_body.specs.Sound.{IsSound};
-ghost use Rattle.nll_mir_text.specs.MirText.{mir, Means};
+ghost use Rattle.nll_mir_text.specs.MirText.{Means, IsMirFault};
 
 /// States that a text has at most one fault.
 pub fn mir_one_fault()
     ensures { (text : List ℕ) (line other_line : ℕ) (kind other_kind : TextKind)
-        → IsFault mir text line kind → IsFault mir text other_line other_kind
+        → IsMirFault text line kind → IsMirFault text other_line other_kind
         → (line ≡ other_line) × (kind ≡ other_kind) }
 {}
 
 /// States that a text that means a body has no fault.
 pub fn mir_not_both()
     ensures { (text : List ℕ) (body : BodyText) (line : ℕ) (kind : TextKind)
-        → Means text body → IsFault mir text line kind → ⊥ }
+        → Means text body → IsMirFault text line kind → ⊥ }
 {}
 
 /// States that a text means at most one body.
@@ -29,7 +28,7 @@ pub fn mir_one_meaning()
 /// States that no text has neither: each means a body or has a fault.
 pub fn mir_not_neither()
     ensures { (text : List ℕ) → ((body : BodyText) → Means text body → ⊥)
-        → ((line : ℕ) (kind : TextKind) → IsFault mir text line kind → ⊥) → ⊥ }
+        → ((line : ℕ) (kind : TextKind) → IsMirFault text line kind → ⊥) → ⊥ }
 {}
 
 /// States that the body that a text means is sound.

@@ -1,10 +1,11 @@
-//! The reader of MIR texts, version 1.
-//! Read `tables`, `judging`, `own_names`, `fields`, `reader`, `head`, `placing`, `text`, `parts`,
-//! `mir`, then `laws`; the definitions are in specs/.
+//! The reader of MIR texts, of versions 1 and 2.
+//! Read `tables`, `judging`, `own_names`, `fields`, `reader`, `head`, `placing`, `header`, `text`,
+//! `parts`, `mir`, then `laws`; the definitions are in specs/.
 #![tactic(auto)]
 
 mod fields;
 mod head;
+mod header;
 mod judging;
 mod judging_types;
 mod knowing;
@@ -21,6 +22,7 @@ mod stating;
 mod tables;
 mod text;
 
+pub use header::is_mir_header;
 pub use laws::{
     mir_meaning_is_sound, mir_not_both, mir_not_neither, mir_one_fault, mir_one_meaning,
 };

@@ -1,10 +1,10 @@
 //! The body that a MIR text means.
 
 ghost use Rattle.std.specs.Prelude.{◌≡◌, IfOk, IfErr};
-ghost use Rattle.nll_reading.specs.Text.{IsFault, IsRefusal};
+ghost use Rattle.nll_reading.specs.Text.{IsRefusal};
 ghost use Rattle.nll_body.specs.Sound.{IsSound};
 ghost use Rattle.nll_mir_text.specs.MirReading.{said_by, IsReady};
-ghost use Rattle.nll_mir_text.specs.MirText.{body_said, mir, Means};
+ghost use Rattle.nll_mir_text.specs.MirText.{body_said, Means, IsMirFault};
 
 use crate::parts::read_text_parts;
 use crate::reader::Reader;
@@ -45,7 +45,7 @@ fn body(alloc: Global, reader: Reader) -> Result<Body, TextError>
     }
 }
 
-/// Reads a MIR text, version 1.
+/// Reads a MIR text, of version 1 or 2 by its header.
 ///
 /// # Errors
 /// The text's one fault: its first faulty line, and of that line the first kind in the order of
@@ -56,13 +56,13 @@ fn body(alloc: Global, reader: Reader) -> Result<Body, TextError>
 /// (not proved).
 pub fn read_mir(alloc: Global, text: &[u8]) -> Result<Body, TextError>
     ensures ok { IfOk result (Means text.now) }
-    ensures fault { IfErr result (IsRefusal (IsFault mir text.now)) }
+    ensures fault { IfErr result (IsRefusal (IsMirFault text.now)) }
 {
     let reader = read_text(alloc, text)?;
     body(alloc, reader)
 }
 
-/// Reads a MIR text, version 1, which is freed while it is read.
+/// Reads a MIR text, of version 1 or 2 by its header, which is freed while it is read.
 ///
 /// # Errors
 /// Those of `read_mir`.
@@ -72,7 +72,7 @@ pub fn read_mir(alloc: Global, text: &[u8]) -> Result<Body, TextError>
 /// read, the rest is kept by itself and the text freed, and so with the rest (not proved).
 pub fn read_mir_parts(alloc: Global, text: Vec<u8>) -> Result<Body, TextError>
     ensures ok { IfOk result (Means text.items) }
-    ensures fault { IfErr result (IsRefusal (IsFault mir text.items)) }
+    ensures fault { IfErr result (IsRefusal (IsMirFault text.items)) }
 {
     let reader = read_text_parts(alloc, text)?;
     body(alloc, reader)

@@ -4,14 +4,16 @@ ghost use Rattle.std.specs.Prelude.{◌≡◌, ◌+◌, ◌<◌, ◌≤◌, ◌^
 ghost use Rattle.std.specs.Prelude.{OnOk, IfOk, IfErr};
 ghost use Rattle.nll_problem.specs.Limits.{most_bytes};
 ghost use Rattle.nll_text.specs.Lines.{lines_left, lines_of};
-ghost use Rattle.nll_reading.specs.Text.{IsFault, IsRefusal};
+ghost use Rattle.nll_reading.specs.Text.{IsRefusal};
 ghost use Rattle.nll_mir_text.specs.MirSaid.{said};
-ghost use Rattle.nll_mir_text.specs.MirText.{mir};
+ghost use Rattle.nll_mir_text.specs.MirText.{IsMirFault};
 ghost use Rattle.nll_mir_text.specs.MirReading.{said_by, lines_in, Advances, AreShort, IsAmid};
 ghost use Rattle.nll_mir_text.specs.MirReading.{IsReady, IsUnderWay, HasRead, Holds, RefusesBody};
 
+use crate::header::check_header;
 use crate::reader::Reader;
-use crate::text::{check_header, refusal};
+use crate::text::refusal;
+use nll_mir_grammar::Version;
 use nll_problem::Kind;
 use nll_reading::{MAX_TEXT, TextError, TextKind};
 use nll_sets::Memory;
@@ -24,6 +26,7 @@ const LEAST: usize = 1 << 22;
 // Takes in the next line: the text behind it. The number is that of the line before it.
 fn read_next<'a>(
     reader: &mut Reader,
+    version: Version,
     text: &'a [u8],
     tokens: &mut Vec<Token<'a>>,
     number: &mut u64,
@@ -32,17 +35,17 @@ fn read_next<'a>(
     requires long { number.old + length (lines_of text.now) ≤ 2 ^ 32 }
     requires short { AreShort (lines_of text.now) }
     ensures counted { OnOk result (number.new ≡ number.old + 1) }
-    ensures advances { IfOk result (λ rest. Advances (lines_of text.now) (lines_left rest)
+    ensures advances { IfOk result (λ rest. Advances version (lines_of text.now) (lines_left rest)
         reader.old number.old reader.new number.new) }
     ensures fewer { IfOk result (λ rest.
         length (lines_left rest) < length (lines_of text.now)) }
     ensures fault { IfErr result (λ error. (all : List (List ℕ))
-        → IsAmid all (lines_of text.now) (said_by reader.old) number.old
-        → RefusesBody all error) }
+        → IsAmid version all (lines_of text.now) (said_by reader.old) number.old
+        → RefusesBody version all error) }
 {
     let (line, rest) = next_line(text);
     *number += 1;
-    match reader.read_line(line, tokens) {
+    match reader.read_line(version, line, tokens) {
         Ok(()) => Ok(rest),
         Err(kind) => Err(refusal(*number, kind)),
     }
@@ -53,6 +56,7 @@ fn read_next<'a>(
 // for the rest of what the text says.
 fn read_most<'a>(
     reader: &mut Reader,
+    version: Version,
     text: &'a [u8],
     tokens: &mut Vec<Token<'a>>,
     number: &mut u64,
@@ -60,25 +64,25 @@ fn read_most<'a>(
     requires ready { IsReady reader.old }
     requires long { number.old + length (lines_of text.now) ≤ 2 ^ 32 }
     requires short { AreShort (lines_of text.now) }
-    ensures advances { IfOk result (λ rest. Advances (lines_of text.now) (lines_left rest)
+    ensures advances { IfOk result (λ rest. Advances version (lines_of text.now) (lines_left rest)
         reader.old number.old reader.new number.new) }
     ensures fewer { IfOk result (λ rest.
         length (lines_left rest) < length (lines_of text.now)) }
     ensures fault { IfErr result (λ error. (all : List (List ℕ))
-        → IsAmid all (lines_of text.now) (said_by reader.old) number.old
-        → RefusesBody all error) }
+        → IsAmid version all (lines_of text.now) (said_by reader.old) number.old
+        → RefusesBody version all error) }
 {
     let enough = if text.len() < LEAST {
         0
     } else {
         text.len() / 3
     };
-    let mut rest = read_next(reader, text, tokens, number)?;
+    let mut rest = read_next(reader, version, text, tokens, number)?;
     while let Some(text) = rest {
         if text.len() < enough {
             return Ok(rest);
         }
-        rest = read_next(reader, text, tokens, number)?;
+        rest = read_next(reader, version, text, tokens, number)?;
     }
     Ok(None)
 }
@@ -102,22 +106,23 @@ fn keep(alloc: Global, rest: Option<&[u8]>) -> Result<Option<Vec<u8>>, Memory>
 fn read_part(
     alloc: Global,
     reader: &mut Reader,
+    version: Version,
     text: &[u8],
     number: &mut u64,
 ) -> Result<Option<Vec<u8>>, TextError>
     requires ready { IsReady reader.old }
     requires long { number.old + length (lines_of text.now) ≤ 2 ^ 32 }
     requires short { AreShort (lines_of text.now) }
-    ensures advances { IfOk result (λ kept. Advances (lines_of text.now)
+    ensures advances { IfOk result (λ kept. Advances version (lines_of text.now)
         (lines_in (option_map (λ v. v.items) kept)) reader.old number.old reader.new number.new) }
     ensures fewer { IfOk result (λ kept. length (lines_in (option_map (λ v. v.items) kept))
         < length (lines_of text.now)) }
     ensures fault { IfErr result (λ error. (all : List (List ℕ))
-        → IsAmid all (lines_of text.now) (said_by reader.old) number.old
-        → RefusesBody all error) }
+        → IsAmid version all (lines_of text.now) (said_by reader.old) number.old
+        → RefusesBody version all error) }
 {
     let mut tokens = Vec::new(alloc);
-    let rest = read_most(reader, text, &mut tokens, number);
+    let rest = read_most(reader, version, text, &mut tokens, number);
     drop(tokens);
     match keep(alloc, rest?) {
         Ok(kept) => Ok(kept),
@@ -132,6 +137,7 @@ fn read_part(
 fn read_parts(
     alloc: Global,
     reader: &mut Reader,
+    version: Version,
     first: Option<Vec<u8>>,
     before: u64,
 ) -> Result<(), TextError>
@@ -141,16 +147,16 @@ fn read_parts(
     ensures ready { OnOk result (IsReady reader.new) }
     ensures ended { OnOk result ((said_by reader.new).reached ≡ 8) }
     ensures read { OnOk result ((all : List (List ℕ))
-        → IsAmid all (lines_in (option_map (λ v. v.items) first)) (said_by reader.old) before
-        → HasRead all reader.new) }
+        → IsAmid version all (lines_in (option_map (λ v. v.items) first))
+        (said_by reader.old) before → HasRead version all reader.new) }
     ensures fault { IfErr result (λ error. (all : List (List ℕ))
-        → IsAmid all (lines_in (option_map (λ v. v.items) first)) (said_by reader.old) before
-        → RefusesBody all error) }
+        → IsAmid version all (lines_in (option_map (λ v. v.items) first))
+        (said_by reader.old) before → RefusesBody version all error) }
 {
     let mut number = before;
     let mut left = first;
     while let Some(text) = left {
-        left = read_part(alloc, reader, text.as_slice(), &mut number)?;
+        left = read_part(alloc, reader, version, text.as_slice(), &mut number)?;
     }
     if !reader.has_ended() {
         return Err(TextError {
@@ -161,26 +167,30 @@ fn read_parts(
     Ok(())
 }
 
-// Takes in the header and the lines of the first part: what is left behind it.
+// Takes in the header and the lines of the first part: the version, and what is left behind the
+// part.
 fn read_first(
     alloc: Global,
     reader: &mut Reader,
     text: &[u8],
     number: &mut u64,
-) -> Result<Option<Vec<u8>>, TextError>
+) -> Result<(Version, Option<Vec<u8>>), TextError>
     requires start { said_by reader.old ≡ said [] }
     requires ready { IsReady reader.old }
     requires long { length text.now ≤ most_bytes }
-    ensures under_way { IfOk result (λ kept. IsUnderWay text.now
-        (lines_in (option_map (λ v. v.items) kept)) reader.new number.new) }
-    ensures fault { IfErr result (IsRefusal (IsFault mir text.now)) }
+    ensures under_way { IfOk result (λ r. IsUnderWay r.0 text.now
+        (lines_in (option_map (λ v. v.items) r.1)) reader.new number.new) }
+    ensures fault { IfErr result (IsRefusal (IsMirFault text.now)) }
 {
     let (header, body) = next_line(text);
-    check_header(header)?;
+    let version = check_header(header)?;
     *number = 1;
     match body {
-        Some(body) => read_part(alloc, reader, body, number),
-        None => Ok(None),
+        Some(body) => {
+            let left = read_part(alloc, reader, version, body, number)?;
+            Ok((version, left))
+        }
+        None => Ok((version, None)),
     }
 }
 
@@ -191,23 +201,24 @@ fn read_freeing(alloc: Global, reader: &mut Reader, text: Vec<u8>) -> Result<(),
     requires long { length text.items ≤ most_bytes }
     ensures ok { OnOk result (Holds text.items reader.new) }
     ensures ready { OnOk result (IsReady reader.new) }
-    ensures fault { IfErr result (IsRefusal (IsFault mir text.items)) }
+    ensures fault { IfErr result (IsRefusal (IsMirFault text.items)) }
 {
     let mut number = 1;
-    let left = read_first(alloc, reader, text.as_slice(), &mut number);
+    let first = read_first(alloc, reader, text.as_slice(), &mut number);
     drop(text);
-    read_parts(alloc, reader, left?, number)?;
+    let first = first?;
+    read_parts(alloc, reader, first.0, first.1, number)?;
     Ok(())
 }
 
-/// Reads what the lines of a MIR text, version 1, say. The text is freed while it is read.
+/// Reads what the lines of a MIR text say. The text is freed while it is read.
 ///
 /// # Errors
 /// Those of `read_text`.
 pub(crate) fn read_text_parts(alloc: Global, text: Vec<u8>) -> Result<Reader, TextError>
     ensures ok { IfOk result (Holds text.items) }
     ensures ready { IfOk result IsReady }
-    ensures fault { IfErr result (IsRefusal (IsFault mir text.items)) }
+    ensures fault { IfErr result (IsRefusal (IsMirFault text.items)) }
 {
     if text.len() > MAX_TEXT {
         return Err(TextError {

@@ -2,20 +2,20 @@
 
 ghost use Rattle.std.specs.Prelude.{◌≡◌, ◌≢◌, ◌⊎◌, ◌<◌, ◌^◌, ℕ, List, [], length};
 ghost use Rattle.std.specs.Prelude.{OnOk, IfOk, IfErr};
-ghost use Rattle.std.specs.Str.{IsUtf8};
 ghost use Rattle.nll_text.specs.Lines.{lines_left};
-ghost use Rattle.nll_reading.specs.Text.{IsFault, IsHeaded, IsHeader, IsHeaderFault, IsRefusal};
+ghost use Rattle.nll_reading.specs.Text.{IsHeaded, IsRefusal};
 ghost use Rattle.nll_mir_text.specs.MirSaid.{said};
-ghost use Rattle.nll_mir_text.specs.MirText.{mir};
+ghost use Rattle.nll_mir_text.specs.MirText.{mir, IsMirFault};
 ghost use Rattle.nll_mir_text.specs.MirReading.{said_by, IsReady, HasRead, RefusesBody, Holds};
 ghost use Rattle.nll_mir_text.specs.MirReading.{AreShort};
 
+use crate::header::check_header;
 use crate::reader::Reader;
+use nll_mir_grammar::Version;
 use nll_problem::Kind;
 use nll_reading::{MAX_TEXT, TextError, TextKind};
-use nll_text::{is_header, next_line};
+use nll_text::next_line;
 use std::alloc::Global;
-use std::str;
 
 // The error of a line; want of memory is no line's.
 pub(crate) fn refusal(line: u64, kind: TextKind) -> TextError
@@ -30,15 +30,20 @@ pub(crate) fn refusal(line: u64, kind: TextKind) -> TextError
 }
 
 // Takes in the lines behind the header, to the end.
-fn read_lines(reader: &mut Reader, alloc: Global, body: Option<&[u8]>) -> Result<(), TextError>
+fn read_lines(
+    reader: &mut Reader,
+    alloc: Global,
+    version: Version,
+    body: Option<&[u8]>,
+) -> Result<(), TextError>
     requires start { said_by reader.old ≡ said [] }
     requires ready { IsReady reader.old }
     requires long { length (lines_left body) < 2 ^ 32 }
     requires short { AreShort (lines_left body) }
-    ensures read { OnOk result (HasRead (lines_left body.entry) reader.new) }
+    ensures read { OnOk result (HasRead version (lines_left body.entry) reader.new) }
     ensures ready { OnOk result (IsReady reader.new) }
     ensures ended { OnOk result ((said_by reader.new).reached ≡ 8) }
-    ensures fault { IfErr result (RefusesBody (lines_left body.entry)) }
+    ensures fault { IfErr result (RefusesBody version (lines_left body.entry)) }
 {
     let mut tokens = Vec::new(alloc);
     let mut number = 1;
@@ -46,7 +51,7 @@ fn read_lines(reader: &mut Reader, alloc: Global, body: Option<&[u8]>) -> Result
     while let Some(text) = rest {
         let (line, after) = next_line(text);
         number += 1;
-        if let Err(kind) = reader.read_line(line, &mut tokens) {
+        if let Err(kind) = reader.read_line(version, line, &mut tokens) {
             return Err(refusal(number, kind));
         }
         rest = after;
@@ -61,26 +66,26 @@ fn read_lines(reader: &mut Reader, alloc: Global, body: Option<&[u8]>) -> Result
 }
 
 // Reads the lines behind the header.
-fn read_body(alloc: Global, body: Option<&[u8]>) -> Result<Reader, TextError>
+fn read_body(alloc: Global, version: Version, body: Option<&[u8]>) -> Result<Reader, TextError>
     requires long { length (lines_left body) < 2 ^ 32 }
     requires short { AreShort (lines_left body) }
-    ensures ok { IfOk result (λ r. (text : List ℕ) → IsHeaded mir text (lines_left body.entry)
-        → Holds text r) }
+    ensures ok { IfOk result (λ r. (text : List ℕ)
+        → IsHeaded (mir version) text (lines_left body.entry) → Holds text r) }
     ensures ready { IfOk result IsReady }
-    ensures fault { IfErr result (RefusesBody (lines_left body.entry)) }
+    ensures fault { IfErr result (RefusesBody version (lines_left body.entry)) }
 {
     let mut reader = match Reader::new(alloc) {
         Ok(reader) => reader,
         Err(kind) => return Err(TextError { line: 0, kind }),
     };
-    if let Err(error) = read_lines(&mut reader, alloc, body) {
+    if let Err(error) = read_lines(&mut reader, alloc, version, body) {
         drop(reader);
         return Err(error);
     }
     Ok(reader)
 }
 
-/// Reads what the lines of a MIR text, version 1, say.
+/// Reads what the lines of a MIR text say.
 ///
 /// # Errors
 /// The text's one fault: its first faulty line, and of that line the first kind in the order of
@@ -88,7 +93,7 @@ fn read_body(alloc: Global, body: Option<&[u8]>) -> Result<Reader, TextError>
 pub(crate) fn read_text(alloc: Global, text: &[u8]) -> Result<Reader, TextError>
     ensures ok { IfOk result (Holds text.now) }
     ensures ready { IfOk result IsReady }
-    ensures fault { IfErr result (IsRefusal (IsFault mir text.now)) }
+    ensures fault { IfErr result (IsRefusal (IsMirFault text.now)) }
 {
     if text.len() > MAX_TEXT {
         return Err(TextError {
@@ -97,26 +102,6 @@ pub(crate) fn read_text(alloc: Global, text: &[u8]) -> Result<Reader, TextError>
         });
     }
     let (header, body) = next_line(text);
-    check_header(header)?;
-    read_body(alloc, body)
-}
-
-// Whether the first line is the header.
-pub(crate) fn check_header(header: &[u8]) -> Result<(), TextError>
-    ensures ok { OnOk result (IsUtf8 header.now × IsHeader mir header.now) }
-    ensures fault { IfErr result (IsHeaderFault mir header.now) }
-{
-    let Ok(_) = str::from_utf8(header) else {
-        return Err(TextError {
-            line: 1,
-            kind: TextKind::NotUtf8,
-        });
-    };
-    if !is_header(header, b"nll-mir", b"1") {
-        return Err(TextError {
-            line: 1,
-            kind: TextKind::Header,
-        });
-    }
-    Ok(())
+    let version = check_header(header)?;
+    read_body(alloc, version, body)
 }

@@ -12,12 +12,12 @@ use Rattle.std.specs.Prelude.{◌==◌, ◌||◌, if◌then◌else◌, slice_ind
 use Rattle.std.specs.Global.{Vec}
 use Rattle.nll_reading.specs.Names.{number_of}
 use Rattle.nll_types.specs.Types as types
-use Rattle.nll_types.specs.Shapes.{shape_of, shapes_of, parameter_shape, named_shape, tuple_shape}
+use Rattle.nll_types.specs.Shapes.{shape_of, shapes_of, parameter_shape, named_shape, tuple_shape, function_shape}
 use Rattle.nll_types.specs.Table as table
 use Rattle.nll_types.specs.Table.{AreBelow, Extends, shapes_in, shape_in}
 use Rattle.nll_types.specs.declared.node.Node.{Node}
 use Rattle.nll_type_grammar.specs.WrittenTypes.{Name, WrittenType, int, named}
-use Rattle.nll_type_grammar.specs.WrittenTypes.{tuple}
+use Rattle.nll_type_grammar.specs.WrittenTypes.{tuple, function}
 use Rattle.nll_type_grammar.specs.TypeTexts.{at, all_at, arguments_at, types_among, types_from, written}
 use Rattle.nll_type_grammar.specs.declared.type_text.TypeNode.{TypeNode}
 use Rattle.nll_type_grammar.specs.declared.type_text.Argument.{Argument}
@@ -243,4 +243,15 @@ judged_tuple s old new ts js judged is below j within known fits shape = record 
   fits = fits ∙ fit_all s old ts js judged is below;
   within = within;
   shape = shape ∙ ap tuple_shape (shapes_all s old ts js judged is below);
+}
+
+-- a function is judged by its arguments and its result
+pub judged_function : (s : Scope) (old new : List Node) (ts : List WrittenType) (js : List Judged) → AreJudged s old ts js → (is : List ℕ) → AreBelow (length js) is → (t : WrittenType) (r : Judged) → IsJudged s old t r → (j : Judged) → j.shape < length new
+    → j.known ≡ list_all (λ k. (judged_at js k).known) is && r.known → j.fits ≡ list_all (λ k. (judged_at js k).fits) is && r.fits
+    → shape_in new j.shape ≡ function_shape (table.all_at (shapes_in old) (map (λ k. (judged_at js k).shape) is)) (shape_in old r.shape) → IsJudged s new (function (all_at ts is) t) j
+judged_function s old new ts js judged is below t r last j within known fits shape = record {
+  known = known ∙ (ap (λ b. b && r.known) (known_all s old ts js judged is below) ∙ ap (λ b. are_known s (all_at ts is) && b) last.known);
+  fits = fits ∙ (ap (λ b. b && r.fits) (fit_all s old ts js judged is below) ∙ ap (λ b. have_arguments s (all_at ts is) && b) last.fits);
+  within = within;
+  shape = shape ∙ (ap (λ x. function_shape x (shape_in old r.shape)) (shapes_all s old ts js judged is below) ∙ ap (function_shape (shapes_of (all_meant s (all_at ts is)))) last.shape);
 }

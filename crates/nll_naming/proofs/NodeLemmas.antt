@@ -3,7 +3,7 @@ use Rattle.std.proofs.Common.{◌≡◌, ℕ, zero, suc, ◌+◌, ◌<◌, ◌�
 use Rattle.std.proofs.Math.Seq.{get_or-append_seam}
 use Rattle.std.proofs.lemmas.List.{get_or_append_left, get_or_default, length-append, length-take-le, take_more}
 use Rattle.nll_types.specs.Table.{AreBelow}
-use Rattle.nll_type_grammar.specs.WrittenTypes.{WrittenType, int, reference, tuple, named}
+use Rattle.nll_type_grammar.specs.WrittenTypes.{WrittenType, int, reference, tuple, named, function}
 use Rattle.nll_type_grammar.specs.TypeTexts.{at, all_at, arguments_at, types_among, type_over, types_from, parts_of, AreNodes}
 use Rattle.nll_type_grammar.specs.declared.type_text.TypeNode.{TypeNode}
 use Rattle.nll_type_grammar.specs.declared.type_text.TypeNode.TheVariants as nodes
@@ -47,6 +47,10 @@ type_kept old new n keeps nodes.Int over = refl
 type_kept old new n keeps (nodes.Reference r m i) over = ap (reference r.now m) (keeps i (over 0 (omega arith)))
 type_kept old new n keeps (nodes.Tuple ts) over = ap tuple (all_kept old new n keeps ts.items over)
 type_kept old new n keeps (nodes.Named s args) over = ap (named s.now) (arguments_kept old new n keeps args.items over)
+type_kept old new n keeps (nodes.Function ts i) over =
+    let rest = all_kept old new n keeps ts.items (λ k h. over (suc k) (omega arith)) in
+    let last = keeps i (over 0 (omega arith)) in
+    cc
 
 -- each number's type is that of its node
 at_from : (known : List WrittenType) (ns : List TypeNode) → ((i : ℕ) → i < length ns → AreBelow (length known + i) (parts_of (get_or ns i nodes.Int))) → (i : ℕ) → i < length ns → at (types_from known ns) (length known + i) ≡ type_over (types_from known ns) (get_or ns i nodes.Int)

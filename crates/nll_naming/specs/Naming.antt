@@ -4,7 +4,7 @@ use Rattle.std.specs.Prelude.{ℕ, Bool, true, false, ◌&&◌, ◌||◌, nat_lt
 use Rattle.std.specs.Prelude.{◌∷◌, length, slice_index_or}
 use Rattle.nll_reading.specs.Names.{number_of}
 use Rattle.nll_types.specs.Types.{TypeTree, TypeTrees, int, parameter, reference, tuple, named}
-use Rattle.nll_types.specs.Types.{none, more}
+use Rattle.nll_types.specs.Types.{function, none, more}
 use Rattle.nll_type_grammar.specs.WrittenTypes.{Name, WrittenType, WrittenTypes, Arguments}
 use Rattle.nll_type_grammar.specs.WrittenTypes.{no_argument, region_argument, type_argument}
 use Rattle.nll_type_grammar.specs.WrittenTypes as written
@@ -32,6 +32,7 @@ abbrev mutual
   meant s (written.named n args) =
       if is_among s.parameters n then parameter (number_of s.parameters n)
       else named (number_of s.structs n) (regions_meant s args) (types_meant s args)
+  meant s (written.function ts t) = function (all_meant s ts) (meant s t)
 
   pub all_meant : Scope → WrittenTypes → TypeTrees
   all_meant s written.none = none
@@ -57,6 +58,7 @@ abbrev mutual
   is_known s (written.tuple ts) = are_known s ts
   is_known s (written.named n args) =
       (is_among s.parameters n || is_among s.structs n) && arguments_are_known s args
+  is_known s (written.function ts t) = are_known s ts && is_known s t
 
   pub are_known : Scope → WrittenTypes → Bool
   are_known s written.none = true
@@ -95,6 +97,7 @@ abbrev mutual
   has_arguments s (written.tuple ts) = have_arguments s ts
   has_arguments s (written.named n args) =
       same_kinds (kinds_of args) (kinds_taken s n) && arguments_have_arguments s args
+  has_arguments s (written.function ts t) = have_arguments s ts && has_arguments s t
 
   pub have_arguments : Scope → WrittenTypes → Bool
   have_arguments s written.none = true

@@ -8,6 +8,7 @@ ghost use Rattle.nll_types.specs.Shapes.{reference_shape};
 ghost use Rattle.nll_types.specs.Table.{Extends, AreBelow, IsOver, shape_in};
 ghost use Rattle.nll_types.specs.Table.{shape_over, shapes_in};
 ghost use Rattle.nll_type_grammar.specs.WrittenTypes.{WrittenType, int, reference, tuple, named};
+ghost use Rattle.nll_type_grammar.specs.WrittenTypes.{function};
 ghost use Rattle.nll_type_grammar.specs.TypeTexts as texts;
 ghost use Rattle.nll_type_grammar.specs.TypeTexts.{AreNodes, all_at, arguments_at, parts_of};
 ghost use Rattle.nll_type_grammar.specs.TypeTexts.{type_over, written};
@@ -252,6 +253,32 @@ fn judge_tuple(
     judged_as(table, Node::Tuple(shapes), known, fits)
 }
 
+// Judges a function over what is judged of its arguments and of its result.
+fn judge_function(
+    alloc: Global,
+    scope: &Scope<'_>,
+    table: &mut TypeTable,
+    inputs: &[usize],
+    returned: Judged,
+    done: &[Judged],
+) -> Result<Judged, Memory>
+    requires inputs { AreBelow (length done.now) inputs.now }
+    requires returned { returned.shape < length table.old.shapes }
+    requires shapes { HaveShapes table.old.shapes done.now }
+    ensures structs { table.new.structs ≡ table.old.structs }
+    ensures extends { Extends table.old.shapes table.new.shapes }
+    ensures judged { IfOk result (λ j. (ts : List WrittenType) (t : WrittenType)
+        → AreJudged (scope_of scope.now) table.old.shapes ts done.now
+        → IsJudged (scope_of scope.now) table.old.shapes t returned
+        → IsJudged (scope_of scope.now) table.new.shapes (function (all_at ts inputs.now) t) j) }
+{
+    let (known, fits) = all_judged(done, inputs);
+    let known = both(known, returned.known);
+    let fits = both(fits, returned.fits);
+    let shapes = shapes_of(alloc, done, inputs)?;
+    judged_as(table, Node::Function(shapes, returned.shape), known, fits)
+}
+
 // Whether a shape is that of a reference to the target.
 fn is_reference(shapes: &Shapes, shape: usize, mutable: bool, target: usize) -> bool
     requires shape { shape < length shapes.now }
@@ -345,6 +372,9 @@ fn judge_node(
         TypeNode::Tuple(parts) => judge_tuple(alloc, scope, table, parts.as_slice(), done),
         TypeNode::Named(name, arguments) => {
             judge_named(alloc, scope, table, name, arguments.as_slice(), done)
+        }
+        TypeNode::Function(inputs, part) => {
+            judge_function(alloc, scope, table, inputs.as_slice(), done[*part], done)
         }
     }
 }

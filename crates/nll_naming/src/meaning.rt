@@ -4,7 +4,7 @@ ghost use Rattle.std.specs.Prelude.{◌≡◌, ◌<◌, ◌^◌, ◌++◌, ◌�
 ghost use Rattle.std.specs.Prelude.{true, false, IfOk, OnOk, MatchOption};
 ghost use Rattle.nll_reading.specs.Names.{number_of as number_among};
 ghost use Rattle.nll_types.specs.Table.{AreBelow};
-ghost use Rattle.nll_types.specs.Types.{TypeTree, TypeTrees, reference, tuple, named};
+ghost use Rattle.nll_types.specs.Types.{TypeTree, TypeTrees, reference, tuple, named, function};
 ghost use Rattle.nll_types.specs.Views.{tree, trees};
 ghost use Rattle.nll_type_grammar.specs.TypeTexts as texts;
 ghost use Rattle.nll_type_grammar.specs.TypeTexts.{AreNodes, types_from, all_at};
@@ -92,6 +92,21 @@ fn tuple_of(types: Result<Vec<Ty>, Memory>) -> Result<Ty, Memory>
     Ok(Ty::Tuple(types))
 }
 
+// A function of arguments of these types and a result of this one.
+fn function_of(
+    alloc: Global,
+    inputs: Result<Vec<Ty>, Memory>,
+    returned: Result<Ty, Memory>,
+) -> Result<Ty, Memory>
+    ensures { (ts : TypeTrees) (t : TypeTree) → IfOk inputs (λ v. trees v.items ≡ ts)
+        → IfOk returned (λ u. tree u ≡ t) → IfOk result (λ f. tree f ≡ function ts t) }
+{
+    let inputs = inputs?;
+    let returned = returned?;
+    let returned = Box::new(alloc, returned)?;
+    Ok(Ty::Function(inputs, returned))
+}
+
 // The number of the type parameter that a name is, where it is one's.
 fn parameter(scope: &Scope<'_>, name: &[u8]) -> Option<usize>
     ensures { MatchOption result (is_among (scope_of scope.now).parameters name.now ≡ false)
@@ -156,6 +171,10 @@ fn node_meant(
                 struct_of(alloc, scope, name, arguments.as_slice(), types)
             }
         },
+        TypeNode::Function(inputs, part) => {
+            let inputs = parts_meant(alloc, scope, nodes, number, inputs.as_slice());
+            function_of(alloc, inputs, node_meant(alloc, scope, nodes, *part))
+        }
     }
 }
 

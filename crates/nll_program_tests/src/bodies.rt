@@ -4,7 +4,9 @@ use super::limits::{repeat, say_each};
 use super::program::run_on;
 use super::rows::{ALONE, Asked, compare_row, compare_rows};
 use super::saying::say;
-use nll_worked_texts::{CALLED, DROPPED, MOVED, REBORROW, RETURNED, TWO_BORROWS};
+use nll_worked_texts::{
+    CALLED, DROPPED, FUNCTIONS, MOVED, REBORROW, RETURNED, TAKERS, TWO_BORROWS,
+};
 use std::process::Abort;
 use std::sync::Wait;
 use std::thread::Threads;
@@ -89,6 +91,25 @@ fn answers_mir_texts(rt: HostRuntime) {
         &rt,
         REBORROW_SHARED,
         "0>'static: bb0/0 bb0/1 bb0/2 end('static)|'a: bb0/0|'b: bb0/0 bb0/1|'r: bb0/1|'s: bb0/1|>",
+        OK,
+    );
+}
+
+// The same of texts of version 2.
+#[test]
+fn answers_mir_texts_of_version_2(rt: HostRuntime) {
+    compare_body(
+        &rt,
+        FUNCTIONS,
+        "0>'static: bb0/0 bb0/1 bb0/2 end('static)|'1: bb0/0|'2: bb0/0 bb0/1|'3: bb0/1|\
+            '4: bb0/1|>",
+        OK,
+    );
+    compare_body(
+        &rt,
+        TAKERS,
+        "0>'static: bb0/0 bb0/1 bb0/2 end('static)|'1: bb0/0 bb0/1|'2: bb0/0 bb0/1|'3: bb0/1|\
+            '4: bb0/1|>",
         OK,
     );
 }

@@ -6,8 +6,8 @@ use Rattle.nll_types.specs.Structs.{Struct}
 use Rattle.nll_types.specs.Views.{tree}
 use Rattle.nll_types.specs.declared.parameter.Sign.{Sign}
 use Rattle.nll_types.specs.declared.ty.Ty.{Ty}
-use Rattle.nll_types.specs.declared.ty.Ty.TheVariants.{Int, Parameter, Reference, Tuple, Named}
-use Rattle.nll_types.proofs.ViewLemmas.{tree_int, tree_parameter, tree_reference, tree_tuple, tree_named}
+use Rattle.nll_types.specs.declared.ty.Ty.TheVariants.{Int, Parameter, Reference, Tuple, Named, Function}
+use Rattle.nll_types.proofs.ViewLemmas.{tree_int, tree_parameter, tree_reference, tree_tuple, tree_named, tree_function}
 use Rattle.nll_rules.specs.Subtyping.{SubtypeAsksBehind}
 use Rattle.nll_rules.specs.Pairs.{AddsPairs}
 use Rattle.nll_rules.proofs.PairLemmas.{adds_none}
@@ -21,6 +21,9 @@ IsTuple t = (ts : Vec Ty) × (t ≡ Tuple ts)
 
 abbrev IsNamed : Ty → Type 0
 IsNamed t = (s : ℕ) × (rs : Vec ℕ) × (ts : Vec Ty) × (t ≡ Named s rs ts)
+
+abbrev IsFunction : Ty → Type 0
+IsFunction t = (ts : Vec Ty) × (b : Box Ty) × (t ≡ Function ts b)
 
 int_form : (t : Ty) → t ≡ Int → form (tree t) ≡ 0
 int_form t e = ap form (ap tree e ∙ tree_int)
@@ -37,20 +40,32 @@ tuple_form t ts e = ap form (ap tree e ∙ tree_tuple ts)
 pub named_form : (t : Ty) (s : ℕ) (rs : Vec ℕ) (ts : Vec Ty) → t ≡ Named s rs ts → form (tree t) ≡ 4
 named_form t s rs ts e = ap form (ap tree e ∙ tree_named s rs ts)
 
-pub no_reference : (t : Ty) → (t ≡ Int) ⊎ (((k : ℕ) × (t ≡ Parameter k)) ⊎ (IsTuple t ⊎ IsNamed t)) → form (tree t) ≡ 2 → ⊥
+pub function_form : (t : Ty) (ts : Vec Ty) (b : Box Ty) → t ≡ Function ts b → form (tree t) ≡ 5
+function_form t ts b e = ap form (ap tree e ∙ tree_function ts b)
+
+pub no_reference : (t : Ty) → (t ≡ Int) ⊎ (((k : ℕ) × (t ≡ Parameter k)) ⊎ (IsTuple t ⊎ (IsNamed t ⊎ IsFunction t))) → form (tree t) ≡ 2 → ⊥
 no_reference t w e =
     ⊎_elim (λ h. (let f = int_form t h in omega arith)) (⊎_elim (λ h. (let f = parameter_form t h in omega arith))
-    (⊎_elim (λ h. (let f = tuple_form t h.0 h.1 in omega arith)) (λ h. (let f = named_form t h.0 h.1 h.2 h.3 in omega arith)))) w
+    (⊎_elim (λ h. (let f = tuple_form t h.0 h.1 in omega arith))
+    (⊎_elim (λ h. (let f = named_form t h.0 h.1 h.2 h.3 in omega arith)) (λ h. (let f = function_form t h.0 h.1 h.2 in omega arith))))) w
 
-pub no_tuple : (t : Ty) → (t ≡ Int) ⊎ (((k : ℕ) × (t ≡ Parameter k)) ⊎ (IsReference t ⊎ IsNamed t)) → form (tree t) ≡ 3 → ⊥
+pub no_tuple : (t : Ty) → (t ≡ Int) ⊎ (((k : ℕ) × (t ≡ Parameter k)) ⊎ (IsReference t ⊎ (IsNamed t ⊎ IsFunction t))) → form (tree t) ≡ 3 → ⊥
 no_tuple t w e =
     ⊎_elim (λ h. (let f = int_form t h in omega arith)) (⊎_elim (λ h. (let f = parameter_form t h in omega arith))
-    (⊎_elim (λ h. (let f = reference_form t h.0 h.1 h.2 h.3 in omega arith)) (λ h. (let f = named_form t h.0 h.1 h.2 h.3 in omega arith)))) w
+    (⊎_elim (λ h. (let f = reference_form t h.0 h.1 h.2 h.3 in omega arith))
+    (⊎_elim (λ h. (let f = named_form t h.0 h.1 h.2 h.3 in omega arith)) (λ h. (let f = function_form t h.0 h.1 h.2 in omega arith))))) w
 
-pub no_named : (t : Ty) → (t ≡ Int) ⊎ (((k : ℕ) × (t ≡ Parameter k)) ⊎ (IsReference t ⊎ IsTuple t)) → form (tree t) ≡ 4 → ⊥
+pub no_named : (t : Ty) → (t ≡ Int) ⊎ (((k : ℕ) × (t ≡ Parameter k)) ⊎ (IsReference t ⊎ (IsTuple t ⊎ IsFunction t))) → form (tree t) ≡ 4 → ⊥
 no_named t w e =
     ⊎_elim (λ h. (let f = int_form t h in omega arith)) (⊎_elim (λ h. (let f = parameter_form t h in omega arith))
-    (⊎_elim (λ h. (let f = reference_form t h.0 h.1 h.2 h.3 in omega arith)) (λ h. (let f = tuple_form t h.0 h.1 in omega arith)))) w
+    (⊎_elim (λ h. (let f = reference_form t h.0 h.1 h.2 h.3 in omega arith))
+    (⊎_elim (λ h. (let f = tuple_form t h.0 h.1 in omega arith)) (λ h. (let f = function_form t h.0 h.1 h.2 in omega arith))))) w
+
+pub no_function : (t : Ty) → (t ≡ Int) ⊎ (((k : ℕ) × (t ≡ Parameter k)) ⊎ (IsReference t ⊎ (IsTuple t ⊎ IsNamed t))) → form (tree t) ≡ 5 → ⊥
+no_function t w e =
+    ⊎_elim (λ h. (let f = int_form t h in omega arith)) (⊎_elim (λ h. (let f = parameter_form t h in omega arith))
+    (⊎_elim (λ h. (let f = reference_form t h.0 h.1 h.2 h.3 in omega arith))
+    (⊎_elim (λ h. (let f = tuple_form t h.0 h.1 in omega arith)) (λ h. (let f = named_form t h.0 h.1 h.2 h.3 in omega arith))))) w
 
 -- types of two forms ask nothing of one another
 pub other_form : (structs : List Struct) (outer : Sign) (t u : Ty) (n : ℕ) (asked : List (ℕ × ℕ)) → form (tree t) ≡ n → (form (tree u) ≡ n → ⊥) → AddsPairs (SubtypeAsksBehind structs outer (tree t) (tree u)) asked asked
@@ -66,11 +81,10 @@ no_region structs outer t u asked w = ⊎_elim
     (λ (e : t ≡ Int). rw (ap tree e ∙ tree_int) (adds_none _ asked (int_asks structs outer (tree u))))
     (λ (e : (k : ℕ) × (t ≡ Parameter k)). rw (ap tree e.1 ∙ tree_parameter e.0) (adds_none _ asked (parameter_asks structs outer e.0 (tree u)))) w
 
-pub no_parts : (t : Ty) → (t ≡ Int) ⊎ (((k : ℕ) × (t ≡ Parameter k)) ⊎ IsReference t) → (form (tree t) ≡ 3 → ⊥) × (form (tree t) ≡ 4 → ⊥)
-no_parts t w = (λ e. from 3 e (λ l. omega arith), λ e. from 4 e (λ l. omega arith))
+pub no_parts : (t : Ty) → (t ≡ Int) ⊎ (((k : ℕ) × (t ≡ Parameter k)) ⊎ (IsReference t ⊎ IsFunction t)) → (form (tree t) ≡ 3 → ⊥) × (form (tree t) ≡ 4 → ⊥)
+no_parts t w = (λ e. neither 3 e (λ l. omega arith) (λ l. omega arith), λ e. neither 4 e (λ l. omega arith) (λ l. omega arith))
   where
-    small : form (tree t) < 3
-    small = ⊎_elim (λ h. (let f = int_form t h in omega arith)) (⊎_elim (λ h. (let f = parameter_form t h in omega arith)) (λ h. (let f = reference_form t h.0 h.1 h.2 h.3 in omega arith))) w
-
-    from : (n : ℕ) → form (tree t) ≡ n → (n < 3 → ⊥) → ⊥
-    from n e big = big (let l = small in omega arith)
+    neither : (n : ℕ) → form (tree t) ≡ n → (n < 3 → ⊥) → (n ≡ 5 → ⊥) → ⊥
+    neither n e big other =
+        ⊎_elim (λ h. big (let f = int_form t h in omega arith)) (⊎_elim (λ h. big (let f = parameter_form t h in omega arith))
+        (⊎_elim (λ h. big (let f = reference_form t h.0 h.1 h.2 h.3 in omega arith)) (λ h. other (let f = function_form t h.0 h.1 h.2 in omega arith)))) w

@@ -3,7 +3,7 @@ use Rattle.std.proofs.Common.{◌≡◌, ℕ, zero, suc, ◌+◌, ◌-◌, ◌<�
 use Rattle.std.specs.Prelude.{slice_get, option_map, option_and_then, unwrap_or}
 use Rattle.std.proofs.Math.Seq.{drop-cons}
 use Rattle.std.proofs.lemmas.List.Elements.{Contains-push, Contains-push_cases, Contains-append_left}
-use Rattle.nll_types.specs.Types.{TypeTree, int, parameter, reference, tuple, named}
+use Rattle.nll_types.specs.Types.{TypeTree, int, parameter, reference, tuple, named, function}
 use Rattle.nll_types.specs.Structs.{Struct}
 use Rattle.nll_types.specs.Places.{PlacePath, behind, behind_all}
 use Rattle.nll_types.specs.declared.place.Projection.{Projection}
@@ -63,6 +63,7 @@ past_is Deref int regions a = kept Deref int regions a (λ b q f. (let e = f.2 i
 past_is Deref (parameter k) regions a = kept Deref (parameter k) regions a (λ b q f. (let e = f.2 in cc))
 past_is Deref (tuple ts) regions a = kept Deref (tuple ts) regions a (λ b q f. (let e = f.2 in cc))
 past_is Deref (named s rs ts) regions a = kept Deref (named s rs ts) regions a (λ b q f. (let e = f.2 in cc))
+past_is Deref (function ts t) regions a = kept Deref (function ts t) regions a (λ b q f. (let e = f.2 in cc))
 past_is (Field k) t regions a = kept (Field k) t regions a (λ b q f. (let e = f.0 in cc))
 
 first_of : (structs : List Struct) (p : Projection) (ps : List Projection) (t : TypeTree) (a : ℕ) (m : Bool) → Through structs (p ∷ ps) (Some t) 0 a m → First p t a m
@@ -166,6 +167,7 @@ deref_ends structs ps n d (parameter k) regions l is differs = step_none structs
 deref_ends structs ps n d (reference r m t) regions l is differs = absurd (differs refl)
 deref_ends structs ps n d (tuple ts) regions l is differs = step_none structs ps n d Deref (tuple ts) regions l is refl
 deref_ends structs ps n d (named s rs ts) regions l is differs = step_none structs ps n d Deref (named s rs ts) regions l is refl
+deref_ends structs ps n d (function ts t) regions l is differs = step_none structs ps n d Deref (function ts t) regions l is refl
 
 pub no_field : (structs : List Struct) (k : ℕ) (t : TypeTree) → (form t ≡ 3 → ⊥) → (form t ≡ 4 → ⊥) → behind structs (Field k) t ≡ None
 no_field structs k int a b = refl
@@ -173,6 +175,7 @@ no_field structs k (parameter j) a b = refl
 no_field structs k (reference r m t) a b = refl
 no_field structs k (tuple ts) a b = absurd (a refl)
 no_field structs k (named s rs ts) a b = absurd (b refl)
+no_field structs k (function ts t) a b = refl
 
 -- what is left to walk
 abbrev pub left : List Projection → Option (Ty × ℕ) → ℕ

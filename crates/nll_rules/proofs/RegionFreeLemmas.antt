@@ -2,7 +2,7 @@
 use Rattle.std.proofs.Common.{◌≡◌, ℕ, zero, suc, ◌+◌, ◌<◌, ◌≤◌, Bool, true, List, [], ◌∷◌, ◌++◌, length, map, Option, Some, None, refl, sym, ap, ◌∙◌, subst, arith, inl, inr, ⊎_elim, ◌↔◌, ◌⊎◌, Contains}
 use Rattle.std.specs.Prelude.{slice_get, option_map, option_and_then}
 use Rattle.std.proofs.lemmas.Option.{slice_get_within, get_or_from_slice_get}
-use Rattle.nll_types.specs.Types.{TypeTree, TypeTrees, int, parameter, reference, tuple, named, none, more, type_at, HasRegion, AnyHasRegion}
+use Rattle.nll_types.specs.Types.{TypeTree, TypeTrees, int, parameter, reference, tuple, named, function, none, more, type_at, HasRegion, AnyHasRegion}
 use Rattle.nll_types.specs.Structs.{Struct, struct_at, region_in, argument, put_in, put_in_all}
 use Rattle.nll_types.specs.Views.{tree, trees}
 use Rattle.nll_types.specs.declared.ty.Ty.{Ty}
@@ -12,7 +12,7 @@ use Rattle.nll_types.specs.Places.{PlacePath, behind, behind_all, type_of}
 use Rattle.nll_types.specs.Operands.{Operand, constant, copied, moved, operand_type}
 use Rattle.nll_types.specs.declared.place.Projection.{Projection}
 use Rattle.nll_types.specs.declared.place.Projection.TheVariants.{Deref, Field}
-use Rattle.nll_rules.specs.Positions.{Turn, own, target, part, region_argument, type_argument, HasRegionAt}
+use Rattle.nll_rules.specs.Positions.{Turn, own, target, part, region_argument, type_argument, input, output, HasRegionAt}
 use Rattle.nll_rules.specs.Reborrows.{RestsOn, prefix}
 use Rattle.nll_rules.specs.Pairs.{AddsPairs, BothAsk}
 use Rattle.nll_rules.proofs.PairLemmas.{adds_none}
@@ -31,6 +31,7 @@ mutual
   no_region_in marks (reference q m t) r b h = b
   no_region_in marks (tuple ts) r b h = no_region_in_all marks ts r b h
   no_region_in marks (named s rs ts) r b h = ⊎_elim (λ c. none_of rs r b.1 c) (no_region_in_all marks ts r b.2) h
+  no_region_in marks (function ts t) r b h = ⊎_elim (no_region_in_all marks ts r b.0) (no_region_in marks t r b.1) h
 
   no_region_in_all : (marks : List Bool) (ts : TypeTrees) (r : ℕ) → AreBare marks ts → AnyHasRegion ts r → ⊥
   no_region_in_all marks none r b h = h
@@ -55,6 +56,7 @@ mutual
   put_bare marks rs ts (reference r m t) as' b = absurd b
   put_bare marks rs ts (tuple us) as' b = put_all_bare marks rs ts us as' b
   put_bare marks rs ts (named s qs us) as' b = (b.0, ap (map (region_in rs)) b.1, put_all_bare marks rs ts us as' b.2)
+  put_bare marks rs ts (function us u) as' b = (put_all_bare marks rs ts us as' b.0, put_bare marks rs ts u as' b.1)
 
   put_all_bare : (marks : List Bool) (rs : List ℕ) (ts us : TypeTrees) → AreBare marks ts → AreBare marks us → AreBare marks (put_in_all rs ts us)
   put_all_bare marks rs ts none as' b = b
@@ -71,10 +73,12 @@ behind_bare structs marks Deref (parameter k) u f b e = absurd cc
 behind_bare structs marks Deref (reference r m t) u f b e = absurd b
 behind_bare structs marks Deref (tuple ts) u f b e = absurd cc
 behind_bare structs marks Deref (named s rs ts) u f b e = absurd cc
+behind_bare structs marks Deref (function ts t) u f b e = absurd cc
 behind_bare structs marks (Field k) int u f b e = absurd cc
 behind_bare structs marks (Field k) (parameter j) u f b e = absurd cc
 behind_bare structs marks (Field k) (reference r m t) u f b e = absurd b
 behind_bare structs marks (Field k) (tuple ts) u f b e = bare_at marks ts k u b e
+behind_bare structs marks (Field k) (function ts t) u f b e = absurd cc
 behind_bare structs marks (Field k) (named s rs ts) u f b e =
     field_bare marks rs ts (type_at (struct_at structs s).fields k) u b.2 (λ t at. bare_at marks (struct_at structs s).fields k t (f s b.0) at) e
 
@@ -110,6 +114,7 @@ mutual
   bare_more marks c (reference r m t) b = b
   bare_more marks c (tuple ts) b = all_bare_more marks c ts b
   bare_more marks c (named s rs ts) b = (at_more marks c s true b.0, b.1, all_bare_more marks c ts b.2)
+  bare_more marks c (function ts t) b = (all_bare_more marks c ts b.0, bare_more marks c t b.1)
 
   all_bare_more : (marks : List Bool) (c : Bool) (ts : TypeTrees) → AreBare marks ts → AreBare (marks ++ c ∷ []) ts
   all_bare_more marks c none b = b
@@ -182,6 +187,8 @@ at_position (reference q m t) (target n ∷ way) r h = inr (at_position t way r 
 at_position (tuple ts) (part k ∷ way) r h = any_at ts k h.0 r h.1 (at_position h.0 way r h.2)
 at_position (named s rs ts) (region_argument n k ∷ way) r h = inl (there rs k r h.2)
 at_position (named s rs ts) (type_argument n k ∷ way) r h = inr (any_at ts k h.0 r h.2 (at_position h.0 way r h.3))
+at_position (function ts u) (input k ∷ way) r h = inl (any_at ts k h.0 r h.1 (at_position h.0 way r h.2))
+at_position (function ts u) (output ∷ way) r h = inr (at_position u way r h)
 at_position int (own ∷ way) r h = absurd h
 at_position (parameter j) (own ∷ way) r h = absurd h
 at_position t way r h = absurd h

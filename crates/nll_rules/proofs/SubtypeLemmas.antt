@@ -2,24 +2,30 @@
 use Rattle.std.proofs.Common.{◌≡◌, ℕ, zero, suc, ◌<◌, ◌≤◌, List, [], ◌∷◌, length, refl, sym, ap, ◌∙◌, subst, arith, ⊎_elim, inl, inr, ◌↔◌, ◌⊎◌, Bool, true, false, Some}
 use Rattle.std.specs.Prelude.{slice_get, min}
 use Rattle.std.specs.Bool.{beq}
-use Rattle.nll_types.specs.Types.{TypeTree, TypeTrees, int, parameter, reference, tuple, named, type_at}
+use Rattle.nll_types.specs.Types.{TypeTree, TypeTrees, int, parameter, reference, tuple, named, function, type_at}
 use Rattle.nll_types.specs.Structs.{Struct, struct_at}
 use Rattle.nll_types.specs.declared.parameter.Parameter.{Parameter}
 use Rattle.nll_types.specs.declared.parameter.Sign.{Sign}
-use Rattle.nll_types.specs.declared.parameter.Sign.TheVariants.{Covariant, Invariant}
+use Rattle.nll_types.specs.declared.parameter.Sign.TheVariants.{Covariant, Contravariant, Invariant}
 use Rattle.nll_types.specs.Views.{trees}
 use Rattle.nll_types.specs.declared.ty.Ty.{Ty}
 use Rattle.nll_types.proofs.ViewLemmas.{type_within}
-use Rattle.nll_rules.specs.Positions.{Turn, own, target, part, region_argument, type_argument, HasRegionAt, times, sign_or, target_sign, sign_of}
+use Rattle.nll_rules.specs.Positions.{Turn, own, target, part, region_argument, type_argument, input, output, HasRegionAt, times, sign_or, target_sign, sign_of}
 use Rattle.nll_rules.specs.Subtyping.{IsAsked, SubtypeAsksBehind}
 use Rattle.nll_rules.specs.Pairs.{AtOne, ArgumentAsks, TypeAsks}
 
 times_assoc : (a b c : Sign) → times a (times b c) ≡ times (times a b) c
 times_assoc Covariant b c = refl
+times_assoc Contravariant Covariant c = refl
+times_assoc Contravariant Contravariant Covariant = refl
+times_assoc Contravariant Contravariant Contravariant = refl
+times_assoc Contravariant Contravariant Invariant = refl
+times_assoc Contravariant Invariant c = refl
 times_assoc Invariant b c = refl
 
 times_covariant : (a : Sign) → times a Covariant ≡ a
 times_covariant Covariant = refl
+times_covariant Contravariant = refl
 times_covariant Invariant = refl
 
 -- where two signs are one, what is asked is one
@@ -50,14 +56,17 @@ form (parameter k) = 1
 form (reference r m t) = 2
 form (tuple ts) = 3
 form (named s rs ts) = 4
+form (function ts t) = 5
 
 abbrev form_of : List Turn → ℕ
-form_of [] = 5
+form_of [] = 6
 form_of (own ∷ way) = 2
 form_of (target m ∷ way) = 2
 form_of (part k ∷ way) = 3
 form_of (region_argument s k ∷ way) = 4
 form_of (type_argument s k ∷ way) = 4
+form_of (input k ∷ way) = 5
+form_of (output ∷ way) = 5
 
 form_is : (t : TypeTree) (way : List Turn) (r : ℕ) → HasRegionAt t way r → form t ≡ form_of way
 form_is (reference q m t) (own ∷ way) r h = refl
@@ -65,6 +74,8 @@ form_is (reference q m t) (target n ∷ way) r h = refl
 form_is (tuple ts) (part k ∷ way) r h = refl
 form_is (named s rs ts) (region_argument n k ∷ way) r h = refl
 form_is (named s rs ts) (type_argument n k ∷ way) r h = refl
+form_is (function ts t) (input k ∷ way) r h = refl
+form_is (function ts t) (output ∷ way) r h = refl
 form_is int (own ∷ way) r h = absurd h
 form_is (parameter j) (own ∷ way) r h = absurd h
 form_is t way r h = absurd h
@@ -187,6 +198,24 @@ asks_named structs outer s rs qs ts us x = (⊎_elim here inside, λ w. back w.0
             ),
           ),
         )
+    back way a b h k ask = absurd h
+
+pub asks_function : (structs : List Struct) (outer : Sign) (ts us : TypeTrees) (t u : TypeTree) (x : ℕ × ℕ)
+    → (AtOne (TypeAsks structs [] Contravariant outer ts us) x ⊎ SubtypeAsksBehind structs outer t u x) ↔ SubtypeAsksBehind structs outer (function ts t) (function us u) x
+asks_function structs outer ts us t u x = (⊎_elim inside through, λ w. back w.0 w.1 w.2 w.3 w.4 w.5)
+  where
+    inside : AtOne (TypeAsks structs [] Contravariant outer ts us) x → SubtypeAsksBehind structs outer (function ts t) (function us u) x
+    inside k = (let y = k.1 in let w = y.4 in
+        (input k.0 ∷ w.0, w.1, w.2, (y.0, y.2, w.3), (y.1, y.3, w.4), asked_as (times (times outer Contravariant) (sign_of structs w.0)) (times outer (times Contravariant (sign_of structs w.0))) w.1 w.2 x (sym (times_assoc outer Contravariant (sign_of structs w.0))) w.5))
+
+    through : SubtypeAsksBehind structs outer t u x → SubtypeAsksBehind structs outer (function ts t) (function us u) x
+    through w = (output ∷ w.0, w.1, w.2, w.3, w.4, w.5)
+
+    back : (way : List Turn) (a b : ℕ) → HasRegionAt (function ts t) way a → HasRegionAt (function us u) way b → IsAsked (times outer (sign_of structs way)) a b x
+        → AtOne (TypeAsks structs [] Contravariant outer ts us) x ⊎ SubtypeAsksBehind structs outer t u x
+    back (input i ∷ way) a b h k ask =
+        inl (i, (h.0, k.0, h.1, k.1, (way, a, b, h.2, k.2, asked_as (times outer (times Contravariant (sign_of structs way))) (times (times outer Contravariant) (sign_of structs way)) a b x (times_assoc outer Contravariant (sign_of structs way)) ask)))
+    back (output ∷ way) a b h k ask = inr (way, a, b, h, k, ask)
     back way a b h k ask = absurd h
 
 -- uses of two structs ask nothing of one another

@@ -2,7 +2,7 @@
 -- Source: project's choice. Only private contracts cite this file.
 use Rattle.std.specs.Prelude.{◌≡◌, ℕ, Bool, true, List, [], Some, slice_get}
 use Rattle.nll_types.specs.Types.{TypeTree, TypeTrees, int, parameter, reference, tuple, named}
-use Rattle.nll_types.specs.Types.{none, more}
+use Rattle.nll_types.specs.Types.{function, none, more}
 use Rattle.nll_types.specs.Structs.{Struct, struct_at}
 use Rattle.nll_types.specs.Operands.{Operand, constant, copied, moved}
 
@@ -21,6 +21,7 @@ abbrev mutual
   IsBare marks (tuple ts) = AreBare marks ts
   IsBare marks (named s rs ts) =
       (slice_get marks s ≡ Some true) × (rs ≡ []) × AreBare marks ts
+  IsBare marks (function ts t) = AreBare marks ts × IsBare marks t
 
   pub AreBare : List Bool → TypeTrees → Type 0
   AreBare marks none = Unit {0}

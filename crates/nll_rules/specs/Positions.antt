@@ -2,27 +2,34 @@
 -- Source: RFC 2094, "Subtyping" (variance); the forms are project's choice.
 use Rattle.std.specs.Prelude.{◌≡◌, ℕ, Bool, true, false, List, [], ◌∷◌, slice_get, Some}
 use Rattle.std.specs.Prelude.{option_map, unwrap_or}
-use Rattle.nll_types.specs.Types.{TypeTree, reference, tuple, named, type_at}
+use Rattle.nll_types.specs.Types.{TypeTree, reference, tuple, named, function, type_at}
 use Rattle.nll_types.specs.Structs.{Struct, struct_at}
 use Rattle.nll_types.specs.declared.parameter.Parameter.{Parameter}
 use Rattle.nll_types.specs.declared.parameter.Sign.{Sign}
-use Rattle.nll_types.specs.declared.parameter.Sign.TheVariants.{Covariant, Invariant}
+use Rattle.nll_types.specs.declared.parameter.Sign.TheVariants.{Covariant, Contravariant}
+use Rattle.nll_types.specs.declared.parameter.Sign.TheVariants.{Invariant}
 
--- the product of two signs: that of a position behind another; behind an invariant one all are
--- invariant
+-- The product of two signs: that of a position behind another. Behind a covariant position each
+-- sign stays, behind a contravariant one it is turned round, and behind an invariant one all are
+-- invariant.
 abbrev pub times : Sign → Sign → Sign
 times Covariant s = s
+times Contravariant Covariant = Contravariant
+times Contravariant Contravariant = Covariant
+times Contravariant Invariant = Invariant
 times Invariant s = Invariant
 
 -- A turn on the way to a region in a type: to a reference's own region, to what a reference, `mut`
--- or not, points to, to a part of a tuple, to a region argument of a struct, or to a type argument.
--- Parts and arguments are counted from 0.
+-- or not, points to, to a part of a tuple, to a region argument of a struct, to a type argument of
+-- one, to an argument of a function, or to its result. Parts and arguments are counted from 0.
 pub data Turn : Type 0 where
   own : Turn
   target : Bool → Turn
   part : ℕ → Turn
   region_argument : ℕ → ℕ → Turn
   type_argument : ℕ → ℕ → Turn
+  input : ℕ → Turn
+  output : Turn
 
 -- The region stands in the type at the end of the way.
 abbrev pub HasRegionAt : TypeTree → List Turn → ℕ → Type 0
@@ -35,6 +42,9 @@ HasRegionAt (named s rs ts) (region_argument n k ∷ way) r =
     (way ≡ []) × (n ≡ s) × (slice_get rs k ≡ Some r)
 HasRegionAt (named s rs ts) (type_argument n k ∷ way) r =
     (t : TypeTree) × (n ≡ s) × (type_at ts k ≡ Some t) × HasRegionAt t way r
+HasRegionAt (function ts u) (input k ∷ way) r =
+    (t : TypeTree) × (type_at ts k ≡ Some t) × HasRegionAt t way r
+HasRegionAt (function ts u) (output ∷ way) r = HasRegionAt u way r
 HasRegionAt t way r = ⊥
 
 -- the sign of a parameter, or this one where there is no such parameter
@@ -46,13 +56,16 @@ abbrev pub target_sign : Bool → Sign
 target_sign false = Covariant
 target_sign true = Invariant
 
--- the sign of a turn: an argument has the declared sign of its parameter
+-- the sign of a turn: an argument of a struct has the declared sign of its parameter; a function's
+-- argument is contravariant, since it goes into the function, and its result is covariant
 abbrev pub turn_sign : List Struct → Turn → Sign
 turn_sign structs own = Covariant
 turn_sign structs (target m) = target_sign m
 turn_sign structs (part k) = Covariant
 turn_sign structs (region_argument s k) = sign_or (struct_at structs s).regions k Invariant
 turn_sign structs (type_argument s k) = sign_or (struct_at structs s).types k Invariant
+turn_sign structs (input k) = Contravariant
+turn_sign structs output = Covariant
 
 -- the sign of a position: the product of the signs of the turns on the way to it
 abbrev pub sign_of : List Struct → List Turn → Sign

@@ -4,14 +4,16 @@ use Rattle.std.specs.Prelude.{◌≡◌, ◌⊎◌, ℕ, List}
 use Rattle.nll_types.specs.Types.{TypeTree}
 use Rattle.nll_types.specs.Structs.{Struct}
 use Rattle.nll_types.specs.declared.parameter.Sign.{Sign}
-use Rattle.nll_types.specs.declared.parameter.Sign.TheVariants.{Covariant, Invariant}
+use Rattle.nll_types.specs.declared.parameter.Sign.TheVariants.{Covariant, Contravariant}
+use Rattle.nll_types.specs.declared.parameter.Sign.TheVariants.{Invariant}
 use Rattle.nll_rules.specs.Positions.{Turn, HasRegionAt, times, sign_of}
 
 -- What is asked of a region of the first type and one of the second at a position of this sign: of
--- the pair that is asked the first region must outlive the second. An invariant position asks both
--- ways.
+-- the pair that is asked the first region must outlive the second. A contravariant position asks
+-- the other way round, and an invariant one both ways.
 abbrev pub IsAsked : Sign → ℕ → ℕ → ℕ × ℕ → Type 0
 IsAsked Covariant a b x = (a, b) ≡ x
+IsAsked Contravariant a b x = (b, a) ≡ x
 IsAsked Invariant a b x = ((a, b) ≡ x) ⊎ ((b, a) ≡ x)
 
 -- the first type, at a position of this sign, is to be a subtype of the second, and this asks the

@@ -21,9 +21,13 @@ fn ask_pair(
 ) -> Result<(), Memory>
     ensures { OnOk result (AddsPairs (IsAsked sign a b) asked.old.items asked.new.items) }
 {
-    asked.push((a, b))?;
-    if sign == Sign::Invariant {
-        asked.push((b, a))?;
+    match sign {
+        Sign::Covariant => asked.push((a, b))?,
+        Sign::Contravariant => asked.push((b, a))?,
+        Sign::Invariant => {
+            asked.push((a, b))?;
+            asked.push((b, a))?;
+        }
     }
     Ok(())
 }
@@ -88,7 +92,9 @@ pub(crate) fn subtyping_of_reference(
             }
             Ok(())
         }
-        Ty::Int | Ty::Parameter(_) | Ty::Tuple(_) | Ty::Named(_, _, _) => Ok(()),
+        Ty::Int | Ty::Parameter(_) | Ty::Tuple(_) | Ty::Named(_, _, _) | Ty::Function(_, _) => Ok(
+            (),
+        ),
     }
 }
 
@@ -115,7 +121,9 @@ fn ask(
                 }
                 Ok(())
             }
-            Ty::Int | Ty::Parameter(_) | Ty::Tuple(_) | Ty::Named(_, _, _) => Ok(()),
+            Ty::Int | Ty::Parameter(_) | Ty::Tuple(_) | Ty::Named(_, _, _) | Ty::Function(_, _) => {
+                Ok(())
+            }
         },
         Ty::Tuple(ts) => match other {
             Ty::Tuple(us) => {
@@ -123,7 +131,11 @@ fn ask(
                 ask_types(structs, &[], Sign::Covariant, ts, us, outer, asked)?;
                 Ok(())
             }
-            Ty::Int | Ty::Parameter(_) | Ty::Reference(_, _, _) | Ty::Named(_, _, _) => Ok(()),
+            Ty::Int
+            | Ty::Parameter(_)
+            | Ty::Reference(_, _, _)
+            | Ty::Named(_, _, _)
+            | Ty::Function(_, _) => Ok(()),
         },
         Ty::Named(number, rs, ts) => match other {
             Ty::Named(other_number, qs, us) => {
@@ -136,13 +148,30 @@ fn ask(
                 }
                 Ok(())
             }
-            Ty::Int | Ty::Parameter(_) | Ty::Reference(_, _, _) | Ty::Tuple(_) => Ok(()),
+            Ty::Int
+            | Ty::Parameter(_)
+            | Ty::Reference(_, _, _)
+            | Ty::Tuple(_)
+            | Ty::Function(_, _) => Ok(()),
+        },
+        Ty::Function(ts, t) => match other {
+            Ty::Function(us, u) => {
+                let (ts, us) = (ts.as_slice(), us.as_slice());
+                ask_types(structs, &[], Sign::Contravariant, ts, us, outer, asked)?;
+                ask(structs, t, u, outer, asked)?;
+                Ok(())
+            }
+            Ty::Int
+            | Ty::Parameter(_)
+            | Ty::Reference(_, _, _)
+            | Ty::Tuple(_)
+            | Ty::Named(_, _, _) => Ok(()),
         },
     }
 }
 
-// Puts what the subtypings of types in turn ask behind the others: of parts, whose sign is the
-// other one, or of arguments for parameters.
+// Puts what the subtypings of types in turn ask behind the others: of parts or of a function's
+// arguments, whose sign is the other one, or of a struct's arguments for parameters.
 #[cycle(asking)]
 fn ask_types(
     structs: &Structs,

@@ -24,7 +24,8 @@ fn leads_on(structs: &Structs, ty: &Ty, projections: &[Projection], from: usize)
                 let leads = leads_on(structs, target, projections, from + 1);
                 leads
             }
-            Ty::Int | Ty::Parameter(_) | Ty::Tuple(_) | Ty::Named(_, _, _) => false,
+            Ty::Int | Ty::Parameter(_) | Ty::Tuple(_) | Ty::Named(_, _, _) | Ty::Function(_, _) =>
+                false,
         },
         Projection::Field(place) => match ty {
             Ty::Tuple(parts) => {
@@ -42,7 +43,7 @@ fn leads_on(structs: &Structs, ty: &Ty, projections: &[Projection], from: usize)
                 }
                 None => false,
             },
-            Ty::Int | Ty::Parameter(_) | Ty::Reference(_, _, _) => false,
+            Ty::Int | Ty::Parameter(_) | Ty::Reference(_, _, _) | Ty::Function(_, _) => false,
         },
     }
 }

@@ -51,7 +51,7 @@ fn ask_part_of(
             ask_operand_to(alloc, structs, variables, operand, &made, asked)?;
             Ok(())
         }
-        Ty::Int | Ty::Parameter(_) | Ty::Reference(_, _, _) => Ok(()),
+        Ty::Int | Ty::Parameter(_) | Ty::Reference(_, _, _) | Ty::Function(_, _) => Ok(()),
     }
 }
 

@@ -49,6 +49,13 @@ fn is_bare(marks: &[bool], ty: &Ty) -> bool
             let bare = are_bare(marks, types.as_slice());
             bare
         }
+        Ty::Function(arguments, returned) => {
+            if !are_bare(marks, arguments.as_slice()) {
+                return false;
+            }
+            let bare = is_bare(marks, returned);
+            bare
+        }
     }
 }
 

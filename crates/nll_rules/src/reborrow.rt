@@ -55,7 +55,9 @@ fn walk(
                 let reached = walk(alloc, structs, target, projections, from + 1, regions)?;
                 Ok(reached)
             }
-            Ty::Int | Ty::Parameter(_) | Ty::Tuple(_) | Ty::Named(_, _, _) => Ok(None),
+            Ty::Int | Ty::Parameter(_) | Ty::Tuple(_) | Ty::Named(_, _, _) | Ty::Function(_, _) => {
+                Ok(None)
+            }
         },
         Projection::Field(place) => match ty {
             Ty::Tuple(parts) => {
@@ -75,7 +77,7 @@ fn walk(
                     None => Ok(None),
                 }
             }
-            Ty::Int | Ty::Parameter(_) | Ty::Reference(_, _, _) => Ok(None),
+            Ty::Int | Ty::Parameter(_) | Ty::Reference(_, _, _) | Ty::Function(_, _) => Ok(None),
         },
     }
 }

@@ -13,6 +13,11 @@ pub(crate) fn times(outer: Sign, inner: Sign) -> Sign
 {
     match outer {
         Sign::Covariant => inner,
+        Sign::Contravariant => match inner {
+            Sign::Covariant => Sign::Contravariant,
+            Sign::Contravariant => Sign::Covariant,
+            Sign::Invariant => Sign::Invariant,
+        },
         Sign::Invariant => Sign::Invariant,
     }
 }

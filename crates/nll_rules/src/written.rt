@@ -21,7 +21,8 @@ fn written_behind<'a>(ty: &'a Ty, projections: &[Projection], from: usize) -> Op
                 let found = written_behind(target, projections, from + 1);
                 found
             }
-            Ty::Int | Ty::Parameter(_) | Ty::Tuple(_) | Ty::Named(_, _, _) => None,
+            Ty::Int | Ty::Parameter(_) | Ty::Tuple(_) | Ty::Named(_, _, _) | Ty::Function(_, _) =>
+                None,
         },
         Projection::Field(place) => match ty {
             Ty::Tuple(parts) => {
@@ -32,7 +33,11 @@ fn written_behind<'a>(ty: &'a Ty, projections: &[Projection], from: usize) -> Op
                 let found = written_behind(&parts[place], projections, from + 1);
                 found
             }
-            Ty::Int | Ty::Parameter(_) | Ty::Reference(_, _, _) | Ty::Named(_, _, _) => None,
+            Ty::Int
+            | Ty::Parameter(_)
+            | Ty::Reference(_, _, _)
+            | Ty::Named(_, _, _)
+            | Ty::Function(_, _) => None,
         },
     }
 }

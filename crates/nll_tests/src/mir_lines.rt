@@ -109,6 +109,8 @@ fn marks_of(parameter: &Parameter) -> &'static str {
     match (parameter.sign, parameter.may_dangle) {
         (Sign::Covariant, true) => "+? ",
         (Sign::Covariant, false) => "+ ",
+        (Sign::Contravariant, true) => "-? ",
+        (Sign::Contravariant, false) => "- ",
         (Sign::Invariant, true) => "=? ",
         (Sign::Invariant, false) => "= ",
     }
@@ -197,6 +199,9 @@ outlives 'a ~ none
 region 'x ~ region x|
 region 'x 'y ~ none
 struct W() ~ struct W|tuple|
+struct F<'x - >(fn(&'x int) -> int) ~ struct F|'x|- int|& x| 0|int|fn 1 to 2|tuple 3|
+struct F<'x - ?, T -?, 'y +>() ~ struct F|'x|-? T|-? 'y|+ tuple|
+struct F<'x ->() ~ none
 struct W<'x + ?, T => drop (&'x int, T) ~ struct W|'x|+? T|= drop int|& x| 0|T|tuple 1 2|
 struct W<> () ~ none
 struct W int ~ none

@@ -78,6 +78,12 @@ pub fn write_type(out: &mut Transcript, ty: &Ty) {
             write_types(out, types.as_slice());
             out.say(" >");
         }
+        Ty::Function(arguments, returned) => {
+            out.say("fn(");
+            write_types(out, arguments.as_slice());
+            out.say(" ) ");
+            write_type(out, returned);
+        }
     }
 }
 

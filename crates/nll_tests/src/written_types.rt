@@ -30,6 +30,16 @@ fn write_tuple(out: &mut Transcript, parts: &[usize]) {
     out.say("|");
 }
 
+// Writes a function by the numbers of its nodes.
+fn write_function(out: &mut Transcript, inputs: &[usize], returned: usize) {
+    out.say("fn");
+    for input in inputs {
+        out.size(" ", *input);
+    }
+    out.size(" to ", returned);
+    out.say("|");
+}
+
 /// Writes the nodes of a type.
 pub fn write_nodes(out: &mut Transcript, text: &TypeText<'_>) {
     for node in text.nodes() {
@@ -42,6 +52,9 @@ pub fn write_nodes(out: &mut Transcript, text: &TypeText<'_>) {
             }
             TypeNode::Tuple(parts) => write_tuple(out, parts.as_slice()),
             TypeNode::Named(name, arguments) => write_named(out, name, arguments.as_slice()),
+            TypeNode::Function(inputs, returned) => {
+                write_function(out, inputs.as_slice(), *returned)
+            }
         }
     }
 }
@@ -83,6 +96,26 @@ W<'a> < ~ none
 (int, (T), int) ~ 9: int|T|tuple 1|int|tuple 0 2 3|
 (int,) ~ none
 (int ~ none
+fn() -> int ~ 5: int|fn to 0|
+fn(int) -> T< ~ none
+fn(&'a int, T) -> (int) ~ 12: int|& a| 0|T|int|tuple 3|fn 1 2 to 4|
+fn(fn() -> int) -> &'a mut fn() -> T, int ~ 17: int|fn to 0|T|fn to 2|mut a| 3|fn 1 to 4|
+(fn(int) -> int) ~ 8: int|int|fn 0 to 1|tuple 2|
+W<fn() -> 'a> ~ none
+W<'a, fn() -> int> ~ 10: int|fn to 0|W| 'a| 1|
+fn ~ none
+fn int ~ none
+fn( ~ none
+fn(, ~ none
+fn() ~ none
+fn()int ~ none
+fn(int) ~ none
+fn(int,) -> int ~ none
+fn(int -> int ~ none
+fn('a) -> int ~ none
+fn() -> ~ none
+fn() -> 'a ~ none
+fn() -> -> int ~ none
 (&'a W<'b, &'c int>, int) ~ 14: int|& c| 0|W| 'b| 1|& a| 2|int|tuple 3 4|
 ";
 

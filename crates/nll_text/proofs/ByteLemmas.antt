@@ -79,12 +79,11 @@ class_of b =
     cond (is_word_byte b) letter
     (cond (eqb b 39) quote (cond (eqb b 45) dash (cond (is_sign b) mark other)))
 
-pub class_of-sign : (b : ℕ) → is_sign b ≡ true → class_of b ≡ mark
-class_of-sign b s =
+pub class_of-sign : (b : ℕ) → is_sign b ≡ true → eqb b 45 ≡ false → class_of b ≡ mark
+class_of-sign b s d =
     let w : is_word_byte b ≡ false = grind (arith, nat_tests) in
     let q : eqb b 39 ≡ false = grind (arith, nat_tests) in
-    let d : eqb b 45 ≡ false = grind (arith, nat_tests) in
-    rw (w, q, d, s) refl
+    rw (w, q, s, d) refl
 
 pub class_of-blank : (b : ℕ) → is_blank b ≡ true → class_of b ≡ other
 class_of-blank b h =
@@ -92,4 +91,4 @@ class_of-blank b h =
     let q : eqb b 39 ≡ false = grind (arith, nat_tests) in
     let d : eqb b 45 ≡ false = grind (arith, nat_tests) in
     let s : is_sign b ≡ false = grind (arith, nat_tests) in
-    rw (w, q, d, s) refl
+    rw (w, q, s, d) refl

@@ -1,21 +1,37 @@
 -- What a line begins with, and what it is made of.
-use Rattle.std.proofs.Common.{◌≡◌, ◌≢◌, ◌⊎◌, inl, inr, ⊎_elim, ℕ, zero, suc, ◌<◌, Bool, true, false, eqb, List, [], ◌∷◌, ◌++◌, length, take, drop, refl, sym, ap, ◌∙◌, subst, append_assoc, arith}
+use Rattle.std.proofs.Common.{◌≡◌, ◌≢◌, ◌⊎◌, inl, inr, ⊎_elim, ℕ, zero, suc, ◌<◌, Bool, true, false, cond, eqb, List, [], ◌∷◌, ◌++◌, length, take, drop, refl, sym, ap, ◌∙◌, subst, append_assoc, arith}
 use Rattle.std.specs.List.{prefix_len}
 use Rattle.std.proofs.lemmas.List.{append-nil, length-append}
 use Rattle.std.proofs.lemmas.Bool.{eqb-true, cases_Bool, cases_eq}
 use Rattle.std.proofs.lemmas.Bool.Decides.{nat_tests}
 use Rattle.nll_text.specs.Lines.{is_blank, is_empty_or_remark}
-use Rattle.nll_text.specs.Tokens.{Token, word, region, arrow, sign, spelling, is_word_byte, is_sign, IsToken, AreTokens, IsWhole, first_passes, IsGap, IsMadeOf, IsNotMade}
+use Rattle.nll_text.specs.Tokens.{Token, word, region, arrow, sign, spelling, is_word_byte, is_sign, is_arrow, IsToken, AreTokens, IsWhole, first_passes, IsGap, IsMadeOf, IsNotMade}
 use Rattle.nll_text.specs.Lexing.{BeginsWith, HasNoToken, SplitsWhile}
 use Rattle.nll_text.proofs.ByteLemmas.{Class, letter, quote, dash, mark, other, class_of, class_of-sign, class_of-blank, same_split, first_fails, splits_while}
 
 -- ---- the first byte of a token
 
+-- `-` is an arrow's first byte, and a sign
+abbrev class_of_mark : Bool → Class
+class_of_mark is_dash = cond is_dash dash mark
+
 abbrev class_of_token : Token → Class
 class_of_token (word name) = letter
 class_of_token (region name) = quote
 class_of_token arrow = dash
-class_of_token (sign b) = mark
+class_of_token (sign b) = class_of_mark (eqb b 45)
+
+no_letter : (d : Bool) → letter ≡ class_of_mark d → ⊥
+no_letter true k = cc
+no_letter false k = cc
+
+no_quote : (d : Bool) → quote ≡ class_of_mark d → ⊥
+no_quote true k = cc
+no_quote false k = cc
+
+no_class : (d : Bool) → other ≡ class_of_mark d → ⊥
+no_class true k = cc
+no_class false k = cc
 
 abbrev first_byte : List ℕ → ℕ
 first_byte [] = 0
@@ -27,7 +43,11 @@ first_class (word []) rest h = absurd (omega (arith, h.0))
 first_class (word (x ∷ xs)) rest h = rw h.1.0 refl
 first_class (region name) rest h = refl
 first_class arrow rest h = refl
-first_class (sign b) rest h = class_of-sign b h
+first_class (sign b) rest h = by_test (eqb b 45) refl
+  where
+    by_test : (d : Bool) → eqb b 45 ≡ d → class_of b ≡ class_of_mark d
+    by_test true e = ap class_of (eqb-true b 45 e)
+    by_test false e = class_of-sign b h e
 
 spelling_length : (t : Token) → IsToken t → 0 < length (spelling t)
 spelling_length (word name) h = h.0
@@ -39,13 +59,13 @@ no_blank : (t : Token) (b : ℕ) → class_of b ≡ class_of_token t → is_blan
 no_blank (word name) b k h = (let f = class_of-blank b h in cc)
 no_blank (region name) b k h = (let f = class_of-blank b h in cc)
 no_blank arrow b k h = (let f = class_of-blank b h in cc)
-no_blank (sign c) b k h = (let f = class_of-blank b h in cc)
+no_blank (sign c) b k h = no_class (eqb c 45) (sym (class_of-blank b h) ∙ k)
 
 no_hash : (t : Token) → other ≡ class_of_token t → ⊥
 no_hash (word name) k = cc
 no_hash (region name) k = cc
 no_hash arrow k = cc
-no_hash (sign b) k = cc
+no_hash (sign b) k = no_class (eqb b 45) k
 
 first_solid : (bytes : List ℕ)
     → (is_blank (first_byte bytes) ≡ true → ⊥) → first_passes is_blank bytes ≡ false
@@ -79,6 +99,14 @@ spells_no_remark t rest h =
     no_remark (spelling t ++ rest) t
     (omega (arith, spelling_length t h, length-append (spelling t) rest)) (first_class t rest h)
 
+-- a sign that is whole is no beginning of an arrow
+no_sign_of_arrow : (b : ℕ) (rest more : List ℕ) → IsWhole (sign b) more → 45 ∷ 62 ∷ rest ≡ b ∷ more → ⊥
+no_sign_of_arrow b rest more whole e =
+    let h : 45 ≡ b = cc in
+    let t : 62 ∷ rest ≡ more = cc in
+    let f : true ≡ false = rw (sym h, sym t) at whole in
+    cc
+
 -- where whole tokens stand at the front of one line, they are the same
 same_token : (t u : Token) (rest more : List ℕ) → IsToken t → IsToken u
     → IsWhole t rest → IsWhole u more → spelling t ++ rest ≡ spelling u ++ more
@@ -94,6 +122,12 @@ same_token (region a) (region b) rest more ht hu wt wu e k =
     (cc, r.1)
 same_token arrow arrow rest more ht hu wt wu e k = (refl, cc)
 same_token (sign a) (sign b) rest more ht hu wt wu e k = (cc, cc)
+same_token arrow (sign b) rest more ht hu wt wu e k = absurd (no_sign_of_arrow b rest more wu e)
+same_token (sign a) arrow rest more ht hu wt wu e k = absurd (no_sign_of_arrow a more rest wt (sym e))
+same_token (word a) (sign b) rest more ht hu wt wu e k = absurd (no_letter (eqb b 45) k)
+same_token (sign a) (word b) rest more ht hu wt wu e k = absurd (no_letter (eqb a 45) (sym k))
+same_token (region a) (sign b) rest more ht hu wt wu e k = absurd (no_quote (eqb b 45) k)
+same_token (sign a) (region b) rest more ht hu wt wu e k = absurd (no_quote (eqb a 45) (sym k))
 same_token t u rest more ht hu wt wu e k = absurd cc
 
 -- ---- a line that begins with no blank
@@ -188,6 +222,7 @@ no_region bs stop (region (x ∷ xs)) more k h e =
     let f : first_passes is_word_byte bs ≡ is_word_byte x = ap (first_passes is_word_byte) tail in
     let g : is_word_byte x ≡ true = h.1.0 in
     cc
+no_region bs stop (sign b) more k h e = no_quote (eqb b 45) k
 no_region bs stop u more k h e = cc
 
 pub region_none : (line : List ℕ) (b : ℕ) (bs name rest : List ℕ) → line ≡ b ∷ bs → b ≡ 39
@@ -196,28 +231,42 @@ region_none line b bs name rest e q s nothing =
     let stop = first_fails is_word_byte bs name rest s nothing in
     rw (e, q) (none_at 39 bs refl (no_region bs stop))
 
--- the first byte is `>`
+-- ---- a line that begins with `-`
+
+-- the byte is `>`
 abbrev pub is_head : ℕ → Bool
 is_head b = eqb b 62
 
-no_arrow : (bs : List ℕ) → first_passes is_head bs ≡ false → (u : Token) (more : List ℕ)
-    → dash ≡ class_of_token u → IsToken u → 45 ∷ bs ≡ spelling u ++ more → ⊥
-no_arrow bs stop arrow more k h e =
-    let tail : bs ≡ 62 ∷ more = cc in
-    let f : first_passes is_head bs ≡ true = ap (first_passes is_head) tail in
-    cc
-no_arrow bs stop u more k h e = cc
+-- a sign other than `-` is no beginning of an arrow
+sign_whole : (b : ℕ) (bs : List ℕ) → b ≢ 45 → first_passes (is_arrow b) bs ≡ false
+sign_whole b [] d = refl
+sign_whole b (c ∷ bs) d = (let e : eqb b 45 ≡ false = grind (arith, nat_tests) in rw e refl)
 
-pub arrow_none : (line : List ℕ) (b : ℕ) (bs : List ℕ) → line ≡ b ∷ bs → b ≡ 45
-    → first_passes is_head bs ≡ false → IsNotMade line
-arrow_none line b bs e d stop = rw (e, d) (none_at 45 bs refl (no_arrow bs stop))
+pub sign_begins : (line : List ℕ) (b : ℕ) (bs : List ℕ) → line ≡ b ∷ bs → b ≢ 45
+    → is_sign b ≡ true → BeginsWith line (sign b) bs
+sign_begins line b bs e d s = begins_with line (sign b) bs e s (sign_whole b bs d)
+
+dash_whole : (bs : List ℕ) → first_passes is_head bs ≡ false → first_passes (is_arrow 45) bs ≡ false
+dash_whole [] h = refl
+dash_whole (c ∷ bs) h = h
+
+pub dash_begins : (line : List ℕ) (b : ℕ) (bs : List ℕ) → line ≡ b ∷ bs → b ≡ 45
+    → first_passes is_head bs ≡ false → BeginsWith line (sign 45) bs
+dash_begins line b bs e d stop =
+    begins_with line (sign 45) bs (rw (e, d) refl) refl (dash_whole bs stop)
+
+pub arrow_begins : (line : List ℕ) (b c : ℕ) (bs : List ℕ) → line ≡ b ∷ c ∷ bs → b ≡ 45 → c ≡ 62
+    → BeginsWith line arrow bs
+arrow_begins line b c bs e d h = begins_with line arrow bs (rw (e, d, h) refl) tt tt
+
+-- ---- a line at whose front stands no token
 
 no_other : (b : ℕ) (bs : List ℕ) → class_of b ≡ other → (u : Token) (more : List ℕ)
     → class_of b ≡ class_of_token u → IsToken u → b ∷ bs ≡ spelling u ++ more → ⊥
 no_other b bs o (word name) more k h e = cc
 no_other b bs o (region name) more k h e = cc
 no_other b bs o arrow more k h e = cc
-no_other b bs o (sign c) more k h e = cc
+no_other b bs o (sign c) more k h e = no_class (eqb c 45) (sym o ∙ k)
 
 pub other_none : (line : List ℕ) (b : ℕ) (bs : List ℕ) → line ≡ b ∷ bs
     → first_passes is_blank line ≡ false → b ≢ 39 → b ≢ 45 → is_sign b ≡ false
@@ -227,7 +276,7 @@ other_none line b bs e solid q d s stop =
     let blank : is_blank b ≡ false = sym (ap (first_passes is_blank) e) ∙ solid in
     let q' : eqb b 39 ≡ false = grind (arith, nat_tests) in
     let d' : eqb b 45 ≡ false = grind (arith, nat_tests) in
-    rw e (none_at b bs blank (no_other b bs (rw (w, q', d', s) refl)))
+    rw e (none_at b bs blank (no_other b bs (rw (w, q', s, d') refl)))
 
 -- ---- blanks in front
 
@@ -325,11 +374,11 @@ region_front b bs q =
     (λ some. inl (region name, rest, region_begins (b ∷ bs) b bs name rest refl q s (omega (arith, some))))
     (cases_eq (length name) 0)
 
-arrow_front : (b : ℕ) (bs : List ℕ) → b ≡ 45 → HasFront (b ∷ bs) ⊎ IsNotMade (b ∷ bs)
-arrow_front b [] d = inr (arrow_none (b ∷ []) b [] refl d refl)
-arrow_front b (x ∷ bs) d = ⊎_elim
-    (λ h. inl (arrow, bs, begins_with (b ∷ x ∷ bs) arrow bs (rw (d, eqb-true x 62 h) refl) tt tt))
-    (λ h. inr (arrow_none (b ∷ x ∷ bs) b (x ∷ bs) refl d h))
+dash_front : (b : ℕ) (bs : List ℕ) → b ≡ 45 → HasFront (b ∷ bs)
+dash_front b [] d = (sign 45, [], dash_begins (b ∷ []) b [] refl d refl)
+dash_front b (x ∷ bs) d = ⊎_elim
+    (λ h. (arrow, bs, arrow_begins (b ∷ x ∷ bs) b x bs refl d (eqb-true x 62 h)))
+    (λ h. (sign 45, x ∷ bs, dash_begins (b ∷ x ∷ bs) b (x ∷ bs) refl d h))
     (cases_Bool (eqb x 62))
 
 word_front : (b : ℕ) (bs : List ℕ) → is_blank b ≡ false → b ≢ 39 → b ≢ 45 → is_sign b ≡ false
@@ -348,8 +397,8 @@ front_or_none : (line : List ℕ) → 0 < length line → first_passes is_blank 
     → HasFront line ⊎ IsNotMade line
 front_or_none [] some solid = absurd (omega arith)
 front_or_none (b ∷ bs) some solid = ⊎_elim (region_front b bs)
-    (λ q. ⊎_elim (arrow_front b bs)
-    (λ d. ⊎_elim (λ s. inl (sign b, bs, begins_with (b ∷ bs) (sign b) bs refl s tt))
+    (λ q. ⊎_elim (λ d. inl (dash_front b bs d))
+    (λ d. ⊎_elim (λ s. inl (sign b, bs, sign_begins (b ∷ bs) b bs refl d s))
     (word_front b bs solid q d)
     (cases_Bool (is_sign b)))
     (cases_eq b 45))

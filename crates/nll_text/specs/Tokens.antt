@@ -20,11 +20,12 @@ is_word_byte b =
     (nat_le 48 b && nat_le b 57) || (nat_le 65 b && nat_le b 90)
     || (nat_le 97 b && nat_le b 122) || (b == 95)
 
--- A sign is one of `= & ( ) < > , : . * + ?`.
+-- A sign is one of `= & ( ) < > , : . * + ? -`.
 abbrev pub is_sign : ℕ → Bool
 is_sign b =
     (b == 61) || (b == 38) || (b == 40) || (b == 41) || (b == 60) || (b == 62)
     || (b == 44) || (b == 58) || (b == 46) || (b == 42) || (b == 43) || (b == 63)
+    || (b == 45)
 
 -- One or more word bytes.
 abbrev pub IsWord : List ℕ → Type 0
@@ -53,12 +54,16 @@ abbrev pub first_passes : (ℕ → Bool) → List ℕ → Bool
 first_passes p [] = false
 first_passes p (x ∷ xs) = p x
 
+-- The two bytes are an arrow.
+abbrev pub is_arrow : ℕ → ℕ → Bool
+is_arrow b c = (b == 45) && (c == 62)
+
 -- The token isn't the beginning of a longer one, where these bytes follow it.
 abbrev pub IsWhole : Token → List ℕ → Type 0
 IsWhole (word name) rest = first_passes is_word_byte rest ≡ false
 IsWhole (region name) rest = first_passes is_word_byte rest ≡ false
 IsWhole arrow rest = Unit {0}
-IsWhole (sign b) rest = Unit {0}
+IsWhole (sign b) rest = first_passes (is_arrow b) rest ≡ false
 
 -- Blanks alone, or nothing at all.
 abbrev pub IsGap : List ℕ → Type 0

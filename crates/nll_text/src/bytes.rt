@@ -27,7 +27,7 @@ pub(crate) fn is_word_byte(byte: u8) -> bool
 // Each byte that is a token by itself stands at its own place, and `_` at every other place.
 static SIGN_BYTES: [u8; 256] = *b"\
     ________________________________\
-    ______&_()*+,_.___________:_<=>?\
+    ______&_()*+,-.___________:_<=>?\
     ________________________________\
     ________________________________\
     ________________________________\

@@ -1,7 +1,7 @@
 //! A line as tokens.
 
 ghost use Rattle.std.specs.Prelude.{◌≡◌, List, MatchOption, OnOk, IfOk, IfErr, false, ◌<◌, ◌≤◌};
-ghost use Rattle.std.specs.Prelude.{length};
+ghost use Rattle.std.specs.Prelude.{length, ◌∷◌};
 ghost use Rattle.nll_text.specs.Lines as lines;
 ghost use Rattle.nll_text.specs.Tokens as specs;
 ghost use Rattle.nll_text.specs.Tokens.{AreTokens, IsMadeOf, IsNotMade, IsNotMadeWithin, view};
@@ -11,6 +11,23 @@ ghost use Rattle.nll_text.specs.Lexing.{BeginsWith, HasNoToken};
 use crate::bytes::{is_sign, split_gap, split_word};
 use crate::error::LexError;
 use crate::token::Token;
+
+// The token that a `-` with these bytes behind it begins with, and the rest: an arrow is longer
+// than a sign.
+fn dash_token(after: &[u8]) -> (Token<'_>, &[u8])
+    ensures { BeginsWith (45 ∷ after.now) (view result.0) result.1.now }
+{
+    match after.split_first() {
+        Some((second, rest)) => {
+            if *second == b'>' {
+                (Token::Arrow, rest)
+            } else {
+                (Token::Sign(b'-'), after)
+            }
+        }
+        None => (Token::Sign(b'-'), after),
+    }
+}
 
 // The token that a line begins with, where it begins with no blank and no word, and the rest.
 fn other_token_at(line: &[u8]) -> Option<(Token<'_>, &[u8])>
@@ -29,13 +46,7 @@ fn other_token_at(line: &[u8]) -> Option<(Token<'_>, &[u8])>
             }
             Some((Token::Region(name), rest))
         }
-        b'-' => {
-            let (second, rest) = after.split_first()?;
-            if *second != b'>' {
-                return None;
-            }
-            Some((Token::Arrow, rest))
-        }
+        b'-' => Some(dash_token(after)),
         sign if is_sign(sign) => Some((Token::Sign(sign), after)),
         _ => None,
     }

@@ -1,18 +1,18 @@
 -- Steps that the code takes: tokens, nodes and frames together.
-use Rattle.std.proofs.Common.{◌≡◌, ℕ, ◌+◌, ◌-◌, ◌*◌, ◌<◌, ◌≤◌, Bool, List, [], ◌∷◌, ◌++◌, length, drop, take, get_or, refl, sym, ap, ◌∙◌, subst, arith}
+use Rattle.std.proofs.Common.{◌≡◌, ℕ, ◌+◌, ◌-◌, ◌*◌, ◌<◌, ◌≤◌, Bool, List, [], ◌∷◌, ◌++◌, length, drop, take, get_or, refl, sym, ap, ◌∙◌, subst, arith, inl, inr, ⊎_elim}
 use Rattle.std.specs.Borrow.{Bor}
 use Rattle.std.specs.Prelude.{Option, Some, None, MatchOption, slice_get}
 use Rattle.std.specs.Global.{Vec}
 use Rattle.std.proofs.lemmas.List.{length-append, length-drop, drop-drop, take_more}
 use Rattle.std.proofs.Math.Seq.{take-length}
 use Rattle.std.proofs.lemmas.Option.{slice_get_within, slice_get-get_or}
-use Rattle.nll_text.specs.Tokens.{Token, region, sign, views}
+use Rattle.nll_text.specs.Tokens.{Token, region, arrow, sign, views}
 use Rattle.nll_text.specs.declared.token.Token.{Token as InLine}
-use Rattle.nll_type_grammar.specs.WrittenTypes.{Name, WrittenType, Arguments, int, reference, none, more, no_argument, region_argument, type_argument}
+use Rattle.nll_type_grammar.specs.WrittenTypes.{Name, WrittenType, WrittenTypes, Arguments, int, reference, function, none, more, no_argument, region_argument, type_argument}
 use Rattle.nll_type_grammar.specs.TypeTexts.{at, all_at, arguments_at, type_over, types_from, written, types_among, parts_of}
-use Rattle.nll_type_grammar.specs.OpenTypes.{Frame, behind, parts, arguments, joined, joined_arguments, Steps, IsStuck, frame_over, frames_of, numbers_of, AreBelow, AreRead, GoesFurther, pending, Begins, BeginsWithin, IsBegun, IsCompleted, IsEnded, EndsWith, Becomes, IsClosed, HasMoreParts, HasMoreArguments}
+use Rattle.nll_type_grammar.specs.OpenTypes.{Frame, behind, parts, arguments, inputs, output, joined, joined_arguments, Steps, IsStuck, frame_over, frames_of, numbers_of, AreBelow, AreRead, GoesFurther, pending, Begins, BeginsWithin, IsBegun, IsCompleted, IsEnded, EndsWith, Becomes, IsClosed, IsAwaiting, HasEnded, HasMoreParts, HasMoreArguments, HasMoreInputs}
 use Rattle.nll_type_grammar.specs.declared.opens.State.{State}
-use Rattle.nll_type_grammar.specs.declared.opens.State.TheVariants.{Want, WantArgument, Have, Inside}
+use Rattle.nll_type_grammar.specs.declared.opens.State.TheVariants.{Want, WantArgument, Have, Inside, WantArrow}
 use Rattle.nll_type_grammar.specs.declared.fronts.Front.{Front}
 use Rattle.nll_type_grammar.specs.declared.fronts.Front.TheVariants as fronts
 use Rattle.nll_type_grammar.specs.declared.opens.Open.{Open}
@@ -22,7 +22,7 @@ use Rattle.nll_type_grammar.specs.declared.type_text.TypeNode.TheVariants as nod
 use Rattle.nll_type_grammar.specs.declared.type_text.Argument.{Argument}
 use Rattle.nll_type_grammar.specs.declared.type_text.Argument.TheVariants as argument
 use Rattle.nll_type_grammar.proofs.NodeLemmas.{to_node, to_frame, read_push_node, read_push_open, read_pop, frames_push_open, all_at_push, type_at_push, region_at_push, below_push, among_push_type, among_push_region}
-use Rattle.nll_type_grammar.proofs.StepLemmas.{step_behind, step_part, step_type_argument, step_region, step_no_region, stuck_region, step_comma_part, step_close_part, stuck_part, step_comma_argument, step_close_argument, stuck_argument, front_int, front_unit, front_tuple, front_reference, front_generic, front_name}
+use Rattle.nll_type_grammar.proofs.StepLemmas.{step_behind, step_output, step_input, step_comma_input, step_close_input, step_arrow, stuck_input, front_thunk, front_function, step_part, step_type_argument, step_region, step_no_region, stuck_region, step_comma_part, step_close_part, stuck_part, step_comma_argument, step_close_argument, stuck_argument, front_int, front_unit, front_tuple, front_reference, front_generic, front_name}
 
 length_views : (tokens : List InLine) → length (views tokens) ≡ length tokens
 length_views [] = refl
@@ -86,6 +86,9 @@ last_is os o e =
 stuck_reference : (ns : List TypeNode) (os : List Open) (q : Bor (List ℕ)) (m : Bool) (t : WrittenType) (ts : List Token) → slice_get os (length os - 1) ≡ Some (opens.Behind q m) → IsStuck Inside (frames_of ns os) t ts
 stuck_reference ns os q m t ts e = stuck_frame Inside t ts ns (take (length os - 1) os) os (opens.Behind q m) (last_is os (opens.Behind q m) e) (λ whole rest f. f)
 
+stuck_output : (ns : List TypeNode) (os : List Open) (v : Vec ℕ) (t : WrittenType) (ts : List Token) → slice_get os (length os - 1) ≡ Some (opens.Output v) → IsStuck Inside (frames_of ns os) t ts
+stuck_output ns os v t ts e = stuck_frame Inside t ts ns (take (length os - 1) os) os (opens.Output v) (last_is os (opens.Output v) e) (λ whole rest f. f)
+
 stuck_nothing : (ns : List TypeNode) (os : List Open) (t : WrittenType) (ts : List Token) → slice_get os (length os - 1) ≡ None → IsStuck Inside (frames_of ns os) t ts
 stuck_nothing ns [] t ts e = λ whole rest f. f
 stuck_nothing ns (o ∷ os) t ts e = absurd (let l : length (o ∷ os) - 1 < length (o ∷ os) = omega arith in let f : Some (get_or (o ∷ os) (length (o ∷ os) - 1) o) ≡ None = sym (slice_get-get_or (o ∷ os) (length (o ∷ os) - 1) o l) ∙ e in cc)
@@ -103,6 +106,12 @@ ends_name xs os p q v e f is = (p, last_in xs os p e f, subst (λ (z : Open). Is
 pub ends_reference : (xs os : List Open) (p : Open) (q : Bor (List ℕ)) (m : Bool) → Some p ≡ slice_get xs (length xs - 1) → xs ≡ os → p ≡ opens.Behind q m → (ns : List TypeNode) (t : WrittenType) (ts : List Token) → IsStuck Inside (frames_of ns os) t ts
 ends_reference xs os p q m e f is ns t ts = stuck_reference ns os q m t ts (last_in xs os p e f ∙ ap Some is)
 
+pub ends_inputs : (xs os : List Open) (p : Open) (v : Vec ℕ) → Some p ≡ slice_get xs (length xs - 1) → xs ≡ os → p ≡ opens.Inputs v → EndsWith os 41 Want
+ends_inputs xs os p v e f is = (p, last_in xs os p e f, subst (λ (z : Open). IsEnded z 41 Want) (sym is) (refl, refl))
+
+pub ends_output : (xs os : List Open) (p : Open) (v : Vec ℕ) → Some p ≡ slice_get xs (length xs - 1) → xs ≡ os → p ≡ opens.Output v → (ns : List TypeNode) (t : WrittenType) (ts : List Token) → IsStuck Inside (frames_of ns os) t ts
+ends_output xs os p v e f is ns t ts = stuck_output ns os v t ts (last_in xs os p e f ∙ ap Some is)
+
 pub ends_nothing : (xs os : List Open) → None ≡ slice_get xs (length xs - 1) → xs ≡ os → (ns : List TypeNode) (t : WrittenType) (ts : List Token) → IsStuck Inside (frames_of ns os) t ts
 ends_nothing xs os e f ns t ts = stuck_nothing ns os t ts (subst (λ (z : List Open). slice_get z (length z - 1) ≡ None) f (sym e))
 
@@ -118,6 +127,10 @@ further_comma tokens ns os c s r h is = by h.0 (last_is os h.0 h.1) h.2
     by (opens.Arguments q v) e ends = subst (λ (z : State). GoesFurther Inside ns os tokens z ns os 1) (sym ends.1)
         (subst (λ (z : List Open). GoesFurther Inside ns z tokens WantArgument ns os 1) (sym e)
         (further_again WantArgument tokens (sign 44) ns (take (length os - 1) os) os (opens.Arguments q v) (λ x. cc) (omega arith) (subst (AreRead ns) e r) e is (λ fs t u after. step_comma_argument fs _ _ t u after)))
+    by (opens.Inputs v) e ends = subst (λ (z : State). GoesFurther Inside ns os tokens z ns os 1) (sym ends.1)
+        (subst (λ (z : List Open). GoesFurther Inside ns z tokens Want ns os 1) (sym e)
+        (further_again Want tokens (sign 44) ns (take (length os - 1) os) os (opens.Inputs v) (λ x. cc) (omega arith) (subst (AreRead ns) e r) e is (λ fs t u after. step_comma_input fs _ t u after)))
+    by (opens.Output v) e ends = absurd ends
 
 -- neither a comma nor the closing sign
 pub stuck_inside : (ts : List Token) (ns : List TypeNode) (os : List Open) (c : ℕ) (s : State) (t : WrittenType) → EndsWith os c s → ((rest : List Token) → ts ≡ sign 44 ∷ rest → ⊥) → ((rest : List Token) → ts ≡ sign c ∷ rest → ⊥) → IsStuck Inside (frames_of ns os) t ts
@@ -127,10 +140,40 @@ stuck_inside ts ns os c s t h comma close = by h.0 (last_is os h.0 h.1) h.2
     by (opens.Behind q m) e ends = absurd ends
     by (opens.Tuple v) e ends = stuck_frame Inside t ts ns (take (length os - 1) os) os (opens.Tuple v) e (stuck_part (frames_of ns (take (length os - 1) os)) (all_at (types_from [] ns) v.items) t ts comma (subst (λ (z : ℕ). (rest : List Token) → ts ≡ sign z ∷ rest → ⊥) ends.0 close))
     by (opens.Arguments q v) e ends = stuck_frame Inside t ts ns (take (length os - 1) os) os (opens.Arguments q v) e (stuck_argument (frames_of ns (take (length os - 1) os)) q.now (arguments_at (types_from [] ns) v.items) t ts comma (subst (λ (z : ℕ). (rest : List Token) → ts ≡ sign z ∷ rest → ⊥) ends.0 close))
+    by (opens.Inputs v) e ends = stuck_frame Inside t ts ns (take (length os - 1) os) os (opens.Inputs v) e (stuck_input (frames_of ns (take (length os - 1) os)) (all_at (types_from [] ns) v.items) t ts comma (subst (λ (z : ℕ). (rest : List Token) → ts ≡ sign z ∷ rest → ⊥) ends.0 close))
+    by (opens.Output v) e ends = absurd ends
+
+-- all arguments of a function are read
+further_await : (tokens : List InLine) (c : ℕ) (s s' : State) (ns ns' : List TypeNode) (os os' : List Open) (o : Open) → AreRead ns os → IsEnded o c s → IsAwaiting o ns os s' ns' os' → views tokens ≡ sign c ∷ views (drop 1 tokens) → GoesFurther Inside ns os tokens s' ns' os' 1
+further_await tokens c s s' ns ns' os os' o r ends k is =
+    let v = k.arguments in
+    let outer = k.outer in
+    let done = all_at (types_from [] ns) v.items in
+    let held : os ≡ outer ++ opens.Inputs v ∷ [] = k.inner ∙ ap (λ (z : Open). outer ++ z ∷ []) k.was in
+    let p = read_pop ns outer os (opens.Inputs v) r held in
+    let e : (c ≡ 41) × (s ≡ Want) = subst (λ (z : Open). IsEnded z c s) k.was ends in
+    let front : views tokens ≡ sign 41 ∷ views (drop 1 tokens) = is ∙ ap (λ (z : ℕ). sign z ∷ views (drop 1 tokens)) e.0 in
+    subst (λ (z : State). GoesFurther Inside ns os tokens z ns' os' 1) (sym k.awaits)
+    (subst (λ (z : List TypeNode). GoesFurther Inside ns os tokens WantArrow z os' 1) (sym k.same)
+    (record {
+      within = one_within tokens (sign 41) front;
+      falls =
+          (let l : length os ≡ length outer + 1 = ap length held ∙ length-append outer (opens.Inputs v ∷ []) in
+          let m : length os' ≡ length outer + 1 = ap length k.held ∙ length-append outer (opens.Output v ∷ []) in omega arith);
+      same = from_frame Inside WantArrow (written ns) (views tokens) (views (drop 1 tokens)) ns outer os (opens.Inputs v) (frames_of ns os') (written ns) held
+          (to_frame Inside WantArrow (inputs done ∷ frames_of ns outer) (written ns) (written ns) (views tokens) (views (drop 1 tokens)) ns outer os' (opens.Output v) k.held
+          (subst (λ (z : List Token). Steps Inside (inputs done ∷ frames_of ns outer) (written ns) z WantArrow (output done ∷ frames_of ns outer) (written ns) (views (drop 1 tokens))) (sym front)
+          (step_close_input (frames_of ns outer) done (written ns) (written ns) (views (drop 1 tokens)))));
+      read = read_push_open ns outer os' (opens.Output v) p.0 p.1 k.held;
+      some = λ h. cc;
+    }))
 
 -- the closing sign
-pub further_end : (tokens : List InLine) (ns ns' : List TypeNode) (os os' : List Open) (c : ℕ) (s s' : State) → AreRead ns os → EndsWith os c s → ((o : Open) (d : ℕ) (next : State) → slice_get os (length os - 1) ≡ Some o → IsEnded o d next → IsClosed o ns os s' ns' os') → views tokens ≡ sign c ∷ views (drop 1 tokens) → GoesFurther Inside ns os tokens s' ns' os' 1
-further_end tokens ns ns' os os' c s s' r h closes is = (let k = closes h.0 c s h.1 h.2 in by h.0 h.2 k.have k.inner k.put.0 k.put.1 k.put.2)
+pub further_end : (tokens : List InLine) (ns ns' : List TypeNode) (os os' : List Open) (c : ℕ) (s s' : State) → AreRead ns os → EndsWith os c s → ((o : Open) (d : ℕ) (next : State) → slice_get os (length os - 1) ≡ Some o → IsEnded o d next → HasEnded o ns os s' ns' os') → views tokens ≡ sign c ∷ views (drop 1 tokens) → GoesFurther Inside ns os tokens s' ns' os' 1
+further_end tokens ns ns' os os' c s s' r h closes is = ⊎_elim
+    (λ k. by h.0 h.2 k.have k.inner k.put.0 k.put.1 k.put.2)
+    (λ k. further_await tokens c s s' ns ns' os os' h.0 r h.2 k is)
+    (closes h.0 c s h.1 h.2)
   where
     by : (o : Open) → IsEnded o c s → s' ≡ Have → os ≡ os' ++ o ∷ [] → (n : TypeNode) → ns' ≡ ns ++ n ∷ [] → Becomes o n → GoesFurther Inside ns os tokens s' ns' os' 1
     by (opens.Behind q m) ends have e n put b = absurd ends
@@ -140,18 +183,20 @@ further_end tokens ns ns' os os' c s s' r h closes is = (let k = closes h.0 c s 
     by (opens.Arguments q v) ends have e n put b = subst (λ (z : State). GoesFurther Inside ns os tokens z ns' os' 1) (sym have)
         (subst (λ (z : List Open). GoesFurther Inside ns z tokens Have ns' os' 1) (sym e)
         (further_close tokens (sign 62) ns ns' (nodes.Named q v) os' (opens.Arguments q v) (subst (AreRead ns) e r) (put ∙ ap (λ (z : TypeNode). ns ++ z ∷ []) b) refl (is ∙ ap (λ (z : ℕ). sign z ∷ views (drop 1 tokens)) ends.0) (λ fs t after. step_close_argument fs _ _ t after)))
+    by (opens.Inputs v) ends have e n put b = absurd b
+    by (opens.Output v) ends have e n put b = absurd b
 
 -- the innermost thing was open, and is a node
-closed : (os os' : List Open) (p : Open) (n : TypeNode) (ns ns' : List TypeNode) (s : State) → os ≡ os' ++ p ∷ [] → slice_get os (length os - 1) ≡ Some p → Becomes p n → (s ≡ Have) × (ns' ≡ ns ++ n ∷ []) → (o : Open) (c : ℕ) (next : State) → slice_get os (length os - 1) ≡ Some o → IsEnded o c next → IsClosed o ns os s ns' os'
+closed : (os os' : List Open) (p : Open) (n : TypeNode) (ns ns' : List TypeNode) (s : State) → os ≡ os' ++ p ∷ [] → slice_get os (length os - 1) ≡ Some p → Becomes p n → (s ≡ Have) × (ns' ≡ ns ++ n ∷ []) → (o : Open) (c : ℕ) (next : State) → slice_get os (length os - 1) ≡ Some o → IsEnded o c next → HasEnded o ns os s ns' os'
 closed os os' p n ns ns' s e get b h o c next f ends =
     let q : Some p ≡ Some o = sym get ∙ f in
     let same : p ≡ o = cc in
-    subst (λ (z : Open). IsClosed z ns os s ns' os') same (record { have = h.0; inner = e; put = (n, h.1, b) })
+    subst (λ (z : Open). HasEnded z ns os s ns' os') same (inl (record { have = h.0; inner = e; put = (n, h.1, b) }))
 
-pub closed_tuple : (os os' : List Open) (p : Open) (v : Vec ℕ) (ns ns' : List TypeNode) (s : State) → os ≡ os' ++ p ∷ [] → slice_get os (length os - 1) ≡ Some p → p ≡ opens.Tuple v → (s ≡ Have) × (ns' ≡ ns ++ nodes.Tuple v ∷ []) → (o : Open) (c : ℕ) (next : State) → slice_get os (length os - 1) ≡ Some o → IsEnded o c next → IsClosed o ns os s ns' os'
+pub closed_tuple : (os os' : List Open) (p : Open) (v : Vec ℕ) (ns ns' : List TypeNode) (s : State) → os ≡ os' ++ p ∷ [] → slice_get os (length os - 1) ≡ Some p → p ≡ opens.Tuple v → (s ≡ Have) × (ns' ≡ ns ++ nodes.Tuple v ∷ []) → (o : Open) (c : ℕ) (next : State) → slice_get os (length os - 1) ≡ Some o → IsEnded o c next → HasEnded o ns os s ns' os'
 closed_tuple os os' p v ns ns' s e get is h = closed os os' p (nodes.Tuple v) ns ns' s e get (subst (λ (z : Open). Becomes z (nodes.Tuple v)) (sym is) refl) h
 
-pub closed_name : (os os' : List Open) (p : Open) (q : Bor (List ℕ)) (v : Vec Argument) (ns ns' : List TypeNode) (s : State) → os ≡ os' ++ p ∷ [] → slice_get os (length os - 1) ≡ Some p → p ≡ opens.Arguments q v → (s ≡ Have) × (ns' ≡ ns ++ nodes.Named q v ∷ []) → (o : Open) (c : ℕ) (next : State) → slice_get os (length os - 1) ≡ Some o → IsEnded o c next → IsClosed o ns os s ns' os'
+pub closed_name : (os os' : List Open) (p : Open) (q : Bor (List ℕ)) (v : Vec Argument) (ns ns' : List TypeNode) (s : State) → os ≡ os' ++ p ∷ [] → slice_get os (length os - 1) ≡ Some p → p ≡ opens.Arguments q v → (s ≡ Have) × (ns' ≡ ns ++ nodes.Named q v ∷ []) → (o : Open) (c : ℕ) (next : State) → slice_get os (length os - 1) ≡ Some o → IsEnded o c next → HasEnded o ns os s ns' os'
 closed_name os os' p q v ns ns' s e get is h = closed os os' p (nodes.Named q v) ns ns' s e get (subst (λ (z : Open). Becomes z (nodes.Named q v)) (sym is) refl) h
 
 pub no_parts : (os : List Open) (q : Bor (List ℕ)) (m : Bool) (p : Open) → slice_get os (length os - 1) ≡ Some p → p ≡ opens.Behind q m → (o : Open) (c : ℕ) (next : State) → slice_get os (length os - 1) ≡ Some o → IsEnded o c next → ⊥
@@ -159,6 +204,19 @@ no_parts os q m p get is o c next f ends =
     let r : Some p ≡ Some o = sym get ∙ f in
     let same : p ≡ o = cc in
     subst (λ (z : Open). IsEnded z c next) (sym same ∙ is) ends
+
+pub no_parts_of_output : (os : List Open) (v : Vec ℕ) (p : Open) → slice_get os (length os - 1) ≡ Some p → p ≡ opens.Output v → (o : Open) (c : ℕ) (next : State) → slice_get os (length os - 1) ≡ Some o → IsEnded o c next → ⊥
+no_parts_of_output os v p get is o c next f ends =
+    let r : Some p ≡ Some o = sym get ∙ f in
+    let same : p ≡ o = cc in
+    subst (λ (z : Open). IsEnded z c next) (sym same ∙ is) ends
+
+-- the innermost thing was a function, whose result comes next
+pub awaited : (os outer os' : List Open) (p : Open) (v : Vec ℕ) (ns : List TypeNode) (s : State) → os ≡ outer ++ p ∷ [] → slice_get os (length os - 1) ≡ Some p → p ≡ opens.Inputs v → (s ≡ WantArrow) × (os' ≡ outer ++ opens.Output v ∷ []) → (o : Open) (c : ℕ) (next : State) → slice_get os (length os - 1) ≡ Some o → IsEnded o c next → HasEnded o ns os s ns os'
+awaited os outer os' p v ns s e get is h o c next f ends =
+    let q : Some p ≡ Some o = sym get ∙ f in
+    let same : p ≡ o = cc in
+    subst (λ (z : Open). HasEnded z ns os s ns os') same (inr (record { awaits = h.0; same = refl; outer = outer; arguments = v; was = is; inner = e; held = h.1 }))
 
 -- ---- a complete type
 
@@ -177,6 +235,29 @@ pub complete_behind_read : (ns ns' : List TypeNode) (n : TypeNode) (os old : Lis
 complete_behind_read ns ns' n os old o last r e f is_part is_last some =
     let p = read_pop ns os old o r e in
     read_push_node ns ns' n os p.0 (subst (AreBelow (length ns)) (sym is_part) ((let l : last < length ns = omega arith in l), tt)) f
+
+-- it is the result of a function
+complete_function : (ts : List Token) (ns ns' : List TypeNode) (n : TypeNode) (os old : List Open) (o : Open) (done : WrittenTypes) (last : ℕ) → AreRead ns old → old ≡ os ++ o ∷ [] → ns' ≡ ns ++ n ∷ [] → frame_over (types_from [] ns) o ≡ output done → type_over (types_from [] ns) n ≡ function done (at (types_from [] ns) last) → last ≡ length ns - 1 → Steps Have (frames_of ns old) (written ns) ts Have (frames_of ns' os) (written ns') ts
+complete_function ts ns ns' n os old o done last r e f is_frame is_type is_last =
+    let p = read_pop ns os old o r e in
+    let same : function done (written ns) ≡ type_over (types_from [] ns) n = sym (is_type ∙ ap (λ (k : ℕ). function done (at (types_from [] ns) k)) is_last) in
+    from_frame Have Have (written ns) ts ts ns os old o (frames_of ns' os) (written ns') e
+    (to_node Have (frame_over (types_from [] ns) o ∷ frames_of ns os) (written ns) ts ts ns ns' n os p.0 f
+    (subst (λ (z : Frame). Steps Have (z ∷ frames_of ns os) (written ns) ts Have (frames_of ns os) (type_over (types_from [] ns) n) ts) (sym is_frame)
+    (subst (λ (z : WrittenType). Steps Have (output done ∷ frames_of ns os) (written ns) ts Have (frames_of ns os) z ts) same
+    (step_output (frames_of ns os) done (written ns) ts))))
+
+-- it is an argument of a function
+complete_input : (ts : List Token) (ns : List TypeNode) (os old new : List Open) (o p : Open) (is is' : List ℕ) (last : ℕ) → old ≡ os ++ o ∷ [] → new ≡ os ++ p ∷ [] → frame_over (types_from [] ns) o ≡ inputs (all_at (types_from [] ns) is) → frame_over (types_from [] ns) p ≡ inputs (all_at (types_from [] ns) is') → is' ≡ is ++ last ∷ [] → last ≡ length ns - 1 → Steps Have (frames_of ns old) (written ns) ts Inside (frames_of ns new) (written ns) ts
+complete_input ts ns os old new o p is is' last e f is_old is_new grown is_last =
+    let known = types_from [] ns in
+    let g : frame_over known p ≡ inputs (joined (all_at known is) (more (written ns) none)) =
+    is_new ∙ ap (λ (z : List ℕ). inputs (all_at known z)) grown ∙ ap inputs (all_at_push known is last) ∙ ap (λ (k : ℕ). inputs (joined (all_at known is) (more (at known k) none))) is_last in
+    from_frame Have Inside (written ns) ts ts ns os old o (frames_of ns new) (written ns) e
+    (to_frame Have Inside (frame_over known o ∷ frames_of ns os) (written ns) (written ns) ts ts ns os new p f
+    (subst (λ (z : Frame). Steps Have (z ∷ frames_of ns os) (written ns) ts Inside (frame_over known p ∷ frames_of ns os) (written ns) ts) (sym is_old)
+    (subst (λ (z : Frame). Steps Have (inputs (all_at known is) ∷ frames_of ns os) (written ns) ts Inside (z ∷ frames_of ns os) (written ns) ts) (sym g)
+    (step_input (frames_of ns os) (all_at known is) (written ns) (written ns) ts))))
 
 -- it is a part of a tuple
 pub complete_tuple : (ts : List Token) (ns : List TypeNode) (os old new : List Open) (o p : Open) (is is' : List ℕ) (last : ℕ) → old ≡ os ++ o ∷ [] → new ≡ os ++ p ∷ [] → frame_over (types_from [] ns) o ≡ parts (all_at (types_from [] ns) is) → frame_over (types_from [] ns) p ≡ parts (all_at (types_from [] ns) is') → is' ≡ is ++ last ∷ [] → last ≡ length ns - 1 → Steps Have (frames_of ns old) (written ns) ts Inside (frames_of ns new) (written ns) ts
@@ -309,6 +390,12 @@ begun_reference front ns os os' q m s is r h = begun_frame front ns os os' (open
 pub begun_generic : (front : Front) (ns : List TypeNode) (os os' : List Open) (n : Bor (List ℕ)) (v : Vec Argument) (s : State) → front ≡ fronts.Generic n → v.items ≡ [] → AreRead ns os → (s ≡ WantArgument) × (os' ≡ os ++ opens.Arguments n v ∷ []) → IsBegun front ns os s ns os'
 begun_generic front ns os os' n v s is e r h = begun_frame front ns os os' (opens.Arguments n v) s WantArgument r (rw e tt) (λ x. cc) (omega arith) (λ ts rest b. rw e (front_generic n _ _ _ ts rest (subst (λ z. Begins z ts rest) is b))) h
 
+pub begun_thunk : (front : Front) (ns : List TypeNode) (os os' : List Open) (v : Vec ℕ) (s : State) → front ≡ fronts.Thunk → v.items ≡ [] → AreRead ns os → (s ≡ WantArrow) × (os' ≡ os ++ opens.Output v ∷ []) → IsBegun front ns os s ns os'
+begun_thunk front ns os os' v s is e r h = begun_frame front ns os os' (opens.Output v) s WantArrow r (rw e tt) (λ x. cc) (omega arith) (λ ts rest b. rw e (front_thunk _ _ _ ts rest (subst (λ z. Begins z ts rest) is b))) h
+
+pub begun_function : (front : Front) (ns : List TypeNode) (os os' : List Open) (v : Vec ℕ) (s : State) → front ≡ fronts.Function → v.items ≡ [] → AreRead ns os → (s ≡ Want) × (os' ≡ os ++ opens.Inputs v ∷ []) → IsBegun front ns os s ns os'
+begun_function front ns os os' v s is e r h = begun_frame front ns os os' (opens.Inputs v) s Want r (rw e tt) (λ x. cc) (omega arith) (λ ts rest b. rw e (front_function _ _ _ ts rest (subst (λ z. Begins z ts rest) is b))) h
+
 pub further_begin : (front : Front) (n : ℕ) (tokens : List InLine) (ns ns' : List TypeNode) (os os' : List Open) (s' : State) → BeginsWithin front n tokens → IsBegun front ns os s' ns' os' → GoesFurther Want ns os tokens s' ns' os' n
 further_begin front n tokens ns ns' os os' s' b h =
     let some = b.some in
@@ -319,6 +406,9 @@ further_begin front n tokens ns ns' os os' s' b h =
 
 pub more_parts : (os os' : List Open) (is : List ℕ) (i : ℕ) (v : Vec ℕ) (s : State) → v.items ≡ is ++ i ∷ [] → (s ≡ Inside) × (os' ≡ os ++ opens.Tuple v ∷ []) → HasMoreParts os is i s os'
 more_parts os os' is i v s grown h = record { inside = h.0; held = (v, grown, h.1) }
+
+pub more_inputs : (os os' : List Open) (is : List ℕ) (i : ℕ) (v : Vec ℕ) (s : State) → v.items ≡ is ++ i ∷ [] → (s ≡ Inside) × (os' ≡ os ++ opens.Inputs v ∷ []) → HasMoreInputs os is i s os'
+more_inputs os os' is i v s grown h = record { inside = h.0; held = (v, grown, h.1) }
 
 pub more_arguments : (os os' : List Open) (n : Bor (List ℕ)) (args : List Argument) (a : Argument) (v : Vec Argument) (s : State) → v.items ≡ args ++ a ∷ [] → (s ≡ Inside) × (os' ≡ os ++ opens.Arguments n v ∷ []) → HasMoreArguments os n args a s os'
 more_arguments os os' n args a v s grown h = record { inside = h.0; held = (v, grown, h.1) }
@@ -349,6 +439,33 @@ completed_tuple ns os old new o v last s r some is_last e is h =
       some = some;
     })
 
+pub completed_input : (ns : List TypeNode) (os old new : List Open) (o : Open) (v : Vec ℕ) (last : ℕ) (s : State) → AreRead ns old → 0 < length ns → last ≡ length ns - 1 → old ≡ os ++ o ∷ [] → o ≡ opens.Inputs v → HasMoreInputs os v.items last s new → IsCompleted ns old s ns new
+completed_input ns os old new o v last s r some is_last e is h =
+    let w = h.held.0 in
+    let grown = h.held.1 in
+    let f = h.held.2 in
+    subst (λ (z : State). IsCompleted ns old z ns new) (sym h.inside)
+    (record {
+      same = λ ts. complete_input ts ns os old new o (opens.Inputs w) v.items w.items last e f (ap (frame_over (types_from [] ns)) is) refl grown is_last;
+      read = complete_tuple_read ns os old new o (opens.Inputs w) v.items w.items last r e f (ap numbers_of is) refl grown is_last some;
+      few = (let l : length old ≡ length os + 1 = ap length e ∙ length-append os (o ∷ []) in let k : length new ≡ length os + 1 = ap length f ∙ length-append os (opens.Inputs w ∷ []) in omega arith);
+      some = some;
+    })
+
+pub completed_output : (ns ns' : List TypeNode) (os old : List Open) (o : Open) (v : Vec ℕ) (last : ℕ) (s : State) → AreRead ns old → 0 < length ns → last ≡ length ns - 1 → old ≡ os ++ o ∷ [] → o ≡ opens.Output v → (s ≡ Have) × (ns' ≡ ns ++ nodes.Function v last ∷ []) → IsCompleted ns old s ns' os
+completed_output ns ns' os old o v last s r some is_last e is h =
+    let f = h.1 in
+    let p = read_pop ns os old o r e in
+    let below : AreBelow (length ns) v.items = subst (λ (z : Open). AreBelow (length ns) (numbers_of z)) is p.1 in
+    let within : last < length ns = omega arith in
+    subst (λ (z : State). IsCompleted ns old z ns' os) (sym h.0)
+    (record {
+      same = λ ts. complete_function ts ns ns' (nodes.Function v last) os old o (all_at (types_from [] ns) v.items) last r e f (ap (frame_over (types_from [] ns)) is) refl is_last;
+      read = read_push_node ns ns' (nodes.Function v last) os p.0 (within, below) f;
+      few = (let l : length old ≡ length os + 1 = ap length e ∙ length-append os (o ∷ []) in omega arith);
+      some = (let l : length ns' ≡ length ns + 1 = ap length f ∙ length-append ns (nodes.Function v last ∷ []) in omega arith);
+    })
+
 pub completed_argument : (ns : List TypeNode) (os old new : List Open) (o : Open) (n : Bor (List ℕ)) (v : Vec Argument) (last : ℕ) (s : State) → AreRead ns old → 0 < length ns → last ≡ length ns - 1 → old ≡ os ++ o ∷ [] → o ≡ opens.Arguments n v → HasMoreArguments os n v.items (argument.Type last) s new → IsCompleted ns old s ns new
 completed_argument ns os old new o n v last s r some is_last e is h =
     let w = h.held.0 in
@@ -372,6 +489,19 @@ further_region_of tokens ns os old new o n v q s r front e is h =
 pub at_nodes : (told : Option (State × ℕ)) (tokens : List InLine) (ns : List TypeNode) (old new : List Open) → AreRead ns old → MatchOption told ((ns : List TypeNode) → IsStuck WantArgument (frames_of ns old) (written ns) (views tokens)) (λ p. (ns : List TypeNode) → AreRead ns old → GoesFurther WantArgument ns old tokens p.0 ns new p.1) → MatchOption told (IsStuck WantArgument (frames_of ns old) (written ns) (views tokens)) (λ p. GoesFurther WantArgument ns old tokens p.0 ns new p.1)
 at_nodes None tokens ns old new r m = m ns
 at_nodes (Some p) tokens ns old new r m = m ns r
+
+-- `->` comes, or it doesn't
+pub further_arrow : (told : Option (State × ℕ)) (tokens : List InLine) (ns : List TypeNode) (os : List Open) → AreRead ns os
+    → MatchOption told ((frames : List Frame) (t : WrittenType) → IsStuck WantArrow frames t (views tokens)) (λ p. (p ≡ (Want, 1)) × (views tokens ≡ arrow ∷ views (drop 1 tokens)))
+    → MatchOption told (IsStuck WantArrow (frames_of ns os) (written ns) (views tokens)) (λ p. GoesFurther WantArrow ns os tokens p.0 ns os p.1)
+further_arrow None tokens ns os r m = m (frames_of ns os) (written ns)
+further_arrow (Some p) tokens ns os r m = subst (λ (z : State × ℕ). GoesFurther WantArrow ns os tokens z.0 ns os z.1) (sym m.0) (record {
+  within = one_within tokens arrow m.1;
+  falls = omega arith;
+  same = subst (λ (z : List Token). Steps WantArrow (frames_of ns os) (written ns) z Want (frames_of ns os) (written ns) (views (drop 1 tokens))) (sym m.1) (step_arrow (frames_of ns os) (written ns) (written ns) (views (drop 1 tokens)));
+  read = r;
+  some = λ h. cc;
+})
 
 -- ---- the loop
 

@@ -3,3 +3,4 @@ pub mod StepLemmas
 pub mod NodeLemmas
 pub mod FurtherLemmas
 pub mod OneTree
+pub mod FunctionLemmas

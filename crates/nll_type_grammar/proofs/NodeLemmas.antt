@@ -9,7 +9,7 @@ use Rattle.std.proofs.lemmas.List.Elements.{All-from_recursion}
 use Rattle.nll_text.specs.Tokens.{Token}
 use Rattle.nll_type_grammar.specs.WrittenTypes.{WrittenType, int, none, more, no_argument, region_argument, type_argument}
 use Rattle.nll_type_grammar.specs.TypeTexts.{at, all_at, arguments_at, type_over, types_from, written, types_among, parts_of}
-use Rattle.nll_type_grammar.specs.OpenTypes.{Frame, parts, arguments, joined, joined_arguments, Steps, frame_over, frames_of, numbers_of, AreBelow, AreOpen, AreParted, AreRead}
+use Rattle.nll_type_grammar.specs.OpenTypes.{Frame, parts, arguments, inputs, output, joined, joined_arguments, Steps, frame_over, frames_of, numbers_of, AreBelow, AreOpen, AreParted, AreRead}
 use Rattle.nll_type_grammar.specs.declared.opens.State.{State}
 use Rattle.nll_type_grammar.specs.declared.opens.State.TheVariants.{Have}
 use Rattle.nll_type_grammar.specs.declared.opens.Open.{Open}
@@ -25,7 +25,7 @@ pub length_from : (known : List WrittenType) (ns : List TypeNode) → length (ty
 length_from known [] = omega arith
 length_from known (n ∷ ns) = omega (arith, length_from (known ++ type_over known n ∷ []) ns, length-append known (type_over known n ∷ []))
 
-from_push : (known : List WrittenType) (ns : List TypeNode) (n : TypeNode) → types_from known (ns ++ n ∷ []) ≡ types_from known ns ++ type_over (types_from known ns) n ∷ []
+pub from_push : (known : List WrittenType) (ns : List TypeNode) (n : TypeNode) → types_from known (ns ++ n ∷ []) ≡ types_from known ns ++ type_over (types_from known ns) n ∷ []
 from_push known [] n = refl
 from_push known (m ∷ ns) n = from_push (known ++ type_over known m ∷ []) ns n
 
@@ -56,6 +56,8 @@ frame_kept : (known : List WrittenType) (t : WrittenType) (o : Open) → AreBelo
 frame_kept known t (opens.Behind r m) h = refl
 frame_kept known t (opens.Tuple is) h = ap parts (all_kept known t is.items h)
 frame_kept known t (opens.Arguments n args) h = ap (arguments n.now) (arguments_kept known t args.items h)
+frame_kept known t (opens.Inputs is) h = ap inputs (all_kept known t is.items h)
+frame_kept known t (opens.Output is) h = ap output (all_kept known t is.items h)
 
 map_kept : (known : List WrittenType) (t : WrittenType) (os : List Open) → AreOpen (length known) os → map (frame_over (known ++ t ∷ [])) os ≡ map (frame_over known) os
 map_kept known t [] h = refl

@@ -1,9 +1,9 @@
 -- Tokens begin with one type at most, where no `<` follows.
 use Rattle.std.proofs.Common.{◌≡◌, true, false, List, ◌∷◌, ◌++◌, ◌<◌, length, refl, sym, ap, ◌∙◌, subst, append_assoc, arith}
 use Rattle.std.specs.Prelude.{codes}
-use Rattle.nll_text.specs.Tokens.{Token, word, region, sign}
-use Rattle.nll_type_grammar.specs.WrittenTypes.{WrittenType, WrittenTypes, Arguments, int, reference, tuple, named, none, more, no_argument, region_argument, type_argument, is_capital, spelled, spelled_parts, spelled_more_parts, spelled_arguments, spelled_more_arguments, HasNames, HaveNames, ArgumentsHaveNames, IsFree}
-use Rattle.nll_type_grammar.proofs.TokenLemmas.{apart, int_no_name, no_mut, no_closing, no_name_of}
+use Rattle.nll_text.specs.Tokens.{Token, word, region, arrow, sign}
+use Rattle.nll_type_grammar.specs.WrittenTypes.{WrittenType, WrittenTypes, Arguments, int, reference, tuple, named, function, none, more, no_argument, region_argument, type_argument, is_capital, spelled, spelled_parts, spelled_more_parts, spelled_arguments, spelled_more_arguments, HasNames, HaveNames, ArgumentsHaveNames, IsFree}
+use Rattle.nll_type_grammar.proofs.TokenLemmas.{apart, int_no_name, fn_no_name, fn_no_int, no_mut, no_closing, no_name_of}
 
 free_parts : (ts : WrittenTypes) (a : List Token) → IsFree (spelled_more_parts ts ++ a)
 free_parts none a others e = apart 41 60 refl (let h : sign 41 ≡ sign 60 = cc in h)
@@ -20,6 +20,20 @@ mutual
   one_tree int (reference q m u) a b n o f g e = absurd cc
   one_tree int (tuple us) a b n o f g e = absurd cc
   one_tree int (named s us) a b n o f g e = absurd (int_no_name (let h : s ≡ codes "int" = cc in subst (λ z. is_capital z ≡ true) h o.0))
+  one_tree int (function us u) a b n o f g e = absurd (fn_no_int (let h : codes "fn" ≡ codes "int" = cc in h))
+  one_tree (function ts t) int a b n o f g e = absurd (fn_no_int (let h : codes "fn" ≡ codes "int" = cc in h))
+  one_tree (reference q m t) (function us u) a b n o f g e = absurd cc
+  one_tree (function ts t) (reference q m u) a b n o f g e = absurd cc
+  one_tree (tuple ts) (function us u) a b n o f g e = absurd cc
+  one_tree (function ts t) (tuple us) a b n o f g e = absurd cc
+  one_tree (named s ts) (function us u) a b n o f g e = absurd (fn_no_name (let h : s ≡ codes "fn" = cc in subst (λ z. is_capital z ≡ true) h n.0))
+  one_tree (function ts t) (named s us) a b n o f g e = absurd (fn_no_name (let h : s ≡ codes "fn" = cc in subst (λ z. is_capital z ≡ true) h o.0))
+  one_tree (function ts t) (function us u) a b n o f g e =
+      let r : (spelled_parts ts ++ arrow ∷ spelled t) ++ a ≡ (spelled_parts us ++ arrow ∷ spelled u) ++ b = cc in
+      let x = one_list ts us (arrow ∷ (spelled t ++ a)) (arrow ∷ (spelled u ++ b)) n.0 o.0 (sym (append_assoc (spelled_parts ts) (arrow ∷ spelled t) a) ∙ r ∙ append_assoc (spelled_parts us) (arrow ∷ spelled u) b) in
+      let q : spelled t ++ a ≡ spelled u ++ b = (let y = x.1 in cc) in
+      let z = one_tree t u a b n.1 o.1 f g q in
+      let x0 = x.0 in let z0 = z.0 in (cc, z.1)
   one_tree (reference q m t) int a b n o f g e = absurd cc
   one_tree (reference q true t) (reference p true u) a b n o f g e = (let h : q ≡ p = cc in let r : spelled t ++ a ≡ spelled u ++ b = cc in let x = one_tree t u a b n o f g r in let y = x.0 in (cc, x.1))
   one_tree (reference q false t) (reference p false u) a b n o f g e = (let h : q ≡ p = cc in let r : spelled t ++ a ≡ spelled u ++ b = cc in let x = one_tree t u a b n o f g r in let y = x.0 in (cc, x.1))
@@ -91,3 +105,4 @@ some_tokens int = omega arith
 some_tokens (reference q m t) = omega arith
 some_tokens (tuple ts) = omega arith
 some_tokens (named s us) = omega arith
+some_tokens (function ts t) = omega arith

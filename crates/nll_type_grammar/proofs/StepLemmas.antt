@@ -2,14 +2,14 @@
 use Rattle.std.proofs.Common.{◌≡◌, ℕ, Bool, true, false, List, [], ◌∷◌, ◌++◌, refl, sym, ap, ◌∙◌, subst, append_assoc, ⊎_elim, inl, inr}
 use Rattle.std.specs.Prelude.{codes}
 use Rattle.std.specs.Borrow.{Bor}
-use Rattle.nll_text.specs.Tokens.{Token, word, region, sign}
-use Rattle.nll_type_grammar.specs.WrittenTypes.{Name, WrittenType, WrittenTypes, Arguments, int, reference, tuple, named, none, more, no_argument, region_argument, type_argument, is_capital, mutability, spelled, spelled_parts, spelled_more_parts, spelled_arguments, spelled_more_arguments, HasNames, HaveNames, ArgumentsHaveNames, IsFree, BeginsWithType}
+use Rattle.nll_text.specs.Tokens.{Token, word, region, arrow, sign}
+use Rattle.nll_type_grammar.specs.WrittenTypes.{Name, WrittenType, WrittenTypes, Arguments, int, reference, tuple, named, function, none, more, no_argument, region_argument, type_argument, is_capital, mutability, spelled, spelled_parts, spelled_more_parts, spelled_arguments, spelled_more_arguments, HasNames, HaveNames, ArgumentsHaveNames, IsFree, BeginsWithType}
 use Rattle.nll_type_grammar.specs.Reading.{HasNoType, IsTypeIn}
-use Rattle.nll_type_grammar.specs.OpenTypes.{Frame, behind, parts, arguments, joined, joined_arguments, Closes, GoesInside, Reads, GoesOn, GoesOnWithRegion, Finishes, Steps, IsStuck, IsNoFront, Begins}
+use Rattle.nll_type_grammar.specs.OpenTypes.{Frame, behind, parts, arguments, inputs, output, joined, joined_arguments, Closes, GoesInside, Reads, GoesOn, GoesOnWithRegion, Finishes, Steps, IsStuck, IsNoFront, Begins}
 use Rattle.nll_type_grammar.specs.declared.opens.State.{State}
-use Rattle.nll_type_grammar.specs.declared.opens.State.TheVariants.{Want, WantArgument, Have, Inside}
+use Rattle.nll_type_grammar.specs.declared.opens.State.TheVariants.{Want, WantArgument, Have, Inside, WantArrow}
 use Rattle.nll_type_grammar.specs.declared.fronts.Front.TheVariants as fronts
-use Rattle.nll_type_grammar.proofs.TokenLemmas.{int_no_name, apart, no_mut, no_closing, no_name_of}
+use Rattle.nll_type_grammar.proofs.TokenLemmas.{int_no_name, fn_no_name, fn_no_int, apart, no_mut, no_closing, no_name_of}
 
 -- ---- one thing more behind others
 
@@ -41,6 +41,7 @@ step_int fs t' after = record {
     there whole rest (reference q m t) mid r c = absurd (let j = r.joins in cc)
     there whole rest (tuple ts) mid r c = absurd (let j = r.joins in cc)
     there whole rest (named s args) mid r c = absurd (let j = r.joins in let e : codes "int" ≡ s = cc in int_no_name (subst (λ z. is_capital z ≡ true) (sym e) r.names.0))
+    there whole rest (function ts t) mid r c = absurd (let j = r.joins in let e : codes "fn" ≡ codes "int" = cc in fn_no_int e)
 
 -- `()`
 step_unit : (fs : List Frame) (t' : WrittenType) (after : List Token) → Steps Want fs t' (sign 40 ∷ sign 41 ∷ after) Have fs (tuple none) after
@@ -55,6 +56,7 @@ step_unit fs t' after = record {
     there whole rest (tuple none) mid r c = subst (λ m. Closes fs (tuple none) m whole rest) (let j = r.joins in let e : mid ≡ after = cc in e) c
     there whole rest (tuple (more t ts)) mid r c = absurd (let j = r.joins in let e : sign 41 ∷ after ≡ (spelled t ++ spelled_more_parts ts) ++ mid = cc in no_closing t (spelled_more_parts ts ++ mid) after (sym (e ∙ append_assoc (spelled t) (spelled_more_parts ts) mid)))
     there whole rest (named s args) mid r c = absurd (let j = r.joins in cc)
+    there whole rest (function ts t) mid r c = absurd (let j = r.joins in cc)
 
 -- `(` of a tuple that has parts
 step_tuple : (fs : List Frame) (t' u' : WrittenType) (after : List Token) → ((others : List Token) → after ≡ sign 41 ∷ others → ⊥) → Steps Want fs t' (sign 40 ∷ after) Want (parts none ∷ fs) u' after
@@ -69,6 +71,7 @@ step_tuple fs t' u' after some = record {
     there whole rest (tuple none) mid r c = absurd (some mid (let j = r.joins in cc))
     there whole rest (tuple (more t ts)) mid r c = (t, spelled_more_parts ts ++ mid, record { joins = (let j = r.joins in let e : after ≡ (spelled t ++ spelled_more_parts ts) ++ mid = cc in e ∙ append_assoc (spelled t) (spelled_more_parts ts) mid); names = r.names.0 }, (ts, mid, refl, r.names.1, c))
     there whole rest (named s args) mid r c = absurd (let j = r.joins in cc)
+    there whole rest (function ts t) mid r c = absurd (let j = r.joins in cc)
 
 -- `&`, a region and `mut`
 step_mut : (fs : List Frame) (t' u' : WrittenType) (q : Name) (after : List Token) → Steps Want fs t' (sign 38 ∷ region q ∷ word (codes "mut") ∷ after) Want (behind q true ∷ fs) u' after
@@ -83,6 +86,7 @@ step_mut fs t' u' q after = record {
     there whole rest (reference p false t) mid r c = absurd (no_mut t mid after r.names (let j = r.joins in let e : spelled t ++ mid ≡ word (codes "mut") ∷ after = cc in e))
     there whole rest (tuple ts) mid r c = absurd (let j = r.joins in let e : sign 38 ≡ sign 40 = cc in apart 38 40 refl e)
     there whole rest (named s args) mid r c = absurd (let j = r.joins in cc)
+    there whole rest (function ts t) mid r c = absurd (let j = r.joins in cc)
 
 -- `&` and a region, and no `mut`
 step_shared : (fs : List Frame) (t' u' : WrittenType) (q : Name) (after : List Token) → ((others : List Token) → after ≡ word (codes "mut") ∷ others → ⊥) → Steps Want fs t' (sign 38 ∷ region q ∷ after) Want (behind q false ∷ fs) u' after
@@ -97,6 +101,7 @@ step_shared fs t' u' q after plain = record {
     there whole rest (reference p false t) mid r c = (t, mid, record { joins = (let j = r.joins in cc); names = r.names }, subst (λ z. Closes fs (reference z false t) mid whole rest) (let j = r.joins in let e : p ≡ q = cc in e) c)
     there whole rest (tuple ts) mid r c = absurd (let j = r.joins in let e : sign 38 ≡ sign 40 = cc in apart 38 40 refl e)
     there whole rest (named s args) mid r c = absurd (let j = r.joins in cc)
+    there whole rest (function ts t) mid r c = absurd (let j = r.joins in cc)
 
 -- no `<` stands behind a whole type
 closes_free : (fs : List Frame) (t : WrittenType) (after : List Token) (whole : WrittenType) (rest : List Token) → Closes fs t (sign 60 ∷ after) whole rest → ⊥
@@ -113,6 +118,12 @@ closes_free (arguments n done ∷ fs) t after whole rest c = by c.0 c.1 c.2
     by no_argument mid e = (let h : sign 60 ≡ sign 62 = cc in apart 60 62 refl h)
     by (region_argument q us) mid e = (let h : sign 60 ≡ sign 44 = cc in apart 60 44 refl h)
     by (type_argument t us) mid e = (let h : sign 60 ≡ sign 44 = cc in apart 60 44 refl h)
+closes_free (inputs before ∷ fs) t after whole rest c = by c.0 c.1 c.2
+  where
+    by : (us : WrittenTypes) (mid : List Token) → sign 60 ∷ after ≡ spelled_more_parts us ++ arrow ∷ mid → ⊥
+    by none mid e = (let h : sign 60 ≡ sign 41 = cc in apart 60 41 refl h)
+    by (more t ts) mid e = (let h : sign 60 ≡ sign 44 = cc in apart 60 44 refl h)
+closes_free (output done ∷ fs) t after whole rest c = closes_free fs (function done t) after whole rest c
 
 -- a name and `<`
 step_generic : (fs : List Frame) (t' u' : WrittenType) (s : Name) (after : List Token) → is_capital s ≡ true → Steps Want fs t' (word s ∷ sign 60 ∷ after) WantArgument (arguments s no_argument ∷ fs) u' after
@@ -127,6 +138,7 @@ step_generic fs t' u' s after name = record {
     there whole rest int mid r c = absurd (let j = r.joins in let e : mid ≡ sign 60 ∷ after = cc in closes_free fs int after whole rest (subst (λ m. Closes fs int m whole rest) e c))
     there whole rest (reference p m t) mid r c = absurd (let j = r.joins in cc)
     there whole rest (tuple ts) mid r c = absurd (let j = r.joins in cc)
+    there whole rest (function ts t) mid r c = absurd (let j = r.joins in let e : codes "fn" ≡ s = cc in fn_no_name (subst (λ z. is_capital z ≡ true) (sym e) name))
     there whole rest (named n no_argument) mid r c = absurd (let j = r.joins in let e : mid ≡ sign 60 ∷ after = cc in closes_free fs (named n no_argument) after whole rest (subst (λ m. Closes fs (named n no_argument) m whole rest) e c))
     there whole rest (named n (region_argument q us)) mid r c = inl (q, spelled_more_arguments us ++ mid, (let j = r.joins in cc), (us, mid, refl, r.names.1, subst (λ z. Closes fs (named z (region_argument q us)) mid whole rest) (let j = r.joins in let e : n ≡ s = cc in e) c))
     there whole rest (named n (type_argument t us)) mid r c = inr (t, spelled_more_arguments us ++ mid, record { joins = (let j = r.joins in let e : after ≡ (spelled t ++ spelled_more_arguments us) ++ mid = cc in e ∙ append_assoc (spelled t) (spelled_more_arguments us) mid); names = r.names.1.0 }, (us, mid, refl, r.names.1.1, subst (λ z. Closes fs (named z (type_argument t us)) mid whole rest) (let j = r.joins in let e : n ≡ s = cc in e) c))
@@ -142,9 +154,51 @@ step_name fs t' s after name plain = record {
     there whole rest int mid r c = absurd (let j = r.joins in let e : codes "int" ≡ s = cc in int_no_name (subst (λ z. is_capital z ≡ true) (sym e) name))
     there whole rest (reference p m t) mid r c = absurd (let j = r.joins in cc)
     there whole rest (tuple ts) mid r c = absurd (let j = r.joins in cc)
+    there whole rest (function ts t) mid r c = absurd (let j = r.joins in let e : codes "fn" ≡ s = cc in fn_no_name (subst (λ z. is_capital z ≡ true) (sym e) name))
     there whole rest (named n no_argument) mid r c = (let j = r.joins in let e : mid ≡ after = cc in let h : n ≡ s = cc in subst (λ z. Closes fs (named z no_argument) after whole rest) h (subst (λ m. Closes fs (named n no_argument) m whole rest) e c))
     there whole rest (named n (region_argument q us)) mid r c = absurd (plain (region q ∷ (spelled_more_arguments us ++ mid)) (let j = r.joins in cc))
     there whole rest (named n (type_argument t us)) mid r c = absurd (plain ((spelled t ++ spelled_more_arguments us) ++ mid) (let j = r.joins in cc))
+
+-- the tokens of a function that has arguments, one piece after another
+function_pieces : (x : WrittenType) (us : WrittenTypes) (u : WrittenType) (other : List Token)
+    → ((spelled x ++ spelled_more_parts us) ++ arrow ∷ spelled u) ++ other ≡ spelled x ++ (spelled_more_parts us ++ arrow ∷ (spelled u ++ other))
+function_pieces x us u other =
+    append_assoc (spelled x ++ spelled_more_parts us) (arrow ∷ spelled u) other ∙ append_assoc (spelled x) (spelled_more_parts us) (arrow ∷ (spelled u ++ other))
+
+-- `fn ()` of a function without arguments
+step_thunk : (fs : List Frame) (t' u' : WrittenType) (after : List Token) → Steps Want fs t' (word (codes "fn") ∷ sign 40 ∷ sign 41 ∷ after) WantArrow (output none ∷ fs) u' after
+step_thunk fs t' u' after = record {
+  there = λ whole rest f. there whole rest f.0 f.1 f.2 f.3;
+  back = λ whole rest f. (let g = f.2 in (function none g.0, g.1, record { joins = ap (λ l. word (codes "fn") ∷ sign 40 ∷ sign 41 ∷ l) (f.1 ∙ ap (λ l. arrow ∷ l) g.2.joins); names = (tt, g.2.names) }, g.3));
+}
+  where
+    there : (whole : WrittenType) (rest : List Token) (t : WrittenType) (mid : List Token) → Reads (word (codes "fn") ∷ sign 40 ∷ sign 41 ∷ after) t mid → Closes fs t mid whole rest → Finishes WantArrow (output none ∷ fs) u' after whole rest
+    there whole rest int mid r c = absurd (let j = r.joins in let e : codes "fn" ≡ codes "int" = cc in fn_no_int e)
+    there whole rest (reference q m t) mid r c = absurd (let j = r.joins in cc)
+    there whole rest (tuple ts) mid r c = absurd (let j = r.joins in cc)
+    there whole rest (named s args) mid r c = absurd (let j = r.joins in let e : codes "fn" ≡ s = cc in fn_no_name (subst (λ z. is_capital z ≡ true) (sym e) r.names.0))
+    there whole rest (function none t) mid r c = (spelled t ++ mid, (let j = r.joins in cc), (t, mid, record { joins = refl; names = r.names.1 }, c))
+    there whole rest (function (more x xs) t) mid r c = absurd (let j = r.joins in let e : sign 41 ∷ after ≡ ((spelled x ++ spelled_more_parts xs) ++ arrow ∷ spelled t) ++ mid = cc in no_closing x (spelled_more_parts xs ++ arrow ∷ (spelled t ++ mid)) after (sym (e ∙ function_pieces x xs t mid)))
+
+-- `fn (` of a function that has arguments
+step_function : (fs : List Frame) (t' u' : WrittenType) (after : List Token) → ((others : List Token) → after ≡ sign 41 ∷ others → ⊥) → Steps Want fs t' (word (codes "fn") ∷ sign 40 ∷ after) Want (inputs none ∷ fs) u' after
+step_function fs t' u' after some = record {
+  there = λ whole rest f. there whole rest f.0 f.1 f.2 f.3;
+  back = λ whole rest f. (let c = f.3 in (function (more f.0 c.0) c.4, c.5, record { joins = ap (λ l. word (codes "fn") ∷ sign 40 ∷ l) (f.2.joins ∙ ap (λ l. spelled f.0 ++ l) (c.2 ∙ ap (λ l. spelled_more_parts c.0 ++ arrow ∷ l) c.6.joins) ∙ sym (function_pieces f.0 c.0 c.4 c.5)); names = ((f.2.names, c.3), c.6.names) }, c.7));
+}
+  where
+    there : (whole : WrittenType) (rest : List Token) (t : WrittenType) (mid : List Token) → Reads (word (codes "fn") ∷ sign 40 ∷ after) t mid → Closes fs t mid whole rest → GoesOn (inputs none ∷ fs) after whole rest
+    there whole rest int mid r c = absurd (let j = r.joins in let e : codes "fn" ≡ codes "int" = cc in fn_no_int e)
+    there whole rest (reference q m t) mid r c = absurd (let j = r.joins in cc)
+    there whole rest (tuple ts) mid r c = absurd (let j = r.joins in cc)
+    there whole rest (named s args) mid r c = absurd (let j = r.joins in let e : codes "fn" ≡ s = cc in fn_no_name (subst (λ z. is_capital z ≡ true) (sym e) r.names.0))
+    there whole rest (function none t) mid r c = absurd (some (arrow ∷ (spelled t ++ mid)) (let j = r.joins in cc))
+    there whole rest (function (more x xs) t) mid r c = (
+      x,
+      spelled_more_parts xs ++ arrow ∷ (spelled t ++ mid),
+      record { joins = (let j = r.joins in let e : after ≡ ((spelled x ++ spelled_more_parts xs) ++ arrow ∷ spelled t) ++ mid = cc in e ∙ function_pieces x xs t mid); names = r.names.0.0 },
+      (xs, spelled t ++ mid, refl, r.names.0.1, t, mid, record { joins = refl; names = r.names.1 }, c),
+    )
 
 -- the beginnings
 pub front_int : (fs : List Frame) (t' : WrittenType) (ts rest : List Token) → Begins fronts.Int ts rest → Steps Want fs t' ts Have fs int rest
@@ -166,11 +220,27 @@ front_generic n fs t' u' ts rest b = subst (λ z. Steps Want fs t' z WantArgumen
 pub front_name : (n : Bor (List ℕ)) (fs : List Frame) (t' : WrittenType) (ts rest : List Token) → Begins (fronts.Name n) ts rest → Steps Want fs t' ts Have fs (named n.now no_argument) rest
 front_name n fs t' ts rest b = subst (λ z. Steps Want fs t' z Have fs (named n.now no_argument) rest) (sym b.1) (step_name fs t' n.now rest b.0 b.2)
 
+pub front_thunk : (fs : List Frame) (t' u' : WrittenType) (ts rest : List Token) → Begins fronts.Thunk ts rest → Steps Want fs t' ts WantArrow (output none ∷ fs) u' rest
+front_thunk fs t' u' ts rest b = subst (λ z. Steps Want fs t' z WantArrow (output none ∷ fs) u' rest) (sym b) (step_thunk fs t' u' rest)
+
+pub front_function : (fs : List Frame) (t' u' : WrittenType) (ts rest : List Token) → Begins fronts.Function ts rest → Steps Want fs t' ts Want (inputs none ∷ fs) u' rest
+front_function fs t' u' ts rest b = subst (λ z. Steps Want fs t' z Want (inputs none ∷ fs) u' rest) (sym b.0) (step_function fs t' u' rest b.1)
+
 -- ---- behind a whole type
 
 -- a reference is complete
 pub step_behind : (fs : List Frame) (q : Name) (m : Bool) (t : WrittenType) (ts : List Token) → Steps Have (behind q m ∷ fs) t ts Have fs (reference q m t) ts
 step_behind fs q m t ts = record { there = λ whole rest f. f; back = λ whole rest f. f }
+
+-- a function is complete
+pub step_output : (fs : List Frame) (done : WrittenTypes) (t : WrittenType) (ts : List Token) → Steps Have (output done ∷ fs) t ts Have fs (function done t) ts
+step_output fs done t ts = record { there = λ whole rest f. f; back = λ whole rest f. f }
+
+pub step_input : (fs : List Frame) (done : WrittenTypes) (t u' : WrittenType) (ts : List Token) → Steps Have (inputs done ∷ fs) t ts Inside (inputs (joined done (more t none)) ∷ fs) u' ts
+step_input fs done t u' ts = record {
+  there = λ whole rest f. (f.0, f.1, f.2, f.3, f.4, f.5, f.6, subst (λ z. Closes fs (function z f.4) f.5 whole rest) (sym (joined_more done t f.0)) f.7);
+  back = λ whole rest f. (f.0, f.1, f.2, f.3, f.4, f.5, f.6, subst (λ z. Closes fs (function z f.4) f.5 whole rest) (joined_more done t f.0) f.7);
+}
 
 pub step_part : (fs : List Frame) (done : WrittenTypes) (t u' : WrittenType) (ts : List Token) → Steps Have (parts done ∷ fs) t ts Inside (parts (joined done (more t none)) ∷ fs) u' ts
 step_part fs done t u' ts = record {
@@ -209,6 +279,8 @@ step_no_region fs t' u' ts other = record { there = λ whole rest. ⊎_elim (by 
     by whole rest (behind _ _ ∷ gs) f = absurd f
     by whole rest (parts _ ∷ gs) f = absurd f
     by whole rest (arguments n done ∷ gs) f = absurd (other f.0 f.1 f.2)
+    by whole rest (inputs _ ∷ gs) f = absurd f
+    by whole rest (output _ ∷ gs) f = absurd f
 
 -- ---- behind a part or an argument
 
@@ -235,6 +307,48 @@ step_close_part fs done t' after = record {
     there : (whole : WrittenType) (rest : List Token) (us : WrittenTypes) (mid : List Token) → sign 41 ∷ after ≡ spelled_more_parts us ++ mid → Closes fs (tuple (joined done us)) mid whole rest → Closes fs (tuple done) after whole rest
     there whole rest none mid e c = (let h : mid ≡ after = cc in subst (λ z. Closes fs (tuple z) after whole rest) (joined_none done) (subst (λ m. Closes fs (tuple (joined done none)) m whole rest) h c))
     there whole rest (more t us) mid e c = absurd (let h : sign 41 ≡ sign 44 = cc in apart 41 44 refl h)
+
+-- nothing more behind others
+joined_nothing : (done : WrittenTypes) → joined done none ≡ done
+joined_nothing none = refl
+joined_nothing (more t ts) = ap (more t) (joined_nothing ts)
+
+pub step_comma_input : (fs : List Frame) (done : WrittenTypes) (t' u' : WrittenType) (after : List Token) → Steps Inside (inputs done ∷ fs) t' (sign 44 ∷ after) Want (inputs done ∷ fs) u' after
+step_comma_input fs done t' u' after = record {
+  there = λ whole rest f. there whole rest f.0 f.1 f.2 f.3 f.4 f.5 f.6 f.7;
+  back = λ whole rest f. (let c = f.3 in (
+    more f.0 c.0,
+    c.1,
+    ap (λ l. sign 44 ∷ l) (f.2.joins ∙ ap (λ l. spelled f.0 ++ l) c.2 ∙ sym (append_assoc (spelled f.0) (spelled_more_parts c.0) (arrow ∷ c.1))),
+    (f.2.names, c.3),
+    c.4,
+    c.5,
+    c.6,
+    c.7,
+  ));
+}
+  where
+    there : (whole : WrittenType) (rest : List Token) (us : WrittenTypes) (mid : List Token) → sign 44 ∷ after ≡ spelled_more_parts us ++ arrow ∷ mid → HaveNames us → (u : WrittenType) (other : List Token) → Reads mid u other → Closes fs (function (joined done us) u) other whole rest → GoesOn (inputs done ∷ fs) after whole rest
+    there whole rest none mid e n u other r c = absurd (let h : sign 44 ≡ sign 41 = cc in apart 44 41 refl h)
+    there whole rest (more t us) mid e n u other r c = (t, spelled_more_parts us ++ arrow ∷ mid, record { joins = (let h : after ≡ (spelled t ++ spelled_more_parts us) ++ arrow ∷ mid = cc in h ∙ append_assoc (spelled t) (spelled_more_parts us) (arrow ∷ mid)); names = n.0 }, (us, mid, refl, n.1, u, other, r, c))
+
+-- all arguments of a function are read
+pub step_close_input : (fs : List Frame) (done : WrittenTypes) (t' u' : WrittenType) (after : List Token) → Steps Inside (inputs done ∷ fs) t' (sign 41 ∷ after) WantArrow (output done ∷ fs) u' after
+step_close_input fs done t' u' after = record {
+  there = λ whole rest f. there whole rest f.0 f.1 f.2 f.4 f.5 f.6 f.7;
+  back = λ whole rest f. (let g = f.2 in (none, f.0, ap (λ l. sign 41 ∷ l) f.1, tt, g.0, g.1, g.2, subst (λ z. Closes fs (function z g.0) g.1 whole rest) (sym (joined_nothing done)) g.3));
+}
+  where
+    there : (whole : WrittenType) (rest : List Token) (us : WrittenTypes) (mid : List Token) → sign 41 ∷ after ≡ spelled_more_parts us ++ arrow ∷ mid → (u : WrittenType) (other : List Token) → Reads mid u other → Closes fs (function (joined done us) u) other whole rest → Finishes WantArrow (output done ∷ fs) u' after whole rest
+    there whole rest none mid e u other r c = (mid, (let h : after ≡ arrow ∷ mid = cc in h), (u, other, r, subst (λ z. Closes fs (function z u) other whole rest) (joined_nothing done) c))
+    there whole rest (more t us) mid e u other r c = absurd (let h : sign 41 ≡ sign 44 = cc in apart 41 44 refl h)
+
+-- `->` of a function
+pub step_arrow : (fs : List Frame) (t' u' : WrittenType) (after : List Token) → Steps WantArrow fs t' (arrow ∷ after) Want fs u' after
+step_arrow fs t' u' after = record {
+  there = λ whole rest f. subst (λ z. GoesOn fs z whole rest) (let e = f.1 in let h : f.0 ≡ after = cc in h) f.2;
+  back = λ whole rest f. (after, refl, f);
+}
 
 pub step_comma_argument : (fs : List Frame) (n : Name) (done : Arguments) (t' u' : WrittenType) (after : List Token) → Steps Inside (arguments n done ∷ fs) t' (sign 44 ∷ after) WantArgument (arguments n done ∷ fs) u' after
 step_comma_argument fs n done t' u' after = record {
@@ -275,6 +389,7 @@ stuck_want fs t' ts front whole rest f = by f.0 f.1 f.2
     by (reference q m t) mid r = front.reference q ((mutability m ++ spelled t) ++ mid) r.joins
     by (tuple ts) mid r = front.bracket (spelled_parts ts ++ mid) r.joins
     by (named s us) mid r = front.name s (spelled_arguments us ++ mid) r.names.0 r.joins
+    by (function ts t) mid r = front.function ((spelled_parts ts ++ arrow ∷ spelled t) ++ mid) r.joins
 
 pub stuck_part : (fs : List Frame) (done : WrittenTypes) (t' : WrittenType) (ts : List Token) → ((rest : List Token) → ts ≡ sign 44 ∷ rest → ⊥) → ((rest : List Token) → ts ≡ sign 41 ∷ rest → ⊥) → IsStuck Inside (parts done ∷ fs) t' ts
 stuck_part fs before t' ts comma close whole rest f = by f.0 f.1 f.2
@@ -282,6 +397,13 @@ stuck_part fs before t' ts comma close whole rest f = by f.0 f.1 f.2
     by : (us : WrittenTypes) (mid : List Token) → ts ≡ spelled_more_parts us ++ mid → ⊥
     by none mid e = close mid e
     by (more t us) mid e = comma ((spelled t ++ spelled_more_parts us) ++ mid) e
+
+pub stuck_input : (fs : List Frame) (done : WrittenTypes) (t' : WrittenType) (ts : List Token) → ((rest : List Token) → ts ≡ sign 44 ∷ rest → ⊥) → ((rest : List Token) → ts ≡ sign 41 ∷ rest → ⊥) → IsStuck Inside (inputs done ∷ fs) t' ts
+stuck_input fs before t' ts comma close whole rest f = by f.0 f.1 f.2
+  where
+    by : (us : WrittenTypes) (mid : List Token) → ts ≡ spelled_more_parts us ++ arrow ∷ mid → ⊥
+    by none mid e = close (arrow ∷ mid) e
+    by (more t us) mid e = comma ((spelled t ++ spelled_more_parts us) ++ arrow ∷ mid) e
 
 pub stuck_argument : (fs : List Frame) (n : Name) (done : Arguments) (t' : WrittenType) (ts : List Token) → ((rest : List Token) → ts ≡ sign 44 ∷ rest → ⊥) → ((rest : List Token) → ts ≡ sign 62 ∷ rest → ⊥) → IsStuck Inside (arguments n done ∷ fs) t' ts
 stuck_argument fs n done t' ts comma close whole rest f = by f.0 f.1 f.2
@@ -300,6 +422,8 @@ stuck_region fs t' q after other whole rest = ⊎_elim (by fs refl) (λ f. no_re
     by (behind _ _ ∷ gs) e f = f
     by (parts _ ∷ gs) e f = f
     by (arguments n done ∷ gs) e f = other n done gs e
+    by (inputs _ ∷ gs) e f = f
+    by (output _ ∷ gs) e f = f
 
 -- ---- the end
 

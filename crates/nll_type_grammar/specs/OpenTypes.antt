@@ -5,10 +5,10 @@ use Rattle.std.specs.Prelude.{◌*◌, ◌-◌, Some, slice_get, length, drop, r
 use Rattle.std.specs.Global.{Vec}
 use Rattle.std.specs.List.{AllByRecursion}
 use Rattle.std.specs.Borrow.{Bor}
-use Rattle.nll_text.specs.Tokens.{Token, word, region, sign, views}
+use Rattle.nll_text.specs.Tokens.{Token, word, region, arrow, sign, views}
 use Rattle.nll_text.specs.declared.token.Token.{Token as InLine}
 use Rattle.nll_type_grammar.specs.WrittenTypes.{Name, WrittenType, WrittenTypes, Arguments}
-use Rattle.nll_type_grammar.specs.WrittenTypes.{reference, tuple, named, none, more}
+use Rattle.nll_type_grammar.specs.WrittenTypes.{reference, tuple, named, function, none, more}
 use Rattle.nll_type_grammar.specs.WrittenTypes.{no_argument, region_argument, type_argument}
 use Rattle.nll_type_grammar.specs.WrittenTypes.{spelled, spelled_more_parts}
 use Rattle.nll_type_grammar.specs.WrittenTypes.{spelled_more_arguments, is_capital}
@@ -22,7 +22,7 @@ use Rattle.nll_type_grammar.specs.declared.fronts.Front.{Front}
 use Rattle.nll_type_grammar.specs.declared.fronts.Front.TheVariants as fronts
 use Rattle.nll_type_grammar.specs.declared.opens.State.{State}
 use Rattle.nll_type_grammar.specs.declared.opens.State.TheVariants.{Want, WantArgument, Have}
-use Rattle.nll_type_grammar.specs.declared.opens.State.TheVariants.{Inside}
+use Rattle.nll_type_grammar.specs.declared.opens.State.TheVariants.{Inside, WantArrow}
 use Rattle.nll_type_grammar.specs.declared.opens.Open.{Open}
 use Rattle.nll_type_grammar.specs.declared.opens.Open.TheVariants as opens
 
@@ -43,6 +43,10 @@ Begins (fronts.Generic n) ts rest =
     (is_capital n.now ≡ true) × (ts ≡ word n.now ∷ sign 60 ∷ rest)
 Begins (fronts.Name n) ts rest =
     (is_capital n.now ≡ true) × (ts ≡ word n.now ∷ rest) × IsFree rest
+Begins fronts.Thunk ts rest = ts ≡ word (codes "fn") ∷ sign 40 ∷ sign 41 ∷ rest
+Begins fronts.Function ts rest =
+    (ts ≡ word (codes "fn") ∷ sign 40 ∷ rest)
+    × ((others : List Token) → rest ≡ sign 41 ∷ others → ⊥)
 
 -- No type begins like this.
 pub record IsNoFront (ts : List Token) : Type 0 where
@@ -50,6 +54,7 @@ pub record IsNoFront (ts : List Token) : Type 0 where
   pub bracket : (rest : List Token) → ts ≡ sign 40 ∷ rest → ⊥
   pub reference : (q : Name) (rest : List Token) → ts ≡ sign 38 ∷ region q ∷ rest → ⊥
   pub name : (s : Name) (rest : List Token) → is_capital s ≡ true → ts ≡ word s ∷ rest → ⊥
+  pub function : (rest : List Token) → ts ≡ word (codes "fn") ∷ sign 40 ∷ rest → ⊥
 
 -- These tokens of a line begin so with the first n, one or more.
 pub record BeginsWithin (front : Front) (n : ℕ) (tokens : List InLine) : Type 0 where
@@ -59,11 +64,15 @@ pub record BeginsWithin (front : Front) (n : ℕ) (tokens : List InLine) : Type 
 
 -- ---- what is begun and not complete
 
--- A reference, whose type comes next; a tuple, with the parts read so far; a name's arguments.
+-- A reference, whose type comes next; a tuple, with the parts read so far; a name's arguments; a
+-- function, with the arguments read so far; a function with these arguments, whose result comes
+-- next.
 pub data Frame : Type 0 where
   behind : Name → Bool → Frame
   parts : WrittenTypes → Frame
   arguments : Name → Arguments → Frame
+  inputs : WrittenTypes → Frame
+  output : WrittenTypes → Frame
 
 -- types, and then others
 abbrev pub joined : WrittenTypes → WrittenTypes → WrittenTypes
@@ -75,6 +84,11 @@ abbrev pub joined_arguments : Arguments → Arguments → Arguments
 joined_arguments no_argument us = us
 joined_arguments (region_argument r ts) us = region_argument r (joined_arguments ts us)
 joined_arguments (type_argument t ts) us = type_argument t (joined_arguments ts us)
+
+-- the tokens begin with a type, which `<` may follow, and then come others
+pub record Reads (tokens : List Token) (t : WrittenType) (rest : List Token) : Type 0 where
+  pub joins : tokens ≡ spelled t ++ rest
+  pub names : HasNames t
 
 -- A type is complete; the frames, the innermost first, go on and are closed. The whole type comes
 -- out, and behind it the rest, which begins with no `<`.
@@ -88,6 +102,11 @@ Closes (arguments n done ∷ frames) t ts whole rest =
     (us : Arguments) × (mid : List Token) × (ts ≡ spelled_more_arguments us ++ mid)
     × ArgumentsHaveNames us
     × Closes frames (named n (joined_arguments done (type_argument t us))) mid whole rest
+Closes (inputs done ∷ frames) t ts whole rest =
+    (us : WrittenTypes) × (mid : List Token) × (ts ≡ spelled_more_parts us ++ arrow ∷ mid)
+    × HaveNames us × (u : WrittenType) × (other : List Token) × Reads mid u other
+    × Closes frames (function (joined done (more t us)) u) other whole rest
+Closes (output done ∷ frames) t ts whole rest = Closes frames (function done t) ts whole rest
 
 -- A part or an argument of the innermost frame is complete, and the frames go on.
 abbrev pub GoesInside : List Frame → List Token → WrittenType → List Token → Type 0
@@ -99,11 +118,11 @@ GoesInside (parts done ∷ frames) ts whole rest =
 GoesInside (arguments n done ∷ frames) ts whole rest =
     (us : Arguments) × (mid : List Token) × (ts ≡ spelled_more_arguments us ++ mid)
     × ArgumentsHaveNames us × Closes frames (named n (joined_arguments done us)) mid whole rest
-
--- the tokens begin with a type, which `<` may follow, and then come others
-pub record Reads (tokens : List Token) (t : WrittenType) (rest : List Token) : Type 0 where
-  pub joins : tokens ≡ spelled t ++ rest
-  pub names : HasNames t
+GoesInside (inputs done ∷ frames) ts whole rest =
+    (us : WrittenTypes) × (mid : List Token) × (ts ≡ spelled_more_parts us ++ arrow ∷ mid)
+    × HaveNames us × (u : WrittenType) × (other : List Token) × Reads mid u other
+    × Closes frames (function (joined done us) u) other whole rest
+GoesInside (output _ ∷ frames) ts whole rest = ⊥
 
 -- A type comes, and the frames go on.
 abbrev pub GoesOn : List Frame → List Token → WrittenType → List Token → Type 0
@@ -120,6 +139,8 @@ GoesOnWithRegion (arguments n done ∷ frames) ts whole rest =
     × ((us : Arguments) × (other : List Token) × (mid ≡ spelled_more_arguments us ++ other)
     × ArgumentsHaveNames us
     × Closes frames (named n (joined_arguments done (region_argument q us))) other whole rest)
+GoesOnWithRegion (inputs _ ∷ frames) ts whole rest = ⊥
+GoesOnWithRegion (output _ ∷ frames) ts whole rest = ⊥
 
 -- The tokens complete what is begun: the whole type comes out, and behind it the rest. Where a
 -- type is complete, it is `t`.
@@ -130,6 +151,8 @@ Finishes WantArgument frames t ts whole rest =
     GoesOnWithRegion frames ts whole rest ⊎ GoesOn frames ts whole rest
 Finishes Have frames t ts whole rest = Closes frames t ts whole rest
 Finishes Inside frames t ts whole rest = GoesInside frames ts whole rest
+Finishes WantArrow frames t ts whole rest =
+    (mid : List Token) × (ts ≡ arrow ∷ mid) × GoesOn frames mid whole rest
 
 -- From here and from there the same types come out.
 pub record Steps (s : State) (frames : List Frame) (t : WrittenType) (ts : List Token)
@@ -153,6 +176,8 @@ abbrev pub frame_over : List WrittenType → Open → Frame
 frame_over known (opens.Behind r m) = behind r.now m
 frame_over known (opens.Tuple is) = parts (all_at known is.items)
 frame_over known (opens.Arguments n args) = arguments n.now (arguments_at known args.items)
+frame_over known (opens.Inputs is) = inputs (all_at known is.items)
+frame_over known (opens.Output is) = output (all_at known is.items)
 
 -- the frames, the innermost first; it is the last of the list
 abbrev pub frames_of : List TypeNode → List Open → List Frame
@@ -163,6 +188,8 @@ abbrev pub numbers_of : Open → List ℕ
 numbers_of (opens.Behind r m) = []
 numbers_of (opens.Tuple is) = is.items
 numbers_of (opens.Arguments n args) = types_among args.items
+numbers_of (opens.Inputs is) = is.items
+numbers_of (opens.Output is) = is.items
 
 -- Each of these numbers is below n.
 abbrev pub AreBelow : ℕ → List ℕ → Type 0
@@ -182,12 +209,14 @@ pub record AreRead (ns : List TypeNode) (opened : List Open) : Type 0 where
   pub parted : AreParted ns
   pub frames : AreOpen (length ns) opened
 
--- how many steps that take no token may come, apart from those that complete a reference
+-- how many steps that take no token may come, apart from those that complete a reference or a
+-- function
 abbrev pub pending : State → ℕ
 pending Want = 0
 pending WantArgument = 1
 pending Have = 1
 pending Inside = 0
+pending WantArrow = 0
 
 -- The step takes n tokens; the nodes and frames after it fit together, and say the same.
 pub record GoesFurther (s : State) (ns : List TypeNode) (opened : List Open) (tokens : List InLine)
@@ -222,6 +251,8 @@ abbrev pub IsEnded : Open → ℕ → State → Type 0
 IsEnded (opens.Behind r m) c s = ⊥
 IsEnded (opens.Tuple is) c s = (c ≡ 41) × (s ≡ Want)
 IsEnded (opens.Arguments n args) c s = (c ≡ 62) × (s ≡ WantArgument)
+IsEnded (opens.Inputs is) c s = (c ≡ 41) × (s ≡ Want)
+IsEnded (opens.Output is) c s = ⊥
 
 -- the same of the innermost thing that is open
 abbrev pub EndsWith : List Open → ℕ → State → Type 0
@@ -233,6 +264,8 @@ abbrev pub Becomes : Open → TypeNode → Type 0
 Becomes (opens.Behind r m) n = ⊥
 Becomes (opens.Tuple is) n = n ≡ nodes.Tuple is
 Becomes (opens.Arguments q args) n = n ≡ nodes.Named q args
+Becomes (opens.Inputs is) n = ⊥
+Becomes (opens.Output is) n = ⊥
 
 -- The innermost thing that was open is a node, behind the others.
 pub record IsClosed (o : Open) (ns : List TypeNode) (opened : List Open)
@@ -240,6 +273,29 @@ pub record IsClosed (o : Open) (ns : List TypeNode) (opened : List Open)
   pub have : s' ≡ Have
   pub inner : opened ≡ opened' ++ o ∷ []
   pub put : (n : TypeNode) × (ns' ≡ ns ++ n ∷ []) × Becomes o n
+
+-- The innermost thing that was open was a function, and all its arguments are read.
+pub record IsAwaiting (o : Open) (ns : List TypeNode) (opened : List Open)
+    (s' : State) (ns' : List TypeNode) (opened' : List Open) : Type 0 where
+  pub awaits : s' ≡ WantArrow
+  pub same : ns' ≡ ns
+  pub outer : List Open
+  pub arguments : Vec ℕ
+  pub was : o ≡ opens.Inputs arguments
+  pub inner : opened ≡ outer ++ o ∷ []
+  pub held : opened' ≡ outer ++ opens.Output arguments ∷ []
+
+-- the innermost thing that was open has ended
+abbrev pub HasEnded : Open → List TypeNode → List Open → State → List TypeNode → List Open → Type 0
+HasEnded o ns opened s' ns' opened' =
+    IsClosed o ns opened s' ns' opened' ⊎ IsAwaiting o ns opened s' ns' opened'
+
+-- A function is open, and has one argument more than these.
+pub record HasMoreInputs (opened : List Open) (inputs : List ℕ) (input : ℕ)
+    (s' : State) (opened' : List Open) : Type 0 where
+  pub inside : s' ≡ Inside
+  pub held :
+      (v : Vec ℕ) × (v.items ≡ inputs ++ input ∷ []) × (opened' ≡ opened ++ opens.Inputs v ∷ [])
 
 -- A tuple is open, and has one part more than these.
 pub record HasMoreParts (opened : List Open) (parts : List ℕ) (part : ℕ)

@@ -5,7 +5,7 @@ use Rattle.std.specs.Prelude.{ℕ, ◌-◌, ◌<◌, List, [], ◌∷◌, ◌++�
 use Rattle.std.specs.Prelude.{All}
 use Rattle.nll_type_grammar.specs.WrittenTypes.{WrittenType, WrittenTypes, Arguments}
 use Rattle.nll_type_grammar.specs.WrittenTypes.{int, reference}
-use Rattle.nll_type_grammar.specs.WrittenTypes.{tuple, named, none, more}
+use Rattle.nll_type_grammar.specs.WrittenTypes.{tuple, named, function, none, more}
 use Rattle.nll_type_grammar.specs.WrittenTypes.{no_argument, region_argument, type_argument}
 use Rattle.nll_type_grammar.specs.declared.type_text.TypeNode.{TypeNode}
 use Rattle.nll_type_grammar.specs.declared.type_text.TypeNode.TheVariants as nodes
@@ -33,6 +33,7 @@ type_over known nodes.Int = int
 type_over known (nodes.Reference r m i) = reference r.now m (at known i)
 type_over known (nodes.Tuple is) = tuple (all_at known is.items)
 type_over known (nodes.Named n args) = named n.now (arguments_at known args.items)
+type_over known (nodes.Function is i) = function (all_at known is.items) (at known i)
 
 -- these types, and then those of the nodes
 abbrev pub types_from : List WrittenType → List TypeNode → List WrittenType
@@ -55,6 +56,7 @@ parts_of nodes.Int = []
 parts_of (nodes.Reference r m i) = i ∷ []
 parts_of (nodes.Tuple is) = is.items
 parts_of (nodes.Named n args) = types_among args.items
+parts_of (nodes.Function is i) = i ∷ is.items
 
 -- There is a node, and the parts of each come before it.
 pub record AreNodes (ns : List TypeNode) : Type 0 where

@@ -1,7 +1,7 @@
 -- Types as they are written, with names in place of numbers.
 -- Source: project's choice; docs/FORMATS.md says the same in words.
 use Rattle.std.specs.Prelude.{◌≡◌, ℕ, Bool, true, false, List, [], ◌∷◌, ◌++◌, codes, nat_le, ◌&&◌}
-use Rattle.nll_text.specs.Tokens.{Token, word, region, sign, first_passes}
+use Rattle.nll_text.specs.Tokens.{Token, word, region, arrow, sign, first_passes}
 
 -- a name: that of a region without its `'`, of a struct, or of a type parameter
 abbrev pub Name : Type 0
@@ -14,8 +14,10 @@ mutual
     reference : Name → Bool → WrittenType → WrittenType
     tuple : WrittenTypes → WrittenType
     named : Name → Arguments → WrittenType
+    -- a function: the types of its arguments, and that of its result
+    function : WrittenTypes → WrittenType → WrittenType
 
-  -- types in a row: the parts of a tuple, or the fields of a struct
+  -- types in a row: the parts of a tuple, the fields of a struct, or the arguments of a function
   pub data WrittenTypes : Type 0 where
     none : WrittenTypes
     more : WrittenType → WrittenTypes → WrittenTypes
@@ -33,13 +35,16 @@ abbrev pub mutability : Bool → List Token
 mutability true = word (codes "mut") ∷ []
 mutability false = []
 
--- The tokens of a type: `int`, `& 'r T`, `& 'r mut T`, `( T , .. )`, `W` or `W < A , .. >`.
+-- The tokens of a type: `int`, `& 'r T`, `& 'r mut T`, `( T , .. )`, `W`, `W < A , .. >` or
+-- `fn ( T , .. ) -> T`.
 abbrev mutual
   pub spelled : WrittenType → List Token
   spelled int = word (codes "int") ∷ []
   spelled (reference r m t) = sign 38 ∷ region r ∷ (mutability m ++ spelled t)
   spelled (tuple ts) = sign 40 ∷ spelled_parts ts
   spelled (named n args) = word n ∷ spelled_arguments args
+  spelled (function ts t) =
+      word (codes "fn") ∷ sign 40 ∷ (spelled_parts ts ++ arrow ∷ spelled t)
 
   -- what stands behind the `(` of a row of types: the types, parted by commas, and `)`
   pub spelled_parts : WrittenTypes → List Token
@@ -76,6 +81,7 @@ abbrev mutual
   HasNames (reference r m t) = HasNames t
   HasNames (tuple ts) = HaveNames ts
   HasNames (named n args) = (is_capital n ≡ true) × ArgumentsHaveNames args
+  HasNames (function ts t) = HaveNames ts × HasNames t
 
   pub HaveNames : WrittenTypes → Type 0
   HaveNames none = Unit {0}

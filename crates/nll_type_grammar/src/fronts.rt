@@ -23,6 +23,10 @@ pub enum Front<'a> {
     Generic(&'a [u8]),
     /// A name behind which no `<` stands.
     Name(&'a [u8]),
+    /// The `fn ()` of a function without arguments.
+    Thunk,
+    /// The `fn (` of a function that has arguments.
+    Function,
 }
 
 /// Whether the sign stands in front.
@@ -150,6 +154,32 @@ fn generic_at<'a>(tokens: &[Token<'a>]) -> Option<&'a [u8]>
     }
 }
 
+// Whether `fn ()` stands in front.
+fn is_thunk(tokens: &[Token<'_>]) -> bool
+    ensures yes { result ≡ true → views tokens.now
+        ≡ lex.word (codes "fn") ∷ lex.sign 40 ∷ lex.sign 41 ∷ views (drop 3 tokens.now) }
+    ensures other { result ≡ false → (rest : List lex.Token) → views tokens.now
+        ≡ lex.word (codes "fn") ∷ lex.sign 40 ∷ lex.sign 41 ∷ rest → ⊥ }
+{
+    match tokens {
+        [Token::Word(b"fn"), Token::Sign(b'('), Token::Sign(b')'), ..] => true,
+        _ => false,
+    }
+}
+
+// Whether `fn (` stands in front.
+fn is_function(tokens: &[Token<'_>]) -> bool
+    ensures yes { result ≡ true →
+        views tokens.now ≡ lex.word (codes "fn") ∷ lex.sign 40 ∷ views (drop 2 tokens.now) }
+    ensures other { result ≡ false → (rest : List lex.Token) → views tokens.now
+        ≡ lex.word (codes "fn") ∷ lex.sign 40 ∷ rest → ⊥ }
+{
+    match tokens {
+        [Token::Word(b"fn"), Token::Sign(b'('), ..] => true,
+        _ => false,
+    }
+}
+
 /// How a type begins here, and how many tokens that takes.
 pub fn front_at<'a>(tokens: &[Token<'a>]) -> Option<(Front<'a>, usize)>
     ensures { MatchOption result (IsNoFront (views tokens.now))
@@ -175,6 +205,12 @@ pub fn front_at<'a>(tokens: &[Token<'a>]) -> Option<(Front<'a>, usize)>
     }
     if let Some(name) = name_at(tokens) {
         return Some((Front::Name(name), 1));
+    }
+    if is_thunk(tokens) {
+        return Some((Front::Thunk, 3));
+    }
+    if is_function(tokens) {
+        return Some((Front::Function, 2));
     }
     None
 }

@@ -2,6 +2,7 @@
 #![tactic(auto)]
 
 mod fronts;
+mod functions;
 mod laws;
 mod opens;
 mod reading;

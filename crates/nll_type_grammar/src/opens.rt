@@ -1,14 +1,15 @@
 //! What of a type is begun and not complete, and one step through a type.
 
 ghost use Rattle.std.specs.Prelude.{◌≡◌, ◌∷◌, [], ◌++◌, ◌<◌, ◌-◌, ℕ, List, length};
-ghost use Rattle.std.specs.Prelude.{IfOk, MatchOption, Some, slice_get};
+ghost use Rattle.std.specs.Prelude.{IfOk, MatchOption, Some, slice_get, drop};
 ghost use Rattle.nll_text.specs.Tokens as lex;
 ghost use Rattle.nll_text.specs.Tokens.{views};
 ghost use Rattle.nll_type_grammar.specs.TypeTexts.{written};
 ghost use Rattle.nll_type_grammar.specs.declared.type_text.TypeNode.{TypeNode as node};
-ghost use Rattle.nll_type_grammar.specs.OpenTypes.{IsStuck, AreRead, GoesFurther, IsBegun};
+ghost use Rattle.nll_type_grammar.specs.OpenTypes.{Frame, IsStuck, AreRead, GoesFurther, IsBegun};
 ghost use Rattle.nll_type_grammar.specs.OpenTypes.{IsCompleted, HasMoreParts, HasMoreArguments};
-ghost use Rattle.nll_type_grammar.specs.OpenTypes.{frames_of, EndsWith, IsClosed, IsEnded};
+ghost use Rattle.nll_type_grammar.specs.OpenTypes.{HasMoreInputs, frames_of, EndsWith, HasEnded};
+ghost use Rattle.nll_type_grammar.specs.OpenTypes.{IsEnded};
 ghost use Rattle.nll_type_grammar.specs.WrittenTypes.{WrittenType};
 ghost use Rattle.nll_type_grammar.specs.declared.opens.Open.{Open as opening};
 ghost use Rattle.nll_type_grammar.specs.declared.opens.State.{State as stage};
@@ -29,6 +30,10 @@ pub enum Open<'a> {
     Tuple(Vec<usize>),
     /// A name, and the arguments read so far.
     Arguments(&'a [u8], Vec<Argument<'a>>),
+    /// A function, with the arguments read so far.
+    Inputs(Vec<usize>),
+    /// A function with these arguments, whose result comes next.
+    Output(Vec<usize>),
 }
 
 /// What may come next in a type.
@@ -42,6 +47,8 @@ pub enum State {
     Have,
     /// What follows a part or an argument of the innermost thing that is open.
     Inside,
+    /// The `->` in front of a function's result.
+    WantArrow,
 }
 
 impl<'a> Default for Open<'a> {
@@ -97,6 +104,8 @@ pub fn begin<'a>(
             State::WantArgument,
         ),
         Front::Name(name) => put(nodes, TypeNode::Named(name, Vec::new(alloc))),
+        Front::Thunk => put_open(opened, Open::Output(Vec::new(alloc)), State::WantArrow),
+        Front::Function => put_open(opened, Open::Inputs(Vec::new(alloc)), State::Want),
     }
 }
 
@@ -136,6 +145,19 @@ fn open_tuple<'a>(
     put_open(opened, Open::Tuple(parts), State::Inside)
 }
 
+// Opens a function again, which has one more argument.
+fn open_function<'a>(
+    opened: &mut Opened<'a>,
+    mut inputs: Vec<usize>,
+    input: usize,
+) -> Result<State, Memory>
+    ensures { IfOk result (λ s. HasMoreInputs opened.old.items inputs.items input
+        s opened.new.items) }
+{
+    inputs.push(input)?;
+    put_open(opened, Open::Inputs(inputs), State::Inside)
+}
+
 // Opens a name again, which has one more argument.
 fn open_name<'a>(
     opened: &mut Opened<'a>,
@@ -172,6 +194,8 @@ fn want_argument<'a>(
         }
         Some(Open::Behind(..)) => Ok(None),
         Some(Open::Tuple(_)) => Ok(None),
+        Some(Open::Inputs(_)) => Ok(None),
+        Some(Open::Output(_)) => Ok(None),
         None => Ok(None),
     }
 }
@@ -194,6 +218,8 @@ fn complete<'a>(nodes: &mut Vec<TypeNode<'a>>, opened: &mut Opened<'a>) -> Resul
             arguments,
             Argument::Type(last),
         ),
+        Some(Open::Inputs(inputs)) => open_function(opened, inputs, last),
+        Some(Open::Output(inputs)) => put(nodes, TypeNode::Function(inputs, last)),
         None => Ok(State::Have),
     }
 }
@@ -209,20 +235,24 @@ fn ends_at(opened: &Opened<'_>) -> Option<(u8, State)>
     match opened.as_slice().last() {
         Some(Open::Tuple(_)) => Some((b')', State::Want)),
         Some(Open::Arguments(..)) => Some((b'>', State::WantArgument)),
+        Some(Open::Inputs(_)) => Some((b')', State::Want)),
+        Some(Open::Output(_)) => None,
         Some(Open::Behind(..)) => None,
         None => None,
     }
 }
 
-// Completes the innermost thing that is open, where it has parts.
+// Ends the innermost thing that is open, where it has parts.
 fn close<'a>(nodes: &mut Vec<TypeNode<'a>>, opened: &mut Opened<'a>) -> Result<State, Memory>
     ensures { IfOk result (λ s. (o : opening) (c : ℕ) (next : stage) →
         slice_get opened.old.items (length opened.old.items - 1) ≡ Some o → IsEnded o c next →
-        IsClosed o nodes.old.items opened.old.items s nodes.new.items opened.new.items) }
+        HasEnded o nodes.old.items opened.old.items s nodes.new.items opened.new.items) }
 {
     match opened.pop() {
         Some(Open::Tuple(parts)) => put(nodes, TypeNode::Tuple(parts)),
         Some(Open::Arguments(name, arguments)) => put(nodes, TypeNode::Named(name, arguments)),
+        Some(Open::Inputs(inputs)) => put_open(opened, Open::Output(inputs), State::WantArrow),
+        Some(Open::Output(_)) => Ok(State::Have),
         Some(Open::Behind(..)) => Ok(State::Have),
         None => Ok(State::Have),
     }
@@ -254,6 +284,20 @@ fn inside<'a>(
     Ok(Some((state, 1)))
 }
 
+// One step where the `->` of a function comes next.
+fn want_arrow(tokens: &[Token<'_>]) -> Option<(State, usize)>
+    ensures { MatchOption result
+        ((frames : List Frame) (t : WrittenType) →
+        IsStuck State.WantArrow frames t (views tokens.now))
+        (λ p. (p ≡ (State.Want, 1))
+        × (views tokens.now ≡ lex.arrow ∷ views (drop 1 tokens.now))) }
+{
+    match tokens {
+        [Token::Arrow, ..] => Some((State::Want, 1)),
+        _ => None,
+    }
+}
+
 /// One step: what may come then, and how many tokens it takes.
 pub fn step<'a>(
     alloc: Global,
@@ -279,5 +323,6 @@ pub fn step<'a>(
             Ok(Some((next, 0)))
         }
         State::Inside => inside(tokens, nodes, opened),
+        State::WantArrow => Ok(want_arrow(tokens)),
     }
 }

@@ -23,6 +23,8 @@ pub enum TypeNode<'a> {
     Tuple(Vec<usize>),
     /// A name, of a struct or of a type parameter, and its arguments.
     Named(&'a [u8], Vec<Argument<'a>>),
+    /// A function: its arguments, and its result.
+    Function(Vec<usize>, usize),
 }
 
 /// A type as it is written: nodes in a row, in which parts come before what they are parts of.

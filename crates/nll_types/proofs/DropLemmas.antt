@@ -4,7 +4,7 @@ use Rattle.std.proofs.lemmas.Bool.{cases_lt}
 use Rattle.std.proofs.lemmas.List.{length-map}
 use Rattle.std.proofs.lemmas.Option.{slice_get-get_or, slice_get_within, get_or_from_slice_get}
 use Rattle.std.specs.Prelude.{slice_get, Option, Some, IsTrue}
-use Rattle.nll_types.specs.Types.{TypeTree, TypeTrees, int, reference, tuple, named, type_at, HasRegion, AnyHasRegion}
+use Rattle.nll_types.specs.Types.{TypeTree, TypeTrees, int, reference, tuple, named, function, type_at, HasRegion, AnyHasRegion}
 use Rattle.nll_types.specs.Structs.{Struct, struct_at, field_type, region_in, argument, put_in, put_in_all}
 use Rattle.nll_types.specs.DropRegions.{IsOwnDropRegion, IsDropRegion}
 use Rattle.nll_types.specs.Sources.{Yields, OneYields, AreSourcesOf, IsWantedOf, IsWantedOfOne, AddsSources}
@@ -22,6 +22,10 @@ no_drop_int structs r (n ∷ way, s, rs, ts, l, o) = l.0
 pub no_drop_reference : (structs : List Struct) (q : ℕ) (m : Bool) (t : TypeTree) (r : ℕ) → IsDropRegion structs (reference q m t) r → ⊥
 no_drop_reference structs q m t r ([], s, rs, ts, l, o) = cc
 no_drop_reference structs q m t r (n ∷ way, s, rs, ts, l, o) = l.0
+
+pub no_drop_function : (structs : List Struct) (us : TypeTrees) (t : TypeTree) (r : ℕ) → IsDropRegion structs (function us t) r → ⊥
+no_drop_function structs us t r ([], s, rs, ts, l, o) = cc
+no_drop_function structs us t r (n ∷ way, s, rs, ts, l, o) = l.0
 
 pub drop_part : (structs : List Struct) (us : TypeTrees) (r k : ℕ) (u : TypeTree) → type_at us k ≡ Some u → IsDropRegion structs u r → IsDropRegion structs (tuple us) r
 drop_part structs us r k u e (way, s, rs, ts, l, o) = (u ∷ way, s, rs, ts, ((k, e), l), o)
@@ -97,6 +101,23 @@ wanted_tuple structs w d us a b x = adds_as structs _ _ a b
     (λ h. let i = drop_of_part structs (put_in_all rs ts us) r h.1 in let p = type_at_put_back rs ts us i.0 i.1 i.2 in
     (i.0, p.0, p.1, inr (h.0, subst (λ z. IsDropRegion structs z r) p.2 i.3))))
     x
+
+pub wanted_function : (structs : List Struct) (w d : Type 0) (us : TypeTrees) (t : TypeTree) (a b c : List Source)
+    → AddsSources structs (IsWantedOfOne structs (λ _. w) (λ _. IsTrue false) us) a b → AddsSources structs (IsWantedOf structs w (IsTrue false) t) b c
+    → AddsSources structs (IsWantedOf structs w d (function us t)) a c
+wanted_function structs w d us t a b c x y = adds_as structs _ _ a c
+    (λ rs ts r. ⊎_elim
+    (λ h. ⊎_elim
+    (λ i. inl (i.0, inl (any_has _ h.0 _ r (type_at_put rs ts us h.0 h.1 h.2) i.1)))
+    (λ i. absurd (let e = i.0 in cc)) h.3)
+    (⊎_elim (λ h. inl (h.0, inr h.1)) (λ h. absurd (let e = h.0 in cc))))
+    (λ rs ts r. ⊎_elim
+    (λ h. ⊎_elim
+    (λ e. let i = has_any (put_in_all rs ts us) r e in let p = type_at_put_back rs ts us i.0 i.1 i.2 in
+    inl (i.0, p.0, p.1, inl (h.0, subst (λ z. HasRegion z r) p.2 i.3)))
+    (λ i. inr (inl (h.0, i))) h.1)
+    (λ h. absurd (no_drop_function structs _ _ r h.1)))
+    (adds_then structs _ _ a b c x y)
 
 -- ---- what is wanted of the elements of a row, one after another
 

@@ -4,7 +4,7 @@ use Rattle.std.specs.Prelude.{All, AllPairs}
 use Rattle.std.specs.List.{IsDistinct, AllByRecursion}
 use Rattle.std.proofs.lemmas.Bool.{false≢true}
 use Rattle.std.proofs.lemmas.List.Elements.{Contains-get_or}
-use Rattle.nll_types.specs.Types.{TypeTree, TypeTrees, int, parameter, reference, tuple, named, none, more}
+use Rattle.nll_types.specs.Types.{TypeTree, TypeTrees, int, parameter, reference, tuple, named, function, none, more}
 use Rattle.nll_types.specs.Structs.{Struct, region_in, put_in, put_in_all, IsWellFormed, AreWellFormed}
 use Rattle.nll_types.specs.Sources.{OneYields, IsWanted, IsWantedOf, AddsSources}
 use Rattle.nll_types.specs.Collecting.{regions_among}
@@ -51,6 +51,10 @@ mutual
   put_same structs n bound (named s rs ts) h w =
       let here = same_regions n bound rs h w.3 in
       let rest = put_all_same structs n bound ts h w.4 in
+      cc
+  put_same structs n bound (function ts t) h w =
+      let here = put_all_same structs n bound ts h w.0 in
+      let rest = put_same structs n bound t h w.1 in
       cc
 
   put_all_same : (structs : List Struct) (n bound : ℕ) (ts : TypeTrees) → bound ≤ n + 1 → AreWellFormed structs bound 0 ts → put_in_all (after 0 n) none ts ≡ ts

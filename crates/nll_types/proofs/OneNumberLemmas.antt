@@ -50,26 +50,37 @@ node_one known limit n one nodes.Int (nodes.Parameter j) oa ob e = absurd cc
 node_one known limit n one nodes.Int (nodes.Reference b j) oa ob e = absurd cc
 node_one known limit n one nodes.Int (nodes.Tuple b) oa ob e = absurd cc
 node_one known limit n one nodes.Int (nodes.Named j q b) oa ob e = absurd cc
+node_one known limit n one nodes.Int (nodes.Function b j) oa ob e = absurd cc
 node_one known limit n one (nodes.Parameter i) nodes.Int oa ob e = absurd cc
 node_one known limit n one (nodes.Parameter i) (nodes.Parameter j) oa ob e = (let k : i ≡ j = cc in eq-eqb i j k)
 node_one known limit n one (nodes.Parameter i) (nodes.Reference b j) oa ob e = absurd cc
 node_one known limit n one (nodes.Parameter i) (nodes.Tuple b) oa ob e = absurd cc
 node_one known limit n one (nodes.Parameter i) (nodes.Named j q b) oa ob e = absurd cc
+node_one known limit n one (nodes.Parameter i) (nodes.Function b j) oa ob e = absurd cc
 node_one known limit n one (nodes.Reference a i) nodes.Int oa ob e = absurd cc
 node_one known limit n one (nodes.Reference a i) (nodes.Parameter j) oa ob e = absurd cc
 node_one known limit n one (nodes.Reference a i) (nodes.Reference b j) oa ob e = (let k : a ≡ b = cc in let t : at known i ≡ at known j = cc in both_true (beq a b) (i == j) (beq-same a b k) (eq-eqb i j (one i j (oa 0 (omega arith)) (ob 0 (omega arith)) t)))
 node_one known limit n one (nodes.Reference a i) (nodes.Tuple b) oa ob e = absurd cc
 node_one known limit n one (nodes.Reference a i) (nodes.Named j q b) oa ob e = absurd cc
+node_one known limit n one (nodes.Reference a i) (nodes.Function b j) oa ob e = absurd cc
 node_one known limit n one (nodes.Tuple a) nodes.Int oa ob e = absurd cc
 node_one known limit n one (nodes.Tuple a) (nodes.Parameter j) oa ob e = absurd cc
 node_one known limit n one (nodes.Tuple a) (nodes.Reference b j) oa ob e = absurd cc
 node_one known limit n one (nodes.Tuple a) (nodes.Tuple b) oa ob e = (let t : all_at known a.items ≡ all_at known b.items = cc in items_eq a.items b.items (all_one known limit n one a.items b.items oa ob t))
 node_one known limit n one (nodes.Tuple a) (nodes.Named j q b) oa ob e = absurd cc
+node_one known limit n one (nodes.Tuple a) (nodes.Function b j) oa ob e = absurd cc
 node_one known limit n one (nodes.Named i p a) nodes.Int oa ob e = absurd cc
 node_one known limit n one (nodes.Named i p a) (nodes.Parameter j) oa ob e = absurd cc
 node_one known limit n one (nodes.Named i p a) (nodes.Reference b j) oa ob e = absurd cc
 node_one known limit n one (nodes.Named i p a) (nodes.Tuple b) oa ob e = absurd cc
 node_one known limit n one (nodes.Named i p a) (nodes.Named j q b) oa ob e = (let k : i ≡ j = cc in let l : p ≡ q = cc in let t : all_at known a.items ≡ all_at known b.items = cc in both_true (i == j) ((p == q) && pointwise nat_eq a.items b.items) (eq-eqb i j k) (both_true (p == q) (pointwise nat_eq a.items b.items) (eq-eqb p q l) (items_eq a.items b.items (all_one known limit n one a.items b.items oa ob t))))
+node_one known limit n one (nodes.Named i p a) (nodes.Function b j) oa ob e = absurd cc
+node_one known limit n one (nodes.Function a i) nodes.Int oa ob e = absurd cc
+node_one known limit n one (nodes.Function a i) (nodes.Parameter j) oa ob e = absurd cc
+node_one known limit n one (nodes.Function a i) (nodes.Reference b j) oa ob e = absurd cc
+node_one known limit n one (nodes.Function a i) (nodes.Tuple b) oa ob e = absurd cc
+node_one known limit n one (nodes.Function a i) (nodes.Named j q b) oa ob e = absurd cc
+node_one known limit n one (nodes.Function a i) (nodes.Function b j) oa ob e = (let t : all_at known a.items ≡ all_at known b.items = cc in let u : at known i ≡ at known j = cc in both_true (pointwise nat_eq a.items b.items) (i == j) (items_eq a.items b.items (all_one known limit n one a.items b.items (λ k l. oa (suc k) (omega arith)) (λ k l. ob (suc k) (omega arith)) t)) (eq-eqb i j (one i j (oa 0 (omega arith)) (ob 0 (omega arith)) u)))
 
 each_later : {K : Type 0} (e : K → K → Bool) (d x : K) (xs : List K) → AllByRecursion (λ y. e x y ≡ false) xs → (k : ℕ) → k < length xs → e x (get_or xs k d) ≡ false
 each_later e d x [] all k h = absurd (omega arith)

@@ -2,7 +2,7 @@
 use Rattle.std.proofs.Common.{◌≡◌, ℕ, zero, suc, ◌+◌, List, [], ◌∷◌, length, refl, sym, ap, ◌∙◌, arith, Option, Some, None}
 use Rattle.std.specs.Prelude.{option_map, slice_get}
 use Rattle.std.specs.Global.{Vec}
-use Rattle.nll_types.specs.Types.{TypeTree, TypeTrees, int, parameter, reference, tuple, named, none, more, type_count}
+use Rattle.nll_types.specs.Types.{TypeTree, TypeTrees, int, parameter, reference, tuple, named, function, none, more, type_count}
 use Rattle.nll_types.specs.Structs.{Struct, struct_at}
 use Rattle.nll_types.specs.Places.{part_count}
 use Rattle.nll_types.specs.Shapes.{Shape, ShapeList, tuple_shape, named_shape, no_shape, more_shapes, shape_of, shapes_of, shape_at}
@@ -43,6 +43,7 @@ part_count_agrees structs (parameter k) = refl
 part_count_agrees structs (reference r m t) = refl
 part_count_agrees structs (tuple ts) = ap Some (count_of_row ts)
 part_count_agrees structs (named s rs ts) = refl
+part_count_agrees structs (function ts t) = refl
 
 -- the parts of a node are counted
 pub count_at : (structs : List Struct) (known : List Shape) (node : Node) (t : TypeTree) → shape_of t ≡ shape_over known node

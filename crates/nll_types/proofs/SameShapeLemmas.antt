@@ -5,7 +5,7 @@ use Rattle.std.specs.Bool.{beq}
 use Rattle.std.specs.Cmp.Derive.{both_true}
 use Rattle.std.proofs.lemmas.Bool.{eqb-true, eq-eqb}
 use Rattle.nll_problem.proofs.FactLemmas.{and_true}
-use Rattle.nll_types.specs.Types.{TypeTree, TypeTrees, int, parameter, reference, tuple, named, none, more}
+use Rattle.nll_types.specs.Types.{TypeTree, TypeTrees, int, parameter, reference, tuple, named, function, none, more}
 use Rattle.nll_types.specs.Shapes.{tuple_shape, parameter_shape, shape_of, shapes_of, same_shape, same_shapes}
 
 flags : (a b : Bool) → beq a b ≡ true → a ≡ b
@@ -37,6 +37,11 @@ mutual
       let b = eqb-true (length qs) (length rs) f.0 in
       let c = all_to ts us f.1 in
       cc
+  to (function ts t) (function us u) h =
+      let e = and_true (same_shapes ts us) (same_shape t u) h in
+      let a = all_to ts us e.0 in
+      let b = to t u e.1 in
+      cc
   to int (parameter k) h = absurd (let e : false ≡ true = h in cc)
   to int (reference r n u) h = absurd (let e : false ≡ true = h in cc)
   to int (tuple us) h = absurd (let e : false ≡ true = h in cc)
@@ -57,6 +62,16 @@ mutual
   to (named s qs ts) (parameter k) h = absurd (let e : false ≡ true = h in cc)
   to (named s qs ts) (reference r n u) h = absurd (let e : false ≡ true = h in cc)
   to (named s qs ts) (tuple us) h = absurd (let e : false ≡ true = h in cc)
+  to int (function us u) h = absurd (let e : false ≡ true = h in cc)
+  to (parameter j) (function us u) h = absurd (let e : false ≡ true = h in cc)
+  to (reference q m t) (function us u) h = absurd (let e : false ≡ true = h in cc)
+  to (tuple ts) (function us u) h = absurd (let e : false ≡ true = h in cc)
+  to (named s qs ts) (function us u) h = absurd (let e : false ≡ true = h in cc)
+  to (function ts t) int h = absurd (let e : false ≡ true = h in cc)
+  to (function ts t) (parameter k) h = absurd (let e : false ≡ true = h in cc)
+  to (function ts t) (reference r n u) h = absurd (let e : false ≡ true = h in cc)
+  to (function ts t) (tuple us) h = absurd (let e : false ≡ true = h in cc)
+  to (function ts t) (named o rs us) h = absurd (let e : false ≡ true = h in cc)
 
   all_to : (ts us : TypeTrees) → same_shapes ts us ≡ true → shapes_of ts ≡ shapes_of us
   all_to none none h = refl
@@ -82,6 +97,10 @@ mutual
       let b : length qs ≡ length rs = cc in
       let c : shapes_of ts ≡ shapes_of us = cc in
       both_true (eq-eqb s o a) (both_true (eq-eqb (length qs) (length rs) b) (all_from ts us c))
+  from (function ts t) (function us u) h =
+      let a : shapes_of ts ≡ shapes_of us = cc in
+      let b : shape_of t ≡ shape_of u = cc in
+      both_true (all_from ts us a) (from t u b)
   from int (parameter k) h = absurd cc
   from int (reference r n u) h = absurd cc
   from int (tuple us) h = absurd cc
@@ -102,6 +121,16 @@ mutual
   from (named s qs ts) (parameter k) h = absurd cc
   from (named s qs ts) (reference r n u) h = absurd cc
   from (named s qs ts) (tuple us) h = absurd cc
+  from int (function us u) h = absurd cc
+  from (parameter j) (function us u) h = absurd cc
+  from (reference q m t) (function us u) h = absurd cc
+  from (tuple ts) (function us u) h = absurd cc
+  from (named s qs ts) (function us u) h = absurd cc
+  from (function ts t) int h = absurd cc
+  from (function ts t) (parameter k) h = absurd cc
+  from (function ts t) (reference r n u) h = absurd cc
+  from (function ts t) (tuple us) h = absurd cc
+  from (function ts t) (named o rs us) h = absurd cc
 
   all_from : (ts us : TypeTrees) → shapes_of ts ≡ shapes_of us → same_shapes ts us ≡ true
   all_from none none h = refl

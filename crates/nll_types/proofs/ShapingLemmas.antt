@@ -6,8 +6,10 @@ use Rattle.std.proofs.lemmas.List.{get_or_append_left, length-append, map_push, 
 use Rattle.std.proofs.Math.Seq.{get_or-append_seam, take-length}
 use Rattle.nll_types.specs.Views.{tree, trees}
 use Rattle.nll_types.specs.Shapes.{Shape, ShapeList, int_shape, shape_of, shapes_of, argument_shape, put_in_shape, put_in_shapes}
-use Rattle.nll_types.specs.Table.{at, all_at, shapes_in, shape_in, Extends, AreBelow}
+use Rattle.nll_types.specs.Table.{at, all_at, shapes_in, shape_in, Extends, AreBelow, IsOver}
+use Rattle.std.specs.Global.{Vec}
 use Rattle.nll_types.specs.declared.node.Node.{Node}
+use Rattle.nll_types.specs.declared.node.Node.TheVariants.{Function}
 use Rattle.nll_types.specs.declared.ty.Ty.{Ty}
 use Rattle.nll_types.proofs.TableLemmas.{all_kept}
 
@@ -41,6 +43,11 @@ below_push n i is b h = λ k l. ⊎_elim
     (λ s. rw (get_or_append_left is (i ∷ []) 0 k s) (b k s))
     (λ s. let e : k ≡ length is = omega (arith, length-append is (i ∷ [])) in rw (e, get_or-append_seam is i [] 0) h)
     (cases_lt k (length is))
+
+-- the parts of a function are below n where its result and its arguments are
+pub over_function : (n t : ℕ) (ts : Vec ℕ) → t < n → AreBelow n ts.items → IsOver n (Function ts t)
+over_function n t ts h b zero l = h
+over_function n t ts h b (suc k) l = b k (omega arith)
 
 -- the shapes of numbers stay
 pub kept_at : (old new : List Node) (is : List ℕ) → Extends old new → AreBelow (length old) is → all_at (shapes_in new) is ≡ all_at (shapes_in old) is

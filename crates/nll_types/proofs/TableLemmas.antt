@@ -58,6 +58,10 @@ shape_kept old new n keeps (nodes.Parameter i) over = refl
 shape_kept old new n keeps (nodes.Reference m t) over = ap (reference m) (keeps t (over 0 (omega arith)))
 shape_kept old new n keeps (nodes.Tuple ts) over = ap tuple (all_kept old new n keeps ts.items over)
 shape_kept old new n keeps (nodes.Named s c ts) over = ap (named s c) (all_kept old new n keeps ts.items over)
+shape_kept old new n keeps (nodes.Function ts t) over =
+    let rest = all_kept old new n keeps ts.items (λ k h. over (suc k) (omega arith)) in
+    let last = keeps t (over 0 (omega arith)) in
+    cc
 
 -- each number's type is that of its node
 pub at_from : (known : List Shape) (ns : List Node) → ((i : ℕ) → i < length ns → IsOver (length known + i) (get_or ns i nodes.Int)) → (i : ℕ) → i < length ns → at (shapes_from known ns) (length known + i) ≡ shape_over (shapes_from known ns) (get_or ns i nodes.Int)
@@ -120,26 +124,37 @@ same known nodes.Int (nodes.Parameter j) h = absurd (let e : false ≡ true = h 
 same known nodes.Int (nodes.Reference b j) h = absurd (let e : false ≡ true = h in cc)
 same known nodes.Int (nodes.Tuple b) h = absurd (let e : false ≡ true = h in cc)
 same known nodes.Int (nodes.Named j q b) h = absurd (let e : false ≡ true = h in cc)
+same known nodes.Int (nodes.Function b j) h = absurd (let e : false ≡ true = h in cc)
 same known (nodes.Parameter i) nodes.Int h = absurd (let e : false ≡ true = h in cc)
 same known (nodes.Parameter i) (nodes.Parameter j) h = (ap parameter (eqb-true i j h), refl)
 same known (nodes.Parameter i) (nodes.Reference b j) h = absurd (let e : false ≡ true = h in cc)
 same known (nodes.Parameter i) (nodes.Tuple b) h = absurd (let e : false ≡ true = h in cc)
 same known (nodes.Parameter i) (nodes.Named j q b) h = absurd (let e : false ≡ true = h in cc)
+same known (nodes.Parameter i) (nodes.Function b j) h = absurd (let e : false ≡ true = h in cc)
 same known (nodes.Reference a i) nodes.Int h = absurd (let e : false ≡ true = h in cc)
 same known (nodes.Reference a i) (nodes.Parameter j) h = absurd (let e : false ≡ true = h in cc)
 same known (nodes.Reference a i) (nodes.Reference b j) h = let e = and_true (beq a b) (i == j) h in let x : a ≡ b = beq-true a b e.0 in let y : i ≡ j = eqb-true i j e.1 in (cc, cc)
 same known (nodes.Reference a i) (nodes.Tuple b) h = absurd (let e : false ≡ true = h in cc)
 same known (nodes.Reference a i) (nodes.Named j q b) h = absurd (let e : false ≡ true = h in cc)
+same known (nodes.Reference a i) (nodes.Function b j) h = absurd (let e : false ≡ true = h in cc)
 same known (nodes.Tuple a) nodes.Int h = absurd (let e : false ≡ true = h in cc)
 same known (nodes.Tuple a) (nodes.Parameter j) h = absurd (let e : false ≡ true = h in cc)
 same known (nodes.Tuple a) (nodes.Reference b j) h = absurd (let e : false ≡ true = h in cc)
 same known (nodes.Tuple a) (nodes.Tuple b) h = let x : a.items ≡ b.items = items_same a.items b.items h in (cc, x)
 same known (nodes.Tuple a) (nodes.Named j q b) h = absurd (let e : false ≡ true = h in cc)
+same known (nodes.Tuple a) (nodes.Function b j) h = absurd (let e : false ≡ true = h in cc)
 same known (nodes.Named i p a) nodes.Int h = absurd (let e : false ≡ true = h in cc)
 same known (nodes.Named i p a) (nodes.Parameter j) h = absurd (let e : false ≡ true = h in cc)
 same known (nodes.Named i p a) (nodes.Reference b j) h = absurd (let e : false ≡ true = h in cc)
 same known (nodes.Named i p a) (nodes.Tuple b) h = absurd (let e : false ≡ true = h in cc)
 same known (nodes.Named i p a) (nodes.Named j q b) h = let e = and_true (i == j) ((p == q) && pointwise nat_eq a.items b.items) h in let f = and_true (p == q) (pointwise nat_eq a.items b.items) e.1 in let y : i ≡ j = eqb-true i j e.0 in let z : p ≡ q = eqb-true p q f.0 in let x : a.items ≡ b.items = items_same a.items b.items f.1 in (cc, x)
+same known (nodes.Named i p a) (nodes.Function b j) h = absurd (let e : false ≡ true = h in cc)
+same known (nodes.Function a i) nodes.Int h = absurd (let e : false ≡ true = h in cc)
+same known (nodes.Function a i) (nodes.Parameter j) h = absurd (let e : false ≡ true = h in cc)
+same known (nodes.Function a i) (nodes.Reference b j) h = absurd (let e : false ≡ true = h in cc)
+same known (nodes.Function a i) (nodes.Tuple b) h = absurd (let e : false ≡ true = h in cc)
+same known (nodes.Function a i) (nodes.Named j q b) h = absurd (let e : false ≡ true = h in cc)
+same known (nodes.Function a i) (nodes.Function b j) h = let e = and_true (pointwise nat_eq a.items b.items) (i == j) h in let x : a.items ≡ b.items = items_same a.items b.items e.0 in let y : i ≡ j = eqb-true i j e.1 in (cc, cc)
 
 pub at_added : (ns ms : List Node) (n k : Node) (r : ℕ) → IsTable ms → Extends ns ms → IsOver (length ns) n → r < length ms → slice_get ms r ≡ Some k → (derived.eq-value).it n k ≡ true → shape_in ms r ≡ shape_over (shapes_in ns) n
 at_added ns ms n k r table extends over within is eq =
@@ -160,6 +175,10 @@ size_measured known counts n measured (nodes.Parameter i) over = refl
 size_measured known counts n measured (nodes.Reference m t) over = let here = measured t (over 0 (omega arith)) in omega arith
 size_measured known counts n measured (nodes.Tuple ts) over = parts_measured known counts n measured ts.items over 1
 size_measured known counts n measured (nodes.Named s c ts) over = parts_measured known counts n measured ts.items over 1
+size_measured known counts n measured (nodes.Function ts t) over =
+    let last = measured t (over 0 (omega arith)) in
+    let rest = parts_measured known counts n measured ts.items (λ k h. over (suc k) (omega arith)) 1 in
+    omega arith
 
 pub kept_push : (ns : List Node) (counts : List ℕ) (n : Node) → IsShapeTable ns counts → HasOneNumber (ns ++ n ∷ []) → IsOver (length ns) n → IsShapeTable (ns ++ n ∷ []) (counts ++ size_over counts n ∷ [])
 kept_push ns counts n kept one over = record {

@@ -2,11 +2,11 @@
 use Rattle.std.proofs.Common.{◌≡◌, ℕ, zero, suc, Bool, List, [], ◌∷◌, refl, sym, ap, ◌∙◌, slice_get, ◌<◌, length, Some, arith}
 use Rattle.std.specs.Prelude.{option_map}
 use Rattle.std.specs.Global.{Vec, Box}
-use Rattle.nll_types.specs.Types.{TypeTree, int, parameter, reference, tuple, named, type_at, type_count}
+use Rattle.nll_types.specs.Types.{TypeTree, int, parameter, reference, tuple, named, function, type_at, type_count}
 use Rattle.nll_types.specs.Views.{tree, trees, layer}
 use Rattle.nll_types.specs.declared.ty.Ty.{Ty}
 use Rattle.nll_types.specs.declared.ty.Ty.TheOpen as layers
-use Rattle.nll_types.specs.declared.ty.Ty.TheVariants.{Int, Parameter, Reference, Tuple, Named, rolls-Int, rolls-Parameter, rolls-Reference, rolls-Tuple, rolls-Named}
+use Rattle.nll_types.specs.declared.ty.Ty.TheVariants.{Int, Parameter, Reference, Tuple, Named, Function, rolls-Int, rolls-Parameter, rolls-Reference, rolls-Tuple, rolls-Named, rolls-Function}
 use Rattle.nll_types.specs.declared.ty.Ty.TheFolds.{fold-roll-Ty}
 
 pub tree_int : tree Int ≡ int
@@ -23,6 +23,9 @@ tree_tuple parts = ap tree (sym (rolls-Tuple parts)) ∙ fold-roll-Ty TypeTree l
 
 pub tree_named : (s : ℕ) (rs : Vec ℕ) (ts : Vec Ty) → tree (Named s rs ts) ≡ named s rs.items (trees ts.items)
 tree_named s rs ts = ap tree (sym (rolls-Named s rs ts)) ∙ fold-roll-Ty TypeTree layer (layers.Named s rs ts)
+
+pub tree_function : (ts : Vec Ty) (b : Box Ty) → tree (Function ts b) ≡ function (trees ts.items) (tree b.value)
+tree_function ts b = ap tree (sym (rolls-Function ts b)) ∙ fold-roll-Ty TypeTree layer (layers.Function ts b)
 
 -- the type at a place of a row
 pub type_at_trees : (ts : List Ty) (k : ℕ) → type_at (trees ts) k ≡ option_map tree (slice_get ts k)

@@ -3,7 +3,7 @@ use Rattle.std.proofs.Common.{◌≡◌, ℕ, zero, suc, ◌+◌, ◌<◌, List,
 use Rattle.std.specs.Prelude.{All, slice_get, option_map, option_and_then}
 use Rattle.std.proofs.lemmas.List.{length-map}
 use Rattle.std.proofs.lemmas.Option.{slice_get_within, get_or_from_slice_get}
-use Rattle.nll_types.specs.Types.{TypeTree, TypeTrees, int, parameter, reference, tuple, named, none, more, type_at, type_count}
+use Rattle.nll_types.specs.Types.{TypeTree, TypeTrees, int, parameter, reference, tuple, named, function, none, more, type_at, type_count}
 use Rattle.nll_types.specs.Structs.{Struct, struct_at, region_in, argument, put_in, put_in_all, IsWellFormed, AreWellFormed, AreInOrder}
 use Rattle.nll_types.specs.Places.{PlacePath, behind, behind_all, type_of}
 use Rattle.nll_types.specs.declared.place.Projection.{Projection}
@@ -43,6 +43,7 @@ mutual
   put_good structs n p rs ts (tuple us) some all good w = put_all_good structs n p rs ts us some all good w
   put_good structs n p rs ts (named s qs us) some all good w =
       (w.0, length-map qs (region_in rs) ∙ w.1, count_put rs ts us ∙ w.2, regions_below n rs qs some all w.3, put_all_good structs n p rs ts us some all good w.4)
+  put_good structs n p rs ts (function us u) some all good w = (put_all_good structs n p rs ts us some all good w.0, put_good structs n p rs ts u some all good w.1)
 
   put_all_good : (structs : List Struct) (n p : ℕ) (rs : List ℕ) (ts us : TypeTrees) → 0 < n → All (λ q. q < n) rs → AreWellFormed structs n p ts
       → AreWellFormed structs (length rs + 1) (type_count ts) us → AreWellFormed structs n p (put_in_all rs ts us)
@@ -67,6 +68,7 @@ mutual
   more_structs structs s n p (named k rs ts) w =
       (let r = taken structs s k w.0 in
       (r.0, w.1 ∙ ap (λ (d : Struct). length d.regions) r.1, w.2 ∙ ap (λ (d : Struct). length d.types) r.1, w.3, more_structs_all structs s n p ts w.4))
+  more_structs structs s n p (function ts t) w = (more_structs_all structs s n p ts w.0, more_structs structs s n p t w.1)
 
   more_structs_all : (structs : List Struct) (s n p : ℕ) (ts : TypeTrees) → AreWellFormed (take s structs) n p ts → AreWellFormed structs n p ts
   more_structs_all structs s n p none w = w
@@ -87,10 +89,12 @@ behind_good structs n p Deref (parameter k) u order some w e = absurd cc
 behind_good structs n p Deref (reference r m t) u order some w e = (let h : t ≡ u = cc in subst (IsWellFormed structs n p) h w.1)
 behind_good structs n p Deref (tuple ts) u order some w e = absurd cc
 behind_good structs n p Deref (named s rs ts) u order some w e = absurd cc
+behind_good structs n p Deref (function ts t) u order some w e = absurd cc
 behind_good structs n p (Field k) int u order some w e = absurd cc
 behind_good structs n p (Field k) (parameter j) u order some w e = absurd cc
 behind_good structs n p (Field k) (reference r m t) u order some w e = absurd cc
 behind_good structs n p (Field k) (tuple ts) u order some w e = well_formed_at structs n p ts k u w e
+behind_good structs n p (Field k) (function ts t) u order some w e = absurd cc
 behind_good structs n p (Field k) (named s rs ts) u order some w e =
     put_at structs n p rs ts (type_at (struct_at structs s).fields k) u some w.3 w.4
     (λ t f.

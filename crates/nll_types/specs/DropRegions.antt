@@ -18,7 +18,7 @@ IsOwnDropRegion d rs ts r = (d.has_drop ≡ true)
     ⊎ ((k : ℕ) × (t : TypeTree) × (type_at ts k ≡ Some t) × IsKept d.types k × HasRegion t r))
 
 -- with a value of the first type one of the second is dropped: a part of a tuple, or a field of a
--- struct
+-- struct; with an `int`, a reference or a function none is
 abbrev pub Drops : List Struct → TypeTree → TypeTree → Type 0
 Drops structs (tuple ts) u = (k : ℕ) × (type_at ts k ≡ Some u)
 Drops structs (named s rs ts) u = (k : ℕ) × (field_type structs s rs ts k ≡ Some u)

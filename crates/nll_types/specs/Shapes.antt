@@ -7,7 +7,7 @@ use Rattle.std.specs.Prelude.{Option, Some, None, option_map}
 use Rattle.std.specs.Bool.{beq}
 use Rattle.nll_problem.specs.Limits.{most_nodes}
 use Rattle.nll_types.specs.Types.{TypeTree, TypeTrees, int, parameter, reference, tuple, named}
-use Rattle.nll_types.specs.Types.{none, more, nodes}
+use Rattle.nll_types.specs.Types.{function, none, more, nodes}
 use Rattle.nll_types.specs.Structs.{Struct, struct_at}
 use Rattle.nll_types.specs.declared.place.Projection.{Projection}
 use Rattle.nll_types.specs.declared.place.Projection.TheVariants.{Deref, Field}
@@ -19,6 +19,7 @@ mutual
     reference_shape : Bool → Shape → Shape
     tuple_shape : ShapeList → Shape
     named_shape : ℕ → ℕ → ShapeList → Shape
+    function_shape : ShapeList → Shape → Shape
 
   -- shapes in a row
   pub data ShapeList : Type 0 where
@@ -33,6 +34,7 @@ abbrev mutual
   shape_of (reference r m t) = reference_shape m (shape_of t)
   shape_of (tuple ts) = tuple_shape (shapes_of ts)
   shape_of (named s rs ts) = named_shape s (length rs) (shapes_of ts)
+  shape_of (function ts t) = function_shape (shapes_of ts) (shape_of t)
 
   pub shapes_of : TypeTrees → ShapeList
   shapes_of none = no_shape
@@ -52,6 +54,7 @@ abbrev mutual
   shape_nodes (reference_shape m t) = shape_nodes t + 1
   shape_nodes (tuple_shape ts) = shape_nodes_of_all ts + 1
   shape_nodes (named_shape s n ts) = shape_nodes_of_all ts + 1
+  shape_nodes (function_shape ts t) = shape_nodes_of_all ts + shape_nodes t + 1
 
   pub shape_nodes_of_all : ShapeList → ℕ
   shape_nodes_of_all no_shape = 0
@@ -71,6 +74,8 @@ abbrev mutual
   put_in_shape types (reference_shape m t) = reference_shape m (put_in_shape types t)
   put_in_shape types (tuple_shape ts) = tuple_shape (put_in_shapes types ts)
   put_in_shape types (named_shape s n ts) = named_shape s n (put_in_shapes types ts)
+  put_in_shape types (function_shape ts t) =
+      function_shape (put_in_shapes types ts) (put_in_shape types t)
 
   pub put_in_shapes : ShapeList → ShapeList → ShapeList
   put_in_shapes types no_shape = no_shape
@@ -95,6 +100,7 @@ abbrev mutual
   same_shape (tuple ts) (tuple us) = same_shapes ts us
   same_shape (named s qs ts) (named n rs us) =
       (s == n) && ((length qs == length rs) && same_shapes ts us)
+  same_shape (function ts t) (function us u) = same_shapes ts us && same_shape t u
   same_shape _ _ = false
 
   pub same_shapes : TypeTrees → TypeTrees → Bool

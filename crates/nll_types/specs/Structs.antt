@@ -5,7 +5,7 @@ use Rattle.std.specs.Prelude.{◌≡◌, ◌<◌, ◌+◌, ℕ, zero, suc, Bool,
 use Rattle.std.specs.Prelude.{slice_index_or}
 use Rattle.std.specs.Prelude.{Option, option_map, All, take}
 use Rattle.nll_types.specs.Types.{TypeTree, TypeTrees, int, parameter, reference, tuple, named}
-use Rattle.nll_types.specs.Types.{none, more, type_at, type_count}
+use Rattle.nll_types.specs.Types.{function, none, more, type_at, type_count}
 use Rattle.nll_types.specs.declared.parameter.Parameter.{Parameter}
 
 -- A struct: its region parameters and its type parameters, each in the order of the declaration,
@@ -46,6 +46,8 @@ abbrev mutual
   put_in regions types (tuple ts) = tuple (put_in_all regions types ts)
   put_in regions types (named s rs ts) =
       named s (map (region_in regions) rs) (put_in_all regions types ts)
+  put_in regions types (function ts t) =
+      function (put_in_all regions types ts) (put_in regions types t)
 
   pub put_in_all : List ℕ → TypeTrees → TypeTrees → TypeTrees
   put_in_all regions types none = none
@@ -70,6 +72,8 @@ abbrev mutual
       × (type_count ts ≡ length (struct_at structs s).types)
       × All (λ r. r < regions) rs
       × AreWellFormed structs regions parameters ts
+  IsWellFormed structs regions parameters (function ts t) =
+      AreWellFormed structs regions parameters ts × IsWellFormed structs regions parameters t
 
   pub AreWellFormed : List Struct → ℕ → ℕ → TypeTrees → Type 0
   AreWellFormed structs regions parameters none = Unit {0}

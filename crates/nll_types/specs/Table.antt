@@ -4,7 +4,7 @@ use Rattle.std.specs.Prelude.{◌≡◌, ℕ, ◌<◌, ◌≤◌, List, [], ◌�
 use Rattle.std.specs.Prelude.{slice_index, min, sum_by, ◌+◌}
 use Rattle.nll_problem.specs.Limits.{most_nodes}
 use Rattle.nll_types.specs.Shapes.{Shape, ShapeList, int_shape, parameter_shape, reference_shape}
-use Rattle.nll_types.specs.Shapes.{tuple_shape, named_shape}
+use Rattle.nll_types.specs.Shapes.{tuple_shape, named_shape, function_shape}
 use Rattle.nll_types.specs.Shapes.{no_shape, more_shapes, shape_nodes}
 use Rattle.nll_types.specs.declared.node.Node.{Node}
 use Rattle.nll_types.specs.declared.node.Node.TheVariants as nodes
@@ -25,6 +25,7 @@ shape_over known (nodes.Parameter i) = parameter_shape i
 shape_over known (nodes.Reference m t) = reference_shape m (at known t)
 shape_over known (nodes.Tuple ts) = tuple_shape (all_at known ts.items)
 shape_over known (nodes.Named s n ts) = named_shape s n (all_at known ts.items)
+shape_over known (nodes.Function ts t) = function_shape (all_at known ts.items) (at known t)
 
 -- these shapes, and then those of the nodes
 abbrev pub shapes_from : List Shape → List Node → List Shape
@@ -46,6 +47,7 @@ parts_of (nodes.Parameter i) = []
 parts_of (nodes.Reference m t) = t ∷ []
 parts_of (nodes.Tuple ts) = ts.items
 parts_of (nodes.Named s n ts) = ts.items
+parts_of (nodes.Function ts t) = t ∷ ts.items
 
 -- each part of the node has a number below this
 abbrev pub IsOver : ℕ → Node → Type 0
@@ -84,6 +86,10 @@ size_over counts (nodes.Tuple ts) =
     min (most_nodes + 1) (sum_by (λ p. slice_index counts p) ts.items + 1)
 size_over counts (nodes.Named s n ts) =
     min (most_nodes + 1) (sum_by (λ p. slice_index counts p) ts.items + 1)
+size_over counts (nodes.Function ts t) =
+    min (most_nodes + 1)
+    (min (most_nodes + 1) (slice_index counts t)
+    + min (most_nodes + 1) (sum_by (λ p. slice_index counts p) ts.items + 1))
 
 -- the numbers are below this
 abbrev pub AreBelow : ℕ → List ℕ → Type 0

@@ -12,8 +12,11 @@ mutual
     reference : ℕ → Bool → TypeTree → TypeTree
     tuple : TypeTrees → TypeTree
     named : ℕ → List ℕ → TypeTrees → TypeTree
+    -- a function: the types of its arguments, and that of its result
+    function : TypeTrees → TypeTree → TypeTree
 
-  -- types in a row: the parts of a tuple, the fields of a struct, or its type arguments
+  -- types in a row: the parts of a tuple, the fields of a struct, its type arguments, or the
+  -- arguments of a function
   pub data TypeTrees : Type 0 where
     none : TypeTrees
     more : TypeTree → TypeTrees → TypeTrees
@@ -29,8 +32,8 @@ abbrev pub type_count : TypeTrees → ℕ
 type_count none = 0
 type_count (more t ts) = type_count ts + 1
 
--- How many nodes a type has: each `int`, reference, tuple, struct and type parameter is one,
--- regions are none.
+-- How many nodes a type has: each `int`, reference, tuple, struct, type parameter and function is
+-- one, regions are none.
 abbrev mutual
   pub nodes : TypeTree → ℕ
   nodes int = 1
@@ -38,12 +41,14 @@ abbrev mutual
   nodes (reference r m t) = nodes t + 1
   nodes (tuple ts) = nodes_of_all ts + 1
   nodes (named s rs ts) = nodes_of_all ts + 1
+  nodes (function ts t) = nodes_of_all ts + nodes t + 1
 
   pub nodes_of_all : TypeTrees → ℕ
   nodes_of_all none = 0
   nodes_of_all (more t ts) = nodes t + nodes_of_all ts
 
--- The region is written in the type: of a reference, or among the arguments of a struct.
+-- The region is written in the type: of a reference, among the arguments of a struct, or in a type
+-- that is part of it.
 abbrev mutual
   pub HasRegion : TypeTree → ℕ → Type 0
   HasRegion int r = ⊥
@@ -51,6 +56,7 @@ abbrev mutual
   HasRegion (reference q m t) r = (q ≡ r) ⊎ HasRegion t r
   HasRegion (tuple ts) r = AnyHasRegion ts r
   HasRegion (named s rs ts) r = Contains rs r ⊎ AnyHasRegion ts r
+  HasRegion (function ts t) r = AnyHasRegion ts r ⊎ HasRegion t r
 
   pub AnyHasRegion : TypeTrees → ℕ → Type 0
   AnyHasRegion none r = ⊥

@@ -1,9 +1,10 @@
 -- A type of the code as a tree: what it says, without where it lies in memory.
 use Rattle.std.specs.Prelude.{List, [], ◌∷◌, map}
 use Rattle.nll_types.specs.Types.{TypeTree, TypeTrees, int, parameter, reference, tuple, named}
-use Rattle.nll_types.specs.Types.{none, more}
+use Rattle.nll_types.specs.Types.{function, none, more}
 use Rattle.nll_types.specs.declared.ty.Ty.{Ty}
 use Rattle.nll_types.specs.declared.ty.Ty.TheOpen.{Ty-F, Int, Parameter, Reference, Tuple, Named}
+use Rattle.nll_types.specs.declared.ty.Ty.TheOpen.{Function}
 use Rattle.nll_types.specs.declared.ty.Ty.TheFolds.{fold-Ty}
 
 -- a list of trees as a row
@@ -18,6 +19,7 @@ layer (Parameter k) = parameter k
 layer (Reference r m b) = reference r m b.value
 layer (Tuple parts) = tuple (row_of parts.items)
 layer (Named s rs ts) = named s rs.items (row_of ts.items)
+layer (Function ts b) = function (row_of ts.items) b.value
 
 -- the type as a tree
 abbrev pub tree : Ty → TypeTree

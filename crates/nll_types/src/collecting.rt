@@ -161,6 +161,10 @@ pub(crate) fn collect(
             )?;
             collect_arguments(structs, sources, types.as_slice(), written, dropped, out)
         }
+        Ty::Function(arguments, returned) => {
+            collect_parts(structs, arguments.as_slice(), written, false, out)?;
+            collect(structs, returned, written, false, out)
+        }
     }
 }
 

@@ -51,6 +51,24 @@ fn named(
     }
 }
 
+// A function of arguments and of what it returns, where those were made.
+pub(crate) fn function(
+    alloc: Global,
+    arguments: Result<Vec<Ty>, Memory>,
+    returned: Result<Ty, Memory>,
+) -> Result<Ty, Memory>
+    ensures { IfOk result (λ t. IsOkAnd arguments (λ v. IsOkAnd returned
+        (λ u. tree t ≡ spec.function (trees v.items) (tree u)))) }
+{
+    match arguments {
+        Ok(arguments) => match returned {
+            Ok(returned) => Ok(Ty::Function(arguments, Box::new(alloc, returned)?)),
+            Err(memory) => Err(memory),
+        },
+        Err(memory) => Err(memory),
+    }
+}
+
 /// The same type once more.
 ///
 /// # Cost
@@ -72,6 +90,10 @@ pub fn copy(alloc: Global, ty: &Ty) -> Result<Ty, Memory>
             regions.as_slice(),
             copy_all(alloc, types.as_slice()),
         ),
+        Ty::Function(arguments, returned) => {
+            let arguments = copy_all(alloc, arguments.as_slice());
+            function(alloc, arguments, copy(alloc, returned))
+        }
     }
 }
 

@@ -11,4 +11,6 @@ pub enum Node {
     Tuple(Vec<usize>),
     /// A struct, the number of its region arguments, and its type arguments.
     Named(usize, usize, Vec<usize>),
+    /// A function: its arguments, and its result.
+    Function(Vec<usize>, usize),
 }

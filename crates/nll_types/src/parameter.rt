@@ -8,6 +8,8 @@
 pub enum Sign {
     /// Written `+`: the type with the longer region may stand for the one with the shorter.
     Covariant,
+    /// Written `-`: the type with the shorter region may stand for the one with the longer.
+    Contravariant,
     /// Written `=`: neither may stand for the other.
     Invariant,
 }

@@ -60,7 +60,9 @@ fn advance(
             Ty::Reference(_, _, target) => {
                 advance(alloc, structs, target, projections, from + 1)
             }
-            Ty::Int | Ty::Parameter(_) | Ty::Tuple(_) | Ty::Named(_, _, _) => Ok(None),
+            Ty::Int | Ty::Parameter(_) | Ty::Tuple(_) | Ty::Named(_, _, _) | Ty::Function(_, _) => {
+                Ok(None)
+            }
         },
         Projection::Field(place) => match ty {
             Ty::Tuple(parts) => {
@@ -78,7 +80,7 @@ fn advance(
                     None => Ok(None),
                 }
             }
-            Ty::Int | Ty::Parameter(_) | Ty::Reference(_, _, _) => Ok(None),
+            Ty::Int | Ty::Parameter(_) | Ty::Reference(_, _, _) | Ty::Function(_, _) => Ok(None),
         },
     }
 }

@@ -70,7 +70,11 @@ pub(crate) fn target(shapes: &Shapes, number: usize) -> Option<usize>
 {
     match shapes.node(number) {
         Node::Reference(_, target) => Some(*target),
-        Node::Int | Node::Parameter(_) | Node::Tuple(_) | Node::Named(_, _, _) => None,
+        Node::Int
+        | Node::Parameter(_)
+        | Node::Tuple(_)
+        | Node::Named(_, _, _)
+        | Node::Function(_, _) => None,
     }
 }
 

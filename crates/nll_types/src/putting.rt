@@ -5,7 +5,7 @@ ghost use Rattle.nll_types.specs.Structs as spec;
 ghost use Rattle.nll_types.specs.Types.{named};
 ghost use Rattle.nll_types.specs.Views.{tree, trees};
 
-use crate::copying::{copy, reference, tuple};
+use crate::copying::{copy, function, reference, tuple};
 use crate::ty::Ty;
 use nll_problem::RegionId;
 use nll_sets::Memory;
@@ -83,6 +83,10 @@ pub fn put_in(alloc: Global, ty: &Ty, regions: &[RegionId], types: &[Ty]) -> Res
         Ty::Named(number, own, arguments) => {
             let arguments = put_in_all(alloc, arguments.as_slice(), regions, types);
             named_in(alloc, *number, own.as_slice(), regions, arguments)
+        }
+        Ty::Function(inputs, returned) => {
+            let inputs = put_in_all(alloc, inputs.as_slice(), regions, types);
+            function(alloc, inputs, put_in(alloc, returned, regions, types))
         }
     }
 }

@@ -63,6 +63,10 @@ fn size_over(sizes: &[usize], node: &Node) -> usize
         Node::Int | Node::Parameter(_) => 1,
         Node::Reference(_, target) => TOO_MANY.min(sizes[*target].min(TOO_MANY) + 1),
         Node::Tuple(parts) | Node::Named(_, _, parts) => count(sizes, parts.as_slice()),
+        Node::Function(arguments, returned) => {
+            let returned = sizes[*returned].min(TOO_MANY);
+            TOO_MANY.min(returned + count(sizes, arguments.as_slice()))
+        }
     }
 }
 

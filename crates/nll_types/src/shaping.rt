@@ -78,6 +78,11 @@ pub(crate) fn shape(
             let types = shape_all(alloc, shapes, types.as_slice(), arguments)?;
             shapes.add(Node::Named(*number, regions.len(), types))
         }
+        Ty::Function(inputs, returned) => {
+            let inputs = shape_all(alloc, shapes, inputs.as_slice(), arguments)?;
+            let returned = shape(alloc, shapes, returned, arguments)?;
+            shapes.add(Node::Function(inputs, returned))
+        }
     }
 }
 

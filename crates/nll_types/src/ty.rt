@@ -16,4 +16,6 @@ pub enum Ty {
     Tuple(Vec<Ty>),
     /// A struct with its region arguments and its type arguments.
     Named(usize, Vec<RegionId>, Vec<Ty>),
+    /// A function: the types of its arguments, and that of its result.
+    Function(Vec<Ty>, Box<Ty>),
 }

@@ -223,7 +223,7 @@ impl TypeTable {
         match self.shapes().node(number) {
             Node::Tuple(parts) => Some(parts.len()),
             Node::Named(named, _, _) => Some(self.structs().field_count(*named)),
-            Node::Int | Node::Parameter(_) | Node::Reference(_, _) => None,
+            Node::Int | Node::Parameter(_) | Node::Reference(_, _) | Node::Function(_, _) => None,
         }
     }
 

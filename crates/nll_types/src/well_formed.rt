@@ -65,6 +65,13 @@ pub fn is_well_formed(structs: &Structs, ty: &Ty, regions: usize, parameters: us
             let good = are_well_formed(structs, types.as_slice(), regions, parameters);
             good
         }
+        Ty::Function(arguments, returned) => {
+            if !are_well_formed(structs, arguments.as_slice(), regions, parameters) {
+                return false;
+            }
+            let good = is_well_formed(structs, returned, regions, parameters);
+            good
+        }
     }
 }
 

@@ -6,7 +6,7 @@ use Rattle.std.specs.List.{list_all, flat_map}
 use Rattle.std.proofs.Math.Seq.{drop-cons}
 use Rattle.std.proofs.lemmas.Bool.{false_from_ne_true, and_parts}
 use Rattle.std.proofs.lemmas.List.Folds.{list_all-append}
-use Rattle.nll_types.specs.Types.{TypeTree, TypeTrees, int, parameter, reference, tuple, named, none, more, type_at, type_count}
+use Rattle.nll_types.specs.Types.{TypeTree, TypeTrees, int, parameter, reference, tuple, named, function, none, more, type_at, type_count}
 use Rattle.nll_types.specs.Structs.{Struct, struct_at, put_in, put_in_all}
 use Rattle.nll_types.specs.Places.{behind, part_count, small_prefixes}
 use Rattle.nll_types.specs.Operands.{Operand, operand_of, operand_type}
@@ -31,6 +31,7 @@ pub parts_there : (structs : List Struct) (t : TypeTree) (n : ℕ) → part_coun
 parts_there structs int n e = absurd cc
 parts_there structs (parameter k) n e = absurd cc
 parts_there structs (reference r m t) n e = absurd cc
+parts_there structs (function ts t) n e = absurd cc
 parts_there structs (tuple ts) n e = (ts, refl, (let z : type_count ts ≡ n = cc in z))
 parts_there structs (named s rs ts) n e =
     (put_in_all rs ts (struct_at structs s).fields, refl, count_put rs ts (struct_at structs s).fields ∙ (let z : type_count (struct_at structs s).fields ≡ n = cc in z))
@@ -45,6 +46,7 @@ makes_count : (structs : List Struct) (t : TypeTree) (os : List (Option TypeTree
 makes_count structs int os h = absurd (let e : false ≡ true = h in cc)
 makes_count structs (parameter k) os h = absurd (let e : false ≡ true = h in cc)
 makes_count structs (reference r m t) os h = absurd (let e : false ≡ true = h in cc)
+makes_count structs (function ts t) os h = absurd (let e : false ≡ true = h in cc)
 makes_count structs (tuple ts) os h = ap Some (all_agree_count os ts h)
 makes_count structs (named s rs ts) os h = ap Some (sym (count_put rs ts (struct_at structs s).fields) ∙ all_agree_count os (put_in_all rs ts (struct_at structs s).fields) h)
 
@@ -56,6 +58,7 @@ pub part_behind : (structs : List Struct) (t : TypeTree) (ts : TypeTrees) (k : �
 part_behind structs int ts k u e is = absurd cc
 part_behind structs (parameter j) ts k u e is = absurd cc
 part_behind structs (reference r m t) ts k u e is = absurd cc
+part_behind structs (function us t) ts k u e is = absurd cc
 part_behind structs (tuple us) ts k u e is = (let z : us ≡ ts = cc in ap (λ (v : TypeTrees). type_at v k) z ∙ is)
 part_behind structs (named s rs us) ts k u e is =
     let fields = (struct_at structs s).fields in

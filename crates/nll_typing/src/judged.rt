@@ -84,7 +84,11 @@ fn is_reference(shapes: &Shapes, shape: usize, mutable: bool, target: usize) -> 
             let same = shapes.is_same(*behind, target);
             (*marked == mutable) & same
         }
-        Node::Int | Node::Parameter(_) | Node::Tuple(_) | Node::Named(_, _, _) => false,
+        Node::Int
+        | Node::Parameter(_)
+        | Node::Tuple(_)
+        | Node::Named(_, _, _)
+        | Node::Function(_, _) => false,
     }
 }
 

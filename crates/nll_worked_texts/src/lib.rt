@@ -7,4 +7,4 @@ mod lines;
 mod texts;
 
 pub use lines::text_of;
-pub use texts::{CALLED, DROPPED, MOVED, REBORROW, RETURNED, TWO_BORROWS};
+pub use texts::{CALLED, DROPPED, FUNCTIONS, MOVED, REBORROW, RETURNED, TAKERS, TWO_BORROWS};

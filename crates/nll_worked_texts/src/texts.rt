@@ -24,6 +24,16 @@ pub const MOVED: &str = "nll-mir 1|region '1|region '2|region '3|region '4|let _
 pub const RETURNED: &str = "nll-mir 1|universal 'a|universal 'b|let _0: &'a int|let _1: &'b int|\
     blocks 1|block bb0|_0 = copy _1|return|end|";
 
+/// A function is copied: of version 2.
+pub const FUNCTIONS: &str = "nll-mir 2|region '1|region '2|region '3|region '4|let _0: int|\
+    let _1: fn(&'1 int) -> &'2 int|let _2: fn(&'3 int) -> &'4 int|blocks 1|block bb0|\
+    _2 = copy _1|read _2|return|end|";
+
+/// A function is copied that takes functions: of version 2.
+pub const TAKERS: &str = "nll-mir 2|region '1|region '2|region '3|region '4|let _0: int|\
+    let _1: fn(fn(&'1 int) -> int) -> &'2 int|let _2: fn(fn(&'3 int) -> int) -> &'4 int|blocks 1|\
+    block bb0|_2 = copy _1|read _2|return|end|";
+
 /// A function is called.
 pub const CALLED: &str = "nll-mir 1|region 'a|region 'b|region 'c|let _0: int|let _1: &'a int|\
     let _2: &'b int|blocks 2|block bb0|_2 = call f(copy _1: &'c int): &'c int -> bb1|block bb1|\

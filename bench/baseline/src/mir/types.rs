@@ -9,6 +9,10 @@ pub enum Begun {
     Reference { mutable: bool },
     /// Its parts begin here among those that are complete.
     Tuple { first: u32 },
+    /// The arguments of a function, which begin here among those that are complete.
+    Inputs { first: u32 },
+    /// A function whose result follows; its arguments begin here.
+    Output { first: u32 },
     Named { name: Name, first: u32, arguments: u32, fits: bool },
 }
 
@@ -72,6 +76,10 @@ impl<'t> Reader<'t> {
         if word == b"int" {
             return Ok(Some(INT));
         }
+        if self.is_second && word == b"fn" {
+            self.function(cursor)?;
+            return Ok(None);
+        }
         if !word.first().is_some_and(u8::is_ascii_uppercase) {
             return Err(Kind::Syntax);
         }
@@ -85,6 +93,18 @@ impl<'t> Reader<'t> {
             return if self.region_arguments(cursor, own)? { self.end_named() } else { Ok(None) };
         }
         Ok(Some(self.named(name, 0, true, first)))
+    }
+
+    /// Reads what the type of a function has before its first argument or its result.
+    fn function(&mut self, cursor: &mut Cursor<'t>) -> Result<(), Kind> {
+        let first = self.complete.len() as u32;
+        cursor.sign(b'(')?;
+        if !cursor.has_sign(b')') {
+            self.begun.push(Begun::Inputs { first });
+            return Ok(());
+        }
+        self.begun.push(Begun::Output { first });
+        cursor.arrow()
     }
 
     fn name_of(&mut self, word: &[u8], own: Option<&Parameters<'t>>) -> Name {
@@ -204,6 +224,17 @@ impl<'t> Reader<'t> {
                     cursor.sign(b')')?;
                     self.over(Form::Tuple, first as usize)
                 }
+                Begun::Inputs { first } => {
+                    if cursor.has_sign(b',') {
+                        return Ok(true);
+                    }
+                    cursor.sign(b')')?;
+                    self.begun.pop();
+                    self.begun.push(Begun::Output { first });
+                    cursor.arrow()?;
+                    return Ok(true);
+                }
+                Begun::Output { first } => self.over(Form::Function, first as usize),
                 Begun::Named { .. } => {
                     self.count_argument(false);
                     let is_last = cursor.has_sign(b'>');

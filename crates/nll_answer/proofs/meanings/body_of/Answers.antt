@@ -1,4 +1,4 @@
-use Rattle.nll_mir_text.specs.MirText.{mir}
+use Rattle.nll_mir_text.specs.MirText.{IsMirFault}
 use Rattle.nll_answer.proofs.MeaningLemmas.{told_err, told_ok}
 use Rattle.nll_answer.proofs.meanings.body_of.Goals as goal
 
@@ -7,4 +7,4 @@ returns-clause-ok c = told_ok _ c.read_mir.result c.told.result c.told.ensures.o
 
 pub returns-clause-err : goal.returns-clause-err
 returns-clause-err c =
-    told_err mir c.args.text.now c.read_mir.result c.told.result c.told.ensures.ok c.told.ensures.err c.read_mir.ensures.fault
+    told_err (IsMirFault c.args.text.now) c.read_mir.result c.told.result c.told.ensures.ok c.told.ensures.err c.read_mir.ensures.fault

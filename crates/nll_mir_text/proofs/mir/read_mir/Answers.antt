@@ -8,12 +8,12 @@ use Rattle.nll_mir_text.proofs.mir.read_mir.Goals as goal
 pub body-requires-clause-sound : goal.body-requires-clause-sound
 body-requires-clause-sound c =
     let h = c.in_ok-reader.ensures.ok in
-    subst IsSound (ap body_said h.2) (sound_text _ h.0 h.1)
+    subst IsSound (ap body_said h.3) (sound_text h.0 _ h.1 h.2)
 
 pub returns-clause-ok : goal.returns-clause-ok
 returns-clause-ok c =
     let h = c.in_ok-reader.ensures.ok in
-    IfOk-weaker c.body.result _ _ (λ body same. record { forms = h.0; fits = h.1; same = same ∙ sym (ap body_said h.2) }) c.body.ensures.ok
+    IfOk-weaker c.body.result _ _ (λ body same. record { version = h.0; forms = h.1; fits = h.2; same = same ∙ sym (ap body_said h.3) }) c.body.ensures.ok
 
 pub returns-clause-fault : goal.returns-clause-fault
 returns-clause-fault c = IfErr-weaker c.body.result _ _ (λ error same. inl same) c.body.ensures.err

@@ -5,7 +5,7 @@ use Rattle.nll_mir_text.proofs.parts.read_most.Given as goal
 
 abbrev pub invariant-loop-rest : goal.invariant-loop-rest
 invariant-loop-rest l = record {
-  advances : Advances (lines_of l.fn.text) (lines_left l.rest) l.fn.reader l.fn.number l.reader l.number;
+  advances : Advances l.version (lines_of l.fn.text) (lines_left l.rest) l.fn.reader l.fn.number l.reader l.number;
   fewer : length (lines_left l.rest) < length (lines_of l.fn.text);
 }
 

@@ -11,7 +11,7 @@ use Rattle.nll_mir_text.proofs.TextLemmas.{amid_all, advances_none, advances_the
 use Rattle.nll_mir_text.proofs.parts.read_parts.Goals as goal
 
 pub loop-left-init : goal.loop-left-init
-loop-left-init c = advances_none _ _ _ c.requires.ready c.requires.short
+loop-left-init c = advances_none c.args.version _ _ _ c.requires.ready c.requires.short
 
 pub read_part-requires-clause-ready : goal.read_part-requires-clause-ready
 read_part-requires-clause-ready c = c.loop-left.invariant.ready
@@ -28,7 +28,7 @@ pub loop-left-preserved : goal.loop-left-preserved
 loop-left-preserved c =
     let told = rw c.in-Some.is at c.loop-left.invariant in
     let more = rw c.as_slice.ensures.value at c.in_ok-left.ensures.advances in
-    advances_then _ _ _ _ _ _ _ _ _ told more
+    advances_then c.args.version _ _ _ _ _ _ _ _ _ told more
 
 pub returns-in_err-left-clause-fault : goal.returns-in_err-left-clause-fault
 returns-in_err-left-clause-fault c =
@@ -37,12 +37,12 @@ returns-in_err-left-clause-fault c =
 
 pub returns-then-not-has_ended-clause-fault : goal.returns-then-not-has_ended-clause-fault
 returns-then-not-has_ended-clause-fault c = λ all amid text headed.
-    let done = amid_all all _ _ (rw c.in_default.is at (c.loop-left.invariant.read all amid)) in
+    let done = amid_all c.args.version all _ _ (rw c.in_default.is at (c.loop-left.invariant.read all amid)) in
     let last : length (lines_of text) ≡ c.loop-left.number = omega (arith, ap length headed.cut.cut, done.3) in
-    inr (subst (λ n. IsFault mir text n End) last
+    inr (subst (λ n. IsFault (mir c.args.version) text n End) last
     (no_end _ _ headed done.1
-    (not_ended _ _ done.1 (λ h. false≢true (sym c.if-not-has_ended.true ∙ c.has_ended.ensures.1 (sym (ap (λ (s : Said). s.reached) done.2) ∙ h))))))
+    (not_ended c.args.version _ _ done.1 (λ h. false≢true (sym c.if-not-has_ended.true ∙ c.has_ended.ensures.1 (sym (ap (λ (s : Said). s.reached) done.2) ∙ h))))))
 
 pub returns-clause-read : goal.returns-clause-read
 returns-clause-read c = λ all amid.
-    let done = amid_all all _ _ (rw c.in_default.is at (c.loop-left.invariant.read all amid)) in (done.0, done.1, done.2)
+    let done = amid_all c.args.version all _ _ (rw c.in_default.is at (c.loop-left.invariant.read all amid)) in (done.0, done.1, done.2)

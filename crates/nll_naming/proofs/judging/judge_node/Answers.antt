@@ -1,4 +1,6 @@
+use Rattle.std.proofs.Common.{suc, arith}
 use Rattle.std.proofs.lemmas.Result.{IfOk-weaker}
+use Rattle.nll_type_grammar.specs.TypeTexts.{at}
 use Rattle.nll_naming.proofs.judging.judge_node.Goals as goal
 
 pub returns-in-Int-clause-structs : goal.returns-in-Int-clause-structs
@@ -33,3 +35,18 @@ returns-in-Tuple-clause-judged c = rw c.in-Tuple.is (rw c.as_slice.ensures.value
 
 pub returns-in-Named-clause-judged : goal.returns-in-Named-clause-judged
 returns-in-Named-clause-judged c = rw c.in-Named.is (rw c.as_slice-in-Named.ensures.value at c.judge_named.ensures.judged)
+
+pub returns-in-Function-clause-structs : goal.returns-in-Function-clause-structs
+returns-in-Function-clause-structs c = c.judge_function.ensures.structs
+
+pub returns-in-Function-clause-extends : goal.returns-in-Function-clause-extends
+returns-in-Function-clause-extends c = c.judge_function.ensures.extends
+
+pub judge_function-requires-inputs : goal.judge_function-requires-inputs
+judge_function-requires-inputs c =
+    let below = rw c.in-Function.is at c.requires.parts in
+    rw c.as_slice-in-Function.ensures.value (λ k l. below (suc k) (omega arith))
+
+pub returns-in-Function-clause-judged : goal.returns-in-Function-clause-judged
+returns-in-Function-clause-judged c = rw c.in-Function.is (IfOk-weaker c.judge_function.result _ _ (λ j told. λ ts judged.
+    rw c.as_slice-in-Function.ensures.value at (told ts (at ts c.in-Function.part) judged cc)) c.judge_function.ensures.judged)

@@ -1,4 +1,4 @@
-use Rattle.std.proofs.Common.{◌≡◌, ◌<◌, ◌≤◌, [], length, ap, sym, ◌∙◌, arith}
+use Rattle.std.proofs.Common.{◌≡◌, ◌<◌, ◌≤◌, suc, [], length, ap, sym, ◌∙◌, arith}
 use Rattle.std.proofs.Math.Seq.{take-length}
 use Rattle.std.proofs.lemmas.Result.{IfOk-weaker}
 use Rattle.nll_types.specs.Types.{parameter, reference}
@@ -53,6 +53,22 @@ node_meant-returns-in-None t c = IfOk-weaker c.struct_of.result _ _ (λ made tol
     (rw c.as_slice-in-None-2.ensures.value at told)
     ∙ (meant_struct (scope_of c.args.scope.now) (types_from [] c.args.nodes.now) c.in-Named.name.now c.in-Named.arguments.items c.in-None.ensures
     ∙ sym (meant_of_node (scope_of c.args.scope.now) c.args.nodes.now c.requires.sound c.args.number c.index-nodes-number.result (nodes.Named c.in-Named.name c.in-Named.arguments) c.requires.within c.index-nodes-number.is c.in-Named.is))) (c.struct_of.ensures _ (rw c.as_slice-in-None.ensures.value at c.types_meant-types.ensures))
+
+pub node_meant-parts_meant-inputs-requires : goal.node_meant-parts_meant-inputs-requires
+node_meant-parts_meant-inputs-requires t c =
+    let below = parts_of_node c.args.nodes.now c.requires.sound c.args.number c.index-nodes-number.result (nodes.Function c.in-Function.inputs c.in-Function.part) c.requires.within c.index-nodes-number.is c.in-Function.is in
+    (omega arith, (c.requires.room, (c.requires.sound, (c.requires.within, rw c.as_slice-in-Function.ensures.value (λ k l. below (suc k) (omega arith))))))
+
+pub node_meant-node_meant-requires-in-Function : goal.node_meant-node_meant-requires-in-Function
+node_meant-node_meant-requires-in-Function t c =
+    let below = parts_of_node c.args.nodes.now c.requires.sound c.args.number c.index-nodes-number.result (nodes.Function c.in-Function.inputs c.in-Function.part) c.requires.within c.index-nodes-number.is c.in-Function.is in
+    let within : c.in-Function.part < c.args.number = below 0 (omega arith) in
+    (omega arith, (c.requires.room, (c.requires.sound, omega arith)))
+
+pub node_meant-returns-in-Function : goal.node_meant-returns-in-Function
+node_meant-returns-in-Function t c = IfOk-weaker c.function_of.result _ _ (λ made told.
+    told ∙ sym (meant_of_node (scope_of c.args.scope.now) c.args.nodes.now c.requires.sound c.args.number c.index-nodes-number.result (nodes.Function c.in-Function.inputs c.in-Function.part) c.requires.within c.index-nodes-number.is c.in-Function.is))
+    (c.function_of.ensures _ _ (rw c.as_slice-in-Function.ensures.value at c.parts_meant-inputs.ensures) c.node_meant-in-Function.ensures)
 
 pub parts_meant-returns : goal.parts_meant-returns
 parts_meant-returns t c =

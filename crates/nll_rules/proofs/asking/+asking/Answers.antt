@@ -2,10 +2,10 @@ use Rattle.std.proofs.Common.{◌<◌, length, refl, ap, ◌∙◌, arith}
 use Rattle.std.proofs.lemmas.Option.{slice_get_read}
 use Rattle.nll_types.specs.Declarations.{structs_of}
 use Rattle.nll_types.specs.Views.{tree, trees}
-use Rattle.nll_types.proofs.ViewLemmas.{tree_reference, tree_tuple, tree_named, type_at_item}
+use Rattle.nll_types.proofs.ViewLemmas.{tree_reference, tree_tuple, tree_named, tree_function, type_at_item}
 use Rattle.nll_rules.proofs.PairLemmas.{adds_append, adds_none, adds_same, below_none, below_more, below_all}
-use Rattle.nll_rules.proofs.SubtypeLemmas.{same_flag, other_flag, asks_reference, asks_own, asks_tuple, asks_named, other_named, type_at_place, types_within}
-use Rattle.nll_rules.proofs.FormLemmas.{no_reference, no_tuple, no_named, no_region, other_form, reference_form, tuple_form, named_form}
+use Rattle.nll_rules.proofs.SubtypeLemmas.{same_flag, other_flag, asks_reference, asks_own, asks_tuple, asks_named, asks_function, other_named, type_at_place, types_within}
+use Rattle.nll_rules.proofs.FormLemmas.{no_reference, no_tuple, no_named, no_function, no_region, other_form, reference_form, tuple_form, named_form, function_form}
 use Rattle.nll_rules.proofs.asking.+asking.Goals as goal
 
 pub ask-returns-in-Int : goal.ask-returns-in-Int
@@ -17,14 +17,17 @@ ask-returns-in-Int-2 t c = no_region _ _ _ _ _ c.in-Int.is
 pub ask-returns-in-Int-other : goal.ask-returns-in-Int-other
 ask-returns-in-Int-other t c = other_form _ _ _ _ _ _ (reference_form _ _ _ _ c.in-Reference.is) (no_reference _ c.in-Int-other.is)
 
-pub ask-returns-in-Int-other-4 : goal.ask-returns-in-Int-other-4
-ask-returns-in-Int-other-4 t c = other_form _ _ _ _ _ _ (reference_form _ _ _ _ c.in-Reference.is) (no_reference _ c.in-Int-other.is)
-
 pub ask-returns-in-Int-other-5 : goal.ask-returns-in-Int-other-5
 ask-returns-in-Int-other-5 t c = other_form _ _ _ _ _ _ (reference_form _ _ _ _ c.in-Reference.is) (no_reference _ c.in-Int-other.is)
 
 pub ask-returns-in-Int-other-6 : goal.ask-returns-in-Int-other-6
 ask-returns-in-Int-other-6 t c = other_form _ _ _ _ _ _ (reference_form _ _ _ _ c.in-Reference.is) (no_reference _ c.in-Int-other.is)
+
+pub ask-returns-in-Int-other-7 : goal.ask-returns-in-Int-other-7
+ask-returns-in-Int-other-7 t c = other_form _ _ _ _ _ _ (reference_form _ _ _ _ c.in-Reference.is) (no_reference _ c.in-Int-other.is)
+
+pub ask-returns-in-Int-other-8 : goal.ask-returns-in-Int-other-8
+ask-returns-in-Int-other-8 t c = other_form _ _ _ _ _ _ (reference_form _ _ _ _ c.in-Reference.is) (no_reference _ c.in-Int-other.is)
 
 pub ask-returns-in-Int-other-2 : goal.ask-returns-in-Int-other-2
 ask-returns-in-Int-other-2 t c = other_form _ _ _ _ _ _ (tuple_form _ _ c.in-Tuple.is) (no_tuple _ c.in-Int-other-2.is)
@@ -38,6 +41,9 @@ ask-returns-in-Int-other-2-3 t c = other_form _ _ _ _ _ _ (tuple_form _ _ c.in-T
 pub ask-returns-in-Int-other-2-4 : goal.ask-returns-in-Int-other-2-4
 ask-returns-in-Int-other-2-4 t c = other_form _ _ _ _ _ _ (tuple_form _ _ c.in-Tuple.is) (no_tuple _ c.in-Int-other-2.is)
 
+pub ask-returns-in-Int-other-2-5 : goal.ask-returns-in-Int-other-2-5
+ask-returns-in-Int-other-2-5 t c = other_form _ _ _ _ _ _ (tuple_form _ _ c.in-Tuple.is) (no_tuple _ c.in-Int-other-2.is)
+
 pub ask-returns-in-Int-other-3 : goal.ask-returns-in-Int-other-3
 ask-returns-in-Int-other-3 t c = other_form _ _ _ _ _ _ (named_form _ _ _ _ c.in-Named.is) (no_named _ c.in-Int-other-3.is)
 
@@ -49,6 +55,24 @@ ask-returns-in-Int-other-3-3 t c = other_form _ _ _ _ _ _ (named_form _ _ _ _ c.
 
 pub ask-returns-in-Int-other-3-4 : goal.ask-returns-in-Int-other-3-4
 ask-returns-in-Int-other-3-4 t c = other_form _ _ _ _ _ _ (named_form _ _ _ _ c.in-Named.is) (no_named _ c.in-Int-other-3.is)
+
+pub ask-returns-in-Int-other-3-5 : goal.ask-returns-in-Int-other-3-5
+ask-returns-in-Int-other-3-5 t c = other_form _ _ _ _ _ _ (named_form _ _ _ _ c.in-Named.is) (no_named _ c.in-Int-other-3.is)
+
+pub ask-returns-in-Int-other-4 : goal.ask-returns-in-Int-other-4
+ask-returns-in-Int-other-4 t c = other_form _ _ _ _ _ _ (function_form _ _ _ c.in-Function.is) (no_function _ c.in-Int-other-4.is)
+
+pub ask-returns-in-Int-other-4-2 : goal.ask-returns-in-Int-other-4-2
+ask-returns-in-Int-other-4-2 t c = other_form _ _ _ _ _ _ (function_form _ _ _ c.in-Function.is) (no_function _ c.in-Int-other-4.is)
+
+pub ask-returns-in-Int-other-4-3 : goal.ask-returns-in-Int-other-4-3
+ask-returns-in-Int-other-4-3 t c = other_form _ _ _ _ _ _ (function_form _ _ _ c.in-Function.is) (no_function _ c.in-Int-other-4.is)
+
+pub ask-returns-in-Int-other-4-4 : goal.ask-returns-in-Int-other-4-4
+ask-returns-in-Int-other-4-4 t c = other_form _ _ _ _ _ _ (function_form _ _ _ c.in-Function.is) (no_function _ c.in-Int-other-4.is)
+
+pub ask-returns-in-Int-other-4-5 : goal.ask-returns-in-Int-other-4-5
+ask-returns-in-Int-other-4-5 t c = other_form _ _ _ _ _ _ (function_form _ _ _ c.in-Function.is) (no_function _ c.in-Int-other-4.is)
 
 pub ask-returns-in_ok-ask-in-Reference-other : goal.ask-returns-in_ok-ask-in-Reference-other
 ask-returns-in_ok-ask-in-Reference-other t c =
@@ -95,6 +119,16 @@ ask-returns-else-number-other_number t c =
     let w = c.in-Named-other in
     rw (ap tree v.is ∙ tree_named v.number v.rs v.ts, ap tree w.is ∙ tree_named w.other_number w.qs w.us)
     (adds_none _ _ (λ x. other_named s c.args.outer v.number w.other_number v.rs.items w.qs.items (trees v.ts.items) (trees w.us.items) x c.if-number-other_number.false))
+
+pub ask-returns-in_ok-ask-in-Function-other : goal.ask-returns-in_ok-ask-in-Function-other
+ask-returns-in_ok-ask-in-Function-other t c =
+    let s = structs_of c.args.structs.now in
+    let v = c.in-Function in
+    let w = c.in-Function-other in
+    let first = rw (c.as_slice-ts-in-Function-other.ensures.value, c.as_slice-us-in-Function-other.ensures.value) at c.in_ok-ask_types-in-Function-other.ensures in
+    let last = rw (c.deref-in-Function-other.ensures, c.deref-in-Function-other-2.ensures) at c.in_ok-ask-in-Function-other.ensures in
+    rw (ap tree v.is ∙ tree_function v.ts v.t, ap tree w.is ∙ tree_function w.us w.u)
+    (adds_same _ _ _ _ (λ x. asks_function s c.args.outer (trees v.ts.items) (trees w.us.items) (tree v.t.value) (tree w.u.value) x) (adds_append _ _ _ _ _ first last))
 
 pub ask_types-loop-place-init : goal.ask_types-loop-place-init
 ask_types-loop-place-init t c = below_none _ _

@@ -36,3 +36,6 @@ returns-in-Int-3 c = unlike_reference (structs_of c.args.structs.now) Covariant 
 
 pub returns-in-Int-4 : goal.returns-in-Int-4
 returns-in-Int-4 c = unlike_reference (structs_of c.args.structs.now) Covariant _ _ _ _ _ (no_reference _ c.in-Int.is)
+
+pub returns-in-Int-5 : goal.returns-in-Int-5
+returns-in-Int-5 c = unlike_reference (structs_of c.args.structs.now) Covariant _ _ _ _ _ (no_reference _ c.in-Int.is)

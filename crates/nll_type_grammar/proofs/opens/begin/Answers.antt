@@ -1,5 +1,5 @@
 use Rattle.std.proofs.lemmas.Result.{IfOk-weaker}
-use Rattle.nll_type_grammar.proofs.FurtherLemmas.{begun_int, begun_unit, begun_tuple, begun_reference, begun_generic, begun_name}
+use Rattle.nll_type_grammar.proofs.FurtherLemmas.{begun_int, begun_unit, begun_tuple, begun_reference, begun_generic, begun_name, begun_thunk, begun_function}
 use Rattle.nll_type_grammar.proofs.opens.begin.Goals as goal
 
 pub returns-in-Int : goal.returns-in-Int
@@ -19,3 +19,9 @@ returns-in-Generic c = IfOk-weaker _ _ _ (λ s h. begun_generic _ _ _ _ _ _ s c.
 
 pub returns-in-Name : goal.returns-in-Name
 returns-in-Name c = IfOk-weaker _ _ _ (λ s h. begun_name _ _ _ _ _ _ s c.in-Name.is c.new-in-Name.ensures.items c.requires h) c.put-in-Name.ensures
+
+pub returns-in-Thunk : goal.returns-in-Thunk
+returns-in-Thunk c = IfOk-weaker _ _ _ (λ s h. begun_thunk _ _ _ _ _ s c.in-Thunk.is c.new-in-Thunk.ensures.items c.requires h) c.put_open-in-Thunk.ensures
+
+pub returns-in-Function : goal.returns-in-Function
+returns-in-Function c = IfOk-weaker _ _ _ (λ s h. begun_function _ _ _ _ _ s c.in-Function.is c.new-in-Function.ensures.items c.requires h) c.put_open-in-Function.ensures

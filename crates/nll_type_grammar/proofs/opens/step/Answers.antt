@@ -1,5 +1,5 @@
 use Rattle.std.proofs.lemmas.Result.{IfOk-weaker}
-use Rattle.nll_type_grammar.proofs.FurtherLemmas.{further_complete, at_nodes}
+use Rattle.nll_type_grammar.proofs.FurtherLemmas.{further_arrow, further_complete, at_nodes}
 use Rattle.nll_type_grammar.proofs.opens.step.Goals as goal
 
 pub returns-in-Want : goal.returns-in-Want
@@ -13,3 +13,6 @@ returns-in_ok-next-in-Have c = rw c.in-Have.is (further_complete c.in_ok-next-in
 
 pub returns-in-Inside : goal.returns-in-Inside
 returns-in-Inside c = rw c.in-Inside.is c.inside.ensures
+
+pub returns-in-WantArrow : goal.returns-in-WantArrow
+returns-in-WantArrow c = rw c.in-WantArrow.is (further_arrow c.want_arrow.result c.args.tokens.now c.args.nodes.now.items c.args.opened.now.items c.requires.read c.want_arrow.ensures)

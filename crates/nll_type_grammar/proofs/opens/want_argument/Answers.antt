@@ -15,6 +15,12 @@ returns-in-Some-Behind c = λ ns. stuck_argument_frame c.args.tokens.now _ ns c.
 pub returns-in-Some-Tuple : goal.returns-in-Some-Tuple
 returns-in-Some-Tuple c = λ ns. stuck_argument_frame c.args.tokens.now _ ns c.pop.new.self.items _ _ c.in-Some.region.now (λ n args h. let f = ap (frame_over (types_from [] ns)) c.in-Some-Tuple.field-0-is in cc) c.in-Some.ensures c.in-Some-Tuple.ensures.items
 
+pub returns-in-Some-Inputs : goal.returns-in-Some-Inputs
+returns-in-Some-Inputs c = λ ns. stuck_argument_frame c.args.tokens.now _ ns c.pop.new.self.items _ _ c.in-Some.region.now (λ n args h. let f = ap (frame_over (types_from [] ns)) c.in-Some-Inputs.field-0-is in cc) c.in-Some.ensures c.in-Some-Inputs.ensures.items
+
+pub returns-in-Some-Output : goal.returns-in-Some-Output
+returns-in-Some-Output c = λ ns. stuck_argument_frame c.args.tokens.now _ ns c.pop.new.self.items _ _ c.in-Some.region.now (λ n args h. let f = ap (frame_over (types_from [] ns)) c.in-Some-Output.field-0-is in cc) c.in-Some.ensures c.in-Some-Output.ensures.items
+
 pub returns : goal.returns
 returns c = λ ns.
     let l : length c.args.opened.now.items ≡ 0 = grind (arith, common_steps) in

@@ -5,9 +5,9 @@ use Rattle.nll_types.proofs.FailLemmas.{failed}
 use Rattle.nll_types.specs.Types.{type_at}
 use Rattle.nll_types.specs.Views.{tree, trees}
 use Rattle.nll_types.specs.Declarations.{structs_of}
-use Rattle.nll_types.proofs.ViewLemmas.{type_at_item, type_within, tree_int, tree_parameter, tree_reference, tree_tuple, tree_named}
+use Rattle.nll_types.proofs.ViewLemmas.{type_at_item, type_within, tree_int, tree_parameter, tree_reference, tree_tuple, tree_named, tree_function}
 use Rattle.nll_types.proofs.WellFormedLemmas.{well_formed_at}
-use Rattle.nll_types.proofs.DropLemmas.{adds_nothing, below_none, below_more, below_all, wanted_int, wanted_reference, wanted_tuple, wanted_named, wanted_flags}
+use Rattle.nll_types.proofs.DropLemmas.{adds_nothing, below_none, below_more, below_all, wanted_int, wanted_reference, wanted_tuple, wanted_named, wanted_function, wanted_flags}
 use Rattle.nll_types.proofs.collecting.+collecting.Goals as goal
 
 pub collect-returns-in-Int : goal.collect-returns-in-Int
@@ -37,6 +37,16 @@ collect-returns-in_ok-collect_use-in-Named t c =
     rw (ap tree c.in-Named.is ∙ tree_named _ _ _) (λ w.
     wanted_named (structs_of c.args.structs.now) later c.in-Named.number c.in-Named.regions.items (trees c.in-Named.types.items) c.in-Some.sources.now.keys c.args.written c.args.dropped
     c.in-Some.ensures w.1 _ _ _ (first _) (e later n p w.4))) third
+
+pub collect-returns-in_ok-collect_parts-in-Function : goal.collect-returns-in_ok-collect_parts-in-Function
+collect-returns-in_ok-collect_parts-in-Function t c =
+    let first = rw c.as_slice-in-Function.ensures.value at c.in_ok-collect_parts-in-Function.ensures in
+    let last = rw c.deref-in-Function.ensures at c.collect-in-Function.ensures in
+    OnOk-map c.collect-in-Function.result _ _ (λ e. λ later n p.
+    rw (ap tree c.in-Function.is ∙ tree_function _ _) (λ w. wanted_function _ _ _ _ _ _ _ _ (first later n p w.0) (e later n p w.1))) last
+
+pub collect-returns-in_err-collect_parts-in-Function : goal.collect-returns-in_err-collect_parts-in-Function
+collect-returns-in_err-collect_parts-in-Function t c = failed c.from_residual-in_err-collect_parts-in-Function.result _ _ c.from_residual-in_err-collect_parts-in-Function.ensures.1
 
 pub collect-returns-in_err-add_where-in-Reference : goal.collect-returns-in_err-add_where-in-Reference
 collect-returns-in_err-add_where-in-Reference t c = failed c.from_residual.result _ _ c.from_residual.ensures.1

@@ -1,9 +1,9 @@
 use Rattle.std.proofs.Common.{◌≤◌, ◌++◌, ◌∷◌, [], ◌∙◌, ap, sym, map, take, length, arith}
 use Rattle.std.proofs.lemmas.List.{map_push, map_more, take_all}
-use Rattle.nll_types.specs.Types.{reference, tuple, named}
-use Rattle.nll_types.specs.Views.{tree, row_of}
-use Rattle.nll_types.proofs.FailLemmas.{handed}
-use Rattle.nll_types.proofs.ViewLemmas.{tree_reference, tree_tuple, tree_named}
+use Rattle.nll_types.specs.Types.{reference, tuple, named, function}
+use Rattle.nll_types.specs.Views.{tree, trees, row_of}
+use Rattle.nll_types.proofs.FailLemmas.{handed, handed_both}
+use Rattle.nll_types.proofs.ViewLemmas.{tree_reference, tree_tuple, tree_named, tree_function}
 use Rattle.nll_types.proofs.copying.+copying.Goals as goal
 
 pub copy-returns-in-Int : goal.copy-returns-in-Int
@@ -30,6 +30,14 @@ copy-returns-in-Named t c =
     let made = rw c.as_slice-in-Named.ensures.value at c.named.ensures in
     rw (ap tree c.in-Named.is ∙ tree_named _ _ _)
     (handed c.named.result c.copy_all-in-Named.result _ _ _ types made (λ u v p q. q ∙ ap (λ z. named c.in-Named.number c.in-Named.regions.items (row_of z)) p))
+
+pub copy-returns-in-Function : goal.copy-returns-in-Function
+copy-returns-in-Function t c =
+    let arguments = rw c.as_slice-in-Function.ensures.value at c.copy_all-arguments.ensures in
+    let returned = rw c.deref-in-Function.ensures at c.copy-in-Function.ensures in
+    rw (ap tree c.in-Function.is ∙ tree_function _ _)
+    (handed_both c.function.result c.copy_all-arguments.result c.copy-in-Function.result _ _ _ _ arguments returned c.function.ensures
+    (λ u v w p o q. q ∙ (ap (λ z. function (row_of z) (tree w)) p ∙ ap (function (trees c.in-Function.arguments.items)) o)))
 
 pub copy_all-push_reserved-requires : goal.copy_all-push_reserved-requires
 copy_all-push_reserved-requires t c = omega arith

@@ -6,7 +6,7 @@ use Rattle.nll_types.specs.Places.{behind}
 use Rattle.nll_types.specs.Views.{tree}
 use Rattle.nll_types.specs.Declarations.{structs_of}
 use Rattle.nll_types.specs.declared.place.Projection.TheVariants.{Deref, Field}
-use Rattle.nll_types.proofs.ViewLemmas.{tree_int, tree_parameter, tree_reference, tree_tuple, tree_named, type_at_item, type_at_trees}
+use Rattle.nll_types.proofs.ViewLemmas.{tree_int, tree_parameter, tree_reference, tree_tuple, tree_named, tree_function, type_at_item, type_at_trees}
 use Rattle.nll_types.proofs.PlaceLemmas.{step_none, step_to, step_on}
 use Rattle.nll_types.proofs.placing.+advance.Goals as goal
 
@@ -32,7 +32,8 @@ returns-in-Int t c =
     (⊎_elim (λ e. ap (behind structs Deref) (ap tree e ∙ tree_int))
     (⊎_elim (λ e. ap (behind structs Deref) (ap tree e.1 ∙ tree_parameter _))
     (⊎_elim (λ e. ap (behind structs Deref) (ap tree e.1 ∙ tree_tuple _))
-    (λ e. ap (behind structs Deref) (ap tree e.3 ∙ tree_named _ _ _)))) c.in-Int.is)
+    (⊎_elim (λ e. ap (behind structs Deref) (ap tree e.3 ∙ tree_named _ _ _))
+    (λ e. ap (behind structs Deref) (ap tree e.2 ∙ tree_function _ _))))) c.in-Int.is)
 
 pub returns-else-place-len : goal.returns-else-place-len
 returns-else-place-len t c =
@@ -63,4 +64,5 @@ returns-in-Int-ty t c =
     step_none structs c.args.projections.now c.args.from Deref (Field c.in-Field.place) _ c.if-from-projections.false c.in-Field.is
     (⊎_elim (λ e. ap (behind structs (Field c.in-Field.place)) (ap tree e ∙ tree_int))
     (⊎_elim (λ e. ap (behind structs (Field c.in-Field.place)) (ap tree e.1 ∙ tree_parameter _))
-    (λ e. ap (behind structs (Field c.in-Field.place)) (ap tree e.3 ∙ tree_reference _ _ _))) c.in-Int-ty.is)
+    (⊎_elim (λ e. ap (behind structs (Field c.in-Field.place)) (ap tree e.3 ∙ tree_reference _ _ _))
+    (λ e. ap (behind structs (Field c.in-Field.place)) (ap tree e.2 ∙ tree_function _ _)))) c.in-Int-ty.is)

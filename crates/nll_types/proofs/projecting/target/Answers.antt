@@ -23,4 +23,5 @@ returns-in-Int-clause-at c = λ structs.
     ⊎_elim (λ e. ap (behind_shape structs Deref) (sym (c.node.ensures.at ∙ ap shape e)))
     (⊎_elim (λ e. ap (behind_shape structs Deref) (sym (c.node.ensures.at ∙ ap shape e.1)))
     (⊎_elim (λ e. ap (behind_shape structs Deref) (sym (c.node.ensures.at ∙ ap shape e.1)))
-    (λ e. ap (behind_shape structs Deref) (sym (c.node.ensures.at ∙ ap shape e.3))))) c.in-Int.is
+    (⊎_elim (λ e. ap (behind_shape structs Deref) (sym (c.node.ensures.at ∙ ap shape e.3)))
+    (λ e. ap (behind_shape structs Deref) (sym (c.node.ensures.at ∙ ap shape e.2)))))) c.in-Int.is

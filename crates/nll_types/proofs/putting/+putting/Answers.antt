@@ -1,12 +1,12 @@
 use Rattle.std.proofs.Common.{◌≡◌, ◌++◌, ◌∷◌, [], ◌∙◌, ap, sym, map, take, length, arith}
 use Rattle.std.proofs.lemmas.List.{map_push, map_more}
 use Rattle.std.proofs.Math.Seq.{take-length}
-use Rattle.nll_types.specs.Types.{reference, tuple, named}
-use Rattle.nll_types.specs.Structs.{region_in, put_in}
+use Rattle.nll_types.specs.Types.{reference, tuple, named, function}
+use Rattle.nll_types.specs.Structs.{region_in, put_in, put_in_all}
 use Rattle.nll_types.specs.declared.ty.Ty.{Ty}
 use Rattle.nll_types.specs.Views.{tree, trees, row_of}
-use Rattle.nll_types.proofs.FailLemmas.{failed, handed}
-use Rattle.nll_types.proofs.ViewLemmas.{tree_int, tree_parameter, tree_reference, tree_tuple, tree_named}
+use Rattle.nll_types.proofs.FailLemmas.{failed, handed, handed_both}
+use Rattle.nll_types.proofs.ViewLemmas.{tree_int, tree_parameter, tree_reference, tree_tuple, tree_named, tree_function}
 use Rattle.nll_types.proofs.PuttingLemmas.{put_all}
 use Rattle.nll_types.proofs.putting.+putting.Goals as goal
 
@@ -42,6 +42,16 @@ put_in-returns-in-Named t c =
     rw (ap tree c.in-Named.is ∙ tree_named _ _ _)
     (handed c.named_in.result c.put_in_all-arguments.result _ _ _ arguments made
     (λ u v p q. q ∙ ap (named c.in-Named.number (map (region_in c.args.regions.now) c.in-Named.own.items)) p))
+
+pub put_in-returns-in-Function : goal.put_in-returns-in-Function
+put_in-returns-in-Function t c =
+    let regions = c.args.regions.now in
+    let types = trees c.args.types.now in
+    let inputs = rw c.as_slice-in-Function.ensures.value at c.put_in_all-inputs.ensures in
+    let returned = rw c.deref-in-Function.ensures at c.put_in.ensures in
+    rw (ap tree c.in-Function.is ∙ tree_function _ _)
+    (handed_both c.function.result c.put_in_all-inputs.result c.put_in.result _ _ _ _ inputs returned c.function.ensures
+    (λ u v w p o q. q ∙ (ap (λ z. function z (tree w)) p ∙ ap (function (put_in_all regions types (trees c.in-Function.inputs.items))) o)))
 
 pub put_in_all-returns-in_err-put : goal.put_in_all-returns-in_err-put
 put_in_all-returns-in_err-put t c = failed c.from_residual.result _ _ c.from_residual.ensures.1

@@ -1,13 +1,13 @@
 use Rattle.std.proofs.Common.{◌≤◌, ◌≡◌, ℕ, List, arith, length, ap, sym, ◌∙◌}
 use Rattle.std.proofs.lemmas.Result.{IfOk-weaker}
 use Rattle.nll_types.proofs.FailLemmas.{failed}
-use Rattle.nll_types.specs.Shapes.{shape_of, put_in_shape, reference_shape, tuple_shape, named_shape}
-use Rattle.nll_types.specs.Table.{shapes_in, all_at}
+use Rattle.nll_types.specs.Shapes.{ShapeList, shape_of, shapes_of, put_in_shape, put_in_shapes, reference_shape, tuple_shape, named_shape, function_shape}
+use Rattle.nll_types.specs.Table.{shapes_in, shape_in, all_at}
 use Rattle.nll_types.specs.Types.{TypeTree}
-use Rattle.nll_types.specs.Views.{tree}
+use Rattle.nll_types.specs.Views.{tree, trees}
 use Rattle.nll_types.specs.declared.node.Node.{Node}
-use Rattle.nll_types.proofs.ViewLemmas.{tree_int, tree_parameter, tree_reference, tree_tuple, tree_named}
-use Rattle.nll_types.proofs.ShapingLemmas.{extends_same, extends_then, shaping_more, shaping_all}
+use Rattle.nll_types.proofs.ViewLemmas.{tree_int, tree_parameter, tree_reference, tree_tuple, tree_named, tree_function}
+use Rattle.nll_types.proofs.ShapingLemmas.{extends_same, extends_then, shaping_more, shaping_all, kept_at, below_more, over_function}
 use Rattle.nll_types.proofs.shaping.+shaping.Goals as goal
 
 -- what the shape of a tree becomes, where the tree is another
@@ -41,6 +41,50 @@ shape-returns-in_ok-types-in-Named-clause-at t c =
     let types = (rw c.as_slice-in-Named.ensures.value at c.in_ok-types-in-Named.ensures.at) b in
     at ∙ (ap (λ k. named_shape c.in-Named.number k (all_at (shapes_in c.shape_all-in-Named.new.shapes) c.in_ok-types-in-Named.types.items)) count
     ∙ ap (named_shape c.in-Named.number (length c.in-Named.regions.items)) types ∙ put c.args.shapes.now c.args.arguments.now _ _ (ap tree c.in-Named.is ∙ tree_named _ _ _))) c.add-in-Named.ensures.at
+
+pub shape-returns-in_ok-returned-in-Function-clause-at : goal.shape-returns-in_ok-returned-in-Function-clause-at
+shape-returns-in_ok-returned-in-Function-clause-at t c = IfOk-weaker c.add-in-Function.result _ _ (λ i at. λ b.
+    let first = c.args.shapes.now in
+    let grown = c.shape_all-in-Function.ensures.extends in
+    let inputs = (rw c.as_slice-in-Function.ensures.value at c.in_ok-inputs-in-Function.ensures.at) b in
+    let later = below_more (length first) (length c.shape_all-in-Function.new.shapes) c.args.arguments.now grown.longer b in
+    let returned = (rw c.deref-in-Function.ensures at c.in_ok-returned-in-Function.ensures.at) later in
+    let kept = kept_at c.shape_all-in-Function.new.shapes c.shape-in-Function.new.shapes c.in_ok-inputs-in-Function.inputs.items c.shape-in-Function.ensures.extends c.in_ok-inputs-in-Function.ensures.within in
+    let same = kept_at first c.shape_all-in-Function.new.shapes c.args.arguments.now grown b in
+    let last = shape_in c.shape-in-Function.new.shapes c.in_ok-returned-in-Function.returned in
+    let put_inputs = put_in_shapes (all_at (shapes_in first) c.args.arguments.now) (shapes_of (trees c.in-Function.inputs.items)) in
+    at ∙ (ap (λ z. function_shape z last) (kept ∙ inputs)
+    ∙ ap (function_shape put_inputs) (returned ∙ ap (λ (z : ShapeList). put_in_shape z (shape_of (tree c.in-Function.returned.value))) same)
+    ∙ put first c.args.arguments.now _ _ (ap tree c.in-Function.is ∙ tree_function _ _))) c.add-in-Function.ensures.at
+
+pub shape-returns-in_ok-returned-in-Function-clause-extends : goal.shape-returns-in_ok-returned-in-Function-clause-extends
+shape-returns-in_ok-returned-in-Function-clause-extends t c =
+    extends_then _ _ _ c.shape_all-in-Function.ensures.extends (extends_then _ _ _ c.shape-in-Function.ensures.extends c.add-in-Function.ensures.extends)
+
+pub shape-returns-in_ok-returned-in-Function-clause-within : goal.shape-returns-in_ok-returned-in-Function-clause-within
+shape-returns-in_ok-returned-in-Function-clause-within t c = c.add-in-Function.ensures.within
+
+pub shape-returns-in_err-inputs-in-Function-clause-within : goal.shape-returns-in_err-inputs-in-Function-clause-within
+shape-returns-in_err-inputs-in-Function-clause-within t c = failed c.from_residual-in_err-inputs-in-Function.result _ _ c.from_residual-in_err-inputs-in-Function.ensures.1
+
+pub shape-returns-in_err-inputs-in-Function-clause-at : goal.shape-returns-in_err-inputs-in-Function-clause-at
+shape-returns-in_err-inputs-in-Function-clause-at t c = failed c.from_residual-in_err-inputs-in-Function.result _ _ c.from_residual-in_err-inputs-in-Function.ensures.1
+
+pub shape-returns-in_err-inputs-in-Function-clause-extends : goal.shape-returns-in_err-inputs-in-Function-clause-extends
+shape-returns-in_err-inputs-in-Function-clause-extends t c = c.shape_all-in-Function.ensures.extends
+
+pub shape-returns-in_err-returned-in-Function-clause-within : goal.shape-returns-in_err-returned-in-Function-clause-within
+shape-returns-in_err-returned-in-Function-clause-within t c = failed c.from_residual-in_err-returned-in-Function.result _ _ c.from_residual-in_err-returned-in-Function.ensures.1
+
+pub shape-returns-in_err-returned-in-Function-clause-at : goal.shape-returns-in_err-returned-in-Function-clause-at
+shape-returns-in_err-returned-in-Function-clause-at t c = failed c.from_residual-in_err-returned-in-Function.result _ _ c.from_residual-in_err-returned-in-Function.ensures.1
+
+pub shape-returns-in_err-returned-in-Function-clause-extends : goal.shape-returns-in_err-returned-in-Function-clause-extends
+shape-returns-in_err-returned-in-Function-clause-extends t c = extends_then _ _ _ c.shape_all-in-Function.ensures.extends c.shape-in-Function.ensures.extends
+
+pub shape-add-requires-in-Function : goal.shape-add-requires-in-Function
+shape-add-requires-in-Function t c = over_function (length c.shape-in-Function.new.shapes) c.in_ok-returned-in-Function.returned c.in_ok-inputs-in-Function.inputs c.in_ok-returned-in-Function.ensures.within
+    (below_more _ _ c.in_ok-inputs-in-Function.inputs.items c.shape-in-Function.ensures.extends.longer c.in_ok-inputs-in-Function.ensures.within)
 
 pub shape-returns-in_ok-target-in-Reference-clause-extends : goal.shape-returns-in_ok-target-in-Reference-clause-extends
 shape-returns-in_ok-target-in-Reference-clause-extends t c = extends_then _ _ _ c.shape.ensures.extends c.add-in-Reference.ensures.extends

@@ -6,7 +6,7 @@ use Rattle.nll_types.specs.Structs.{IsWellFormed, AreWellFormed}
 use Rattle.nll_types.specs.Declarations.{structs_of}
 use Rattle.nll_types.specs.Views.{tree, trees}
 use Rattle.nll_types.specs.declared.ty.Ty.{Ty}
-use Rattle.nll_types.proofs.ViewLemmas.{tree_int, tree_reference, tree_tuple, tree_named}
+use Rattle.nll_types.proofs.ViewLemmas.{tree_int, tree_reference, tree_tuple, tree_named, tree_function}
 use Rattle.nll_types.proofs.KeepingLemmas.{good_all, good_one, good_more, named_takes, named_good, Takes, told}
 use Rattle.nll_types.proofs.well_formed.+well_formed.Goals as goal
 
@@ -66,6 +66,24 @@ is_well_formed-returns-else-not-are_below t c =
     c.as_slice-in-Named-2.ensures.value c.are_well_formed-good-in-Named.ensures in
     told _ _ _ _ _ _ (ap tree c.in-Named.is ∙ tree_named _ _ _)
     (λ h. named_good c.args.structs.now _ _ c.in-Named.number c.in-Named.own.items c.in-Named.types.items yes all (good.0 h), λ w. good.1 w.4)
+
+pub is_well_formed-returns-then-not-are_well_formed : goal.is_well_formed-returns-then-not-are_well_formed
+is_well_formed-returns-then-not-are_well_formed t c =
+    let good = subst (λ (z : List Ty). IsTrue c.are_well_formed.result ↔ AreWellFormed (structs_of c.args.structs.now) c.args.regions c.args.parameters (trees z))
+    c.as_slice-in-Function.ensures.value c.are_well_formed.ensures in
+    told _ _ _ _ _ _ (ap tree c.in-Function.is ∙ tree_function _ _) (
+      λ h. absurd (false≢true h),
+      λ w. absurd (false≢true (sym c.if-not-are_well_formed.true ∙ good.1 w.0)),
+    )
+
+pub is_well_formed-returns-else-not-are_well_formed : goal.is_well_formed-returns-else-not-are_well_formed
+is_well_formed-returns-else-not-are_well_formed t c =
+    let first = subst (λ (z : List Ty). IsTrue c.are_well_formed.result ↔ AreWellFormed (structs_of c.args.structs.now) c.args.regions c.args.parameters (trees z))
+    c.as_slice-in-Function.ensures.value c.are_well_formed.ensures in
+    let last = subst (λ (z : Ty). IsTrue c.is_well_formed-good-in-Function.result ↔ IsWellFormed (structs_of c.args.structs.now) c.args.regions c.args.parameters (tree z))
+    c.deref-in-Function.ensures c.is_well_formed-good-in-Function.ensures in
+    told _ _ _ _ _ _ (ap tree c.in-Function.is ∙ tree_function _ _)
+    (λ h. (first.0 c.if-not-are_well_formed.false, last.0 h), λ w. last.1 w.1)
 
 pub is_well_formed-returns-in-Int : goal.is_well_formed-returns-in-Int
 is_well_formed-returns-in-Int t c = told _ _ _ _ _ _ (ap tree c.in-Int.is ∙ tree_int) (λ h. tt, λ w. refl)

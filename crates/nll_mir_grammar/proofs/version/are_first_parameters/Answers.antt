@@ -1,0 +1,18 @@
+use Rattle.std.proofs.Common.{sym, ◌∙◌, arith}
+use Rattle.nll_mir_grammar.specs.Lines.{parameter_of}
+use Rattle.nll_mir_grammar.specs.Versions.{is_first_parameter}
+use Rattle.nll_mir_grammar.proofs.VersionLemmas.{all_more, not_all, all_passed}
+use Rattle.nll_mir_grammar.proofs.version.are_first_parameters.Goals as goal
+
+pub loop-parameter-preserved : goal.loop-parameter-preserved
+loop-parameter-preserved c =
+    all_more parameter_of is_first_parameter c.args.parameters.now c.loop-parameter.parameter-index c.parameter-item.result c.loop-parameter-test.true c.parameter-item.is
+    (sym c.is_first_parameter.ensures ∙ c.if-not-is_first_parameter.false) c.loop-parameter.invariant
+
+pub returns-then-not-is_first_parameter : goal.returns-then-not-is_first_parameter
+returns-then-not-is_first_parameter c =
+    not_all parameter_of is_first_parameter c.args.parameters.now c.loop-parameter.parameter-index c.parameter-item.result c.loop-parameter-test.true c.parameter-item.is
+    (sym c.is_first_parameter.ensures ∙ c.if-not-is_first_parameter.true) c.loop-parameter.invariant
+
+pub returns : goal.returns
+returns c = all_passed parameter_of is_first_parameter c.args.parameters.now c.loop-parameter.parameter-index (omega arith) c.loop-parameter.invariant
