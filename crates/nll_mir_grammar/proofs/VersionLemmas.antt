@@ -15,16 +15,16 @@ use Rattle.nll_mir_grammar.specs.Tuples.{parts, IsTuple}
 
 -- whether all of a row pass, of which the first ones did
 module _ {A B : Type 0} (f : A → B) (p : B → Bool) where
-  next : (xs : List A) (i : ℕ) (x : A) → i < length xs → x ≡ get_or xs i x → list_all p (map f (drop i xs)) ≡ (p (f x) && list_all p (map f (drop (i + 1) xs)))
-  next xs i x l e =
-      let rest : drop i xs ≡ get_or xs i x ∷ drop (i + 1) xs = rw add-one (drop-cons xs i x l) in
+  next : (xs : List A) (i : ℕ) (x d : A) → i < length xs → x ≡ get_or xs i d → list_all p (map f (drop i xs)) ≡ (p (f x) && list_all p (map f (drop (i + 1) xs)))
+  next xs i x d l e =
+      let rest : drop i xs ≡ get_or xs i d ∷ drop (i + 1) xs = rw add-one (drop-cons xs i d l) in
       ap (λ (ys : List A). list_all p (map f ys)) (rest ∙ ap (λ z. z ∷ drop (i + 1) xs) (sym e))
 
-  pub all_more : (xs : List A) (i : ℕ) (x : A) → i < length xs → x ≡ get_or xs i x → p (f x) ≡ true → list_all p (map f (drop i xs)) ≡ list_all p (map f xs) → list_all p (map f (drop (i + 1) xs)) ≡ list_all p (map f xs)
-  all_more xs i x l e passes told = sym (next xs i x l e ∙ ap (λ b. b && list_all p (map f (drop (i + 1) xs))) passes) ∙ told
+  pub all_more : (xs : List A) (i : ℕ) (x d : A) → i < length xs → x ≡ get_or xs i d → p (f x) ≡ true → list_all p (map f (drop i xs)) ≡ list_all p (map f xs) → list_all p (map f (drop (i + 1) xs)) ≡ list_all p (map f xs)
+  all_more xs i x d l e passes told = sym (next xs i x d l e ∙ ap (λ b. b && list_all p (map f (drop (i + 1) xs))) passes) ∙ told
 
-  pub not_all : (xs : List A) (i : ℕ) (x : A) → i < length xs → x ≡ get_or xs i x → p (f x) ≡ false → list_all p (map f (drop i xs)) ≡ list_all p (map f xs) → false ≡ list_all p (map f xs)
-  not_all xs i x l e fails told = sym (next xs i x l e ∙ ap (λ b. b && list_all p (map f (drop (i + 1) xs))) fails) ∙ told
+  pub not_all : (xs : List A) (i : ℕ) (x d : A) → i < length xs → x ≡ get_or xs i d → p (f x) ≡ false → list_all p (map f (drop i xs)) ≡ list_all p (map f xs) → false ≡ list_all p (map f xs)
+  not_all xs i x d l e fails told = sym (next xs i x d l e ∙ ap (λ b. b && list_all p (map f (drop (i + 1) xs))) fails) ∙ told
 
   pub all_passed : (xs : List A) (i : ℕ) → length xs ≤ i → list_all p (map f (drop i xs)) ≡ list_all p (map f xs) → true ≡ list_all p (map f xs)
   all_passed xs i past told = ap (λ (ys : List A). list_all p (map f ys)) (sym (drop_all i xs past)) ∙ told

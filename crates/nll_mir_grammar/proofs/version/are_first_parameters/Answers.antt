@@ -6,12 +6,12 @@ use Rattle.nll_mir_grammar.proofs.version.are_first_parameters.Goals as goal
 
 pub loop-parameter-preserved : goal.loop-parameter-preserved
 loop-parameter-preserved c =
-    all_more parameter_of is_first_parameter c.args.parameters.now c.loop-parameter.parameter-index c.parameter-item.result c.loop-parameter-test.true c.parameter-item.is
+    all_more parameter_of is_first_parameter c.args.parameters.now c.loop-parameter.parameter-index _ no_parameter c.loop-parameter-test.true refl
     (sym c.is_first_parameter.ensures ∙ c.if-not-is_first_parameter.false) c.loop-parameter.invariant
 
 pub returns-then-not-is_first_parameter : goal.returns-then-not-is_first_parameter
 returns-then-not-is_first_parameter c =
-    not_all parameter_of is_first_parameter c.args.parameters.now c.loop-parameter.parameter-index c.parameter-item.result c.loop-parameter-test.true c.parameter-item.is
+    not_all parameter_of is_first_parameter c.args.parameters.now c.loop-parameter.parameter-index _ no_parameter c.loop-parameter-test.true refl
     (sym c.is_first_parameter.ensures ∙ c.if-not-is_first_parameter.true) c.loop-parameter.invariant
 
 pub returns : goal.returns
