@@ -1,10 +1,11 @@
 -- Which lines a version has, one part of a line after another.
-use Rattle.std.proofs.Common.{◌≡◌, ℕ, ◌+◌, ◌×◌, ◌<◌, ◌≤◌, Bool, true, false, List, [], ◌∷◌, ◌++◌, length, get_or, map, drop, refl, sym, ap, ◌∙◌}
-use Rattle.std.specs.Prelude.{not, ◌&&◌}
+use Rattle.std.proofs.Common.{◌≡◌, ℕ, ◌+◌, ◌<◌, ◌≤◌, Bool, true, false, List, [], ◌∷◌, ◌++◌, length, get_or, map, drop, refl, sym, ap, ◌∙◌}
+use Rattle.std.specs.Prelude.{◌&&◌}
 use Rattle.std.specs.List.{list_all}
 use Rattle.std.proofs.Math.Numerals.{add-one}
 use Rattle.std.proofs.Math.Seq.{drop-cons}
 use Rattle.std.proofs.lemmas.List.{drop_all}
+use Rattle.nll_types.specs.Operands.{Operand}
 use Rattle.nll_types.specs.declared.operand.Operand.{Operand as Written}
 use Rattle.nll_type_grammar.specs.Functions.{has_function, have_function}
 use Rattle.nll_type_grammar.specs.WrittenTypes.{WrittenType}
@@ -43,7 +44,7 @@ all_push p (y ∷ xs) x = ap (λ b. p y && b) (all_push p xs x) ∙ and_rest (p 
     and_rest false b c = refl
 
 -- the types of a call's parameters
-pub call_types : (args : List (Written × List TypeNode)) → map (λ a. a.1) (map (λ a. (a.0, written a.1)) (arguments_of args)) ≡ map (λ a. written a.1) args
+pub call_types : (args : List (Written × List TypeNode)) → map (λ (a : Operand × WrittenType). a.1) (map (λ (a : Operand × List TypeNode). (a.0, written a.1)) (arguments_of args)) ≡ map (λ (a : Written × List TypeNode). written a.1) args
 call_types [] = refl
 call_types (a ∷ args) = ap (λ ts. written a.1 ∷ ts) (call_types args)
 
