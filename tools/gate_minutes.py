@@ -27,9 +27,10 @@ from processes import Watch, crate_of, is_edit, seconds_of
 
 ROOT = pathlib.Path(__file__).resolve().parents[1]
 
-# Seconds of their checks on that machine: those of a run of 1d7f5c2, 77, 100 and 158, divided by 3.66, which
-# is how much slower the run's machine was by the checks of three other crates, which have changed since.
-YARDSTICK = {"nll_statements": 21.1, "nll_type_grammar": 27.2, "nll_naming": 43.1}
+# Seconds of their checks on that machine. Of nll_statements: those of a run of 1d7f5c2, 77, divided by 3.66, which
+# is how much slower the run's machine was by the checks of three other crates, which have changed since. Of the
+# others: those of a run in which nll_statements took 2.70 times as long, 75 and 47, divided by that.
+YARDSTICK = {"nll_statements": 21.1, "nll_sets": 27.8, "nll_cut": 17.4}
 # Beyond this the yardstick's crates tell of different machines, so one of them isn't what it was.
 MOST_APART = 2.0
 
