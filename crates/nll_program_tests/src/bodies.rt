@@ -172,7 +172,7 @@ fn answers_further_mir_texts(rt: HostRuntime) {
 
 // MIR texts with a fault, with the line that tells it.
 const REFUSED: &str = "
-nll-mir 2| ~ 2>>nllc: line 1: header|
+nll-mir 3| ~ 2>>nllc: line 1: header|
 nll-mir 1|points 1|end| ~ 2>>nllc: line 2: syntax|
 nll-facts 1|let _0: int| ~ 2>>nllc: line 2: syntax|
 nll-mir 1|region 'w|struct W<'x +> drop (&'x int)|let _0: int|let _1: W<'w>|blocks 2|block bb0|\

@@ -139,7 +139,7 @@ const NUMBERS: &[(&str, &str)] = &[
 // zero in front.
 #[test]
 fn lines_are_read_as_tokens(rt: HostRuntime) {
-    compare_lines(&rt, rt.alloc(), OfLine::Tokens(12), TOKENS);
+    compare_lines(&rt, rt.alloc(), OfLine::Tokens(13), TOKENS);
     compare_rows(&rt, rt.alloc(), MOST);
     compare_rows(&rt, rt.alloc(), SCANNED);
     compare_lines(&rt, rt.alloc(), OfLine::Number, NUMBERS);

@@ -5,7 +5,10 @@ use super::lists::{Cut, Schedule};
 use super::mir::Mir;
 use super::quick::{write_cut, write_facts, write_mir, write_schedule};
 use super::slow::write_slowly;
-use nll_worked_texts::{CALLED, DROPPED, MOVED, REBORROW, RETURNED, TWO_BORROWS, text_of};
+use super::spelling::version_of;
+use nll_worked_texts::{
+    CALLED, DROPPED, FUNCTIONS, MOVED, REBORROW, RETURNED, TAKERS, TWO_BORROWS, text_of,
+};
 use std::alloc::Global;
 use std::process::Abort;
 
@@ -36,13 +39,21 @@ fn told_slowly(alloc: Global, format: Format, text: &[u8]) -> String {
     let mut out = String::new(alloc);
     match format {
         Format::Facts => {
-            write_slowly(alloc, &mut out, (text, "nll-facts"), &mut Facts::new(alloc));
+            let said = &mut Facts::new(alloc);
+            write_slowly(alloc, &mut out, text, ("nll-facts", "1"), said);
         }
-        Format::Mir => write_slowly(alloc, &mut out, (text, "nll-mir"), &mut Mir::new(alloc)),
-        Format::Cut => write_slowly(alloc, &mut out, (text, "nll-cut"), &mut Cut::new(alloc)),
+        Format::Mir => {
+            let version = version_of(text, "nll-mir");
+            let said = &mut Mir::new(alloc, version == "2");
+            write_slowly(alloc, &mut out, text, ("nll-mir", version), said);
+        }
+        Format::Cut => {
+            let said = &mut Cut::new(alloc);
+            write_slowly(alloc, &mut out, text, ("nll-cut", "1"), said);
+        }
         Format::Schedule => {
             let said = &mut Schedule::new(alloc, 2);
-            write_slowly(alloc, &mut out, (text, "nll-schedule"), said);
+            write_slowly(alloc, &mut out, text, ("nll-schedule", "1"), said);
         }
     }
     out
@@ -74,6 +85,14 @@ const FORMS: &str = "nll-mir 1|universal 'a|universal 'b|outlives 'b 'a|region '
     block bb1|_4 = call f(copy _2.1: (int, S), const: int): &'a int where 'a: 'b, 'x: 'static \
     -> bb2 unwind bb3|block bb2|dead _2|drop _1 -> bb3 unwind bb0|block bb3|read _1.1|return|end|";
 
+// A MIR text of version 2 with functions in each place of a type, and with parameters that are
+// marked `-`.
+const MARKED: &str = "nll-mir 2|region 'x|struct F<'r - ?, T - >(fn(&'r int, T) -> (T, int))|\
+    let _0: int|let _1: F<'x, fn() -> int>|let _2: fn(fn(&'x int) -> int, int) -> &'x int|\
+    let _3: (fn() -> fn() -> int, int)|blocks 2|block bb0|_2 = copy _2|_0 = copy _3.1|\
+    _0 = call f(copy _1.0: fn(&'x int, fn() -> int) -> (fn() -> int, int)): int -> bb1|\
+    block bb1|read _3.0|drop _1 -> bb0|end|";
+
 // A cut file, and a schedule until all is quiet.
 const CUT: &str = "nll-cut 1|0|# as before|65535||12|";
 
@@ -101,6 +120,9 @@ const TEXTS: &[(Format, &str)] = &[
     (Format::Mir, RETURNED),
     (Format::Mir, CALLED),
     (Format::Mir, FORMS),
+    (Format::Mir, FUNCTIONS),
+    (Format::Mir, TAKERS),
+    (Format::Mir, MARKED),
     (Format::Facts, CHAIN),
     (Format::Facts, FACTS),
     (Format::Cut, CUT),

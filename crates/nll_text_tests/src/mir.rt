@@ -14,6 +14,8 @@ use std::alloc::Global;
 #[derive(Drop)]
 pub struct Mir<'a> {
     pub alloc: Global,
+    /// Whether the text is of version 2, which has functions and parameters that are marked `-`.
+    pub has_functions: bool,
     // The last group of lines that was reached.
     reached: u32,
     pub regions: Regions<'a>,
@@ -50,16 +52,16 @@ fn group_of(word: &[u8]) -> u32 {
     9
 }
 
-// Reads a parameter of a struct.
-fn read_parameter<'a>(line: &mut Line<'a>) -> Bytes<'a> {
+// Reads a parameter of a struct, which may be marked `-` in version 2.
+fn read_parameter<'a>(line: &mut Line<'a>, has_functions: bool) -> Bytes<'a> {
     let name = line.front();
     if is_region(name) {
         line.region();
     } else {
         line.name();
     }
-    let is_covariant = line.has("+");
-    if !is_covariant {
+    let is_marked = line.has("+") || (has_functions && line.has("-"));
+    if !is_marked {
         line.want("=");
     }
     line.has("?");
@@ -67,13 +69,13 @@ fn read_parameter<'a>(line: &mut Line<'a>) -> Bytes<'a> {
 }
 
 // Reads the parameters of a struct, where there are some.
-fn read_parameters<'a>(alloc: Global, line: &mut Line<'a>) -> Tokens<'a> {
+fn read_parameters<'a>(alloc: Global, line: &mut Line<'a>, has_functions: bool) -> Tokens<'a> {
     let mut parameters = Vec::new(alloc);
     if !line.has("<") {
         return parameters;
     }
     for _ in 0..line.left() {
-        let _ = parameters.push(read_parameter(line));
+        let _ = parameters.push(read_parameter(line, has_functions));
         if !line.has(",") {
             break;
         }
@@ -93,10 +95,11 @@ fn has_repeats(names: &[Bytes<'_>]) -> bool {
 }
 
 impl<'a> Mir<'a> {
-    /// No line says anything.
-    pub fn new(alloc: Global) -> Mir<'a> {
+    /// No line says anything. Whether the text is of version 2 is told.
+    pub fn new(alloc: Global, has_functions: bool) -> Mir<'a> {
         Mir {
             alloc,
+            has_functions,
             reached: 0,
             regions: Regions::new(alloc),
             structs: Vec::new(alloc),
@@ -149,7 +152,7 @@ impl<'a> Mir<'a> {
     // Reads what stands behind `struct`.
     fn declare_struct(&mut self, line: &mut Line<'a>) {
         let name = line.name();
-        let parameters = read_parameters(self.alloc, line);
+        let parameters = read_parameters(self.alloc, line, self.has_functions);
         line.has("drop");
         let mut own: Tokens<'a> = Vec::new(self.alloc);
         let _ = own.push(b"'static");

@@ -17,11 +17,11 @@ pub trait Said<'a> {
 }
 
 // The kind of fault of a header.
-fn header_fault(line: &[u8], kind: &str) -> Option<TextKind> {
+fn header_fault(line: &[u8], format: (&str, &str)) -> Option<TextKind> {
     if !is_utf8(line) {
         return Some(NotUtf8);
     }
-    if is_header(line, kind) {
+    if is_header(line, format) {
         None
     } else {
         Some(Header)
@@ -45,13 +45,13 @@ fn line_fault<'a, S: Said<'a>>(alloc: Global, line: Bytes<'a>, said: &mut S) -> 
 fn first_fault<'a, S: Said<'a>>(
     alloc: Global,
     lines: &[Bytes<'a>],
-    kind: &str,
+    format: (&str, &str),
     said: &mut S,
 ) -> Option<(usize, TextKind)> {
     for at in 0..lines.len() {
         let line = lines[at];
         let fault = if at == 0 {
-            header_fault(line, kind)
+            header_fault(line, format)
         } else {
             line_fault(alloc, line, said)
         };
@@ -76,16 +76,17 @@ pub fn write_counts(out: &mut String, points: u64, regions: (usize, usize), vari
     );
 }
 
-/// Writes what a text of a kind says, or its fault. Nothing is said before.
+/// Writes what a text of a kind and version says, or its fault. Nothing is said before.
 pub fn write_slowly<'a, S: Said<'a>>(
     alloc: Global,
     out: &mut String,
-    (text, kind): (Bytes<'a>, &str),
+    text: Bytes<'a>,
+    format: (&str, &str),
     said: &mut S,
 ) {
     let mut lines = Vec::new(alloc);
     put_lines(&mut lines, text);
-    let fault = first_fault(alloc, lines.as_slice(), kind, said);
+    let fault = first_fault(alloc, lines.as_slice(), format, said);
     match fault {
         Some((at, kind)) => write_fault(out, (at as u64).saturating_add(1), kind),
         None if said.may_stop() => said.write(out),

@@ -134,6 +134,26 @@ fn put_named<'a>(
     }
 }
 
+// Reads the types of a function behind its `fn`. Its arguments stand in a shape between `<` and
+// `)`, since `(` is a tuple there.
+#[cycle(types)]
+fn put_function<'a>(
+    shape: &mut Tokens<'a>,
+    line: &mut Line<'a>,
+    mir: &Mir<'a>,
+    own: &[Bytes<'a>],
+    depth: u32,
+) {
+    line.want("(");
+    let _ = shape.push(b"<");
+    if depth == 0 {
+        return;
+    }
+    put_types(shape, line, mir, own, depth - 1);
+    put(shape, line, "->");
+    put_type(shape, line, mir, own, depth - 1);
+}
+
 // Reads a type and puts its tokens to a shape.
 #[cycle(types)]
 fn put_type<'a>(
@@ -153,6 +173,8 @@ fn put_type<'a>(
         put_type(shape, line, mir, own, depth - 1);
     } else if is(first, "(") {
         put_types(shape, line, mir, own, depth - 1);
+    } else if is(first, "fn") && mir.has_functions {
+        put_function(shape, line, mir, own, depth - 1);
     } else if !is(first, "int") {
         put_named(shape, line, mir, own, first, depth - 1);
     }
