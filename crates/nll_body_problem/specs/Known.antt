@@ -1,7 +1,10 @@
--- What the code keeps of what statements ask.
+-- What the code keeps of what statements ask, and which statements it takes for alike.
 -- Source: project's choice. Private contracts alone cite this file.
-use Rattle.std.specs.Prelude.{◌↔◌, ◌<◌, ℕ, List, length, Contains}
+use Rattle.std.specs.Prelude.{◌≡◌, ◌↔◌, ◌<◌, ℕ, List, length, Contains, Some, slice_get}
 use Rattle.nll_types.specs.Types.{TypeTree}
+use Rattle.nll_types.specs.Structs.{Struct}
+use Rattle.nll_types.specs.Places.{PlacePath}
+use Rattle.nll_types.specs.Operands.{Operand, operand_type}
 use Rattle.nll_statements.specs.Statements.{Statement}
 use Rattle.nll_body.specs.Bodies.{BodyText, StandsAt}
 use Rattle.nll_rules.specs.Asking.{Asks}
@@ -20,3 +23,31 @@ AreAskedAt body p pairs = (x : ℕ × ℕ) → Contains pairs x ↔ IsPairAskedA
 pub record AreKnown (body : BodyText) (entries : List Entry) : Type 0 where
   pub each : (e : Entry) → Contains entries e → (e.point < length body.points)
       × AreAskedAt body e.point e.pairs.items
+
+-- ---- statements that ask the same
+
+-- the kind of a variable is the number of one of its type
+abbrev pub AreKinds : List TypeTree → List ℕ → Type 0
+AreKinds variables kinds =
+    (v k : ℕ) → slice_get kinds v ≡ Some k → slice_get variables v ≡ slice_get variables k
+
+-- the two variables have one type, where these are the kinds
+abbrev pub HaveOneType : List ℕ → ℕ → ℕ → Type 0
+HaveOneType kinds v w = (variables : List TypeTree) → AreKinds variables kinds
+    → slice_get variables v ≡ slice_get variables w
+
+-- the two places are the same but for their variables, which have one type
+abbrev pub AreAlike : List ℕ → PlacePath → PlacePath → Type 0
+AreAlike kinds p q = (p.projections ≡ q.projections) × HaveOneType kinds p.variable q.variable
+
+-- the two operands have one type
+abbrev pub AreOfOneType : List ℕ → Operand → Operand → Type 0
+AreOfOneType kinds one other = (structs : List Struct) (variables : List TypeTree)
+    → AreKinds variables kinds
+    → operand_type structs variables one ≡ operand_type structs variables other
+
+-- the two statements ask the same pairs
+abbrev pub AskTheSame : List ℕ → Statement ℕ TypeTree → Statement ℕ TypeTree → Type 0
+AskTheSame kinds i j = (structs : List Struct) (variables : List TypeTree)
+    → AreKinds variables kinds → (x : ℕ × ℕ)
+    → Asks structs variables i x ↔ Asks structs variables j x
