@@ -5,14 +5,20 @@ use Rattle.std.proofs.lemmas.List.{map_more, take_all}
 use Rattle.std.proofs.lemmas.Option.{slice_get-map}
 use Rattle.nll_types.specs.Types.{TypeTree, reference}
 use Rattle.nll_types.specs.Structs.{Struct}
-use Rattle.nll_types.specs.Places.{PlacePath, type_of, behind, behind_all}
-use Rattle.nll_types.specs.Operands.{Operand, operand_type}
+use Rattle.nll_types.specs.Places.{PlacePath, path_of, type_of, behind, behind_all}
+use Rattle.nll_types.specs.Operands.{Operand, operand_of, operand_type}
+use Rattle.nll_types.specs.Views.{tree}
+use Rattle.nll_types.specs.declared.operand.Operand.{Operand as Written}
+use Rattle.nll_types.specs.declared.ty.Ty.{Ty}
 use Rattle.nll_types.specs.declared.place.Projection.{Projection}
 use Rattle.nll_types.specs.declared.place.Projection.TheVariants.{Field}
-use Rattle.nll_statements.specs.Statements.{Statement, assign, borrow, make, call}
+use Rattle.nll_statements.specs.Statements.{Statement, assign, borrow, make, call, map_statement}
+use Rattle.nll_statements.specs.Kept.{made_of, call_of}
+use Rattle.nll_statements.specs.declared.statement.Make.{Make}
+use Rattle.nll_statements.specs.declared.statement.Call.{Call}
 use Rattle.nll_rules.specs.Asking.{Asks, AsksSubtype, AsksPair}
 use Rattle.nll_rules.specs.Reborrows.{RestsOn, GoesThrough, prefix}
-use Rattle.nll_body_problem.specs.Known.{AreKinds, AreAlike, AreOfOneType, AskTheSame}
+use Rattle.nll_body_problem.specs.Known.{AreKinds, AreAlike, AreOfOneType, AreLikeOperands, AreLikeArguments, AskTheSame}
 
 -- ---- places and operands
 
@@ -47,7 +53,7 @@ module _ (kinds : List ℕ) (structs : List Struct) (variables : List TypeTree) 
   like_at f xs ys k x same at =
       found (slice_get ys k) refl (sym (slice_get-map f ys k) ∙ (ap (λ (zs : List B). slice_get zs k) (sym same) ∙ (slice_get-map f xs k ∙ ap (option_map f) at)))
     where
-      found : (o : Option A) → slice_get ys k ≡ o → option_map f (slice_get ys k) ≡ Some (f x) → (y : A) × (slice_get ys k ≡ Some y) × (f y ≡ f x)
+      found : (o : Option A) → slice_get ys k ≡ o → option_map f o ≡ Some (f x) → (y : A) × (slice_get ys k ≡ Some y) × (f y ≡ f x)
       found None e d = absurd cc
       found (Some y) e d = (y, e, cc)
 
@@ -120,17 +126,36 @@ same_call kinds p q args others t u wheres wants b c d e h same pairs each =
       call_on kinds structs variables known q p others args t wheres c b e d x (turned kinds p q h) (sym (each structs variables known)),
     )))
 
--- ---- rows of operands and of arguments, as the code has them
+-- ---- what the code makes and calls
 
-pub fused : {A B C : Type 0} (f : B → C) (g : A → B) (xs : List A) → map f (map g xs) ≡ map (λ a. f (g a)) xs
+fused : {A B C : Type 0} (f : B → C) (g : A → B) (xs : List A) → map f (map g xs) ≡ map (λ a. f (g a)) xs
 fused f g [] = refl
 fused f g (x ∷ xs) = ap (λ (zs : List C). f (g x) ∷ zs) (fused f g xs)
 
-pub more_like : {A B : Type 0} (f : A → B) (xs ys : List A) (n : ℕ) (x y : A) → n < length xs → n < length ys → x ≡ get_or xs n x → y ≡ get_or ys n y → f x ≡ f y
-    → map f (take n xs) ≡ map f (take n ys) → map f (take (n + 1) xs) ≡ map f (take (n + 1) ys)
-more_like f xs ys n x y in_xs in_ys at_x at_y same before =
-    map_more f xs n x in_xs ∙ (ap (λ (z : A). map f (take n xs) ++ f z ∷ []) (sym at_x) ∙ (ap (λ (zs : List B). zs ++ f x ∷ []) before
-    ∙ (ap (λ (b : B). map f (take n ys) ++ b ∷ []) same ∙ (ap (λ (z : A). map f (take n ys) ++ f z ∷ []) at_y ∙ sym (map_more f ys n y in_ys)))))
+pub made_alike : (kinds : List ℕ) (m n : Make Ty) → AreAlike kinds (path_of m.place) (path_of n.place) → tree m.ty ≡ tree n.ty → AreLikeOperands kinds m.operands.items n.operands.items
+    → AskTheSame kinds (map_statement (λ r. r) tree (made_of m)) (map_statement (λ r. r) tree (made_of n))
+made_alike kinds m n place ty operands =
+    same_make kinds (path_of m.place) (path_of n.place) (tree m.ty) (tree n.ty) (map operand_of m.operands.items) (map operand_of n.operands.items) place ty
+    (λ structs variables known. (let f = operand_type structs variables in
+    fused f operand_of m.operands.items ∙ (operands structs variables known ∙ sym (fused f operand_of n.operands.items))))
 
-pub all_like : {A B : Type 0} (f : A → B) (xs ys : List A) (n : ℕ) → length xs ≤ n → length ys ≤ n → map f (take n xs) ≡ map f (take n ys) → map f xs ≡ map f ys
-all_like f xs ys n past over same = sym (ap (map f) (take_all n xs past)) ∙ (same ∙ ap (map f) (take_all n ys over))
+-- the types of a call's arguments and parameters
+argument_types : (structs : List Struct) (variables : List TypeTree) (args : List (Written × Ty))
+    → map {B = Option TypeTree × TypeTree} (λ (a : Operand × TypeTree). (operand_type structs variables a.0, a.1)) (map {B = Operand × TypeTree} (λ (a : Operand × Ty). (a.0, tree a.1)) (map {B = Operand × Ty} (λ (a : Written × Ty). (operand_of a.0, a.1)) args))
+    ≡ map {B = Option TypeTree × TypeTree} (λ (a : Written × Ty). (operand_type structs variables (operand_of a.0), tree a.1)) args
+argument_types structs variables [] = refl
+argument_types structs variables (a ∷ args) =
+    ap (λ (zs : List (Option TypeTree × TypeTree)). (operand_type structs variables (operand_of a.0), tree a.1) ∷ zs) (argument_types structs variables args)
+
+-- the arguments and the pairs of a call, with types as trees
+abbrev arguments_in : List (Written × Ty) → List (Operand × TypeTree)
+arguments_in args = map {B = Operand × TypeTree} (λ (a : Operand × Ty). (a.0, tree a.1)) (map {B = Operand × Ty} (λ (a : Written × Ty). (operand_of a.0, a.1)) args)
+
+pub called_alike : (kinds : List ℕ) (c d : Call ℕ Ty) → AreAlike kinds (path_of c.place) (path_of d.place) → tree c.result ≡ tree d.result → c.wheres.items ≡ d.wheres.items → AreLikeArguments kinds c.arguments.items d.arguments.items
+    → AskTheSame kinds (map_statement (λ r. r) tree (call_of c)) (map_statement (λ r. r) tree (call_of d))
+called_alike kinds c d place ty pairs arguments =
+    same_call kinds (path_of c.place) (path_of d.place) (arguments_in c.arguments.items) (arguments_in d.arguments.items) (tree c.result) (tree d.result)
+    (map {B = ℕ × ℕ} (λ (w : ℕ × ℕ). (w.0, w.1)) c.wheres.items) (map {B = ℕ × ℕ} (λ (w : ℕ × ℕ). (w.0, w.1)) d.wheres.items) c.target d.target c.unwind d.unwind place ty
+    (ap (λ (ws : List (ℕ × ℕ)). map {B = ℕ × ℕ} (λ (w : ℕ × ℕ). (w.0, w.1)) ws) pairs)
+    (λ structs variables known.
+    argument_types structs variables c.arguments.items ∙ (arguments structs variables known ∙ sym (argument_types structs variables d.arguments.items)))

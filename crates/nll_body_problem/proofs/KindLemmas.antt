@@ -1,6 +1,9 @@
 -- Types that are one, and kinds of variables.
 use Rattle.std.proofs.Common.{◌≡◌, ◌⊎◌, ℕ, zero, suc, ◌+◌, ◌<◌, ◌≤◌, Bool, List, [], ◌∷◌, ◌++◌, length, Some, map, take, get_or, slice_get, inl, inr, refl, sym, ap, ◌∙◌, ⊎_elim, arith}
+use Rattle.std.specs.Prelude.{option_map}
 use Rattle.std.specs.Global.{Vec, Box}
+use Rattle.std.proofs.lemmas.List.{map_more, take_all}
+use Rattle.std.proofs.lemmas.Option.{slice_get-map, slice_get_read}
 use Rattle.nll_types.specs.Types.{TypeTree, parameter, reference, tuple, named, function}
 use Rattle.nll_types.specs.Views.{tree, trees, row_of}
 use Rattle.nll_types.specs.declared.ty.Ty.{Ty}
@@ -32,6 +35,24 @@ same_function xs ys b c arguments returned =
     tree_function xs b
     ∙ (ap (λ (ts : List TypeTree). function (row_of ts) (tree b.value)) arguments
     ∙ (ap (function (trees ys.items)) returned ∙ sym (tree_function ys c)))
+
+-- two elements of one tree
+pub same_at : (xs : List Ty) (v w : ℕ) (a b : Ty) → v < length xs → w < length xs → a ≡ get_or xs v a → b ≡ get_or xs w b → tree a ≡ tree b → slice_get (map tree xs) v ≡ slice_get (map tree xs) w
+same_at xs v w a b in_v in_w at_v at_w same =
+    slice_get-map tree xs v
+    ∙ (ap (option_map tree) (slice_get_read xs _ v a refl in_v at_v)
+    ∙ (ap Some same ∙ sym (slice_get-map tree xs w ∙ ap (option_map tree) (slice_get_read xs _ w b refl in_w at_w))))
+
+-- ---- rows that are alike, one by one
+
+pub more_like : {A B : Type 0} (f : A → B) (xs ys : List A) (n : ℕ) (x y : A) → n < length xs → n < length ys → x ≡ get_or xs n x → y ≡ get_or ys n y → f x ≡ f y
+    → map f (take n xs) ≡ map f (take n ys) → map f (take (n + 1) xs) ≡ map f (take (n + 1) ys)
+more_like f xs ys n x y in_xs in_ys at_x at_y same before =
+    map_more f xs n x in_xs ∙ (ap (λ (z : A). map f (take n xs) ++ f z ∷ []) (sym at_x) ∙ (ap (λ (zs : List B). zs ++ f x ∷ []) before
+    ∙ (ap (λ (b : B). map f (take n ys) ++ b ∷ []) same ∙ (ap (λ (z : A). map f (take n ys) ++ f z ∷ []) at_y ∙ sym (map_more f ys n y in_ys)))))
+
+pub all_like : {A B : Type 0} (f : A → B) (xs ys : List A) (n : ℕ) → length xs ≤ n → length ys ≤ n → map f (take n xs) ≡ map f (take n ys) → map f xs ≡ map f ys
+all_like f xs ys n past over same = sym (ap (map f) (take_all n xs past)) ∙ (same ∙ ap (map f) (take_all n ys over))
 
 -- ---- kinds
 

@@ -1,10 +1,13 @@
 -- What the code keeps of what statements ask, and which statements it takes for alike.
 -- Source: project's choice. Private contracts alone cite this file.
-use Rattle.std.specs.Prelude.{◌≡◌, ◌↔◌, ◌<◌, ℕ, List, length, Contains, Some, slice_get}
+use Rattle.std.specs.Prelude.{◌≡◌, ◌↔◌, ◌<◌, ℕ, List, length, map, Contains, Option, Some, slice_get}
 use Rattle.nll_types.specs.Types.{TypeTree}
 use Rattle.nll_types.specs.Structs.{Struct}
 use Rattle.nll_types.specs.Places.{PlacePath}
-use Rattle.nll_types.specs.Operands.{Operand, operand_type}
+use Rattle.nll_types.specs.Operands.{Operand, operand_of, operand_type}
+use Rattle.nll_types.specs.Views.{tree}
+use Rattle.nll_types.specs.declared.operand.Operand.{Operand as Written}
+use Rattle.nll_types.specs.declared.ty.Ty.{Ty}
 use Rattle.nll_statements.specs.Statements.{Statement}
 use Rattle.nll_body.specs.Bodies.{BodyText, StandsAt}
 use Rattle.nll_rules.specs.Asking.{Asks}
@@ -45,6 +48,22 @@ abbrev pub AreOfOneType : List ℕ → Operand → Operand → Type 0
 AreOfOneType kinds one other = (structs : List Struct) (variables : List TypeTree)
     → AreKinds variables kinds
     → operand_type structs variables one ≡ operand_type structs variables other
+
+-- the two rows of operands have the same types, one by one
+abbrev pub AreLikeOperands : List ℕ → List Written → List Written → Type 0
+AreLikeOperands kinds one other = (structs : List Struct) (variables : List TypeTree)
+    → AreKinds variables kinds
+    → map {B = Option TypeTree} (λ a. operand_type structs variables (operand_of a)) one
+    ≡ map {B = Option TypeTree} (λ a. operand_type structs variables (operand_of a)) other
+
+-- the two rows of arguments have the same types, one by one, and so have their parameters
+abbrev pub AreLikeArguments : List ℕ → List (Written × Ty) → List (Written × Ty) → Type 0
+AreLikeArguments kinds one other = (structs : List Struct) (variables : List TypeTree)
+    → AreKinds variables kinds
+    → map {B = Option TypeTree × TypeTree}
+    (λ a. (operand_type structs variables (operand_of a.0), tree a.1)) one
+    ≡ map {B = Option TypeTree × TypeTree}
+    (λ a. (operand_type structs variables (operand_of a.0), tree a.1)) other
 
 -- the two statements ask the same pairs
 abbrev pub AskTheSame : List ℕ → Statement ℕ TypeTree → Statement ℕ TypeTree → Type 0

@@ -1,18 +1,19 @@
 //! Whether two statements ask the same: they are the same but for their variables, which have the
 //! same types, and for where calls go on.
 
-ghost use Rattle.std.specs.Prelude.{◌≡◌, IsTrue, List, map};
+ghost use Rattle.std.specs.Prelude.{◌≡◌, IsTrue, List};
 ghost use Rattle.nll_body.specs.Views.{meant};
 ghost use Rattle.nll_statements.specs.Kept.{made_of, call_of};
 ghost use Rattle.nll_statements.specs.Statements.{assign, borrow, map_statement};
 ghost use Rattle.nll_types.specs.Operands.{operand_of, operand_type};
-ghost use Rattle.nll_types.specs.Places.{path_of};
+ghost use Rattle.nll_types.specs.Places.{path_of, type_of};
 ghost use Rattle.nll_types.specs.Structs.{Struct};
 ghost use Rattle.nll_types.specs.Types.{TypeTree};
 ghost use Rattle.nll_types.specs.Views.{tree};
-ghost use Rattle.nll_body_problem.specs.Known.{AreAlike, AreKinds, AreOfOneType, AskTheSame};
+ghost use Rattle.nll_body_problem.specs.Known.{AreAlike, AreKinds, AreLikeArguments};
+ghost use Rattle.nll_body_problem.specs.Known.{AreLikeOperands, AreOfOneType, AskTheSame};
 
-use crate::kinds::{is_one_kind, is_same_region, is_same_type};
+use crate::kinds::{is_one_kind, is_same_flag, is_same_region, is_same_type};
 use nll_body::Stmt;
 use nll_problem::RegionId;
 use nll_statements::{Call, Make, Statement};
@@ -59,6 +60,19 @@ fn is_like(kinds: &[usize], one: &Place, other: &Place) -> bool
     are_same_projections(one.projections(), other.projections())
 }
 
+// Whether an operand is of a place like this one.
+fn is_of_like(kinds: &[usize], place: &Place, operand: &Operand) -> bool
+    ensures { IsTrue result → (structs : List Struct) (variables : List TypeTree)
+        → AreKinds variables kinds.now → type_of structs variables (path_of place.now)
+        ≡ operand_type structs variables (operand_of operand.now) }
+{
+    match operand {
+        Operand::Const => false,
+        Operand::Copy(other) => is_like(kinds, place, other),
+        Operand::Move(other) => is_like(kinds, place, other),
+    }
+}
+
 // Whether two operands are constants, or of places that are alike.
 fn is_like_operand(kinds: &[usize], one: &Operand, other: &Operand) -> bool
     ensures { IsTrue result
@@ -67,23 +81,16 @@ fn is_like_operand(kinds: &[usize], one: &Operand, other: &Operand) -> bool
     match one {
         Operand::Const => match other {
             Operand::Const => true,
-            Operand::Copy(_) | Operand::Move(_) => false,
+            _ => false,
         },
-        Operand::Copy(place) | Operand::Move(place) => match other {
-            Operand::Const => false,
-            Operand::Copy(other_place) | Operand::Move(other_place) => {
-                is_like(kinds, place, other_place)
-            }
-        },
+        Operand::Copy(place) => is_of_like(kinds, place, other),
+        Operand::Move(place) => is_of_like(kinds, place, other),
     }
 }
 
 // Whether two rows of operands are alike, one by one.
 fn are_like_operands(kinds: &[usize], one: &[Operand], other: &[Operand]) -> bool
-    ensures { IsTrue result → (structs : List Struct) (variables : List TypeTree)
-        → AreKinds variables kinds.now
-        → map (λ a. operand_type structs variables (operand_of a)) one.now
-        ≡ map (λ a. operand_type structs variables (operand_of a)) other.now }
+    ensures { IsTrue result → AreLikeOperands kinds.now one.now other.now }
 {
     if one.len() != other.len() {
         return false;
@@ -110,10 +117,7 @@ fn is_like_argument(kinds: &[usize], one: &(Operand, Ty), other: &(Operand, Ty))
 
 // Whether two rows of arguments are alike, one by one.
 fn are_like_arguments(kinds: &[usize], one: &[(Operand, Ty)], other: &[(Operand, Ty)]) -> bool
-    ensures { IsTrue result → (structs : List Struct) (variables : List TypeTree)
-        → AreKinds variables kinds.now
-        → map (λ a. (operand_type structs variables (operand_of a.0), tree a.1)) one.now
-        ≡ map (λ a. (operand_type structs variables (operand_of a.0), tree a.1)) other.now }
+    ensures { IsTrue result → AreLikeArguments kinds.now one.now other.now }
 {
     if one.len() != other.len() {
         return false;
@@ -159,7 +163,10 @@ fn is_like_assign(kinds: &[usize], place: &Place, operand: &Operand, other: &Stm
 {
     match other {
         Statement::Assign(other_place, other_operand) => {
-            is_like(kinds, place, other_place) && is_like_operand(kinds, operand, other_operand)
+            if !is_like(kinds, place, other_place) {
+                return false;
+            }
+            is_like_operand(kinds, operand, other_operand)
         }
         _ => false,
     }
@@ -179,10 +186,16 @@ fn is_like_borrow(
 {
     match other {
         Statement::Borrow(other_place, other_region, other_mutable, other_source) => {
-            *other_region == region
-                && *other_mutable == mutable
-                && is_like(kinds, place, other_place)
-                && is_like(kinds, source, other_source)
+            if !is_same_region(*other_region, region) {
+                return false;
+            }
+            if !is_same_flag(*other_mutable, mutable) {
+                return false;
+            }
+            if !is_like(kinds, place, other_place) {
+                return false;
+            }
+            is_like(kinds, source, other_source)
         }
         _ => false,
     }
@@ -194,9 +207,13 @@ fn is_like_make(kinds: &[usize], one: &Make<Ty>, other: &Make<Ty>) -> bool
         (map_statement (λ r. r) tree (made_of one.now))
         (map_statement (λ r. r) tree (made_of other.now)) }
 {
-    is_like(kinds, &one.place, &other.place)
-        && is_same_type(&one.ty, &other.ty)
-        && are_like_operands(kinds, one.operands.as_slice(), other.operands.as_slice())
+    if !is_like(kinds, &one.place, &other.place) {
+        return false;
+    }
+    if !is_same_type(&one.ty, &other.ty) {
+        return false;
+    }
+    are_like_operands(kinds, one.operands.as_slice(), other.operands.as_slice())
 }
 
 // Whether two calls are alike, wherever they go on.
@@ -205,10 +222,16 @@ fn is_like_call(kinds: &[usize], one: &Call<RegionId, Ty>, other: &Call<RegionId
         (map_statement (λ r. r) tree (call_of one.now))
         (map_statement (λ r. r) tree (call_of other.now)) }
 {
-    is_like(kinds, &one.place, &other.place)
-        && is_same_type(&one.result, &other.result)
-        && are_same_pairs(one.wheres.as_slice(), other.wheres.as_slice())
-        && are_like_arguments(kinds, one.arguments.as_slice(), other.arguments.as_slice())
+    if !is_like(kinds, &one.place, &other.place) {
+        return false;
+    }
+    if !is_same_type(&one.result, &other.result) {
+        return false;
+    }
+    if !are_same_pairs(one.wheres.as_slice(), other.wheres.as_slice()) {
+        return false;
+    }
+    are_like_arguments(kinds, one.arguments.as_slice(), other.arguments.as_slice())
 }
 
 /// Whether two statements or terminators are alike, and so ask the same.

@@ -18,6 +18,13 @@ pub(crate) fn is_same_region(one: RegionId, other: RegionId) -> bool
     one.0 == other.0
 }
 
+// Whether two references are `mut`, or neither is.
+pub(crate) fn is_same_flag(one: bool, other: bool) -> bool
+    ensures { IsTrue result → one ≡ other }
+{
+    one == other
+}
+
 // Whether two rows of regions are one.
 fn are_same_regions(one: &[RegionId], other: &[RegionId]) -> bool
     ensures { IsTrue result → one.now ≡ other.now }
@@ -49,7 +56,10 @@ pub(crate) fn is_same_type(one: &Ty, other: &Ty) -> bool
         },
         Ty::Reference(region, mutable, target) => match other {
             Ty::Reference(other_region, other_mutable, other_target) => {
-                if *region != *other_region || *mutable != *other_mutable {
+                if !is_same_region(*region, *other_region) {
+                    return false;
+                }
+                if !is_same_flag(*mutable, *other_mutable) {
                     return false;
                 }
                 is_same_type(target, other_target)
@@ -100,7 +110,24 @@ fn are_same_types(one: &[Ty], other: &[Ty]) -> bool
     true
 }
 
-// The number of a variable of the same type: an earlier one, or else its own.
+// The number of the other variable, where there is one and it has the same type, and else the
+// variable's own.
+fn same_or_own(variables: &[Ty], variable: usize, other: usize) -> usize
+    requires { variable < length variables.now }
+    ensures { slice_get (map tree variables.now) variable
+        ≡ slice_get (map tree variables.now) result }
+{
+    if other >= variables.len() {
+        return variable;
+    }
+    if is_same_type(&variables[variable], &variables[other]) {
+        return other;
+    }
+    variable
+}
+
+// The number of a variable of the same type: of the first one whose type has the same digest, or
+// else its own.
 fn kind_of(
     firsts: &mut IndexMap<u64, usize>,
     variables: &[Ty],
@@ -112,12 +139,7 @@ fn kind_of(
 {
     let digest = with_type(0, &variables[variable]);
     match firsts.get(&digest).copied() {
-        Some(first) => {
-            if first < variables.len() && is_same_type(&variables[variable], &variables[first]) {
-                return Ok(first);
-            }
-            Ok(variable)
-        }
+        Some(first) => Ok(same_or_own(variables, variable, first)),
         None => {
             firsts.insert(digest, variable)?;
             Ok(variable)

@@ -2,7 +2,7 @@ use Rattle.std.proofs.Common.{◌<◌, ◌≤◌, ◌∙◌, Option, ap, length,
 use Rattle.nll_types.specs.Types.{TypeTree}
 use Rattle.nll_types.specs.Operands.{operand_of, operand_type}
 use Rattle.nll_types.specs.Views.{tree}
-use Rattle.nll_body_problem.proofs.AlikeLemmas.{more_like, all_like}
+use Rattle.nll_body_problem.proofs.KindLemmas.{more_like, all_like}
 use Rattle.nll_body_problem.proofs.alike.are_like_arguments.Goals as goal
 
 pub loop-place-init : goal.loop-place-init
@@ -17,8 +17,8 @@ loop-place-preserved c =
       lengths = c.loop-place.invariant.lengths;
       same = λ structs variables known. more_like {B = Option TypeTree × TypeTree} (λ a. (operand_type structs variables (operand_of a.0), tree a.1)) c.args.one.now c.args.other.now c.loop-place.place one other
           within there c.index-one-place.is c.index-other-place.is
-          (ap (λ (o : Option TypeTree). (o, tree one.1)) (c.is_like_argument.ensures.operand c.if-is_like_argument.true structs variables known)
-          ∙ ap (λ (t : TypeTree). (operand_type structs variables (operand_of other.0), t)) (c.is_like_argument.ensures.ty c.if-is_like_argument.true))
+          (ap (λ (o : Option TypeTree). (o, tree one.1)) (c.is_like_argument.ensures.operand c.if-not-is_like_argument.false structs variables known)
+          ∙ ap (λ (t : TypeTree). (operand_type structs variables (operand_of other.0), t)) (c.is_like_argument.ensures.ty c.if-not-is_like_argument.false))
           (c.loop-place.invariant.same structs variables known);
     }
 
