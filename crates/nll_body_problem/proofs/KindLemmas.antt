@@ -71,5 +71,5 @@ more_kinds variables kinds k known same v j at = ⊎_elim
     (λ h. ap (slice_get variables) h.0 ∙ (same ∙ ap (slice_get variables) h.1))
     (pushed kinds k j v at)
 
-pub one_kind : (kinds : List ℕ) (v w j k : ℕ) → slice_get kinds v ≡ Some j → slice_get kinds w ≡ Some k → j ≡ k → (variables : List TypeTree) → AreKinds variables kinds → slice_get variables v ≡ slice_get variables w
-one_kind kinds v w j k at_v at_w same variables known = known v j at_v ∙ (ap (slice_get variables) same ∙ sym (known w k at_w))
+pub one_kind : (kinds : List ℕ) (v w k : ℕ) → slice_get kinds v ≡ Some k → slice_get kinds w ≡ Some k → (variables : List TypeTree) → AreKinds variables kinds → slice_get variables v ≡ slice_get variables w
+one_kind kinds v w k at_v at_w variables known = known v k at_v ∙ sym (known w k at_w)

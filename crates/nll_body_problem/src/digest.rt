@@ -1,5 +1,6 @@
 //! Digests by which statements are found that may ask the same. No clause rests on them.
 
+use crate::kinds::kind_at;
 use nll_body::Stmt;
 use nll_problem::RegionId;
 use nll_statements::{Call, Make, Statement};
@@ -58,17 +59,12 @@ fn with_projection(digest: u64, projection: Projection) -> u64 {
     }
 }
 
-// The kind of a variable; where it has none, a number that no kind is.
-fn kind_at(kinds: &[usize], variable: u32) -> u64 {
-    match kinds.get(variable as usize).copied() {
-        Some(kind) => kind as u64,
-        None => u64::MAX,
-    }
-}
-
 // A digest of one place more.
 fn with_place(kinds: &[usize], digest: u64, place: &Place) -> u64 {
-    let mut sum = mixed(digest, kind_at(kinds, place.variable()));
+    let mut sum = match kind_at(kinds, place.variable()) {
+        Some(kind) => mixed(digest, kind as u64),
+        None => digest,
+    };
     for projection in place.projections() {
         sum = with_projection(sum, *projection);
     }

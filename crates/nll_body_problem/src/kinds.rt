@@ -1,6 +1,6 @@
 //! The kinds of variables: those of one kind have one type.
 
-ghost use Rattle.std.specs.Prelude.{◌≡◌, ◌<◌, IfOk, IsTrue, Some, length, map, slice_get};
+ghost use Rattle.std.specs.Prelude.{◌≡◌, ◌<◌, IfOk, IfSome, IsTrue, Some, length, map, slice_get};
 ghost use Rattle.nll_types.specs.Views.{tree, trees};
 ghost use Rattle.nll_body_problem.specs.Known.{AreKinds, HaveOneType};
 
@@ -163,16 +163,37 @@ pub(crate) fn kinds_of(alloc: Global, variables: &[Ty]) -> Result<Vec<usize>, Me
     Ok(kinds)
 }
 
-/// Whether two variables are of one kind.
+/// The kind of a variable, where it has one.
+pub(crate) fn kind_at(kinds: &[usize], variable: u32) -> Option<usize>
+    ensures { IfSome result (λ k. slice_get kinds.now variable ≡ Some k) }
+{
+    let place = variable as usize;
+    if place >= kinds.len() {
+        return None;
+    }
+    Some(kinds[place])
+}
+
+// Whether a variable is of this kind.
+fn is_of_kind(kinds: &[usize], variable: u32, kind: usize) -> bool
+    ensures { IsTrue result → slice_get kinds.now variable ≡ Some kind }
+{
+    let place = variable as usize;
+    if place >= kinds.len() {
+        return false;
+    }
+    kinds[place] == kind
+}
+
+/// Whether two variables are one, or of one kind.
 pub(crate) fn is_one_kind(kinds: &[usize], one: u32, other: u32) -> bool
     ensures { IsTrue result → HaveOneType kinds.now one other }
 {
     if one == other {
         return true;
     }
-    let (one, other) = (one as usize, other as usize);
-    if one >= kinds.len() || other >= kinds.len() {
-        return false;
+    match kind_at(kinds, one) {
+        Some(kind) => is_of_kind(kinds, other, kind),
+        None => false,
     }
-    kinds[one] == kinds[other]
 }

@@ -4,7 +4,4 @@ use Rattle.nll_body_problem.specs.Known.{AreKinds}
 use Rattle.nll_body_problem.proofs.kinds.kinds_of.Given as goal
 
 abbrev pub invariant-loop-variable : goal.invariant-loop-variable
-invariant-loop-variable l = record {
-  count : length l.kinds.items ≡ l.variable;
-  kinds : AreKinds (map tree l.variables) l.kinds.items;
-}
+invariant-loop-variable l = AreKinds (map tree l.variables) l.kinds.items × (length l.kinds.items ≡ l.variable)
