@@ -80,7 +80,7 @@ fn with_operand(kinds: &[usize], digest: u64, operand: &Operand) -> u64 {
 }
 
 // A digest of a tuple or struct that is made.
-fn of_make(kinds: &[usize], make: &Make<Ty>) -> u64 {
+fn with_make(kinds: &[usize], make: &Make<Ty>) -> u64 {
     let mut sum = with_type(with_place(kinds, 3, &make.place), &make.ty);
     for operand in make.operands.as_slice() {
         sum = with_operand(kinds, sum, operand);
@@ -127,9 +127,17 @@ fn of_assign(
     }
 }
 
-/// A number that is the same for statements that are alike: of assignments of places, where no
-/// variable is marked, and of borrows, of tuples and structs that are made, and of calls. It serves
-/// to find them, and no clause rests on it.
+// A digest of a tuple or struct that is made, unless it asks nothing.
+fn of_make(kinds: &[usize], region_free: &[bool], make: &Make<Ty>) -> Option<u64> {
+    if is_marked(region_free, &make.place) {
+        return None;
+    }
+    Some(with_make(kinds, make))
+}
+
+/// A number that is the same for statements that are alike: of assignments of places and of tuples
+/// and structs that are made, where no variable is marked, of borrows and of calls. It serves to
+/// find them, and no clause rests on it.
 pub(crate) fn digest_of(kinds: &[usize], region_free: &[bool], statement: &Stmt) -> Option<u64> {
     match statement {
         Statement::Assign(place, operand) => of_assign(kinds, region_free, place, operand),
@@ -138,7 +146,7 @@ pub(crate) fn digest_of(kinds: &[usize], region_free: &[bool], statement: &Stmt)
             let sum = with_place(kinds, with_place(kinds, kind, place), source);
             Some(with_region(sum, *region))
         }
-        Statement::Make(make) => Some(of_make(kinds, make)),
+        Statement::Make(make) => of_make(kinds, region_free, make),
         Statement::Call(call) => Some(of_call(kinds, call)),
         _ => None,
     }
