@@ -11,6 +11,17 @@ use std::process::Abort;
 use std::sync::Wait;
 use std::thread::Threads;
 
+// A function that wants a reference for ever is copied in the place of one that wants it for a
+// while: `examples/keep.mir`, of version 2.
+const KEPT: &str = "nll-mir 2|# static KEPT: Mutex<&'static u8>;|\
+    # fn keep(x: &'static u8) { *KEPT.lock() = x }|#|# fn leak() {|#     let local = 5;|\
+    #     let f: fn(&'short u8) = keep;|#     f(&'loan local);|# }|region 'short|region 'loan|\
+    region 'p|region 'arg|let _0: int|# local, keep, f, and the reference that f is given|\
+    let _1: int|let _2: fn(&'static int) -> int|let _3: fn(&'short int) -> int|\
+    let _4: &'p int|blocks 2|block bb0|_3 = copy _2|_4 = &'loan _1|\
+    _0 = call f(copy _3: fn(&'arg int) -> int, copy _4: &'arg int): int -> bb1|block bb1|\
+    return|end|";
+
 // A reference in a variable is used later on one way only.
 const LATER_USE: &str = "nll-mir 1|region 'slot|region 'loan|let _0: int|let _1: int|let _2: int|\
     let _3: &'slot mut int|blocks 3|block bb0|_3 = &'loan mut _1|switch copy _2 bb1 bb2|\
@@ -110,6 +121,14 @@ fn answers_mir_texts_of_version_2(rt: HostRuntime) {
         TAKERS,
         "0>'static: bb0/0 bb0/1 bb0/2 end('static)|'1: bb0/0 bb0/1|'2: bb0/0 bb0/1|'3: bb0/1|\
             '4: bb0/1|>",
+        OK,
+    );
+    compare_body(
+        &rt,
+        KEPT,
+        "0>'static: bb0/0 bb0/1 bb0/2 bb1/0 end('static)|\
+            'short: bb0/1 bb0/2 bb1/0 end('static)|'loan: bb0/2 bb1/0 end('static)|\
+            'p: bb0/2 bb1/0 end('static)|'arg: bb1/0 end('static)|>",
         OK,
     );
 }
