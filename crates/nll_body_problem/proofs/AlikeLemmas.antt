@@ -50,7 +50,7 @@ module _ (kinds : List ℕ) (structs : List Struct) (variables : List TypeTree) 
 
   -- where two lists are one but for what f tells, what stands at a place of one has its like in the other
   like_at : {A B : Type 0} (f : A → B) (xs ys : List A) (k : ℕ) (x : A) → map f xs ≡ map f ys → slice_get xs k ≡ Some x → (y : A) × (slice_get ys k ≡ Some y) × (f y ≡ f x)
-  like_at f xs ys k x same at =
+  like_at {A = A} {B = B} f xs ys k x same at =
       found (slice_get ys k) refl (sym (slice_get-map f ys k) ∙ (ap (λ (zs : List B). slice_get zs k) (sym same) ∙ (slice_get-map f xs k ∙ ap (option_map f) at)))
     where
       found : (o : Option A) → slice_get ys k ≡ o → option_map f o ≡ Some (f x) → (y : A) × (slice_get ys k ≡ Some y) × (f y ≡ f x)
@@ -130,7 +130,7 @@ same_call kinds p q args others t u wheres wants b c d e h same pairs each =
 
 fused : {A B C : Type 0} (f : B → C) (g : A → B) (xs : List A) → map f (map g xs) ≡ map (λ a. f (g a)) xs
 fused f g [] = refl
-fused f g (x ∷ xs) = ap (λ (zs : List C). f (g x) ∷ zs) (fused f g xs)
+fused {C = C} f g (x ∷ xs) = ap (λ (zs : List C). f (g x) ∷ zs) (fused f g xs)
 
 pub made_alike : (kinds : List ℕ) (m n : Make Ty) → AreAlike kinds (path_of m.place) (path_of n.place) → tree m.ty ≡ tree n.ty → AreLikeOperands kinds m.operands.items n.operands.items
     → AskTheSame kinds (map_statement (λ r. r) tree (made_of m)) (map_statement (λ r. r) tree (made_of n))

@@ -47,7 +47,7 @@ same_at xs v w a b in_v in_w at_v at_w same =
 
 pub more_like : {A B : Type 0} (f : A → B) (xs ys : List A) (n : ℕ) (x y : A) → n < length xs → n < length ys → x ≡ get_or xs n x → y ≡ get_or ys n y → f x ≡ f y
     → map f (take n xs) ≡ map f (take n ys) → map f (take (n + 1) xs) ≡ map f (take (n + 1) ys)
-more_like f xs ys n x y in_xs in_ys at_x at_y same before =
+more_like {A = A} {B = B} f xs ys n x y in_xs in_ys at_x at_y same before =
     map_more f xs n x in_xs ∙ (ap (λ (z : A). map f (take n xs) ++ f z ∷ []) (sym at_x) ∙ (ap (λ (zs : List B). zs ++ f x ∷ []) before
     ∙ (ap (λ (b : B). map f (take n ys) ++ b ∷ []) same ∙ (ap (λ (z : A). map f (take n ys) ++ f z ∷ []) at_y ∙ sym (map_more f ys n y in_ys)))))
 
