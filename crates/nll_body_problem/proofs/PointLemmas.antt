@@ -98,13 +98,13 @@ known_here body p next pairs goes asked c = (
   λ h. ((asked (c.sup, c.sub)).1 (h.0, h.1, h.3), (goes c.at).1 h.2),
 )
 
--- what the same statement asks at another point is known here
-pub asked_alike : (body : BodyText) (p q : ℕ) (i j : Statement ℕ TypeTree) (pairs : List (ℕ × ℕ)) → StandsAt body p i → StandsAt body q j → j ≡ i
-    → AreAskedAt body q pairs → AreAskedAt body p pairs
+-- what a statement that asks the same asks at another point is known here
+pub asked_alike : (body : BodyText) (p q : ℕ) (i j : Statement ℕ TypeTree) (pairs : List (ℕ × ℕ)) → StandsAt body p i → StandsAt body q j
+    → ((x : ℕ × ℕ) → Asks body.structs body.variables j x ↔ Asks body.structs body.variables i x) → AreAskedAt body q pairs → AreAskedAt body p pairs
 asked_alike body p q i j pairs at_p at_q same asked x = (
   λ h. (let a = (asked x).0 h in
-      (i, at_p, subst (λ (k : Statement ℕ TypeTree). Asks body.structs body.variables k x) (some_same a.0 j (sym a.1 ∙ at_q) ∙ same) a.2)),
-  λ h. (asked x).1 (j, at_q, subst (λ (k : Statement ℕ TypeTree). Asks body.structs body.variables k x) (some_same h.0 i (sym h.1 ∙ at_p) ∙ sym same) h.2),
+      (i, at_p, (same x).0 (subst (λ (k : Statement ℕ TypeTree). Asks body.structs body.variables k x) (some_same a.0 j (sym a.1 ∙ at_q)) a.2))),
+  λ h. (asked x).1 (j, at_q, (same x).1 (subst (λ (k : Statement ℕ TypeTree). Asks body.structs body.variables k x) (some_same h.0 i (sym h.1 ∙ at_p)) h.2)),
 )
 
 -- nothing is known

@@ -6,8 +6,9 @@ ghost use Rattle.nll_rules.specs.RegionFree.{AreRegionFree};
 ghost use Rattle.nll_body_problem.specs.Adding.{AddsConstraints, AreRegions, IsRefused};
 ghost use Rattle.nll_body_problem.specs.Adding.{IsOfPair, IsOfPairs};
 ghost use Rattle.nll_body_problem.specs.BodyProblem.{IsAskedAt, IsConstraint};
-ghost use Rattle.nll_body_problem.specs.Known.{AreAskedAt, AreKnown};
+ghost use Rattle.nll_body_problem.specs.Known.{AreAskedAt, AreKinds, AreKnown};
 
+use crate::kinds::kinds_of;
 use crate::known::{Known, find, keep_once, nothing_known, remember};
 use nll_body::Body;
 use nll_problem::{BuildError, Constraint, ProblemBuilder, RegionId};
@@ -26,12 +27,14 @@ pub(crate) fn add_constraints(
     ensures err { IfErr result (IsRefused (IsConstraint body.now) builder.old) }
 {
     let free = region_free(alloc, body.structs(), body.variable_types())?;
+    let kinds = kinds_of(alloc, body.variable_types())?;
     let mut asked = Vec::new(alloc);
     let mut known = nothing_known(alloc);
     let told = add_points(
         alloc,
         body,
         free.as_slice(),
+        kinds.as_slice(),
         &mut known,
         &mut asked,
         builder,
@@ -46,11 +49,13 @@ fn add_points(
     alloc: Global,
     body: &Body,
     free: &[bool],
+    kinds: &[usize],
     known: &mut Known,
     asked: &mut Vec<(RegionId, RegionId)>,
     builder: &mut ProblemBuilder,
 ) -> Result<(), BuildError>
     requires free { AreRegionFree body.now.structs body.now.variables free.now }
+    requires kinds { AreKinds body.now.variables kinds.now }
     requires none { known.old.entries.items ≡ [] }
     requires points { builder.old.graph.points ≡ length body.now.points }
     requires regions { builder.old.regions ≡ length body.now.names }
@@ -58,7 +63,7 @@ fn add_points(
     ensures err { IfErr result (IsRefused (IsConstraint body.now) builder.old) }
 {
     for point in 0..body.points() {
-        add_next(alloc, body, free, point, known, asked, builder)?;
+        add_next(alloc, body, free, kinds, point, known, asked, builder)?;
     }
     Ok(())
 }
@@ -68,6 +73,7 @@ fn add_next(
     alloc: Global,
     body: &Body,
     free: &[bool],
+    kinds: &[usize],
     point: u32,
     known: &mut Known,
     asked: &mut Vec<(RegionId, RegionId)>,
@@ -75,6 +81,7 @@ fn add_next(
 ) -> Result<(), BuildError>
     requires sound { IsSound body.now }
     requires free { AreRegionFree body.now.structs body.now.variables free.now }
+    requires kinds { AreKinds body.now.variables kinds.now }
     requires point { point < length body.now.points }
     requires known { AreKnown body.now known.old.entries.items }
     requires points { builder.old.graph.points ≡ length body.now.points }
@@ -83,11 +90,20 @@ fn add_next(
     ensures known { OnOk result (AreKnown body.now known.new.entries.items) }
     ensures err { IfErr result (IsRefused (IsAskedAt body.now point) builder.old) }
 {
-    if let Some(pairs) = find(known, free, body, point) {
+    if let Some(pairs) = find(known, kinds, free, body, point) {
         return add_known(body, point, pairs, builder);
     }
     let many = add_point(alloc, body, free, point, asked, builder)?;
-    remember(alloc, known, free, body, point, many, asked.as_slice())?;
+    remember(
+        alloc,
+        known,
+        kinds,
+        free,
+        body,
+        point,
+        many,
+        asked.as_slice(),
+    )?;
     Ok(())
 }
 

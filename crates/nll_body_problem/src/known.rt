@@ -2,10 +2,11 @@
 
 ghost use Rattle.std.specs.Prelude.{◌≡◌, ◌<◌, ◌++◌, ◌∷◌, [], MatchOption, OnOk, length};
 ghost use Rattle.nll_problem.specs.Problem.{SameSet};
-ghost use Rattle.nll_body_problem.specs.Known.{AreAskedAt, AreKnown};
+ghost use Rattle.nll_body_problem.specs.Known.{AreAskedAt, AreKinds, AreKnown};
 ghost use Rattle.nll_body_problem.specs.declared.known.Entry.{Entry as entry};
 
-use crate::alike::{digest_of, goes_by_part, is_same};
+use crate::alike::{goes_by_field, is_alike};
+use crate::digest::digest_of;
 use indexmap::IndexMap;
 use nll_body::{Body, Stmt};
 use nll_problem::RegionId;
@@ -65,8 +66,8 @@ fn sort_once(pairs: &mut Vec<(RegionId, RegionId)>)
 }
 
 // Where the entry of a statement may stand.
-fn hint(known: &Known, region_free: &[bool], statement: &Stmt) -> usize {
-    match digest_of(region_free, statement) {
+fn hint(known: &Known, kinds: &[usize], region_free: &[bool], statement: &Stmt) -> usize {
+    match digest_of(kinds, region_free, statement) {
         Some(digest) => match known.places.get(&digest).copied() {
             Some(place) => place,
             None => known.entries.len(),
@@ -75,15 +76,17 @@ fn hint(known: &Known, region_free: &[bool], statement: &Stmt) -> usize {
     }
 }
 
-/// The pairs that what stands at a point asks, where they are known of a point with the same
-/// statement.
+/// The pairs that what stands at a point asks, where they are known of a point with a statement
+/// like it.
 pub(crate) fn find<'a>(
     known: &'a Known,
+    kinds: &[usize],
     region_free: &[bool],
     body: &Body,
     point: u32,
 ) -> Option<&'a [(RegionId, RegionId)]>
     requires known { AreKnown body.now known.now.entries.items }
+    requires kinds { AreKinds body.now.variables kinds.now }
     requires point { point < length body.now.points }
     ensures { MatchOption result Unit (λ pairs. AreAskedAt body.now point pairs.now) }
 {
@@ -91,12 +94,12 @@ pub(crate) fn find<'a>(
         return None;
     }
     let statement = body.line_at(point);
-    let place = hint(known, region_free, statement);
+    let place = hint(known, kinds, region_free, statement);
     if place >= known.entries.len() {
         return None;
     }
     let entry = &known.entries[place];
-    if is_same(body.line_at(entry.point), statement) {
+    if is_alike(kinds, body.line_at(entry.point), statement) {
         Some(entry.pairs.as_slice())
     } else {
         None
@@ -126,6 +129,7 @@ fn push(
 pub(crate) fn remember(
     alloc: Global,
     known: &mut Known,
+    kinds: &[usize],
     region_free: &[bool],
     body: &Body,
     point: u32,
@@ -138,10 +142,10 @@ pub(crate) fn remember(
     ensures { OnOk result (AreKnown body.now known.new.entries.items) }
 {
     let statement = body.line_at(point);
-    if !many && !goes_by_part(statement) {
+    if !many && !goes_by_field(statement) {
         return Ok(());
     }
-    match digest_of(region_free, statement) {
+    match digest_of(kinds, region_free, statement) {
         Some(digest) => push(alloc, known, digest, point, asked),
         None => Ok(()),
     }

@@ -83,6 +83,31 @@ const FURTHER: &[(&str, &str)] = &[
         "3 regions|base 1 0|base 1 1|base 1 2|base 2 0|base 2 1|base 2 2|\
         2: 1 @ 1|2: 1 @ 3|1: 2 @ 2|",
     ),
+    // Fields are copied of variables of one type, and then of one of another type.
+    (
+        "nll-mir 1|region 'a|region 'b|region 'c|struct S<'x +> (&'x int)|let _0: int|\
+        let _1: S<'a>|let _2: S<'b>|let _3: S<'b>|let _4: S<'c>|blocks 1|block bb0|\
+        _1.0 = copy _2.0|_1.0 = copy _3.0|_1.0 = copy _4.0|return|end|",
+        "4 regions|base 1 0|base 1 1|base 1 2|base 2 0|base 2 1|base 3 0|base 3 1|base 3 2|\
+        2: 1 @ 1|2: 1 @ 2|3: 1 @ 3|",
+    ),
+    // A struct is made of variables of one type, and of one of another type.
+    (
+        "nll-mir 1|region 'a|region 'b|region 'c|region 'd|struct S<'x +> (&'x int)|let _0: int|\
+        let _1: S<'a>|let _2: &'b int|let _3: &'b int|let _4: &'d int|blocks 1|block bb0|\
+        _1 = make S<'c>(copy _2)|_1 = make S<'c>(copy _3)|_1 = make S<'c>(copy _4)|return|end|",
+        "5 regions|base 2 0|base 2 1|base 4 0|base 4 1|base 4 2|\
+        3: 1 @ 1|3: 1 @ 2|3: 1 @ 3|2: 3 @ 1|2: 3 @ 2|4: 3 @ 3|",
+    ),
+    // Calls differ in where they return, and the last one in a pair of its own.
+    (
+        "nll-mir 1|region 'a|region 'b|region 'c|struct S<'x +> (&'x int)|let _0: int|\
+        let _1: S<'a>|blocks 4|block bb0|_1.0 = call f(): &'b int where 'c: 'b -> bb1|block bb1|\
+        _1.0 = call f(): &'b int where 'c: 'b -> bb2|block bb2|\
+        _1.0 = call f(): &'b int where 'b: 'c -> bb3|block bb3|return|end|",
+        "4 regions|base 1 0|base 1 1|base 1 2|\
+        2: 1 @ 1|2: 1 @ 2|2: 1 @ 3|3: 2 @ 1|3: 2 @ 2|2: 3 @ 3|",
+    ),
     // A tuple of nine references of one region is copied twice.
     (
         "nll-mir 1|region 'a|region 'b|let _0: int|let _1: (&'a int, &'a int, &'a int, &'a int, \

@@ -1,5 +1,6 @@
-//! A body that copies fields with many references of one region again and again: were what the copy
-//! asks worked out at each line, the test would take more time than it has.
+//! A body that copies fields with many references of one region again and again, and makes structs
+//! of them, between variables of two types: were what each line asks worked out anew, the test
+//! would take more time than it has.
 
 use super::telling::constraints_told;
 use std::alloc::{AllocError, Global};
@@ -7,24 +8,54 @@ use std::alloc::{AllocError, Global};
 // How many references the field has beside its first.
 const FURTHER: u32 = 2_046;
 
-// How many copies there are.
+// How many variables there are of each type.
+const VARIABLES: u32 = 500;
+
+// How many copies there are, and as many structs that are made.
 const COPIES: u32 = 200_000;
 
-// Writes the lines in front of the block: a struct with a field of references, and two variables.
-fn write_head(out: &mut String) -> Result<(), AllocError> {
-    out.push_str("nll-mir 1\nregion 'a\nregion 'b\nstruct S<'x +> ((&'x int")?;
+// Writes the declaration of a struct with a field of references.
+fn write_struct(out: &mut String) -> Result<(), AllocError> {
+    out.push_str("struct S<'x +> ((&'x int")?;
     for _ in 0..FURTHER {
         out.push_str(", &'x int")?;
     }
-    out.push_str("))\nlet _0: int\nlet _1: S<'a>\nlet _2: S<'b>\n")
+    out.push_str("))\n")
 }
 
-// Writes a text that copies the field so often.
+// Writes the declarations of variables from a number on.
+fn write_variables(out: &mut String, first: u32, ty: &str) -> Result<(), AllocError> {
+    for number in first..first + VARIABLES {
+        write!(out, "let _{number}: {ty}\n")?;
+    }
+    Ok(())
+}
+
+// Writes the lines in front of the block.
+fn write_head(out: &mut String) -> Result<(), AllocError> {
+    out.push_str("nll-mir 1\nregion 'a\nregion 'b\nregion 'c\n")?;
+    write_struct(out)?;
+    out.push_str("let _0: int\n")?;
+    write_variables(out, 1, "S<'a>")?;
+    write_variables(out, 1 + VARIABLES, "S<'b>")
+}
+
+// Writes a copy of a field and a struct that is made of it, for two variables that come together
+// in no other lines.
+fn write_lines(out: &mut String, number: u32) -> Result<(), AllocError> {
+    let to = 1 + number % VARIABLES;
+    let from = 1 + VARIABLES + number / VARIABLES;
+    write!(out, "_{to}.0 = copy _{from}.0\n")?;
+    write!(out, "_{to} = make S<'c>(copy _{from}.0)\n")?;
+    Ok(())
+}
+
+// Writes a text of so many such lines.
 fn write_text(out: &mut String) -> Result<(), AllocError> {
     write_head(out)?;
     out.push_str("blocks 1\nblock bb0\n")?;
-    for _ in 0..COPIES {
-        out.push_str("_1.0 = copy _2.0\n")?;
+    for number in 0..COPIES {
+        write_lines(out, number)?;
     }
     out.push_str("return\nend\n")
 }
@@ -38,10 +69,11 @@ fn told(alloc: Global) -> Result<String, AllocError> {
     written.and(told)
 }
 
+// A copy asks one pair, and a struct that is made two: that of the field, and its own.
 #[test]
-fn repeated_copies_ask_one_pair_each(rt: HostRuntime) {
+fn statements_that_are_alike_ask_the_same(rt: HostRuntime) {
     match told(rt.alloc()) {
-        Ok(told) => assert!(rt; told.as_str() == "200000 constraints", "{told}"),
+        Ok(told) => assert!(rt; told.as_str() == "600000 constraints", "{told}"),
         Err(_) => assert!(rt; false, "memory"),
     }
 }
