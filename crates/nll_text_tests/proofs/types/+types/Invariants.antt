@@ -14,3 +14,6 @@ decreases-put_named l = l.depth
 
 abbrev pub decreases-put_type : goal.decreases-put_type
 decreases-put_type l = l.depth
+
+abbrev pub decreases-put_function : goal.decreases-put_function
+decreases-put_function l = l.depth
