@@ -58,7 +58,7 @@ const TOKENS: &[(&str, &str)] = &[
 const MOST: &[Row] = &[
     ("next 0 1", Line(OfLine::Tokens(3)), "next|0|1|"),
     ("next 0 1", Line(OfLine::Tokens(2)), "NoTokens"),
-    ("next 0 -", Line(OfLine::Tokens(2)), "NoTokens"),
+    ("next 0 ;", Line(OfLine::Tokens(2)), "NoTokens"),
     ("  ", Line(OfLine::Tokens(0)), ""),
     ("end", Line(OfLine::Tokens(0)), "NoTokens"),
 ];
@@ -106,7 +106,7 @@ const SCANNED: &[Row] = &[
     ),
     (
         "no text, which is told first",
-        Scanned(b"- caf\xe9"),
+        Scanned(b"; caf\xe9"),
         "Err(NotUtf8), 0 tokens",
     ),
     ("tokens", Scanned(b"next 1 2"), "Ok(Tokens), 3 tokens"),
