@@ -25,7 +25,7 @@ fn write_struct(out: &mut String) -> Result<(), AllocError> {
 
 // Writes the declarations of variables from a number on.
 fn write_variables(out: &mut String, first: u32, ty: &str) -> Result<(), AllocError> {
-    for number in first..first + VARIABLES {
+    for number in first..first.saturating_add(VARIABLES) {
         write!(out, "let _{number}: {ty}\n")?;
     }
     Ok(())
