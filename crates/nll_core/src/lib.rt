@@ -37,7 +37,7 @@ pub use bases::base_values;
 pub use fault_check::faults;
 pub use frontier::Frontier;
 pub use nll_problem::{
-    BuildError, Constraint, Graph, Kind, MAX_CONSTRAINTS, MAX_EDGES, MAX_POINTS, MAX_REGIONS,
+    At, BuildError, Constraint, Graph, Kind, MAX_CONSTRAINTS, MAX_EDGES, MAX_POINTS, MAX_REGIONS,
     MAX_UNIVERSALS, Problem, ProblemBuilder, RegionId,
 };
 pub use nll_sets::{BitSet, Element, ElementSet, Elements, Memory, Run, RunSet};

@@ -6,7 +6,7 @@ ghost use Rattle.nll_problem.specs.Graph.{element_count};
 ghost use Rattle.nll_problem.specs.declared.constraint.Constraint as spec;
 ghost use Rattle.nll_core.specs.Values.{set_of, IsHeld, IsShaped};
 ghost use Rattle.nll_core.specs.Growing.{Gains, Tells, IsMet};
-ghost use Rattle.nll_core.specs.Walking.{PointsAscend, IsLedFrom};
+ghost use Rattle.nll_core.specs.Walking.{PointsAscend, IsAskedOf};
 ghost use Rattle.nll_core.specs.Worklist.{AreOfPair, Visits};
 
 use crate::inclusion::is_seen_within;
@@ -69,10 +69,10 @@ fn fill(
     requires pair { AreOfPair problem.now sub sup pair.now }
     requires ascending { PointsAscend pair.now }
     ensures gains { OnOk result (Gains
-        (λ r e. (r ≡ sup) × IsLedFrom problem.now.graph (set_of values.old sub) pair.now e)
+        (λ r e. (r ≡ sup) × IsAskedOf problem.now.graph (set_of values.old sub) pair.now e)
         values.old values.new) }
     ensures asks { OnOk result ((e : ℕ)
-        → IsLedFrom problem.now.graph (set_of values.old sub) pair.now e
+        → IsAskedOf problem.now.graph (set_of values.old sub) pair.now e
         → IsHeld values.new sup e) }
     ensures tells { IfOk result (λ new. Tells new values.old values.new) }
     ensures walk { OnOk result (length walk.new.reached ≡ element_count lines.now) }

@@ -1,4 +1,5 @@
 pub mod FactLemmas
+pub mod EqualLemmas
 pub mod SameLemmas
 pub mod BaseLemmas
 pub mod RowLemmas
@@ -7,6 +8,7 @@ pub mod AdjacencyLemmas
 pub mod TurningLemmas
 pub mod ProblemLemmas
 pub mod WalkLemmas
+pub mod AskLemmas
 pub mod OrderLemmas
 pub mod IndexLemmas
 pub mod BaseRunLemmas
