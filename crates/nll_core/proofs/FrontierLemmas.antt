@@ -16,12 +16,12 @@ use Rattle.nll_problem.proofs.WalkLemmas.{reaches_first, reaches_starts, reaches
 use Rattle.nll_core.specs.Search.{IsIn}
 use Rattle.nll_core.specs.Lines.{IsJump}
 use Rattle.nll_core.specs.Walking.{Grows, IsLedTo, IsSpread, AreOfPoints, FillsFrom}
-use Rattle.nll_core.specs.Frontiers.{Frontier, ReachesFrom, WalksOn, IsAskedFrom, IsFrontierIn, IsBeside, GoesOn, ResumesPoints, ListsNew, points_in}
+use Rattle.nll_core.specs.Frontiers.{Frontier, ReachesFrom, WalksOn, IsAskedFrom, IsFrontierIn, IsBeside, GoesOn, ResumesPoints, ListsNew, places_of}
 use Rattle.nll_core.specs.declared.landing.Landing.{Landing}
 use Rattle.nll_core.proofs.SearchLemmas.{none_in_empty, flag_within}
 use Rattle.nll_core.proofs.WalkingLemmas.{grows_none, grows_append, grows_weaker, reaches_append}
 use Rattle.nll_core.proofs.ListingLemmas.{lists_grown, lists_append}
-use Rattle.nll_core.proofs.StartLemmas.{in_points}
+use Rattle.nll_core.proofs.PlaceLemmas.{all_in, point_in, no_all}
 
 -- ---- runs and jumps
 
@@ -323,26 +323,45 @@ module _ (g : Graph) (set : List Bool) (list : List Landing) (old : List Bool) (
 
 -- ---- what constraints ask for
 
-module _ (g : Graph) (set : List Bool) (run : Run) (starts : List At) where
+module _ (g : Graph) (set : List Bool) (points : List ℕ) where
   -- where none holds at all points, what is asked for from places is what walks reach from their points
-  pub asked_walks : (Contains starts All → ⊥) → (x : ℕ) → IsAskedFrom g (IsIn set) starts x → ReachesFrom g (IsIn set) (points_in starts) x
-  asked_walks none x (All, there, here) = absurd (none there)
-  asked_walks none x (Point p, there, way) = (p, (in_points starts p).1 there, way)
+  pub asked_walks : (x : ℕ) → IsAskedFrom g (IsIn set) (places_of false points) x → ReachesFrom g (IsIn set) points x
+  asked_walks x (All, there, here) = absurd (no_all points there)
+  asked_walks x (Point p, there, way) = (p, (point_in false points p).0 there, way)
 
-  pub walks_asked : (x : ℕ) → ReachesFrom g (IsIn set) (points_in starts) x → IsAskedFrom g (IsIn set) starts x
-  walks_asked x (p, there, way) = (Point p, (in_points starts p).0 there, way)
+  pub walks_asked : (x : ℕ) → ReachesFrom g (IsIn set) points x → IsAskedFrom g (IsIn set) (places_of false points) x
+  walks_asked x (p, there, way) = (Point p, (point_in false points p).1 there, way)
 
-  -- walks went on from the points
-  pub goes_by_walks : (old new : List Bool) → (Contains starts All → ⊥) → WalksOn g set run (points_in starts) old new → GoesOn g set run starts old new
-  goes_by_walks old new none w = record {
-    kept = w.kept;
-    sound = λ x h. walks_asked x (w.sound x h);
-    whole = λ every. absurd (none every);
-    alone = λ every. absurd (none every);
-    begun = λ p there own. w.begun p ((in_points starts p).1 there) own;
-    closed = λ x y h step inside. ⊎_elim inl (λ o. inr (inl o.0, o.1)) (w.closed x y h step inside);
-  }
+-- walks went on from the points
+pub goes_by_walks : (g : Graph) (set : List Bool) (run : Run) (points : List ℕ) (old new : List Bool) → WalksOn g set run points old new → GoesOn g set run (places_of false points) old new
+goes_by_walks g set run points old new w = record {
+  kept = w.kept;
+  sound = λ x h. walks_asked g set points x (w.sound x h);
+  whole = λ every. absurd (no_all points every);
+  alone = λ every. absurd (no_all points every);
+  begun = λ p there own. w.begun p ((point_in false points p).0 there) own;
+  closed = λ x y h step inside. ⊎_elim inl (λ o. inr (inl o.0, o.1)) (w.closed x y h step inside);
+}
 
+-- where no constraint is, nothing is asked for
+pub goes_nowhere : (g : Graph) (set : List Bool) (run : Run) (starts : List At) (old : List Bool) → starts ≡ [] → ((x : ℕ) → IsIn old x → IsAskedFrom g (IsIn set) starts x) → GoesOn g set run starts old old
+goes_nowhere g set run starts old none sound = record {
+  kept = λ x h. h;
+  sound = sound;
+  whole = λ every. absurd (nothing All every);
+  alone = λ every. absurd (nothing All every);
+  begun = λ p there. absurd (nothing (Point p) there);
+  closed = λ x y h step inside. absurd (let w = sound x h in nothing w.0 w.1);
+}
+  where
+    nothing : (place : At) → Contains starts place → ⊥
+    nothing place there = absurd (let h = subst (λ (xs : List At). Contains xs place) none there in omega (arith, h.1))
+
+-- points among places of a graph are points of the graph
+pub points_among : (n : ℕ) (points : List ℕ) → ((place : At) → Contains (places_of false points) place → IsAmong n place) → (p : ℕ) → Contains points p → p < n
+points_among n points among p h = among (Point p) ((point_in false points p).1 h)
+
+module _ (g : Graph) (set : List Bool) (run : Run) (starts : List At) where
   -- the run came as it is
   pub goes_whole : (old new : List Bool) → Contains starts All → ((x : ℕ) → IsWithin run x → IsIn set x) → ((x : ℕ) → IsIn old x → IsAskedFrom g (IsIn set) starts x) → Fills old new run → GoesOn g set run starts old new
   goes_whole old new every inside sound f = record {
@@ -431,7 +450,3 @@ frontier_none g n starts x = (
   λ h. absurd (false≢true h),
   λ w. absurd (none_in_empty n x (asked_inside g (IsIn (replicate n false)) w.0 x w.2)),
 )
-
--- the points of places of a graph are points of the graph
-pub among_points_in : (n : ℕ) (starts : List At) → ((place : At) → Contains starts place → IsAmong n place) → (p : ℕ) → Contains (points_in starts) p → p < n
-among_points_in n starts among p h = among (Point p) ((in_points starts p).0 h)

@@ -5,12 +5,10 @@
 -- all points, is project's choice. The code looks at the points of one new run at a time; this
 -- speaks of whole walks.
 use Rattle.std.specs.Prelude.{◌≡◌, ◌⊎◌, ◌↔◌, ℕ, ◌<◌, ◌≤◌, Bool, true, false, List, [], length}
-use Rattle.std.specs.Prelude.{Contains, AllPairs, Option, Some, None}
-use Rattle.std.specs.List.{filter_map}
+use Rattle.std.specs.Prelude.{Contains, AllPairs, Option, Some, None, ◌∷◌, map}
 use Rattle.nll_sets.specs.ElementSet.{flag}
 use Rattle.nll_sets.specs.Runs.{first_of, last_of, IsInRunsFrom, AreApartFrom, IsWithin}
 use Rattle.nll_sets.specs.declared.run.Run.{Run}
-use Rattle.nll_problem.specs.At.{at_rank}
 use Rattle.nll_problem.specs.Graph.{Graph, IsNext, IsReturn, IsStep}
 use Rattle.nll_problem.specs.Solution.{IsAskedIn}
 use Rattle.nll_problem.specs.Walks.{Reaches}
@@ -63,20 +61,21 @@ pub record GoesOn (g : Graph) (set : List Bool) (run : Run) (starts : List At) (
   pub closed : (x y : ℕ) → IsIn new x → IsStep g x y → IsIn set y
       → IsIn new y ⊎ ((IsIn old x ⊎ Contains starts All) × (IsWithin run y → ⊥))
 
--- ---- how walks go on: private contracts alone cite what follows
+-- ---- how it goes on: private contracts alone cite what follows
 
--- where constraints hold rises along the list
-abbrev pub IsAscending : List At → Type 0
-IsAscending starts = AllPairs (λ x y. at_rank x < at_rank y) starts
+-- the numbers of the list rise
+abbrev pub IsAscending : List ℕ → Type 0
+IsAscending xs = AllPairs (λ x y. x < y) xs
 
--- the point that this is, where it isn't all points
-abbrev pub point_in : At → Option ℕ
-point_in All = None
-point_in (Point p) = Some p
+-- the points of a list that may be missing
+abbrev pub listed : Option (List ℕ) → List ℕ
+listed None = []
+listed (Some points) = points
 
--- the points among these
-abbrev pub points_in : List At → List ℕ
-points_in starts = filter_map point_in starts
+-- all points, where they are among the places, and then these points
+abbrev pub places_of : Bool → List ℕ → List At
+places_of true points = All ∷ map (λ p. Point p) points
+places_of false points = map (λ p. Point p) points
 
 -- some walk of the graph inside the set leads to x from a point of the list
 abbrev pub ReachesFrom : Graph → (ℕ → Type 0) → List ℕ → ℕ → Type 0

@@ -10,8 +10,8 @@ ghost use Rattle.nll_core.specs.Frontiers.{first_frontier};
 ghost use Rattle.nll_problem.specs.At.{IsAmong, at_rank};
 ghost use Rattle.nll_problem.specs.declared.at.At.{At as places};
 
+use crate::places::Places;
 use crate::resuming::resume;
-use crate::starts::Starts;
 use crate::steps::Steps;
 use nll_problem::At;
 use nll_sets::{Memory, Run, RunSet};
@@ -28,7 +28,7 @@ use std::marker::Model;
 /// runs, whichever are fewer (not proved).
 #[derive(Drop)]
 pub struct Frontier {
-    starts: Starts,
+    starts: Places,
     reached: RunSet,
     refusal: Option<Memory>,
 }
@@ -52,7 +52,7 @@ impl Frontier {
         ensures { result ≡ first_frontier (at ∷ []) }
     {
         Frontier {
-            starts: Starts::of(alloc, at),
+            starts: Places::of(alloc, at),
             reached: RunSet::new(alloc),
             refusal: None,
         }
@@ -62,13 +62,13 @@ impl Frontier {
     ///
     /// # Errors
     /// - `Memory`: the frontier is as before.
-    pub fn add(&mut self, at: At) -> Result<(), Memory>
+    pub fn add(&mut self, alloc: Global, at: At) -> Result<(), Memory>
         requires { (x : places) → Contains self.old.starts x → at_rank x < at_rank at }
         ensures ok { OnOk result
             (self.new ≡ record self.old { starts = self.old.starts ++ at ∷ [] }) }
         ensures err { OnErr result (self.new ≡ self.old) }
     {
-        self.starts.push(at)
+        self.starts.push(alloc, at)
     }
 
     /// Reaches what can be reached once a run of elements is in the set: walks go on through those

@@ -2,18 +2,21 @@
 
 ghost use Rattle.std.specs.Prelude.{◌≡◌, ◌↔◌, ℕ, ◌+◌, ◌≤◌, ◌<◌, true, false, [], Contains, length};
 ghost use Rattle.std.specs.Prelude.{OnOk, IfOk, IfSome, IfNone};
+ghost use Rattle.nll_problem.specs.At.{IsAmong};
 ghost use Rattle.nll_problem.specs.Graph.{element_count, IsNext, IsReturn};
 ghost use Rattle.nll_problem.specs.Walks.{Reaches};
+ghost use Rattle.nll_problem.specs.declared.at.At.{At as places};
 ghost use Rattle.nll_sets.specs.Runs.{Fills, IsWithin};
 ghost use Rattle.nll_core.specs.Lines.{IsJump};
 ghost use Rattle.nll_core.specs.Search.{IsIn};
 ghost use Rattle.nll_core.specs.Walking.{AreIn, Grows, IsLedTo};
 ghost use Rattle.nll_core.specs.Frontiers.{GoesOn, IsAskedFrom, ListsNew, ReachesFrom};
-ghost use Rattle.nll_core.specs.Frontiers.{ResumesPoints, WalksOn, points_in};
+ghost use Rattle.nll_core.specs.Frontiers.{ResumesPoints, WalksOn};
 
 use crate::filling::fill_from;
 use crate::landings::Landings;
 use crate::lines::Lines;
+use crate::places::Places;
 use crate::starts::Starts;
 use crate::stretches::{enter, spread};
 use nll_sets::{Element, ElementSet, Memory, Run, RunSet};
@@ -25,7 +28,7 @@ pub fn resume(
     lines: &Lines,
     landings: &Landings,
     seen: &RunSet,
-    starts: &Starts,
+    starts: &Places,
     run: Run,
     reached: &mut RunSet,
     found: &mut Vec<Run>,
@@ -33,7 +36,7 @@ pub fn resume(
     requires landings { landings.now ≡ lines.now }
     requires seen_width { length seen.now ≡ element_count lines.now }
     requires width { length reached.old ≡ element_count lines.now }
-    requires starts { (p : ℕ) → Contains (points_in starts.now) p → p < lines.now.points }
+    requires starts { (p : places) → Contains starts.now p → IsAmong lines.now.points p }
     requires run { AreIn seen.now run }
     requires proper { run.first ≤ run.last }
     requires before { (x : ℕ) → IsIn reached.old x
@@ -47,7 +50,10 @@ pub fn resume(
     if starts.has_all() {
         return take(run, reached, found);
     }
-    resume_walks(lines, landings, seen, starts, run, reached, found)
+    match starts.points() {
+        Some(points) => resume_walks(lines, landings, seen, points, run, reached, found),
+        None => Ok(()),
+    }
 }
 
 // Puts a run into a set, and the runs of what of it is new into an empty list.
@@ -77,15 +83,15 @@ fn resume_walks(
     requires landings { landings.now ≡ lines.now }
     requires seen_width { length seen.now ≡ element_count lines.now }
     requires width { length reached.old ≡ element_count lines.now }
-    requires starts { (p : ℕ) → Contains (points_in starts.now) p → p < lines.now.points }
+    requires starts { (p : ℕ) → Contains starts.now p → p < lines.now.points }
     requires run { AreIn seen.now run }
     requires proper { run.first ≤ run.last }
     requires before { (x : ℕ) → IsIn reached.old x
-        → ReachesFrom lines.now (IsIn seen.now) (points_in starts.now) x }
+        → ReachesFrom lines.now (IsIn seen.now) starts.now x }
     requires none { found.old.items ≡ [] }
     ensures width { OnOk result (length reached.new ≡ length reached.old) }
     ensures after { OnOk result
-        (WalksOn lines.now seen.now run (points_in starts.now) reached.old reached.new) }
+        (WalksOn lines.now seen.now run starts.now reached.old reached.new) }
     ensures found { OnOk result (ListsNew reached.old reached.new [] found.new.items) }
 {
     let points = lines.points();
@@ -109,13 +115,13 @@ fn resume_points(
 ) -> Result<bool, Memory>
     requires landings { landings.now ≡ lines.now }
     requires width { lines.now.points ≤ length reached.old }
-    requires starts { (p : ℕ) → Contains (points_in starts.now) p → p < lines.now.points }
+    requires starts { (p : ℕ) → Contains starts.now p → p < lines.now.points }
     requires run { AreIn seen.now run }
     requires proper { run.first ≤ run.last }
     requires before { (x : ℕ) → IsIn reached.old x
-        → ReachesFrom lines.now (IsIn seen.now) (points_in starts.now) x }
+        → ReachesFrom lines.now (IsIn seen.now) starts.now x }
     requires none { found.old.items ≡ [] }
-    ensures { IfOk result (ResumesPoints lines.now seen.now run (points_in starts.now)
+    ensures { IfOk result (ResumesPoints lines.now seen.now run starts.now
         reached.old reached.new found.old.items found.new.items) }
 {
     let points = lines.points();
@@ -216,10 +222,10 @@ fn enter_starts(
     requires width { lines.now.points ≤ length reached.old }
     requires part { AreIn seen.now part }
     ensures grows { OnOk result (Grows lines.now seen.now
-        (ReachesFrom lines.now (IsIn seen.now) (points_in starts.now))
+        (ReachesFrom lines.now (IsIn seen.now) starts.now)
         reached.old reached.new found.old.items found.new.items) }
     ensures covers { OnOk result
-        ((p : ℕ) → Contains (points_in starts.now) p → IsWithin part p → IsIn reached.new p) }
+        ((p : ℕ) → Contains starts.now p → IsWithin part p → IsIn reached.new p) }
 {
     let _points = lines.points();
     let mut next = part.first;

@@ -1,11 +1,11 @@
 use Rattle.std.proofs.Common.{ap, sym, ◌∙◌}
 use Rattle.std.specs.Prelude.{is_some}
 use Rattle.std.proofs.lemmas.Result.{on_ok_weaker}
-use Rattle.nll_core.proofs.FrontierLemmas.{among_points_in, goes_on_widened}
+use Rattle.nll_core.proofs.FrontierLemmas.{goes_on_widened}
 use Rattle.nll_core.proofs.frontier.Frontier.go_on.Goals as goal
 
 pub resume-told-requires-clause-starts : goal.resume-told-requires-clause-starts
-resume-told-requires-clause-starts c = among_points_in c.steps.inside.lines.points c.self.inside.starts (rw (← c.self.view_is, ← c.steps.view_is) at c.requires.starts)
+resume-told-requires-clause-starts c = rw (← c.self.view_is, ← c.steps.view_is) at c.requires.starts
 
 pub resume-told-requires-clause-before : goal.resume-told-requires-clause-before
 resume-told-requires-clause-before c = λ x h.
