@@ -1,5 +1,5 @@
 -- The tokens of a line from an index on.
-use Rattle.std.proofs.Common.{◌≡◌, ℕ, ◌<◌, ◌≤◌, ◌+◌, ◌-◌, nat_lt, drop, List, [], ◌∷◌, length, map, refl, sym, ap, ◌∙◌, arith, Some, None}
+use Rattle.std.proofs.Common.{◌≡◌, ℕ, ◌<◌, ◌≤◌, ◌+◌, ◌-◌, nat_lt, drop, List, [], ◌∷◌, length, sym, ap, ◌∙◌, arith, Some, None}
 use Rattle.std.proofs.Math.ListN.{get_or}
 use Rattle.std.specs.Borrow.{Bor}
 use Rattle.std.specs.Prelude.{Option, IfSome, MatchOption}
@@ -8,7 +8,7 @@ use Rattle.std.proofs.Math.ListN.{drop_of_length-le}
 use Rattle.std.proofs.lemmas.Bool.{ltb-true, ltb-false}
 use Rattle.std.proofs.lemmas.List.{drop-drop, drop_more, length-drop, length-map}
 use Rattle.std.specs.List.{drop-map}
-use Rattle.nll_text.specs.Tokens.{Token, view, views}
+use Rattle.nll_text.specs.Tokens.{view, views}
 use Rattle.nll_text.specs.declared.token.Token.{Token as InLine}
 use Rattle.nll_mir_grammar.specs.Grammars.{from}
 

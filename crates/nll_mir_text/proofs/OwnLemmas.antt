@@ -217,6 +217,7 @@ module _ (s t : Scope) (regions : (x : Name) → is_among s.regions x ≡ is_amo
     known_same (written.tuple ws) = all_known_same ws
     known_same (written.named n args) =
         both _ _ _ _ (either _ _ _ _ (types n) (structs n)) (arguments_known_same args)
+    known_same (written.function ws w) = both _ _ _ _ (all_known_same ws) (known_same w)
 
     pub all_known_same : (ws : WrittenTypes) → are_known s ws ≡ are_known t ws
     all_known_same written.none = refl

@@ -1,5 +1,5 @@
 -- Texts of the two versions: which text is of which, and how a text is refused.
-use Rattle.std.proofs.Common.{◌≡◌, ℕ, ◌<◌, Bool, true, false, List, [], ◌∷◌, length, get_or, refl, sym, ap, ◌∙◌, subst, arith, inl, inr, ⊎_elim}
+use Rattle.std.proofs.Common.{◌≡◌, ℕ, ◌<◌, true, false, List, length, get_or, refl, sym, ap, ◌∙◌, subst, arith, inl, inr, ⊎_elim}
 use Rattle.std.specs.Prelude.{codes}
 use Rattle.std.specs.Str.{IsUtf8}
 use Rattle.std.proofs.lemmas.Bool.{false≢true}
@@ -70,7 +70,7 @@ no_version line a b Second h = b h
 -- ---- refusals
 
 pub too_long_for_mir : (text : List ℕ) → most_bytes < length text → IsMirFault text 1 (Limit Text)
-too_long_for_mir text long = (First, (λ body k. absurd (omega (arith, k.cut.short, long)), too_long long))
+too_long_for_mir text long = (First, (λ body k. absurd (omega (arith, k.cut.short, long))), too_long long)
 
 pub refused_in : (version : Version) (text : List ℕ) (body : List (List ℕ)) (error : TextError) → IsHeaded (mir version) text body → IsRefusal (IsFault (mir version) text) error → IsRefusal (IsMirFault text) error
 refused_in version text body error headed refused = ⊎_elim inl (λ f. inr (version, of_headed version text body headed, f)) refused

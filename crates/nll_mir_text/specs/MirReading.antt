@@ -36,7 +36,7 @@ use Rattle.nll_mir_text.specs.declared.tables.StructNames.{StructNames}
 use Rattle.nll_mir_text.specs.declared.judging.JudgedType.{JudgedType}
 use Rattle.nll_mir_text.specs.MirSaid.{Said, said, says}
 use Rattle.nll_mir_text.specs.MirFaults.{is_in_order, first_fault}
-use Rattle.nll_mir_text.specs.MirText.{mir, IsOfVersion, IsMirFault}
+use Rattle.nll_mir_text.specs.MirText.{mir}
 use Rattle.nll_mir_text.specs.declared.reader.Reader.{Reader}
 
 -- ---- what a reader holds

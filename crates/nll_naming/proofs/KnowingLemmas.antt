@@ -1,14 +1,13 @@
 -- What is told of types, told of their parts: whether their names are known.
-use Rattle.std.proofs.Common.{◌≡◌, ℕ, zero, suc, ◌+◌, ◌-◌, ◌<◌, ◌≤◌, Bool, true, false, ◌&&◌, List, [], ◌∷◌, ◌++◌, length, refl, sym, ap, ◌∙◌, arith, subst, drop, get_or, ⊎_elim}
-use Rattle.std.proofs.Math.Numerals.{add-one}
-use Rattle.std.proofs.Math.Seq.{get_or-append_seam, drop-cons}
+use Rattle.std.proofs.Common.{◌≡◌, ℕ, zero, suc, ◌-◌, ◌<◌, Bool, true, false, ◌&&◌, List, [], ◌∷◌, ◌++◌, length, refl, sym, ap, ◌∙◌, arith, ⊎_elim}
+use Rattle.std.proofs.Math.Seq.{get_or-append_seam}
 use Rattle.std.proofs.lemmas.Bool.{cases_lt}
 use Rattle.std.proofs.lemmas.List.{get_or_append_left, length-append}
 use Rattle.std.specs.List.{list_all}
 use Rattle.std.specs.Prelude.{slice_index_or}
 use Rattle.nll_types.specs.Table.{AreBelow}
 use Rattle.nll_type_grammar.specs.WrittenTypes.{WrittenType, int}
-use Rattle.nll_type_grammar.specs.TypeTexts.{at, all_at, arguments_at, types_among, types_from, written}
+use Rattle.nll_type_grammar.specs.TypeTexts.{all_at, arguments_at, types_among, types_from, written}
 use Rattle.nll_type_grammar.specs.declared.type_text.TypeNode.{TypeNode}
 use Rattle.nll_type_grammar.specs.declared.type_text.Argument.{Argument}
 use Rattle.nll_type_grammar.specs.declared.type_text.Argument.TheVariants as arguments

@@ -1,6 +1,6 @@
 -- The type that a node means, over the types that its parts mean.
 use Rattle.std.proofs.Common.{◌≡◌, ℕ, ◌<◌, true, false, List, [], ◌∷◌, length, get_or, map, refl, sym, ap, ◌∙◌, subst}
-use Rattle.std.proofs.Common.{◌+◌, ◌++◌, suc, drop, take, append_assoc}
+use Rattle.std.proofs.Common.{◌+◌, ◌++◌, drop, take, append_assoc}
 use Rattle.std.proofs.Math.Numerals.{add-one}
 use Rattle.std.proofs.Math.Seq.{drop-cons}
 use Rattle.std.proofs.lemmas.List.{map_push, map_more}

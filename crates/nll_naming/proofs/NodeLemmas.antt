@@ -3,7 +3,7 @@ use Rattle.std.proofs.Common.{◌≡◌, ℕ, zero, suc, ◌+◌, ◌<◌, ◌�
 use Rattle.std.proofs.Math.Seq.{get_or-append_seam}
 use Rattle.std.proofs.lemmas.List.{get_or_append_left, get_or_default, length-append, length-take-le, take_more}
 use Rattle.nll_types.specs.Table.{AreBelow}
-use Rattle.nll_type_grammar.specs.WrittenTypes.{WrittenType, int, reference, tuple, named, function}
+use Rattle.nll_type_grammar.specs.WrittenTypes.{WrittenType, int, reference, tuple, named}
 use Rattle.nll_type_grammar.specs.TypeTexts.{at, all_at, arguments_at, types_among, type_over, types_from, parts_of, AreNodes}
 use Rattle.nll_type_grammar.specs.declared.type_text.TypeNode.{TypeNode}
 use Rattle.nll_type_grammar.specs.declared.type_text.TypeNode.TheVariants as nodes

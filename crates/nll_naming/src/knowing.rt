@@ -89,6 +89,10 @@ fn node_known(scope: &Scope<'_>, node: &TypeNode<'_>, done: &[bool]) -> bool
             let known = name_known(scope, name);
             both(known, arguments_known(scope, arguments.as_slice(), done))
         }
+        TypeNode::Function(inputs, part) => {
+            let known = parts_known(done, inputs.as_slice());
+            both(known, done[*part])
+        }
     }
 }
 

@@ -1,6 +1,6 @@
 -- Functions in the types of nodes, one node after another.
-use Rattle.std.proofs.Common.{◌≡◌, ℕ, zero, suc, ◌+◌, ◌<◌, ◌≤◌, Bool, true, false, List, [], ◌∷◌, ◌++◌, length, get_or, map, drop, take, refl, sym, ap, ◌∙◌, arith, Some}
-use Rattle.std.specs.Prelude.{◌||◌, slice_get}
+use Rattle.std.proofs.Common.{◌≡◌, ℕ, zero, suc, ◌+◌, ◌<◌, ◌≤◌, Bool, true, false, List, [], ◌∷◌, ◌++◌, length, get_or, map, drop, take, refl, sym, ap, ◌∙◌, arith}
+use Rattle.std.specs.Prelude.{◌||◌}
 use Rattle.std.proofs.Math.Numerals.{add-one}
 use Rattle.std.proofs.Math.Seq.{drop-cons}
 use Rattle.std.proofs.lemmas.List.{drop_all, map_push, take_more}
@@ -14,18 +14,18 @@ use Rattle.nll_type_grammar.proofs.NodeLemmas.{from_push}
 
 -- ---- marks
 
-marked : (known : List WrittenType) (n : ℕ) (b : Bool) → slice_get (map has_function known) n ≡ Some b → b ≡ has_function (at known n)
-marked [] n b e = absurd cc
-marked (t ∷ known) zero b e = (let h : has_function t ≡ b = cc in sym h)
-marked (t ∷ known) (suc n) b e = marked known n b e
+marked : (known : List WrittenType) (n : ℕ) (d : Bool) → n < length (map has_function known) → get_or (map has_function known) n d ≡ has_function (at known n)
+marked [] n d l = absurd (omega arith)
+marked (t ∷ known) zero d l = refl
+marked (t ∷ known) (suc n) d l = marked known n d (omega arith)
 
 unmarked : (known : List WrittenType) (n : ℕ) → length (map has_function known) ≤ n → false ≡ has_function (at known n)
 unmarked [] n h = refl
 unmarked (t ∷ known) zero h = absurd (omega arith)
 unmarked (t ∷ known) (suc n) h = unmarked known n (omega arith)
 
-pub mark_at : (marks : List Bool) (known : List WrittenType) (n : ℕ) (b : Bool) → marks ≡ map has_function known → slice_get marks n ≡ Some b → b ≡ has_function (at known n)
-mark_at marks known n b e get = marked known n b (ap (λ (ms : List Bool). slice_get ms n) (sym e) ∙ get)
+pub mark_at : (marks : List Bool) (known : List WrittenType) (n : ℕ) (d : Bool) → marks ≡ map has_function known → n < length marks → get_or marks n d ≡ has_function (at known n)
+mark_at marks known n d e l = ap (λ (ms : List Bool). get_or ms n d) e ∙ marked known n d (let k = ap length e in omega arith)
 
 pub no_mark : (marks : List Bool) (known : List WrittenType) (n : ℕ) → marks ≡ map has_function known → length marks ≤ n → false ≡ has_function (at known n)
 no_mark marks known n e past = unmarked known n (let l = ap length e in omega arith)
@@ -33,16 +33,16 @@ no_mark marks known n e past = unmarked known n (let l = ap length e in omega ar
 -- ---- one of a row
 
 module _ {A : Type 0} (one : A → Bool) (any : List A → Bool) (first : (x : A) (xs : List A) → any (x ∷ xs) ≡ (one x || any xs)) (none : any [] ≡ false) where
-  next : (xs : List A) (i : ℕ) (x : A) → i < length xs → x ≡ get_or xs i x → any (drop i xs) ≡ (one x || any (drop (i + 1) xs))
-  next xs i x l e =
-      let rest : drop i xs ≡ get_or xs i x ∷ drop (i + 1) xs = rw add-one (drop-cons xs i x l) in
-      ap any (rest ∙ ap (λ z. z ∷ drop (i + 1) xs) (sym e)) ∙ first x (drop (i + 1) xs)
+  next : (xs : List A) (i : ℕ) (d : A) → i < length xs → any (drop i xs) ≡ (one (get_or xs i d) || any (drop (i + 1) xs))
+  next xs i d l =
+      let rest : drop i xs ≡ get_or xs i d ∷ drop (i + 1) xs = rw add-one (drop-cons xs i d l) in
+      ap any rest ∙ first (get_or xs i d) (drop (i + 1) xs)
 
-  pub any_more : (xs : List A) (i : ℕ) (x : A) → i < length xs → x ≡ get_or xs i x → one x ≡ false → any (drop i xs) ≡ any xs → any (drop (i + 1) xs) ≡ any xs
-  any_more xs i x l e f told = sym (next xs i x l e ∙ ap (λ z. z || any (drop (i + 1) xs)) f) ∙ told
+  pub any_more : (xs : List A) (i : ℕ) (d : A) → i < length xs → one (get_or xs i d) ≡ false → any (drop i xs) ≡ any xs → any (drop (i + 1) xs) ≡ any xs
+  any_more xs i d l f told = sym (next xs i d l ∙ ap (λ z. z || any (drop (i + 1) xs)) f) ∙ told
 
-  pub any_found : (xs : List A) (i : ℕ) (x : A) → i < length xs → x ≡ get_or xs i x → one x ≡ true → any (drop i xs) ≡ any xs → true ≡ any xs
-  any_found xs i x l e f told = sym (next xs i x l e ∙ ap (λ z. z || any (drop (i + 1) xs)) f) ∙ told
+  pub any_found : (xs : List A) (i : ℕ) (d : A) → i < length xs → one (get_or xs i d) ≡ true → any (drop i xs) ≡ any xs → true ≡ any xs
+  any_found xs i d l f told = sym (next xs i d l ∙ ap (λ z. z || any (drop (i + 1) xs)) f) ∙ told
 
   pub any_none : (xs : List A) (i : ℕ) → length xs ≤ i → any (drop i xs) ≡ any xs → false ≡ any xs
   any_none xs i past told = sym none ∙ (ap any (sym (drop_all i xs past)) ∙ told)

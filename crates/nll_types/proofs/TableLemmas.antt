@@ -13,7 +13,7 @@ use Rattle.std.specs.Bool.{beq}
 use Rattle.indexmap.specs.IndexSet.{insert_key}
 use Rattle.std.proofs.Math.Seq.{get_or-append_seam}
 use Rattle.std.proofs.lemmas.List.{get_or_append_left, length-append}
-use Rattle.nll_types.specs.Shapes.{Shape, int_shape as int, parameter_shape as parameter, reference_shape as reference, tuple_shape as tuple, named_shape as named, function_shape as function, shape_nodes as count_nodes, shape_nodes_of_all as nodes_of_all}
+use Rattle.nll_types.specs.Shapes.{Shape, int_shape as int, parameter_shape as parameter, reference_shape as reference, tuple_shape as tuple, named_shape as named, shape_nodes as count_nodes, shape_nodes_of_all as nodes_of_all}
 use Rattle.nll_problem.specs.Limits.{most_nodes}
 use Rattle.nll_types.specs.Table.{at, all_at, shape_over, shapes_from, shapes_in, shape_in, parts_of, IsOver, Extends, IsTable, IsShapeTable, HasOneNumber, size_over}
 use Rattle.nll_types.specs.declared.node.Node.{Node}

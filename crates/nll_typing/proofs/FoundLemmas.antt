@@ -5,7 +5,7 @@ use Rattle.nll_problem.specs.Limits.{most_nodes}
 use Rattle.nll_types.specs.Types.{TypeTree}
 use Rattle.nll_types.specs.Structs.{Struct}
 use Rattle.nll_types.specs.Places.{PlacePath, type_of, behind_all, small_behind, small_prefixes}
-use Rattle.nll_types.specs.Shapes.{Shape, shape_of, reference_shape, is_small, is_small_shape}
+use Rattle.nll_types.specs.Shapes.{Shape, shape_of, is_small, is_small_shape}
 use Rattle.nll_types.specs.Table.{Extends, AreBelow, shape_in}
 use Rattle.nll_types.specs.declared.node.Node.{Node}
 use Rattle.nll_types.proofs.ShapeLemmas.{same_nodes}

@@ -1,8 +1,6 @@
 use Rattle.nll_mir_grammar.specs.Grammars.{from}
-use Rattle.std.proofs.Common.{List, map}
-use Rattle.std.specs.Borrow.{Bor}
+use Rattle.std.proofs.Common.{map}
 use Rattle.std.specs.Prelude.{Ok}
-use Rattle.nll_text.specs.declared.token.Token.{Token as InLine}
 use Rattle.nll_mir_grammar.specs.Parts as parts
 use Rattle.nll_mir_grammar.proofs.GrammarLemmas.{pair_none, read_pair}
 use Rattle.nll_mir_grammar.proofs.PartLemmas.{bound_lists_one}

@@ -10,7 +10,7 @@ use Rattle.nll_mir_grammar.proofs.version.is_first_struct.Goals as goal
 pub returns-then-not-are_first_parameters : goal.returns-then-not-are_first_parameters
 returns-then-not-are_first_parameters c =
     let fields = not (have_function (parts (written c.args.text.now.fields))) in
-    ap (λ b. b && fields) (sym (rw c.as_slice.ensures.value at c.are_first_parameters.ensures) ∙ c.if-not-are_first_parameters.true)
+    sym (ap (λ b. b && fields) (sym (rw c.as_slice.ensures.value at c.are_first_parameters.ensures) ∙ c.if-not-are_first_parameters.true))
 
 pub returns : goal.returns
 returns c = IfOk-weaker c.is_first_type.result _ _ (λ b told.

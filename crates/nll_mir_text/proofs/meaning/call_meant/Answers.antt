@@ -1,7 +1,4 @@
-use Rattle.std.proofs.Common.{ap, sym, ◌∙◌}
 use Rattle.std.proofs.lemmas.Result.{IfOk-weaker}
-use Rattle.std.specs.Result.{IfOk}
-use Rattle.nll_types.specs.Places.{path_of}
 use Rattle.nll_mir_text.specs.MirReading.{scope_in}
 use Rattle.nll_mir_text.proofs.CallLemmas.{call_told}
 use Rattle.nll_mir_text.proofs.meaning.call_meant.Goals as goal

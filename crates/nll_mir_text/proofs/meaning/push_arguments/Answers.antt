@@ -1,4 +1,4 @@
-use Rattle.std.proofs.Common.{◌≡◌, ◌++◌, ◌∷◌, [], List, map, length, sym, ap, ◌∙◌, arith}
+use Rattle.std.proofs.Common.{◌++◌, ◌∷◌, [], List, map, length, sym, ap, ◌∙◌, arith}
 use Rattle.std.proofs.lemmas.List.{map_push, append-nil}
 use Rattle.std.specs.Vec.Iter.{into_iter_items}
 use Rattle.nll_types.specs.Types.{TypeTree}

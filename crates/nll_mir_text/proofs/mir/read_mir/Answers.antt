@@ -1,4 +1,4 @@
-use Rattle.std.proofs.Common.{subst, ap, sym, refl, ◌∙◌, inl}
+use Rattle.std.proofs.Common.{subst, ap, sym, ◌∙◌, inl}
 use Rattle.std.proofs.lemmas.Result.{IfOk-weaker, IfErr-weaker}
 use Rattle.nll_body.specs.Sound.{IsSound}
 use Rattle.nll_mir_text.specs.MirText.{body_said}

@@ -1,4 +1,4 @@
-use Rattle.std.proofs.Common.{◌<◌, ℕ, length}
+use Rattle.std.proofs.Common.{◌<◌, length}
 use Rattle.nll_text.specs.Lines.{lines_left, lines_of}
 use Rattle.nll_mir_text.specs.MirReading.{Advances}
 use Rattle.nll_mir_text.proofs.parts.read_most.Given as goal

@@ -1,4 +1,4 @@
-use Rattle.std.proofs.Common.{ℕ, length, option_map}
+use Rattle.std.proofs.Common.{length, option_map}
 use Rattle.nll_mir_text.specs.MirReading.{lines_in, Advances}
 use Rattle.nll_mir_text.proofs.parts.read_parts.Given as goal
 

@@ -1,5 +1,6 @@
-use Rattle.std.proofs.Common.{suc, arith}
+use Rattle.std.proofs.Common.{suc, ◌∷◌, length, arith}
 use Rattle.std.proofs.lemmas.Result.{IfOk-weaker}
+use Rattle.nll_types.specs.Table.{AreBelow}
 use Rattle.nll_type_grammar.specs.TypeTexts.{at}
 use Rattle.nll_naming.proofs.judging.judge_node.Goals as goal
 
@@ -42,11 +43,12 @@ returns-in-Function-clause-structs c = c.judge_function.ensures.structs
 pub returns-in-Function-clause-extends : goal.returns-in-Function-clause-extends
 returns-in-Function-clause-extends c = c.judge_function.ensures.extends
 
-pub judge_function-requires-inputs : goal.judge_function-requires-inputs
-judge_function-requires-inputs c =
-    let below = rw c.in-Function.is at c.requires.parts in
+pub judge_function-requires-clause-inputs : goal.judge_function-requires-clause-inputs
+judge_function-requires-clause-inputs c =
+    let below : AreBelow (length c.args.done.now) (c.in-Function.part ∷ c.in-Function.inputs.items) = rw c.in-Function.is at c.requires.parts in
     rw c.as_slice-in-Function.ensures.value (λ k l. below (suc k) (omega arith))
 
 pub returns-in-Function-clause-judged : goal.returns-in-Function-clause-judged
 returns-in-Function-clause-judged c = rw c.in-Function.is (IfOk-weaker c.judge_function.result _ _ (λ j told. λ ts judged.
-    rw c.as_slice-in-Function.ensures.value at (told ts (at ts c.in-Function.part) judged cc)) c.judge_function.ensures.judged)
+    let below : AreBelow (length c.args.done.now) (c.in-Function.part ∷ c.in-Function.inputs.items) = rw c.in-Function.is at c.requires.parts in
+    rw c.as_slice-in-Function.ensures.value at (told ts (at ts c.in-Function.part) judged (judged.each c.in-Function.part (below 0 (omega arith))))) c.judge_function.ensures.judged)

@@ -1,7 +1,6 @@
-use Rattle.std.proofs.Common.{◌≡◌, false, true, length, arith, ap, sym, ◌∙◌}
+use Rattle.std.proofs.Common.{length, arith, ap, sym, ◌∙◌}
 use Rattle.std.proofs.lemmas.Result.{IfOk-weaker}
 use Rattle.nll_types.specs.Shapes.{parameter_shape}
-use Rattle.nll_naming.specs.Naming.{is_among}
 use Rattle.nll_naming.specs.Judging.{scope_of}
 use Rattle.nll_naming.proofs.JudgingLemmas.{judged_parameter, judged_struct, types_count, shapes_below, none_empty, and_same}
 use Rattle.nll_naming.proofs.judging.judge_over.Goals as goal

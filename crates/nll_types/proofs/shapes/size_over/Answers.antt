@@ -9,4 +9,4 @@ count-requires c =
 pub returns-in-Function : goal.returns-in-Function
 returns-in-Function c =
     let counted = rw c.as_slice.ensures.value at c.count.ensures in
-    rw c.in-Function.is (omega (arith, c.min.ensures, c.min-returned.ensures, counted))
+    rw c.in-Function.is (omega (arith, c.min-in-Function.ensures, c.min-returned.ensures, counted))

@@ -1,4 +1,4 @@
-use Rattle.nll_types.specs.Table.{shape_in, shape_over, shapes_in}
+use Rattle.nll_types.specs.Table.{shape_in}
 use Rattle.nll_typing.proofs.JudgedLemmas.{same_reference}
 use Rattle.nll_typing.proofs.judged.is_reference.Goals as goal
 

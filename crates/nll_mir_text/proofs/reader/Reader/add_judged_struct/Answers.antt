@@ -1,4 +1,4 @@
-use Rattle.std.proofs.Common.{◌≡◌, ◌∙◌, List, false, true, sym, refl, ap, inl, inr, map, length, arith}
+use Rattle.std.proofs.Common.{◌≡◌, ◌∙◌, false, true, sym, refl, ap, inr, map, arith}
 use Rattle.std.proofs.lemmas.Bool.{not-true, not-false}
 use Rattle.nll_type_grammar.specs.TypeTexts.{written}
 use Rattle.nll_mir_grammar.specs.Lines.{parameter_of}
@@ -7,19 +7,15 @@ use Rattle.std.proofs.lemmas.List.{length-map}
 use Rattle.nll_naming.specs.Naming.{Scope, are_known, have_arguments, all_meant}
 use Rattle.nll_typing.specs.Typing.{are_small}
 use Rattle.nll_types.specs.Declarations as kept
-use Rattle.nll_types.specs.declared.structs.Declaration.{Declaration}
 use Rattle.nll_mir_text.specs.MirFaults.{redeclares}
 use Rattle.nll_mir_text.specs.MirSaid.{field_scope}
-use Rattle.nll_mir_text.specs.MirReading.{IsDue, struct_form}
 use Rattle.nll_mir_text.specs.Declaring.{AreJudged, AreOwn, own_scope}
 use Rattle.nll_mir_text.specs.declared.fields.JudgedFields.{JudgedFields}
 use Rattle.nll_mir_text.specs.declared.own_names.OwnNames.{OwnNames}
 use Rattle.nll_mir_text.specs.declared.reader.Reader.{Reader}
 use Rattle.nll_mir_grammar.specs.declared.line.StructText.{StructText}
-use Rattle.nll_type_grammar.specs.WrittenTypes.{WrittenTypes}
-use Rattle.nll_mir_grammar.specs.MirForms.{WrittenParameter}
 use Rattle.nll_mir_text.proofs.OwnLemmas.{own_known, own_scope_is}
-use Rattle.nll_mir_text.proofs.StructLemmas.{struct_unknown, struct_duplicate, struct_unfit, struct_too_large, too_many_structs, no_struct_fault, once_each}
+use Rattle.nll_mir_text.proofs.StructLemmas.{struct_unknown, struct_duplicate, struct_unfit, struct_too_large, no_struct_fault, once_each}
 use Rattle.nll_mir_text.specs.MirReading.{said_by}
 use Rattle.nll_mir_text.proofs.reader.Reader.add_judged_struct.Goals as goal
 
