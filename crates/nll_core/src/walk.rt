@@ -68,7 +68,13 @@ fn is_everywhere(pair: &[Constraint]) -> bool
     ensures some { result ≡ true → (c : spec.Constraint) × Contains pair.now c × (c.at ≡ ats.All) }
     ensures none { result ≡ false → (c : spec.Constraint) → Contains pair.now c → c.at ≢ ats.All }
 {
-    !pair.is_empty() && pair[0].at == At::All
+    if pair.is_empty() {
+        return false;
+    }
+    match pair[0].at {
+        At::All => true,
+        At::Point(_) => false,
+    }
 }
 
 // The point of the constraint at a place, and 0 where it holds at all points.

@@ -1,7 +1,7 @@
 use Rattle.std.proofs.Common.{ap, length, sym, ◌∙◌, arith}
-use Rattle.std.proofs.lemmas.List.{get_or-replicate, length-replicate}
+use Rattle.std.proofs.lemmas.Bool.{false_from_ne_true}
+use Rattle.std.proofs.lemmas.List.{length-replicate}
 use Rattle.std.proofs.lemmas.Result.{on_ok_weaker}
-use Rattle.nll_sets.specs.ElementSet.{flag}
 use Rattle.nll_core.proofs.SearchLemmas.{none_in_empty}
 use Rattle.nll_core.proofs.WalkingLemmas.{among_points, led_asks, whole_asked}
 use Rattle.nll_core.proofs.walk.Walk.reach.Goals as goal
@@ -11,7 +11,7 @@ returns-then-is_everywhere-clause-width c = on_ok_weaker c.fill_from.result (λ 
 
 pub returns-then-is_everywhere-clause-reached : goal.returns-then-is_everywhere-clause-reached
 returns-then-is_everywhere-clause-reached c = on_ok_weaker c.fill_from.result
-    (whole_asked c.args.lines.now c.args.sub.now c.args.pair.now c.clear.new.self c.fill_from.new.reached (c.is_everywhere.ensures.some c.if-is_everywhere.true) (λ x. flag_cleared c x))
+    (whole_asked c.args.lines.now c.args.sub.now c.args.pair.now c.clear.new.self c.fill_from.new.reached (c.is_everywhere.ensures.some c.if-is_everywhere.true) (λ x. rw c.clear.ensures (false_from_ne_true _ (none_in_empty _ x))))
     c.fill_from.ensures.fills
 
 pub reach_all-requires-clause-points : goal.reach_all-requires-clause-points
