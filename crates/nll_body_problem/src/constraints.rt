@@ -55,12 +55,11 @@ fn add_one_everywhere(builder: &mut ProblemBuilder, pair: (u32, u32)) -> Result<
         (AddsConstraints (λ c. everywhere pair ≡ c) builder.old builder.new) }
     ensures err { IfErr result (IsRefused (λ c. everywhere pair ≡ c) builder.old) }
 {
-    let (sup, sub) = pair;
     add_constraint(
         builder,
         Constraint {
-            sup: RegionId(sup),
-            sub: RegionId(sub),
+            sup: RegionId(pair.0),
+            sub: RegionId(pair.1),
             at: At::All,
         },
     )
