@@ -61,6 +61,10 @@ const LONGEST: usize = 12;
 const FACTS: &str = "nll-facts 1|points 2|universal 'a|outlives 'a 'a|# \u{e9}|region 'x|next 0 1|\
     return 1|base 'x 0|constraint 'x 'a 0|end|";
 
+// A facts text of version 2, with a constraint at all points.
+const EVERYWHERE: &str = "nll-facts 2|points 2|universal 'a|region 'x|next 0 1|return 1|\
+    base 'x 0|constraint 'x 'a all|constraint 'x 'a 1|end|";
+
 // A chain of points.
 const CHAIN: &str = "nll-facts 1|points 3|region '1|region '2|next 0 1|next 1 2|return 2|\
     base '1 1|base '1 2|constraint '2 '1 1|end|";
@@ -73,6 +77,12 @@ const FORMS: &str = "nll-mir 1|universal 'a|universal 'b|outlives 'b 'a|region '
     _0 = const|_3 = &'a mut _2.1|_1.0.*.0 = copy _1.1.1.*.*|nop|switch copy _3.*.0 bb1 bb2 bb0|\
     block bb1|_4 = call f(copy _2.1: (int, S), const: int): &'a int where 'a: 'b, 'x: 'static \
     -> bb2 unwind bb3|block bb2|dead _2|drop _1 -> bb3 unwind bb0|block bb3|read _1.1|return|end|";
+
+// A MIR text of version 2, with what version 1 hasn't.
+const SECOND: &str = "nll-mir 2|universal 'a|region 'x|region 'y|assert 'x : 'a|\
+    assert 'static: 'y|struct F<'r - ?, T - >(fn(&'r int, T) -> (), fn() -> int)|let _0: int|\
+    let _1: F<'x, int>|let _2: fn(fn(&'a int) -> int) -> &'y int|blocks 1|block bb0|\
+    _2 = move _2|_1 = make F<'y, int>(copy _1.0, copy _1.1)|return|end|";
 
 // A cut file, and a schedule until all is quiet.
 const CUT: &str = "nll-cut 1|0|# as before|65535||12|";
@@ -101,8 +111,10 @@ const TEXTS: &[(Format, &str)] = &[
     (Format::Mir, RETURNED),
     (Format::Mir, CALLED),
     (Format::Mir, FORMS),
+    (Format::Mir, SECOND),
     (Format::Facts, CHAIN),
     (Format::Facts, FACTS),
+    (Format::Facts, EVERYWHERE),
     (Format::Cut, CUT),
     (Format::Schedule, SCHEDULE),
 ];

@@ -40,7 +40,8 @@ pub fn are_same(shape: &[Bytes<'_>], other: &[Bytes<'_>]) -> bool {
     shape.len() == other.len()
 }
 
-// Whether a token stands for a node: a reference, a tuple, an `int`, a struct or a type parameter.
+// Whether a token stands for a node: a reference, a tuple, a function, an `int`, a struct or a type
+// parameter. The `(` of a function's arguments stands for none.
 fn is_node(token: &[u8]) -> bool {
     is(token, "&") || is(token, "(") || (is_word(token) && !is(token, "mut"))
 }
@@ -48,10 +49,12 @@ fn is_node(token: &[u8]) -> bool {
 /// Whether a shape has more nodes than a type may have.
 pub fn is_large(shape: &[Bytes<'_>]) -> bool {
     let mut nodes = 0usize;
+    let mut is_behind_fn = false;
     for token in shape {
-        if is_node(token) {
+        if is_node(token) && !is_behind_fn {
             nodes = nodes.saturating_add(1);
         }
+        is_behind_fn = is(token, "fn");
     }
     nodes > MOST_NODES
 }

@@ -4,8 +4,14 @@ use super::spelling::{Bytes, is_header, is_skipped, is_utf8, put_lines};
 use nll_reading::TextKind::{self, End, Header, NotUtf8};
 use std::alloc::Global;
 
+// The versions that a format may have.
+const VERSIONS: &[&str] = &["1", "2"];
+
 /// What the lines of a text say together.
 pub trait Said<'a> {
+    /// Begins a text of a version. Whether the format has it.
+    fn begin(&mut self, version: &str) -> bool;
+
     /// Reads a further line, notes what is wrong with it, and adds what it says.
     fn read(&mut self, line: &mut Line<'a>);
 
@@ -16,16 +22,17 @@ pub trait Said<'a> {
     fn write(&self, out: &mut String);
 }
 
-// The kind of fault of a header.
-fn header_fault(line: &[u8], kind: &str) -> Option<TextKind> {
+// The kind of fault of a header, which tells of which version the text is.
+fn header_fault<'a, S: Said<'a>>(line: &[u8], kind: &str, said: &mut S) -> Option<TextKind> {
     if !is_utf8(line) {
         return Some(NotUtf8);
     }
-    if is_header(line, kind) {
-        None
-    } else {
-        Some(Header)
+    for version in VERSIONS {
+        if is_header(line, kind, version) && said.begin(version) {
+            return None;
+        }
     }
+    Some(Header)
 }
 
 // The kind of fault of a further line, which adds what it says.
@@ -51,7 +58,7 @@ fn first_fault<'a, S: Said<'a>>(
     for at in 0..lines.len() {
         let line = lines[at];
         let fault = if at == 0 {
-            header_fault(line, kind)
+            header_fault(line, kind, said)
         } else {
             line_fault(alloc, line, said)
         };

@@ -38,7 +38,7 @@ fn is_of(byte: u8, class: Class) -> bool {
         Class::Blank => matches!(byte, b' ' | b'\t' | b'\r'),
         Class::Sign => matches!(
             byte,
-            b'=' | b'&' | b'(' | b')' | b'<' | b'>' | b',' | b':' | b'.' | b'*' | b'+' | b'?'
+            b'=' | b'&' | b'(' | b')' | b'<' | b'>' | b',' | b':' | b'.' | b'*' | b'+' | b'-' | b'?'
         ),
         Class::Capital => byte.is_ascii_uppercase(),
         Class::Digit => byte.is_ascii_digit(),
@@ -105,10 +105,10 @@ fn behind_run<'a>(line: Bytes<'a>, run: &str) -> Option<Bytes<'a>> {
     Some(rest_from(rest, blanks))
 }
 
-/// Whether a line is the header of this kind of texts, version 1.
-pub fn is_header(line: &[u8], kind: &str) -> bool {
+/// Whether a line is the header of this kind and version of texts.
+pub fn is_header(line: &[u8], kind: &str, version: &str) -> bool {
     let behind = behind_run(line, kind).unwrap_or(b"no run");
-    behind_run(behind, "1").unwrap_or(b"no run").is_empty()
+    behind_run(behind, version).unwrap_or(b"no run").is_empty()
 }
 
 /// Whether a token is this one.

@@ -134,6 +134,24 @@ fn put_named<'a>(
     }
 }
 
+// Reads what stands behind the `fn` of the type of a function.
+#[cycle(types)]
+fn put_function<'a>(
+    shape: &mut Tokens<'a>,
+    line: &mut Line<'a>,
+    mir: &Mir<'a>,
+    own: &[Bytes<'a>],
+    depth: u32,
+) {
+    line.wrong_if(!mir.is_second, Syntax);
+    put(shape, line, "(");
+    if depth > 0 {
+        put_types(shape, line, mir, own, depth - 1);
+        put(shape, line, "->");
+        put_type(shape, line, mir, own, depth - 1);
+    }
+}
+
 // Reads a type and puts its tokens to a shape.
 #[cycle(types)]
 fn put_type<'a>(
@@ -153,6 +171,8 @@ fn put_type<'a>(
         put_type(shape, line, mir, own, depth - 1);
     } else if is(first, "(") {
         put_types(shape, line, mir, own, depth - 1);
+    } else if is(first, "fn") {
+        put_function(shape, line, mir, own, depth - 1);
     } else if !is(first, "int") {
         put_named(shape, line, mir, own, first, depth - 1);
     }
