@@ -61,8 +61,8 @@ nll-facts 2|points 1|region 'x|constraint 'x 'x all|end| ~ \
 // All points are none of the points, and said twice they are said once.
 nll-facts 2|points 2|region 'x|constraint 'x 'x 1|constraint 'x 'x all|constraint 'x 'x 0|\
     constraint 'x 'x all|end| ~ \
-    points 2|universal 'static|region 'x|constraint 'x 'x all|constraint 'x 'x 0|\
-    constraint 'x 'x 1|
+    points 2|universal 'static|region 'x|constraint 'x 'x 1|constraint 'x 'x all|\
+    constraint 'x 'x 0|
 // A region may have this name.
 nll-facts 2|points 1|region 'all|constraint 'all 'all all|constraint 'all 'all 0|end| ~ \
     points 1|universal 'static|region 'all|constraint 'all 'all all|constraint 'all 'all 0|

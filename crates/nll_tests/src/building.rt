@@ -283,7 +283,7 @@ const MADE: &[Row] = &[
             &[Region, Holds(1, 0, 0), HoldsEverywhere(1, 0)],
             Facts,
         ),
-        "0 to [] from []|out []|0: 0 1|1:|1 holds 0 at all|1 holds 0 at 0|",
+        "0 to [] from []|out []|0: 0 1|1:|1 holds 0 at 0|1 holds 0 at all|",
     ),
     (
         "each fact twice",
