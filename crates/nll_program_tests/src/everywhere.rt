@@ -61,7 +61,7 @@ nll-facts 1|points 3|region '1|region '2|next 0 1|next 1 2|return 2|base '1 1|ba
 #[test]
 fn values_at_all_points(rt: HostRuntime) {
     for words in VALUES {
-        compare_within(&rt, Asked::Run(words), SECOND, VALUED);
+        compare_within(&rt, Asked::Run(*words), SECOND, VALUED);
     }
 }
 
