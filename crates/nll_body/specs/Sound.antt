@@ -14,8 +14,8 @@ use Rattle.nll_body.specs.Edges.{edge_count}
 
 -- The points, the regions and the variables keep to the limits, each edge leads to a point, each
 -- target is one of the blocks, the outlives pairs are of universal regions, the asserted pairs are
--- of declared ones, the regions that are written at the points are declared, and the types that are written there and those of the
--- variables keep to what is declared.
+-- of declared ones, the regions that are written at the points are declared, and the types that are
+-- written there and those of the variables keep to what is declared.
 pub record IsSound (body : BodyText) : Type 0 where
   pub some_point : 0 < length body.points
   pub point_limit : length body.points ≤ most_points

@@ -18,13 +18,13 @@ use nll_sets::{Memory, Run, RunSet};
 use std::alloc::Global;
 use std::marker::Model;
 
-/// What constraints ask for inside a set, kept while runs of elements are put into the set: what the
-/// walks from their points reach; all of the set, where one of them holds at all points. (It isn't
+/// What constraints ask for inside a set, kept while runs of elements are put into the set: what
+/// walks from their points reach; all of the set, where one holds at all points. (It isn't
 /// the worklist of a breadth-first search, which has that name too.)
 ///
 /// # Cost
-/// Where a constraint holds at all points, a call looks at the run alone. Else it looks at the jumps that land in the run, and goes on through what it newly reaches alone,
-/// by stretches of lines. Where the run has an end, it looks at the return points or at the reached
+/// Where a constraint holds at all points, a call looks at the run alone. Else it looks at the jumps
+/// that land in the run, and goes on through what it newly reaches alone, by stretches of lines. Where the run has an end, it looks at the return points or at the reached
 /// runs, whichever are fewer (not proved).
 #[derive(Drop)]
 pub struct Frontier {
@@ -89,7 +89,8 @@ impl Frontier {
         requires width { length seen.now ≡ element_count steps.now }
         requires fits { let old = self.old in
             old.refused ≡ false → length old.reached ≤ element_count steps.now }
-        requires starts { (at : places) → Contains self.old.starts at → IsAmong steps.now.points at }
+        requires starts { (at : places)
+            → Contains self.old.starts at → IsAmong steps.now.points at }
         requires proper { run.first ≤ run.last }
         requires run { AreIn seen.now run }
         requires reached { self.old.refused ≡ false
@@ -107,9 +108,9 @@ impl Frontier {
 
     /// Goes on from a run of elements of the set in which walks may go, which may have grown by
     /// other elements too: through those at which a walk begins, or to which a step leads from what
-    /// is reached, and from there through the whole set. Where a constraint holds at all points,
-    /// the run itself is reached and nothing else. Clears a list, and puts the runs of what is newly
-    /// reached into it, each element once. The points from which walks go are points of the graph.
+    /// is reached, and from there through the whole set. Where a constraint holds at all points, the
+    /// run itself is reached and nothing else. Clears a list, and puts the runs of what is newly
+    /// reached into it, each element once. The points from which walks go are those of the graph.
     ///
     /// # Errors
     /// - `Memory`: the list is of no use; each later call answers `Memory` too.
@@ -123,7 +124,8 @@ impl Frontier {
         requires width { length inside.now ≡ element_count steps.now }
         requires fits { let old = self.old in
             old.refused ≡ false → length old.reached ≤ element_count steps.now }
-        requires starts { (at : places) → Contains self.old.starts at → IsAmong steps.now.points at }
+        requires starts { (at : places)
+            → Contains self.old.starts at → IsAmong steps.now.points at }
         requires proper { run.first ≤ run.last }
         requires run { AreIn inside.now run }
         requires sound { self.old.refused ≡ false → (x : ℕ) → IsIn self.old.reached x

@@ -2,8 +2,8 @@
 //! The problem is that of `nll_problem`, the sets are those of `nll_sets`; both are found here too.
 //!
 //! Reading order: `values`, `bases`, `lines` (with `line_ends`, `jumps`), `stretches`, `filling`,
-//! `walk`, `pairs`, `inclusion`, `meeting`, `order`, `solver`; `returns`, `landings`, `steps`, `starts`, `places`,
-//! `resuming`, `frontier`; `search`, `reachability`, `outliving`, `fault_check`.
+//! `walk`, `pairs`, `inclusion`, `meeting`, `order`, `solver`; `returns`, `landings`, `steps`,
+//! `starts`, `places`, `resuming`, `frontier`; `search`, `reachability`, `outliving`, `fault_check`.
 //! The definitions are in specs/.
 #![tactic(auto)]
 

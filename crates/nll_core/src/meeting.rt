@@ -42,7 +42,7 @@ pub fn meet(
     ensures met { OnOk result
         ((c : spec.Constraint) → Contains pair.now c → IsMet problem.now values.new c) }
 {
-    // What a walk inside a region reaches is in the region, and so in another one that has all of it.
+    // What is asked for inside a region is in it, and so in another one that has all of it.
     if sup == sub || is_seen_within(values.set(sub), values.set(sup)) {
         return Ok(false);
     }

@@ -1,4 +1,4 @@
-//! What the constraints of a pair of regions ask for: by walks from their points, or all of a region.
+//! What the constraints of a pair of regions ask for: by walks from their points, or all of one.
 
 ghost use Rattle.std.specs.Prelude.{◌≡◌, ◌≢◌, ℕ, ◌≤◌, ◌<◌, true, false, Contains, length, []};
 ghost use Rattle.std.specs.Prelude.{OnOk, IfOk};

@@ -1,5 +1,5 @@
--- Which lines a facts text of each version has: version 2 has all forms, and version 1 those without
--- a constraint at all points.
+-- Which lines a facts text of each version has: version 2 has all forms, and version 1 those
+-- without a constraint at all points.
 -- Source: project's choice; docs/FORMATS.md says the same in words.
 use Rattle.std.specs.Prelude.{◌≡◌, ℕ, Bool, true, false, List, codes}
 use Rattle.nll_problem.specs.declared.at.At.{At}

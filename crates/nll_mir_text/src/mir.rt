@@ -14,7 +14,7 @@ use nll_reading::{TextError, TextKind};
 use nll_sets::Memory;
 use std::alloc::Global;
 
-// The pairs of regions that a reader's lines say: those that are known, and those that are asserted.
+// The pairs of regions that a reader's lines say: the known ones, and the asserted ones.
 fn pairs(alloc: Global, reader: &Reader) -> Result<(Vec<(u32, u32)>, Vec<(u32, u32)>), Memory>
     ensures outlives { IfOk result (λ p. p.0.items ≡ (said_by reader.now).outlives) }
     ensures asserts { IfOk result (λ p. p.1.items ≡ (said_by reader.now).asserts) }

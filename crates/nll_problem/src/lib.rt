@@ -1,8 +1,8 @@
 //! Problems of location-aware regions over a control-flow graph: what they are, and what they mean.
 //! It knows no text and no names.
 //!
-//! Reading order: `region`, `at`, `constraint`, `base_run`, `graph`, `graph_builder`, `predecessors`,
-//! `problem`, `builder`, `constraint_index`. The definitions are in specs/.
+//! Reading order: `region`, `at`, `constraint`, `base_run`, `graph`, `graph_builder`,
+//! `predecessors`, `problem`, `builder`, `constraint_index`. The definitions are in specs/.
 #![tactic(auto)]
 
 mod at;

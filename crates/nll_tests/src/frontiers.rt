@@ -173,8 +173,8 @@ fn write_over(out: &mut Transcript, graph: &Graph, from: From, runs: &[(u32, u32
     }
 }
 
-/// Writes the same of walks from both points over the graph of four points with the edges 0 to 1 and
-/// 2 to 3.
+/// Writes the same of walks from both points over the graph of four points with the edges 0 to 1
+/// and 2 to 3.
 pub fn write_frontier(out: &mut Transcript, runs: &[(u32, u32)]) {
     if let Ok(mut builder) = GraphBuilder::new(out.alloc, 4, 1) {
         out.note(builder.next(0, 1));
