@@ -8,7 +8,6 @@ use Rattle.nll_sets.specs.declared.run.Run.{Run}
 use Rattle.nll_problem.specs.Graph.{Graph, element_count, IsNext, IsReturn, IsStep, IsSound}
 use Rattle.nll_problem.specs.Walks.{Reaches}
 use Rattle.nll_problem.specs.At.{IsAmong}
-use Rattle.nll_problem.specs.Solution.{IsAskedIn}
 use Rattle.nll_problem.specs.declared.at.At.{At}
 use Rattle.nll_problem.specs.declared.at.At.TheVariants.{All, Point}
 use Rattle.nll_problem.proofs.AskLemmas.{asked_inside, asked_more, asked_weaker}
@@ -21,7 +20,7 @@ use Rattle.nll_core.specs.declared.landing.Landing.{Landing}
 use Rattle.nll_core.proofs.SearchLemmas.{none_in_empty, flag_within}
 use Rattle.nll_core.proofs.WalkingLemmas.{grows_none, grows_append, grows_weaker, reaches_append}
 use Rattle.nll_core.proofs.ListingLemmas.{lists_grown, lists_append}
-use Rattle.nll_core.proofs.PlaceLemmas.{all_in, point_in, no_all}
+use Rattle.nll_core.proofs.PlaceLemmas.{point_in, no_all}
 
 -- ---- runs and jumps
 

@@ -10,7 +10,7 @@ use Rattle.nll_core.specs.Search.{missing, IsIn}
 use Rattle.nll_sets.specs.Runs.{first_of, last_of, IsInRuns, IsInRunsFrom, IsWithin, IsRunFrom, Fills}
 use Rattle.nll_sets.proofs.GapLemmas.{front_of, last_there}
 use Rattle.nll_core.specs.Lines.{IsJump, IsLineEnd}
-use Rattle.nll_core.specs.Walking.{IsLineClosed, IsStretch, IsFreeTo, Grows, IsJumpedTo, IsFollowed, IsLedTo, IsSpread, FillsFrom, constraint_at, no_constraint, PointsAscend, IsLedFrom, AreLedFrom, NoneInside, point_of, IsAskedOf, AreAskedOf, AreAmong, AreAtPoints, IsPointOf}
+use Rattle.nll_core.specs.Walking.{IsLineClosed, IsStretch, IsFreeTo, Grows, IsJumpedTo, IsFollowed, IsLedTo, IsSpread, FillsFrom, constraint_at, no_constraint, PointsAscend, IsLedFrom, AreLedFrom, NoneInside, point_of, AreAskedOf, AreAmong, AreAtPoints, IsPointOf}
 use Rattle.nll_sets.specs.declared.run.Run.{Run}
 use Rattle.nll_problem.specs.declared.constraint.Constraint.{Constraint}
 use Rattle.nll_problem.specs.At.{IsAmong, at_rank}

@@ -2,7 +2,7 @@ use Rattle.std.proofs.Common.{◌≡◌, ◌<◌, ℕ, List, [], Contains, sym, 
 use Rattle.std.proofs.lemmas.Bool.{false≢true}
 use Rattle.std.proofs.lemmas.Result.{on_ok_weaker}
 use Rattle.nll_problem.specs.declared.at.At.{At}
-use Rattle.nll_core.specs.Frontiers.{GoesOn, ListsNew, places_of}
+use Rattle.nll_core.specs.Frontiers.{GoesOn}
 use Rattle.nll_core.proofs.SearchLemmas.{flag_within}
 use Rattle.nll_core.proofs.ListingLemmas.{lists_none}
 use Rattle.nll_core.proofs.FrontierLemmas.{asked_walks, goes_by_walks, goes_nowhere, goes_whole, points_among}
