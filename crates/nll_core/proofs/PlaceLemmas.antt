@@ -1,6 +1,6 @@
 -- Where constraints hold: all points, and points.
-use Rattle.std.proofs.Common.{◌≡◌, ◌↔◌, ℕ, ◌<◌, Bool, true, false, List, [], ◌∷◌, ◌++◌, Contains, length, map, get_or, refl, sym, ap, ◌∙◌, subst, arith, zero, suc}
-use Rattle.std.proofs.lemmas.List.{get_or-map, length-map, map-append}
+use Rattle.std.proofs.Common.{◌≡◌, ◌↔◌, ℕ, ◌<◌, Bool, true, false, List, [], ◌∷◌, ◌++◌, Contains, map, refl, ap, ◌∙◌, arith, zero, suc}
+use Rattle.std.proofs.lemmas.List.{map-append}
 use Rattle.nll_problem.specs.At.{at_rank}
 use Rattle.nll_problem.specs.declared.at.At.{At}
 use Rattle.nll_problem.specs.declared.at.At.TheVariants.{All, Point}

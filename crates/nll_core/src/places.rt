@@ -1,6 +1,6 @@
 //! Where the constraints of a frontier hold.
 
-ghost use Rattle.std.specs.Prelude.{◌≡◌, ◌↔◌, ℕ, ◌<◌, [], ◌∷◌, ◌++◌, Contains, IsTrue, OnOk, OnErr};
+ghost use Rattle.std.specs.Prelude.{◌≡◌, ◌↔◌, ◌<◌, [], ◌∷◌, ◌++◌, Contains, IsTrue, OnOk, OnErr};
 ghost use Rattle.std.specs.Prelude.{MatchOption, false};
 ghost use Rattle.nll_problem.specs.At.{at_rank};
 ghost use Rattle.nll_problem.specs.declared.at.At.{At as places};

@@ -1,5 +1,5 @@
 -- What `==` of constraints computes.
-use Rattle.std.proofs.Common.{◌≡◌, ℕ, List, refl, ap}
+use Rattle.std.proofs.Common.{◌≡◌, List, refl, ap}
 use Rattle.std.specs.List.{list_any}
 use Rattle.nll_problem.specs.Building.{same_constraint}
 use Rattle.nll_problem.specs.declared.at.At.{At}

@@ -1,5 +1,5 @@
 //! Frontiers, where runs of elements come into the set.
-ghost use Rattle.std.specs.Prelude.{◌≡◌, ◌≤◌, ◌<◌, ℕ, false, length, Contains, OnOk, replicate};
+ghost use Rattle.std.specs.Prelude.{◌≡◌, ◌≤◌, ◌<◌, false, length, Contains, OnOk, replicate};
 ghost use Rattle.nll_problem.specs.At.{IsAmong};
 ghost use Rattle.nll_problem.specs.Graph.{element_count};
 ghost use Rattle.nll_core.specs.Search.{IsIn};
@@ -8,7 +8,7 @@ ghost use Rattle.nll_core.specs.Frontiers.{IsFrontierIn};
 use super::rows::Asked::{Frontier as Asked, FrontierEverywhere, FrontierToEnd};
 use super::rows::{Row, compare_rows};
 use super::transcript::Transcript;
-use nll_core::{At, Element, ElementSet, Frontier, Graph, Memory, Run, RunSet, Steps};
+use nll_core::{At, ElementSet, Frontier, Graph, Memory, Run, RunSet, Steps};
 use nll_problem::GraphBuilder;
 
 // Where a frontier's constraints hold.

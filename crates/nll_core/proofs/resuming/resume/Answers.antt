@@ -1,4 +1,4 @@
-use Rattle.std.proofs.Common.{◌≡◌, ◌<◌, ℕ, List, [], Contains, sym, subst, ◌∙◌, arith}
+use Rattle.std.proofs.Common.{List, [], sym, subst, ◌∙◌, arith}
 use Rattle.std.proofs.lemmas.Bool.{false≢true}
 use Rattle.std.proofs.lemmas.Result.{on_ok_weaker}
 use Rattle.nll_problem.specs.declared.at.At.{At}

@@ -1,4 +1,4 @@
-use Rattle.std.proofs.Common.{List, [], subst}
+use Rattle.std.proofs.Common.{List, subst}
 use Rattle.nll_sets.specs.declared.run.Run.{Run}
 use Rattle.nll_core.specs.Frontiers.{ListsNew}
 use Rattle.nll_core.proofs.ListingLemmas.{lists_gaps}

@@ -1,4 +1,4 @@
-use Rattle.std.proofs.Common.{◌<◌, subst, sym, ◌∙◌, ⊎_elim, arith}
+use Rattle.std.proofs.Common.{subst, sym, ◌∙◌, ⊎_elim, arith}
 use Rattle.std.proofs.lemmas.Bool.{cases_lt, false≢true}
 use Rattle.nll_sets.specs.Runs.{IsRunFrom}
 use Rattle.nll_core.specs.Search.{IsIn}

@@ -1,4 +1,4 @@
-use Rattle.std.proofs.Common.{ap, length, sym, arith}
+use Rattle.std.proofs.Common.{ap, sym, arith}
 use Rattle.nll_problem.specs.At.{at_rank}
 use Rattle.nll_core.proofs.WalkingLemmas.{first_everywhere}
 use Rattle.nll_core.proofs.walk.is_everywhere.Goals as goal

@@ -1,4 +1,4 @@
-use Rattle.std.proofs.Common.{◌<◌, ℕ, Contains, refl, sym, subst, arith}
+use Rattle.std.proofs.Common.{arith}
 use Rattle.nll_problem.specs.declared.at.At.TheVariants.{Point}
 use Rattle.nll_core.specs.Frontiers.{listed}
 use Rattle.nll_core.proofs.PlaceLemmas.{point_in, point_pushed}
