@@ -24,10 +24,12 @@ def crowded(rng):
     points = rng.randrange(1, 30)
     universals = [b"u%d" % i for i in range(rng.randrange(4))]
     names = [b"r%d" % i for i in range(rng.randrange(7, 100))]
-    lines = [[b"nll-facts", 1], [b"points", points]]
+    version = rng.choice([1, 1, 2])
+    everywhere = rng.choice([0.1, 0.5, 1.0]) if version == 2 else 0.0
+    lines = [[b"nll-facts", version], [b"points", points]]
     lines += [[b"universal", b"'" + name] for name in universals]
     lines += [[b"region", b"'" + name] for name in names]
-    lines += generate.fact_lines(rng, points, universals, names) + [[b"end"]]
+    lines += generate.fact_lines(rng, points, universals, names, everywhere) + [[b"end"]]
     return b"".join(generate.spelled(rng, tokens, True) + b"\n" for tokens in lines)
 
 

@@ -36,7 +36,7 @@ from differential import ended, memory_folder
 from reference_order import ProgramOrder, RandomOrder
 from reference_owner import Wrong
 from reference_schedule import Schedule
-from reference_solve import reach_by, solve
+from reference_solve import asked_by, solve
 from reference_world import Asked
 
 # Options that are refused beside a schedule, whatever the text.
@@ -228,7 +228,7 @@ def check_held(world, i):
     while True:
         before = sum(map(len, held))
         for sup, sub, at in owner.constraints:
-            held[sup] |= reach_by(ground.steps, at, held[sub])
+            held[sup] |= asked_by(ground.steps, at, held[sub])
         if sum(map(len, held)) == before:
             break
     if held != owner.has:

@@ -49,6 +49,15 @@ CIRCLE = ["next 0 1", "next 1 0"]
 HOLE = text(3, "region '1", "region '2", "region '3", *chain(2), *bases(1, 0, 2), *bases(3, 1),
             "constraint '1 '3 1", "constraint '2 '1 0")
 
+
+
+def second(body):
+    """The same text as version 2."""
+    return body.replace(b"nll-facts 1", b"nll-facts 2", 1)
+
+
+EVERYWHERE = second(text(5, *REGIONS, *chain(4), *bases(1, 0, 1, 3, 4), "constraint '2 '1 all"))
+
 # A name, the command, the text, the lines on standard output, the status.
 ANSWERED = [
     ("one_point", "values", text(1, "return 0"), ["'static: 0 end('static)"], 0),
@@ -83,6 +92,14 @@ ANSWERED = [
     ("names_without_blanks", "check",
      b"\t nll-facts\r 1 \r\npoints 2\nuniversal'a\nuniversal 'ab\noutlives'a'ab\n \r\n#\xc3\xa9\n"
      b"next 0 1\nreturn 1\nbase'a 1\nconstraint'a'ab 0\nend\n\n \n# behind", ["ok"], 0),
+    ("region_takes_all", "values", second(TWO.replace(b"'2 '1 1", b"'2 '1 all")),
+     [static(3), "'1: 1 2", "'2: 1 2"], 0),
+    ("all_goes_past_hole", "values", EVERYWHERE, [static(5), "'1: 0 1 3 4", "'2: 0 1 3 4"], 0),
+    ("end_without_return_at_all_points", "check", second(text(2, *AB, *CIRCLE, "constraint 'a 'b all")),
+     ["fault 'a must outlive 'b"], 1),
+    ("end_at_all_points", "values", second(text(2, *AB, *CIRCLE, "constraint 'a 'b all")),
+     [static(2), "'a: 0 1 end('a) end('b)", "'b: 0 1 end('b)"], 0),
+    ("second_version_without_all", "values", second(TWO), [static(3), "'1: 1 2", "'2: 1 2"], 0),
 ]
 
 # A name, the text, the refusal.
@@ -125,6 +142,11 @@ REFUSED = [
     ("number_behind_name", text(1, "base 'static0"), "line 3: syntax"),
     ("form_feed", text(1, "next 0\f0"), "line 3: syntax"),
     ("all_for_a_point", text(1, "constraint 'static 'static all"), "line 3: syntax"),
+    ("all_in_first_version", TWO.replace(b"'2 '1 1", b"'2 '1 all"), "line 10: syntax"),
+    ("all_for_a_base", second(text(1, "base 'static all")), "line 3: syntax"),
+    ("all_and_a_point", second(text(1, "constraint 'static 'static all 0")), "line 3: syntax"),
+    ("all_of_unknown", second(text(1, "constraint 'static 'z all")), "line 3: unknown"),
+    ("third_version", b"nll-facts 3\npoints 1\nend\n", "line 1: header"),
 ]
 
 

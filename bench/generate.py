@@ -1,5 +1,5 @@
 #!/usr/bin/env python3
-"""Makes facts texts (version 1): big ones to measure reading, small ones to compare programs.
+"""Makes facts texts (versions 1 and 2): big ones to measure reading, small ones to compare programs.
 
 Every text depends on its arguments and its seed alone.
 
@@ -24,7 +24,7 @@ BYTES = [0, 9, 10, 13, 32, 35, 39, 45, 48, 57, 62, 127, 128, 195, 255]
 NUMBERS = [b"01", b"1000000000", b"4294967296", b"999999999", b"1048576", b"1048577", b"0", b"1_0"]
 NAMES = [b"a", b"b", b"c", b"1", b"01", b"2", b"end", b"Static", b"_", b"a1", b"base", b"x_9"]
 KEYWORDS = [b"points", b"universal", b"outlives", b"region", b"next", b"return", b"base",
-            b"constraint", b"end"]
+            b"constraint", b"end", b"all"]
 
 
 # Big texts
@@ -105,9 +105,9 @@ def line(kind, mebibytes):
 
 # Problems to measure solving
 
-def problem_text(points, universals, regions, facts):
+def problem_text(points, universals, regions, facts, version=1):
     """A text of these numbers and of these lines of facts, over regions 'r0, 'r1 and so on."""
-    lines = [b"nll-facts 1", b"points %d" % points]
+    lines = [b"nll-facts %d" % version, b"points %d" % points]
     lines += [b"universal 'u%d" % i for i in range(universals)]
     lines += [b"region 'r%d" % i for i in range(regions)]
     return b"\n".join(lines + list(facts) + [b"end", b""])
@@ -257,6 +257,37 @@ def ends_family(rng, regions=1_000, points=50_000, universals=255):
     return problem_text(points, universals, regions, facts)
 
 
+def asks_everywhere(sup, sub):
+    return b"constraint 'r%d 'r%d all" % (sup, sub)
+
+
+def everywhere_family(rng, regions=65_000, points=2_000, constraints=800_000):
+    """`most_family` with each constraint at all points."""
+    facts = list(branches(points, rng))
+    for region in range(regions):
+        facts += stretches(region, points, 1, 6, rng)
+    for _ in range(constraints):
+        sub = rng.randrange(regions)
+        facts.append(asks_everywhere(min(regions - 1, sub + rng.randrange(40)), sub))
+    return problem_text(points, 4, regions, facts, 2)
+
+
+def circle_family(rng, length=2_000):
+    """`cycle_family` with each constraint at all points: each region comes to hold what any of them has."""
+    facts = list(steps(length)) + [b"next %d 0" % (length - 1)]
+    for region in range(length):
+        facts.append(b"base 'r%d %d" % (region, region))
+        facts.append(asks_everywhere((region + 1) % length, region))
+    return problem_text(length, 2, length, facts, 2)
+
+
+def row_family(rng, regions=65_000, points=100):
+    """A chain of regions each of which holds all that the one before holds, the last constraint first in the text."""
+    facts = list(steps(points)) + [b"base 'r0 %d" % p for p in range(0, points, 2)]
+    facts += [asks_everywhere(region, region - 1) for region in reversed(range(1, regions))]
+    return problem_text(points, 2, regions, facts, 2)
+
+
 FAMILIES = {
     "chain": lambda rng: chain(1_000_000, 3),
     "dense": dense_family,
@@ -270,22 +301,27 @@ FAMILIES = {
     "islands": islands_family,
     "joins": joins_family,
     "ends": ends_family,
+    "everywhere": everywhere_family,
+    "circle": circle_family,
+    "row": row_family,
 }
 
 
 # Small texts
 
-def constraint_lines(rng, points, every, bases):
-    """Constraints, mostly at points that the sub-region has; in some texts many of them."""
+def constraint_lines(rng, points, every, bases, everywhere):
+    """Constraints, mostly at points that the sub-region has; in some texts many of them. So many of them as the
+    last number says, from 0 to 1, hold at all points."""
     few = rng.randrange(3 * len(every))
     for _ in range(few if rng.random() < 0.6 else 8 * len(every)):
         sup, sub = rng.choice(every), rng.choice(every)
         inside = [p for _, name, p in bases if name == b"'" + sub]
         at = rng.choice(inside) if inside and rng.random() < 0.8 else rng.randrange(points)
+        at = b"all" if rng.random() < everywhere else at
         yield [b"constraint", b"'" + sup, b"'" + sub, at]
 
 
-def fact_lines(rng, points, universals, names):
+def fact_lines(rng, points, universals, names, everywhere):
     """Edges, return points, base elements and constraints of a small problem, in any order."""
     every = [b"static"] + universals + names
     facts = []
@@ -299,7 +335,7 @@ def fact_lines(rng, points, universals, names):
         chance = rng.choice([0.0, 0.2, 0.3, 0.5, 0.9])
         bases += [[b"base", b"'" + name, p] for p in range(points) if rng.random() < chance]
     mostly = names if names and rng.random() < 0.6 else every
-    facts += bases + list(constraint_lines(rng, points, mostly, bases))
+    facts += bases + list(constraint_lines(rng, points, mostly, bases, everywhere))
     facts += rng.choices(facts, k=rng.choice([0, 0, 3])) if facts else []
     if rng.random() < 0.8:
         rng.shuffle(facts)
@@ -330,9 +366,11 @@ def small(rng):
     lines += [[b"outlives", b"'" + rng.choice(known), b"'" + rng.choice(known)]
               for _ in range(rng.randrange(len(known) + 1))]
     lines += [[b"region", b"'" + name] for name in names]
-    lines += fact_lines(rng, points, universals, names) + [[b"end"]]
+    version = rng.choice([1, 1, 2])
+    everywhere = rng.choice([0.0, 0.1, 0.5, 1.0]) if version == 2 else 0.0
+    lines += fact_lines(rng, points, universals, names, everywhere) + [[b"end"]]
     plain = rng.random() < 0.5
-    out = [spelled(rng, [b"nll-facts", 1], plain)]
+    out = [spelled(rng, [b"nll-facts", version], plain)]
     skipped = [b"", b" \t", b"\r", b"#", b"# next 1 2", b" \t# \xc3\xa9 \xf0\x9f\xa6\x80", b"#\x00"]
     for tokens in lines:
         if not plain and rng.random() < 0.1:
@@ -403,7 +441,7 @@ def change_bytes(rng, text):
 def change_token(rng, text):
     """Puts another number, name or keyword in the place of one."""
     pattern, pieces = rng.choice([
-        (rb"\b\d+\b", NUMBERS + [b"%d" % rng.randrange(20)]),
+        (rb"\b\d+\b", NUMBERS + [b"%d" % rng.randrange(20), b"all"]),
         (rb"'\w+", [b"'" + name for name in NAMES + [b"static", b"z"]]),
         (rb"\b[a-z]+\b", KEYWORDS),
     ])
@@ -418,7 +456,8 @@ def change_token(rng, text):
 WRONG = [b"constraint 'z '1 999", b"next 99 99 ->", b"universal 'static", b"region 'static",
          b"outlives 'z 'static", b"base 'z 1048576", b"points 0", b"end", b"end end",
          b"# \xff", b"next 0", b"next 01 2", b"region 'a 'b", b"= & ( ) < > , : . * + ?",
-         b"- >", b"return -> 0", b"''", b"'", b"return 999 \xff"]
+         b"constraint 'static 'static all", b"constraint 'z 'static all", b"base 'static all", b"return all",
+         b"constraint 'static 'static 'all", b"- >", b"return -> 0", b"''", b"'", b"return 999 \xff"]
 
 
 def change_lines(rng, text, wrong):
@@ -500,6 +539,11 @@ def constraint_limits():
     yield "constraints_at_limit", head + lines + b"constraint '1 '1 9\nend\n", "ok"
     yield "constraints_past_limit", (head + lines + b"constraint '1 'static 0\nend\n"
                                      ), "line 1048580: limit constraints"
+    head = head.replace(b"nll-facts 1", b"nll-facts 2")
+    every = b"constraint '1 '1 all\n"
+    yield "all_points_past_limit", head + lines + every + b"end\n", "line 1048580: limit constraints"
+    fewer = lines[:lines.index(b"constraint '1 '1 1048575")]
+    yield "all_points_at_limit", head + every + fewer + every + b"constraint '1 '1 9\nend\n", "ok"
 
 
 def size_limits():

@@ -23,11 +23,12 @@ COMMANDS = ("read", "problem", "values", "check", "body")
 
 
 def said_in(text):
-    """What a text says, as one of the two formats; raises `Refused`."""
+    """What a text says, as one of the two formats in one of their versions; raises `Refused`."""
     first = reference_text.lines_of(text)[0] if len(text) <= reference_text.LIMIT_TEXT else b""
-    for version in Mir.VERSIONS:
-        if reference_text.is_header(first, Mir.HEADER, version):
-            return reference_text.read(text, Mir(version))
+    for said in (Mir, Facts):
+        for version in said.VERSIONS:
+            if reference_text.is_header(first, said.HEADER, version):
+                return reference_text.read(text, said(version))
     return reference_text.read(text, Facts())
 
 

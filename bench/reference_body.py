@@ -6,6 +6,7 @@ import reference_grammar as grammar
 import reference_mir as mir
 import reference_text as text
 import reference_types as types
+from reference_solve import ALL
 
 
 def operands_of(form):
@@ -148,6 +149,7 @@ class Body:
         """The constraints as a set; raises where they are too many."""
         found = {(a, b, q) for p in range(self.points) for (a, b) in self.asks(self.form(p))
                  for q in self.successors(p)}
+        found |= {(a, b, ALL) for a, b in self.said.asserts}
         if len(found) > text.LIMIT_CONSTRAINTS:
             raise text.Refused("nllc: limit constraints")
         return found

@@ -1,9 +1,11 @@
-"""A slow reader of facts texts (version 1), written straight from the definitions."""
+"""A slow reader of facts texts (versions 1 and 2), written straight from the definitions."""
 
 import reference_text as text
+from reference_solve import ALL
 from reference_text import number_of, tokens_of
 
-# For each form its group and what stands behind the keyword: regions (r) and numbers (n).
+# For each form its group and what stands behind the keyword: regions (r), numbers (n) and a place (p), which is
+# a number or, in version 2, `all`.
 FORMS = {
     b"points": (1, "n"),
     b"universal": (2, "r"),
@@ -12,7 +14,7 @@ FORMS = {
     b"next": (5, "nn"),
     b"return": (5, "n"),
     b"base": (5, "rn"),
-    b"constraint": (5, "rrn"),
+    b"constraint": (5, "rrp"),
     b"end": (6, ""),
 }
 
@@ -21,9 +23,10 @@ class Facts:
     """What the lines so far said."""
 
     HEADER = b"nll-facts"
-    version = b"1"
+    VERSIONS = (b"1", b"2")
 
-    def __init__(self):
+    def __init__(self, version=b"1"):
+        self.version = version
         self.reached = 0
         self.points = 0
         self.universals = [b"static"]
@@ -58,6 +61,8 @@ class Facts:
         for (token, name), want in zip(tokens[1:], wanted):
             if want == "r":
                 arguments.append(name if token == "region" else None)
+            elif want == "p" and self.version == b"2" and (token, name) == ("word", b"all"):
+                arguments.append(ALL)
             else:
                 arguments.append(number_of(name) if token == "word" else None)
         return None if None in arguments else (keyword, arguments)
@@ -120,7 +125,8 @@ class Facts:
     def faults_constraint(self, kinds, a, b, p):
         if a not in self.names() or b not in self.names():
             kinds.add("unknown")
-        self.faults_return(kinds, p)
+        if p != ALL:
+            self.faults_return(kinds, p)
         if len(self.constraints | {(a, b, p)}) > text.LIMIT_CONSTRAINTS:
             kinds.add("limit constraints")
 

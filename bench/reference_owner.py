@@ -7,7 +7,7 @@ and that nothing that is called for is lacking at the end of a turn.
 
 from collections import namedtuple
 
-from reference_solve import base_values, reach_by, steps_of
+from reference_solve import asked_by, base_values, steps_of
 
 Growth = namedtuple("Growth", "region element rank")
 
@@ -56,7 +56,7 @@ class Owner:
         self.received = [[] for _ in range(ground.owners)]
         self.clock = 0
         self.loaded = False
-        # For each constraint how many elements its sub-region had, and what paths reached then.
+        # For each constraint how many elements its sub-region had, and what it asked for then.
         self.walked = {}
         self.order = order(self)
 
@@ -68,7 +68,7 @@ class Owner:
         inside = self.has[constraint[1]]
         count, found = self.walked.get(constraint, (None, None))
         if count != len(inside):
-            found = reach_by(self.ground.steps, constraint[2], inside)
+            found = asked_by(self.ground.steps, constraint[2], inside)
             self.walked[constraint] = len(inside), found
         return found
 

@@ -1,5 +1,8 @@
 """Least values and faults of a problem, straight from the definitions."""
 
+# Where a constraint holds at all points this stands in place of a point. It is below each point.
+ALL = -1
+
 
 def step(problem, e):
     """The elements that a step from e leads to; the end of universal i is `points + i`."""
@@ -30,6 +33,11 @@ def reach_by(steps, at, inside):
     return reached
 
 
+def asked_by(steps, at, inside):
+    """What a constraint asks for: what paths from its point reach inside a set, or all of the set."""
+    return set(inside) if at == ALL else reach_by(steps, at, inside)
+
+
 def base_values(problem):
     """The values of just the base elements."""
     values = {name: set() for name in problem.names()}
@@ -47,7 +55,7 @@ def solve(problem):
     while True:
         before = sum(len(value) for value in values.values())
         for a, b, p in problem.constraints:
-            values[a] |= reach_by(steps, p, values[b])
+            values[a] |= asked_by(steps, p, values[b])
         if sum(len(value) for value in values.values()) == before:
             return values
 

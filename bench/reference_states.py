@@ -13,12 +13,14 @@ import sys
 import reference
 import reference_text
 from reference_body import Body
+from reference_solve import ALL
 from reference_world import Asked, World, bytes_of, events_of
 
 
 def problem_lines(problem):
     """The facts text of the problem of a body, with the names of its points as remark lines."""
-    yield b"nll-facts 1"
+    constraints = sorted(problem.constraints)
+    yield b"nll-facts 2" if any(at == ALL for _, _, at in constraints) else b"nll-facts 1"
     yield b"points %d" % problem.points
     yield from (b"# point %d: %s" % (p, problem.label(p)) for p in range(problem.points))
     yield from (b"universal '%s" % name for name in problem.universals[1:])
@@ -27,7 +29,8 @@ def problem_lines(problem):
     yield from (b"next %d %d" % edge for edge in sorted(problem.edges))
     yield from (b"return %d" % p for p in sorted(problem.returns))
     yield from (b"base '%s %d" % base for base in sorted(problem.bases))
-    yield from (b"constraint '%s '%s %d" % constraint for constraint in sorted(problem.constraints))
+    yield from (b"constraint '%s '%s %s" % (sup, sub, b"all" if at == ALL else b"%d" % at)
+                for sup, sub, at in constraints)
     yield b"end"
 
 

@@ -41,6 +41,8 @@ class Small:
             pair = rng.choice(self.universals), rng.choice(self.universals)
             self.lines.append(b"outlives '%s '%s" % pair)
         self.lines += [b"region '" + name for name in self.regions[len(self.universals):]]
+        for _ in range(rng.choice([0, 0, 1, 2, 3]) if self.version == b"2" else 0):
+            self.lines.append(b"assert '%s : '%s" % (rng.choice(self.regions), rng.choice(self.regions)))
         count = rng.choice([3, 4, 5] if self.only_drops else [0, 1, 2, 2, 3, 4])
         for name in rng.sample(STRUCTS, k=count):
             self.struct(name)
@@ -310,7 +312,7 @@ def small(rng, version=None):
 
 PIECES = [b"const", b"copy", b"move", b"mut", b"make", b"call", b"where", b"unwind", b"drop",
           b"end", b"block", b"blocks", b"goto", b"switch", b"return", b"stop", b"nop", b"read",
-          b"live", b"dead", b"let", b"struct", b"region", b"universal", b"outlives", b"int",
+          b"live", b"dead", b"let", b"struct", b"region", b"universal", b"outlives", b"assert", b"int",
           b"_0", b"_1", b"_9", b"_01", b"_", b"bb0", b"bb1", b"bb9", b"bb", b"bb00", b"0", b"1",
           b"9", b"01", b"1_0", b"999999999", b"1000000000", b"W", b"T", b"Z", b"w", b"'static",
           b"'z", b"->", b"()", b"(int)", b"<", b">", b"= ?", b"fn", b"fn() -> int", b"fn(int) ->",
@@ -319,6 +321,7 @@ PIECES += [bytes([sign]) for sign in b"=&()<>,:.*+?-"]
 
 WRONG = [b"_9 = copy _8.*", b"read _0.7", b"drop _9 -> bb99", b"goto bb999999999", b"end",
          b"end end", b"universal 'static", b"region 'static", b"outlives 'z 'static", b"blocks 0",
+         b"assert 'static : 'static", b"assert 'z : 'static", b"assert 'static 'static", b"assert 'static :",
          b"blocks 1", b"block bb0", b"block bb9", b"let _0: int", b"let _9: Z<'z>", b"struct W ()",
          b"struct Z<'static +, T +, T => (T<int>, Z, 'z)", b"struct Z<T +> (T, &'static int)",
          b"# \xff",

@@ -121,6 +121,9 @@ SINK = FUNCTION.replace(b"let _0", b"struct F<'x -, T + > (fn(&'x int) -> T)\nle
     b"fn(&'1 int) -> &'2 int", b"F<'1, &'2 int>").replace(
     b"fn(&'3 int) -> &'4 int", b"F<'3, &'4 int>")
 
+# Of version 2: '3 is to hold, at all points, what '1 holds.
+ASSERTED = INVARIANT.replace(b"mir 1", b"mir 2").replace(b"let _0", b"assert '3 : '1\nlet _0")
+
 # A text in which each form of line and each rule of the grammar stands.
 EVERY_FORM = b"""nll-mir 1
 # every form \xc3\xa9
@@ -168,7 +171,9 @@ WORKED = {
     "two_universals": TWO_UNIVERSALS,
     "call": CALL,
     "every_form": EVERY_FORM,
-    "every_form_of_version_2": EVERY_FORM.replace(b"mir 1", b"mir 2"),
+    "every_form_of_version_2": EVERY_FORM.replace(b"mir 1", b"mir 2").replace(
+        b"struct N", b"assert 'r : 's\nassert 'u : 'u\nstruct N"),
+    "asserted": ASSERTED,
     "function": FUNCTION,
     "taker": TAKER,
     "sink": SINK,
@@ -221,12 +226,21 @@ ANSWERED = [
      b"_0.*=&'a _0.*.*\nreturn\nend", ["ok"], 0),
     ("every_form", "check", EVERY_FORM, ["ok"], 0),
     ("every_form_of_version_2", "check", WORKED["every_form_of_version_2"], ["ok"], 0),
+    ("asserted", "values", ASSERTED,
+     [static(*THREE), "'1: bb0/0 bb0/1", "'2: bb0/0 bb0/1", "'3: bb0/0 bb0/1", "'4: bb0/1"], 0),
+    ("asserted_twice", "check", ASSERTED.replace(b"assert", b"assert '3 : '1\nassert"), ["ok"], 0),
     ("function", "values", FUNCTION,
      [static(*THREE), "'1: bb0/0", "'2: bb0/0 bb0/1", "'3: bb0/1", "'4: bb0/1"], 0),
 ]
 
 # A name, the text, the refusal.
 REFUSED = [
+    ("assert_in_version_1", ASSERTED.replace(b"mir 2", b"mir 1"), "line 6: syntax"),
+    ("assert_of_unknown", ASSERTED.replace(b"'3 :", b"'z :"), "line 6: unknown"),
+    ("assert_before_region", ASSERTED.replace(b"region '4\nassert '3 : '1", b"assert '3 : '1\nregion '4"),
+     "line 6: syntax"),
+    ("assert_behind_struct", ASSERTED.replace(b"assert", b"struct N ()\nassert"), "line 7: syntax"),
+    ("assert_without_colon", ASSERTED.replace(b"'3 :", b"'3"), "line 6: syntax"),
     ("cut_behind_a_line", b"".join(DROP.splitlines(True)[:8]), "line 8: end"),
     ("cut_in_a_type", DROP[:DROP.index(b"<'w>")], "line 5: shape"),
     ("cut_in_a_block", DROP[:DROP.index(b"bb1\nblock")] + b"bb", "line 9: syntax"),

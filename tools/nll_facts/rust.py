@@ -46,7 +46,7 @@ def main(words: Sequence[str]) -> int:
 def read_words(words: Sequence[str]) -> argparse.Namespace:
     own, options = split_words(words)
     parser = argparse.ArgumentParser(
-        prog="nllc.sh rust", usage="nllc.sh rust FILE.rs [FUNCTION] [-o FOLDER] [--explain] [--open] "
+        prog="nllc.sh rust", usage="nllc.sh rust FILE.rs [FUNCTION] [-o FOLDER] [--explain] [--all-points] [--open] "
         "[--edition E] [-- OPTIONS OF RUSTC]",
         description="Says why the borrow checker refuses the functions of a Rust file: lifetimes that "
         "would have to outlive others, and loans that something goes against while they are in force. "
@@ -59,6 +59,9 @@ def read_words(words: Sequence[str]) -> argparse.Namespace:
                         help=f"where texts and pages go; without it {FOLDER}/NAME")
     parser.add_argument("--explain", action="store_true",
                         help="what rustc says, and how each fault comes about, step by step")
+    parser.add_argument("--all-points", dest="everywhere", action="store_true",
+                        help="beside each answer the one where every constraint holds at all points, as "
+                             "rustc's own solver takes them; the status is that of the first")
     parser.add_argument("--open", action="store_true", help="open the page in the browser")
     parser.add_argument("--edition", default="2021", help="of the language; 2021")
     asked = parser.parse_args(own)
@@ -72,7 +75,7 @@ def answer_file(asked: argparse.Namespace) -> int:
         show(checked.errors)
     paths = write_all(folder_of(asked), checked.problems)
     make_ready()
-    answers = answer_all(paths, asked.explain)
+    answers = answer_all(paths, asked.explain, asked.everywhere)
     tell_all(checked, answers)
     status = tell_unanswered(asked.file, checked.unanswered)
     made = [os.path.basename(answer.said.get("page", "")) for answer in answers]
@@ -84,14 +87,14 @@ def answer_file(asked: argparse.Namespace) -> int:
     return max(status, *(answer.status for answer in answers))
 
 
-def answer_all(paths: list[str], in_full: bool) -> list[Answer]:
+def answer_all(paths: list[str], in_full: bool, everywhere: bool = False) -> list[Answer]:
     """Has all texts answered, side by side, with a bar where somebody looks."""
     if len(paths) == 1:
-        return [answer_text(paths[0], in_full)]
+        return [answer_text(paths[0], in_full, everywhere)]
     bar = Bar(len(paths))
     answers = []
     with ProcessPoolExecutor(initializer=keep_silent) as pool, Progress(bar.words):
-        for answer in pool.map(partial(answer_text, in_full=in_full), paths):
+        for answer in pool.map(partial(answer_text, in_full=in_full, everywhere=everywhere), paths):
             answers.append(answer)
             bar.step(answer.count())
     return answers
@@ -103,10 +106,10 @@ def keep_silent() -> None:
     sys.stderr = open(os.devnull, "w", encoding="utf-8")
 
 
-def answer_text(path: str, in_full: bool) -> Answer:
+def answer_text(path: str, in_full: bool, everywhere: bool = False) -> Answer:
     """Has `nllc` answer a text and its page made, and what is to be told of the function."""
     try:
-        said = answered(path, in_full)
+        said = answered(path, in_full, everywhere)
     except Unanswered as refusal:
         return Answer(refusal.status, str(refusal))
     return Answer(1 if said["faults"] or said["loans"] else 0, said=said)
@@ -163,7 +166,7 @@ def told(problem: Problem, said: dict[str, Any], places: set[tuple],
     Of a fault whose column rustc doesn't name `places` has the line and the code.
     An error of rustc that is of a closure and of the function around it is shown once.
     """
-    lines = [*said["lines"], *said["explained"]]
+    lines = [*said["lines"], *said["explained"], *said["everywhere"]]
     if said["asked_to_explain"]:
         lines += [f"needs of the function around it that {need}" for need in said["needs"]]
     for line, column, words, why in said["differences"]:

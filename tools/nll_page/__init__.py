@@ -16,6 +16,7 @@ The values are those that `nllc` prints. Nothing here computes them, and nothing
     loans       which of them something goes against, and why they are in force
     blame       which constraint is named            differences  where rustc says something else
     telling     faults in two lines                  explaining   and step by step
+    both        two answers side by side: constraints from points on, and at all points
     loan_list   the loans of a page                  snippets     what stands in the source
     streams     any locale, and full disks
     mir_text    what a MIR text says             texts       the command for texts of both kinds

@@ -10,6 +10,7 @@ from typing import NamedTuple, Optional
 
 from . import words
 from .beside import Place
+from .facts import ALL
 
 RANKS = {"return": 0, "object": 1, "generic": 3, "predicate": 4, "opaque": 4, "step": 5}
 INTERESTING = 2
@@ -27,11 +28,12 @@ class Blame(NamedTuple):
 
 
 def reasons(facts, constraint):
-    """Why the constraint is asked: at the statements before its point, or everywhere."""
+    """Why the constraint is asked: at the statements before its point, or everywhere; of one at all points
+    each reason of its regions."""
     asked = facts.remarks.beside.asked
     points = [None, *words.origins(facts, constraint)]
     found = asked.get((facts.names[constraint.sup], facts.names[constraint.sub]), ())
-    return [Blame(one.place, one.word) for one in found if one.point in points]
+    return [Blame(one.place, one.word) for one in found if constraint.at == ALL or one.point in points]
 
 
 def of_step(facts, step):

@@ -1,8 +1,8 @@
 """How an end came into the value of a region: a shortest chain of constraints and walks.
 
 A region x that isn't b holds the end of b because of a constraint (x: y) @ P such that a walk
-inside y leads from P to a return point, and y holds the end too; and so on, until y is b, which
-holds its end from the start. The chain goes from b to x. Of all chains it has the fewest
+inside y leads from P to a return point, and y holds the end too; or because of a constraint
+(x: y) @ all, where y holds the end; and so on, until y is b, which holds its end from the start. The chain goes from b to x. Of all chains it has the fewest
 constraints, and of those the fewest points.
 
 Whether a region holds an element is asked of the values alone.
@@ -12,11 +12,12 @@ import heapq
 from collections import deque
 from typing import NamedTuple
 
-from .facts import Constraint
+from .facts import ALL, Constraint
 
 
 class Step(NamedTuple):
-    """A constraint, and a shortest walk inside its smaller region from its point to a return point.
+    """A constraint, and a shortest walk inside its smaller region from its point to a return point;
+    no walk where it holds at all points.
     """
 
     constraint: Constraint
@@ -59,14 +60,20 @@ def search(facts, values, wanted, universal):
             continue
         onward = ways_to(facts, values.set_of(sub), facts.returns)
         for constraint in by_sub.get(sub, ()):
+            is_everywhere = constraint.at == ALL
             walk_points = length(onward, constraint.at)
             cost = (steps + 1, points + walk_points)
             so_far = best.get(constraint.sup, (cost[0] + 1,))
-            if walk_points and values.has(constraint.sup, end) and cost < so_far:
+            if (is_everywhere or walk_points) and values.has(constraint.sup, end) and cost < so_far:
                 best[constraint.sup] = cost
-                came_by[constraint.sup] = Step(constraint, walk(onward, constraint.at))
+                came_by[constraint.sup] = step_by(constraint, onward)
                 heapq.heappush(heap, (*cost, constraint.sup))
     return came_by
+
+
+def step_by(constraint, onward):
+    """The step of a constraint, by the ways from its points."""
+    return Step(constraint, [] if constraint.at == ALL else walk(onward, constraint.at))
 
 
 def backwards(came_by, region, universal):
@@ -109,9 +116,7 @@ def check(facts, values, region, universal, steps):
     holder = universal
     for number, (constraint, points) in enumerate(steps, 1):
         right = (constraint in facts.stated and constraint.sub == holder
-                 and points[0] == constraint.at
-                 and all(q in facts.successors[p] for p, q in zip(points, points[1:]))
-                 and points[-1] in facts.returns
+                 and is_way(facts, constraint, points)
                  and all(values.has(constraint.sub, e) for e in [*points, end])
                  and all(values.has(constraint.sup, e) for e in [*points, end]))
         if not right:
@@ -119,3 +124,11 @@ def check(facts, values, region, universal, steps):
         holder = constraint.sup
     if holder != region:
         raise WrongValues("the chain doesn't end where the fault is")
+
+
+def is_way(facts, constraint, points):
+    """Whether these are the points of a walk from the constraint's point to a return point, or none at all."""
+    if constraint.at == ALL:
+        return not points
+    return (points[:1] == [constraint.at] and points[-1] in facts.returns
+            and all(q in facts.successors[p] for p, q in zip(points, points[1:])))

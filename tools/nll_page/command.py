@@ -6,7 +6,7 @@ import signal
 import sys
 import tempfile
 
-from . import chains, differences, explaining, faults, loans, nllc, source, telling, words
+from . import both, chains, differences, explaining, faults, loans, nllc, source, telling, words
 from .escaping import visible
 from .facts import is_facts_text, read_facts
 from .names import function_words
@@ -92,7 +92,11 @@ def beside(facts_path):
 
 
 def content_of(asked):
-    text = read_bytes(asked.facts)
+    return content_from(read_bytes(asked.facts), asked)
+
+
+def content_from(text, asked):
+    """The same of the bytes of a text; `asked` says where they are from."""
     if not is_facts_text(text):
         read_facts(text, asked.facts)  # refuses it
     told, standing = None, nllc.UNKNOWN
@@ -189,9 +193,16 @@ def tell(line):
     print(visible(line))
 
 
-def answered(facts_path, in_full):
-    """Writes the page of a text beside it; gives what `nllc.sh rust` tells of the function."""
-    content = content_of(argparse.Namespace(facts=facts_path, source=None, values=None))
+def answered(facts_path, in_full, everywhere=False):
+    """Writes the page of a text beside it; gives what `nllc.sh rust` tells of the function.
+
+    If it is asked for, the page has the answer beside it where each constraint holds at all points.
+    """
+    asked = argparse.Namespace(facts=facts_path, source=None, values=None)
+    text = read_bytes(facts_path)
+    content = content_from(text, asked)
+    if everywhere:
+        content = content._replace(everywhere=content_from(both.at_all_points(text), asked))
     out = beside(facts_path)
     write(out, page(content))
     return answer(out, content, in_full)
@@ -212,6 +223,7 @@ def answer(out, content, in_full):
         "differences": [[line, column, visible(said), visible(words.plain(why))]
                         for line, column, said, why in differences.differences(content)],
         "loans": len(content.loans),
+        "everywhere": [visible(line) for line in both.lines(content)] if content.everywhere else [],
     }
 
 

@@ -23,8 +23,9 @@ def loan_lines(facts, fault):
     for step in cause.steps:
         sup, sub = words.tick(facts, step.constraint.sup), words.tick(facts, step.constraint.sub)
         asked = words.reason(facts, step.constraint) or ["By the text, "]
-        yield "    " + words.plain([*asked, sup, " must outlive ", sub, ", inside which ",
-                                    words.walk_text(step.walk), " leads there"])
+        way = [", inside which ", words.walk_text(step.walk), " leads there"] if step.walk else \
+            [", which holds it"]
+        yield "    " + words.plain([*asked, sup, " must outlive ", sub, *way])
 
 
 def first_line(facts, cause, point):

@@ -1,4 +1,4 @@
-"""Reads a facts text, version 1 (docs/FORMATS.md).
+"""Reads a facts text, version 1 or 2 (docs/FORMATS.md).
 
 `nllc` is the judge of texts. This reader follows those that `nllc` accepts; it stops at a line that
 it can't follow, but doesn't look for every fault that a line can have.
@@ -16,13 +16,18 @@ from .remarks import Remarks, is_remark
 TOKEN = re.compile(r"'[A-Za-z0-9_]+|[A-Za-z0-9_]+")
 NUMBER = re.compile(r"0|[1-9][0-9]{0,8}")
 
-# What stands behind each keyword: names of regions (r) and numbers (n).
+# What stands behind each keyword: names of regions (r), numbers (n), and a place (p): a number or `all`.
 FORMS = {"points": "n", "universal": "r", "outlives": "rr", "region": "r", "next": "nn",
-         "return": "n", "base": "rn", "constraint": "rrn", "end": ""}
+         "return": "n", "base": "rn", "constraint": "rrp", "end": ""}
+
+VERSIONS = ([b"nll-facts", b"1"], [b"nll-facts", b"2"])
+
+# Stands in place of a point where a constraint holds at all points; it is below each point.
+ALL = -1
 
 
 class Constraint(NamedTuple):
-    """`(sup: sub) @ at`: sup holds all that is reached from the point inside sub."""
+    """`(sup: sub) @ at`: sup holds all that is reached from the point inside sub, or all of sub."""
 
     sup: int
     sub: int
@@ -68,8 +73,8 @@ class Facts:
 
     @cached_property
     def spread(self):
-        """For each pair of regions with constraints the number of their points."""
-        return Counter((c.sup, c.sub) for c in self.constraints)
+        """For each pair of regions with constraints at points the number of these."""
+        return Counter((c.sup, c.sub) for c in self.constraints if c.at != ALL)
 
     def end_of(self, universal):
         """The element that stands for what comes after the return, as long as this region lasts."""
@@ -81,6 +86,10 @@ class Facts:
     def point_name(self, point):
         return self.point_names.get(point, str(point))
 
+    def place_name(self, at):
+        """Where a constraint holds: the name of a point, or `all`."""
+        return "all" if at == ALL else self.point_name(at)
+
 
 def grouped(pairs):
     table = {}
@@ -90,16 +99,16 @@ def grouped(pairs):
 
 
 def is_facts_text(text):
-    """Whether the first line is the header of a facts text, version 1."""
-    return text.split(b"\n", 1)[0].split() == [b"nll-facts", b"1"]
+    """Whether the first line is the header of a facts text, version 1 or 2."""
+    return text.split(b"\n", 1)[0].split() in VERSIONS
 
 
 def read_facts(text, path):
     """The problem that the bytes of a text say."""
     if not is_facts_text(text):
-        raise Refusal(f"{path} isn't a facts text: its first line isn't `nll-facts 1`; "
+        raise Refusal(f"{path} isn't a facts text: its first line is neither `nll-facts 1` nor `nll-facts 2`; "
                       f"tools/nll-facts FILE.rs makes such texts of Rust files")
-    reader = Reader(path)
+    reader = Reader(path, text.split(b"\n", 1)[0].split() == VERSIONS[1])
     for number, line in enumerate(decoded(text, path).split("\n"), 1):
         if number > 1:
             reader.read(number, line)
@@ -119,8 +128,9 @@ def decoded(text, path):
 class Reader:
     """Adds line after line to the facts."""
 
-    def __init__(self, path):
+    def __init__(self, path, may_be_everywhere):
         self.path = path
+        self.may_be_everywhere = may_be_everywhere
         self.facts = Facts()
         self.numbers = {"static": 0}
         self.seen = set()
@@ -155,14 +165,16 @@ class Reader:
         """The name of a region, or a number."""
         if kind == "r" and word.startswith("'"):
             return word[1:]
-        if kind == "n" and NUMBER.fullmatch(word):
+        if kind == "p" and word == "all" and self.may_be_everywhere:
+            return ALL
+        if kind in "np" and NUMBER.fullmatch(word):
             return int(word)
         return self.stop(number)
 
     def resolved(self, number, form, arguments):
         """The same with regions by number."""
         for kind, argument in zip(form, arguments):
-            if kind == "n":
+            if kind in "np":
                 yield argument
             elif argument in self.numbers:
                 yield self.numbers[argument]
@@ -209,7 +221,8 @@ class Reader:
         self.facts.bases[region].add(point)
 
     def add_constraint(self, number, sup, sub, at):
-        self.point(number, at)
+        if at != ALL:
+            self.point(number, at)
         self.facts.constraints.append(Constraint(sup, sub, at))
 
     def add_end(self, number):

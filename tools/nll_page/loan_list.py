@@ -3,6 +3,7 @@
 from . import telling, words
 from .chain_list import step_part
 from .escaping import sentence, text
+from .facts import ALL
 
 
 def loan_list(content):
@@ -40,9 +41,10 @@ def step_item(facts, step, point):
     sup, sub, at = step.constraint
     walk = ",".join(map(str, step.walk))
     head = sentence([words.tick(facts, sup), f" holds point {point} too"])
-    why = [*words.reason(facts, step.constraint), words.tick(facts, sup),
-           " must hold all that is reached inside ", words.tick(facts, sub), f" from point {at} on, by ",
-           words.walk_text(step.walk), "."]
+    why = [*words.reason(facts, step.constraint), words.tick(facts, sup)]
+    why += [" must hold all that ", words.tick(facts, sub), " holds."] if at == ALL else [
+        " must hold all that is reached inside ", words.tick(facts, sub), f" from point {at} on, by ",
+        words.walk_text(step.walk), "."]
     behind = f'<span class="what">{text(words.region_words(facts, sup))}</span>'
     return step_part(f'data-r="{sub}" data-walk="{walk}"', head, behind, sentence(why))
 

@@ -9,7 +9,7 @@ from typing import NamedTuple, Optional
 
 from . import blame, chains
 from .beside import Against, Loan, Place
-from .facts import grouped
+from .facts import ALL, grouped
 
 ENDING = ("ends", "drops", "leaves", "destroys")
 BORROWING = ("mut", "unique", "late", "shared")
@@ -153,8 +153,8 @@ def why(facts, values, region, point):
             sub = constraint.sub
             if sub not in came_by and values.has(sub, point):
                 onward = chains.ways_to(facts, values.set_of(sub), [point])
-                if constraint.at in onward:
-                    came_by[sub] = chains.Step(constraint, chains.walk(onward, constraint.at))
+                if constraint.at == ALL or constraint.at in onward:
+                    came_by[sub] = chains.step_by(constraint, onward)
                     todo.append(sub)
     ends = [element - facts.points for element in values.elements(region)
             if element >= facts.points]

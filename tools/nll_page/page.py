@@ -5,6 +5,7 @@ import re
 from typing import NamedTuple, Optional
 
 from . import drawing, layout, lines, words
+from .both import both
 from .escaping import script_data, text, visible
 from .fault_list import fault_list
 from .index import row_mark, row_of
@@ -50,6 +51,7 @@ class Content(NamedTuple):
     loans: list = []    # those that something goes against
     needs: list = []    # pairs that a closure needs of the function around it
     problem: str = ""   # a sentence on where the problem comes from, where the text doesn't say it itself
+    everywhere: Optional["Content"] = None  # the answer where each constraint holds at all points, if it's asked for
 
 
 def page(content):
@@ -71,7 +73,7 @@ def page(content):
         "about": about(content),
         "verdict": verdict(content),
         "provenance": provenance(content),
-        "faults": fault_list(content) + loan_list(content),
+        "faults": fault_list(content) + loan_list(content) + both(content),
         "regions": region_list(content),
         "tabs": tabs(content),
         "source": source_list(content, is_large),

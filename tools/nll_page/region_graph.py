@@ -8,6 +8,7 @@ from typing import NamedTuple
 
 from . import layout, words
 from .escaping import text, visible
+from .facts import ALL
 
 LETTER = 6.65
 PAD = 8
@@ -38,7 +39,7 @@ def region_graph(facts):
 
 
 def pairs_of(facts):
-    """For each pair of different regions with constraints their points, ascending."""
+    """For each pair of different regions with constraints their points, ascending; all points stand first."""
     pairs = {}
     for sup, sub, at in facts.constraints:
         if sup != sub:
@@ -96,6 +97,8 @@ def reached(root, before, done):
 
 def place_words(facts, sup, sub, points):
     """Where the constraints of a pair arise, shortly and in full."""
+    if points[0] == ALL:
+        return "everywhere", "at all points"
     if len(points) == facts.points > 1:
         return "everywhere", "at every point"
     lines = set()

@@ -5,6 +5,9 @@ outside is never read as markup.
 """
 
 
+from .facts import ALL
+
+
 class Code(str):
     """A piece of a sentence that is code."""
 
@@ -64,6 +67,8 @@ def origins(facts, constraint):
     constraint's, behind all of which it stands.
     """
     sup, sub, at = constraint
+    if at == ALL:
+        return []
     spot = facts.remarks.point(at).spot()
     if spot and spot[2] == "mid":
         return [at]
@@ -123,6 +128,9 @@ def region_words(facts, region, most=90):
 def step_sentence(facts, step, universal):
     """Why this constraint, and the walk, bring the end to the larger region."""
     sup, sub, at = step.constraint.sup, step.constraint.sub, step.constraint.at
+    if at == ALL:
+        return [*reason(facts, step.constraint), tick(facts, sup), " must hold all that ", tick(facts, sub),
+                " holds, wherever that is, and so ", end(facts, universal), "."]
     return [*reason(facts, step.constraint), tick(facts, sup),
             " must hold all that is reached inside ",
             tick(facts, sub), f" from point {at} on. ", *walk_words(facts, step, universal),
@@ -135,9 +143,9 @@ def step_brief(facts, step):
     sup, sub = step.constraint.sup, step.constraint.sub
     what = region_words(facts, sup)
     asked = reason(facts, step.constraint)[:-1] or [f"From point {step.constraint.at} on"]
+    way = [", inside ", tick(facts, sub), f" by {walk_text(step.walk)}"] if step.walk else []
     return ["to ", tick(facts, sup), f", {what}: " if what else ": ",
-            asked[0][0].lower() + asked[0][1:],
-            *asked[1:], ", inside ", tick(facts, sub), f" by {walk_text(step.walk)}"]
+            asked[0][0].lower() + asked[0][1:], *asked[1:], *way]
 
 
 def reason(facts, constraint):
@@ -154,8 +162,8 @@ def reason(facts, constraint):
 
 
 def is_everywhere(facts, constraint):
-    """Whether the text has it at every point, so that no statement asks for it."""
-    return facts.points > 1 and facts.spread[constraint.sup, constraint.sub] == facts.points
+    """Whether the text has it at all points, or at every point, so that no statement asks for it."""
+    return constraint.at == ALL or facts.points > 1 and facts.spread[constraint.sup, constraint.sub] == facts.points
 
 
 def walk_words(facts, step, universal):

@@ -1,6 +1,7 @@
 """The list of events, and what is said of each one."""
 
 from nll_page.escaping import sentence, text
+from nll_page.facts import ALL
 from nll_page.words import Code, joined, tick
 
 from . import reasons, telling
@@ -86,8 +87,8 @@ def reading_words(content, reading):
     if not reading.reached:
         return [*named, "it asks for nothing yet, since walks begin at ", Code(facts.point_name(at)), ", which ",
                 tick(facts, sub), " lacks."]
-    reached = [*named, "inside ", tick(facts, sub), " walks reach ",
-               Code(telling.elements_name(facts, reading.reached))]
+    has = [tick(facts, sub), " has "] if at == ALL else ["inside ", tick(facts, sub), " walks reach "]
+    reached = [*named, *has, Code(telling.elements_name(facts, reading.reached))]
     stop = [" They stop at ", Code(facts.point_name(reading.hole)), ", which ", tick(facts, sub), " lacks."] \
         if reading.hole is not None else []
     if not reading.new:
@@ -132,9 +133,16 @@ def asked_words(content, owner, one):
     """The constraints that ask for a growth, each with its walk."""
     facts = content.facts
     asked = content.reasons(owner, one)
-    return [*joined([[Link(number), " asks for it, by the walk ", Code(telling.walk_name(facts, walk)),
-                      " inside ", tick(facts, facts.constraints[number].sub)]
+    return [*joined([[Link(number), *way_words(facts, facts.constraints[number], walk)]
                      for number, walk in asked]), "."]
+
+
+def way_words(facts, constraint, walk):
+    """By which walk a constraint asks for a growth, or that it asks for all that its smaller region has."""
+    sub = tick(facts, constraint.sub)
+    if constraint.at == ALL:
+        return [" asks for all that ", sub, " has"]
+    return [" asks for it, by the walk ", Code(telling.walk_name(facts, walk)), " inside ", sub]
 
 
 # Constraints

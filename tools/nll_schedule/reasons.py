@@ -1,11 +1,14 @@
 """Why an owner's region got an element, and what a growth that was received leads to.
 
 A region gets an element because it is a base element, or because of a constraint (a: b) @ P: a walk inside
-what the owner knew of b, by growths of lower ranks, leads from P to it.
+what the owner knew of b, by growths of lower ranks, leads from P to it. Of a constraint (a: b) @ all the walk
+is the element alone, where the owner knew it of b.
 """
 
 from collections import deque
 from typing import NamedTuple
+
+from nll_page.facts import ALL
 
 from .states import Broken
 
@@ -65,7 +68,9 @@ def steps(facts, element):
 
 
 def walks(facts, at, inside):
-    """For each element that is reached from a point inside a set the one before it."""
+    """For each element that is reached from a point inside a set the one before it; at all points each is."""
+    if at == ALL:
+        return dict.fromkeys(inside)
     before = {at: None} if at in inside else {}
     todo = deque(before)
     while todo:
@@ -102,6 +107,8 @@ def readings(facts, run, before, after, owner, growth):
 
 def hole(facts, at, inside, reached):
     """The first element behind those that are reached which isn't in the set; None where there is none."""
+    if at == ALL:
+        return None
     if at not in inside:
         return at
     return next((f for e in reached for f in steps(facts, e) if f not in inside and f < facts.points), None)

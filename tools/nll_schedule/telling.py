@@ -19,7 +19,7 @@ def growth(facts, one):
 
 def constraint_name(facts, number):
     sup, sub, at = facts.constraints[number]
-    return f"('{facts.names[sup]}: '{facts.names[sub]}) @ {facts.point_name(at)}"
+    return f"('{facts.names[sup]}: '{facts.names[sub]}) @ {facts.place_name(at)}"
 
 
 def words_of(event):

@@ -5,6 +5,7 @@ The tests that compare it with the slow reference stand in test_loans_golden.
 
 from collections import deque
 
+from nll_page.facts import ALL
 from nll_page.values import Values
 
 
@@ -35,8 +36,11 @@ def solve(facts):
     while todo:
         sub = todo.popleft()
         for sup, _, at in by_sub.get(sub, ()):
-            walk = reached(facts, values[sub] & points, at)
-            more = walk | (values[sub] & ~points if walk & returns else 0)
+            if at == ALL:
+                more = values[sub]
+            else:
+                walk = reached(facts, values[sub] & points, at)
+                more = walk | (values[sub] & ~points if walk & returns else 0)
             if more & ~values[sup]:
                 values[sup] |= more
                 todo.append(sup)

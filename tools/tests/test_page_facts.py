@@ -53,7 +53,7 @@ class Facts(unittest.TestCase):
             facts_of(1, "region 'x", "universal 'a")
 
     def test_no_facts_text(self):
-        for data in [b"", b"fn main() {}\n", b"nll-facts 2\npoints 1\nend\n", b"\xff\xfe\n"]:
+        for data in [b"", b"fn main() {}\n", b"nll-facts 3\npoints 1\nend\n", b"\xff\xfe\n"]:
             with self.subTest(data=data), self.assertRaisesRegex(Refusal,
                                                                  "isn't a facts "
                                                                  "text.*tools/nll-facts"):

@@ -53,6 +53,8 @@ pub struct Body<'t> {
     pub names: Names<'t>,
     pub universals: u32,
     pub outlives: Vec<Universals>,
+    /// The regions that are to hold, at all points, what others hold; some perhaps more than once.
+    pub asserts: Vec<(u32, u32)>,
     pub shapes: Shapes,
     pub variables: Vec<Typed>,
     /// The items of all types that are written in the body: regions by their numbers.

@@ -1,6 +1,6 @@
-//! The reader of facts texts, version 1: one pass over the bytes, no allocation for a line.
+//! The reader of facts texts, versions 1 and 2: one pass over the bytes, no allocation for a line.
 
-use crate::problem::{join, push_point, Constraint, Labels, Problem, Universals};
+use crate::problem::{join, push_point, Constraint, Labels, Problem, Universals, ALL};
 use crate::runs::Run;
 use crate::tables::{Edges, KeySet, Names};
 use crate::text::{
@@ -17,6 +17,8 @@ const END_GROUP: u8 = 6;
 
 /// What the lines up to here said.
 pub struct Facts<'t> {
+    /// Whether the text is of version 2, where constraints may hold at all points.
+    is_second: bool,
     reached: u8,
     points: u32,
     universals: u32,
@@ -34,6 +36,7 @@ impl<'t> Facts<'t> {
         let mut names = Names::default();
         names.declare(b"static");
         Facts {
+            is_second: false,
             reached: 0,
             points: 0,
             universals: 1,
@@ -152,12 +155,16 @@ impl<'t> Facts<'t> {
     }
 
     fn constraint_line(&mut self, cursor: &mut Cursor<'t>) -> Result<(), Kind> {
-        let (sup, sub, at) = (cursor.region()?, cursor.region()?, cursor.number()?);
+        let (sup, sub) = (cursor.region()?, cursor.region()?);
+        let everywhere = self.is_second && cursor.has_word(b"all");
+        let at = if everywhere { ALL } else { cursor.number()? };
         cursor.close()?;
         self.enter(FACTS_GROUP)?;
         let sup = self.names.number_of(sup).ok_or(Kind::Unknown)?;
         let sub = self.names.number_of(sub).ok_or(Kind::Unknown)?;
-        self.in_range(at)?;
+        if !everywhere {
+            self.in_range(at)?;
+        }
         let key = u64::from(sup) << 48 | u64::from(sub) << 32 | u64::from(at);
         if !self.known_constraints.insert(key) {
             return Ok(());
@@ -190,6 +197,11 @@ impl<'t> Facts<'t> {
 
 impl<'t> Format<'t> for Facts<'t> {
     const NAME: &'static [u8] = b"nll-facts";
+    const VERSIONS: &'static [&'static [u8]] = &[b"1", b"2"];
+
+    fn begin(&mut self, version: usize) {
+        self.is_second = version == 1;
+    }
 
     fn line(&mut self, cursor: &mut Cursor<'t>) -> Result<(), Kind> {
         match cursor.word() {

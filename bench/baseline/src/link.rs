@@ -5,27 +5,34 @@ use crate::runs::{enter, Run, Runs};
 use std::ops::Range;
 
 /// The constraints that let an own region hold what is reached inside another region. A walk goes on
-/// through all that is known of that region; an element that comes into it is looked at later.
+/// through all that is known of that region; an element that comes into it is looked at later. At all
+/// points what comes into it is what is reached.
 pub struct Link {
     pub sup: u32,
     /// Where the own region's value stands.
     pub slot: u32,
     first: u32,
     end: u32,
+    /// Whether one of them holds at all points.
+    everywhere: bool,
     /// Whether a return point is reached.
     returned: bool,
     reached: Runs,
 }
 
 impl Link {
-    pub fn new(sup: u32, slot: u32, places: Range<usize>) -> Link {
+    pub fn new(sup: u32, slot: u32, places: Range<usize>, everywhere: bool) -> Link {
         let (first, end) = (places.start as u32, places.end as u32);
-        Link { sup, slot, first, end, returned: false, reached: Runs::default() }
+        Link { sup, slot, first, end, everywhere, returned: false, reached: Runs::default() }
     }
 
     /// Goes on once a run is known of the region that is read. Puts the runs of what is newly reached
     /// into an empty list.
     pub fn resume(&mut self, ground: &Ground, known: &Runs, run: Run, found: &mut Vec<Run>) {
+        if self.everywhere {
+            self.reached.insert_new(run, found);
+            return;
+        }
         let points = ground.points();
         let mut returned = false;
         if run.first < points {

@@ -1,4 +1,4 @@
-//! A plain Rust program that reads facts and MIR texts (version 1) and answers as `nllc` does,
+//! A plain Rust program that reads facts and MIR texts and answers as `nllc` does,
 //! written by hand without any proof: the partner of `nllc` in measurements and in differential
 //! tests. Reading order: `main`, `text` (lines, tokens, which fault is told), `tables`, `facts`,
 //! `problem`, `solve`, `runs`, `report`; for MIR texts `shapes`, `body`, `mir`, `rules`; for owners `cut`,

@@ -19,11 +19,12 @@ const STRUCTS: usize = 1_024;
 const UNIVERSAL_GROUP: u8 = 1;
 const OUTLIVES_GROUP: u8 = 2;
 const REGION_GROUP: u8 = 3;
-const STRUCT_GROUP: u8 = 4;
-const LET_GROUP: u8 = 5;
-const BLOCKS_GROUP: u8 = 6;
-const BODY_GROUP: u8 = 7;
-const END_GROUP: u8 = 8;
+const ASSERT_GROUP: u8 = 4;
+const STRUCT_GROUP: u8 = 5;
+const LET_GROUP: u8 = 6;
+const BLOCKS_GROUP: u8 = 7;
+const BODY_GROUP: u8 = 8;
+const END_GROUP: u8 = 9;
 
 /// The parameters of the struct whose line is read, by name.
 #[derive(Default)]
@@ -37,7 +38,8 @@ struct Parameters<'t> {
 pub struct Reader<'t> {
     body: Body<'t>,
     struct_names: NameMap<'t>,
-    /// Whether the text is of version 2, which has types of functions and the sign `-`.
+    /// Whether the text is of version 2, which has types of functions, the sign `-` and `assert`
+    /// lines.
     is_second: bool,
     reached: u8,
     /// The number of the `blocks` line, and whether a terminator is owed.
@@ -59,6 +61,7 @@ impl<'t> Reader<'t> {
             names,
             universals: 1,
             outlives: vec![[0; 4]],
+            asserts: Vec::new(),
             shapes: Shapes::new(),
             variables: Vec::new(),
             items: Vec::new(),
@@ -160,6 +163,19 @@ impl<'t> Reader<'t> {
         let found = self.body.names.number_of(name);
         self.note_if(found.is_none(), Kind::Unknown);
         Ok(found.unwrap_or(0))
+    }
+
+    fn assert_line(&mut self, cursor: &mut Cursor<'t>) -> Result<(), Kind> {
+        if !self.is_second {
+            return Err(Kind::Syntax);
+        }
+        let sup = self.region(cursor)?;
+        cursor.sign(b':')?;
+        let sub = self.region(cursor)?;
+        cursor.close()?;
+        self.enter(ASSERT_GROUP)?;
+        self.body.asserts.push((sup, sub));
+        Ok(())
     }
 
     // Structs and variables
@@ -288,6 +304,7 @@ impl<'t> Reader<'t> {
             b"let" => self.let_line(cursor),
             b"region" => self.declaring_line(cursor, REGION_GROUP),
             b"struct" => self.struct_line(cursor),
+            b"assert" => self.assert_line(cursor),
             b"universal" => self.declaring_line(cursor, UNIVERSAL_GROUP),
             b"outlives" => self.outlives_line(cursor),
             b"blocks" => self.blocks_line(cursor),

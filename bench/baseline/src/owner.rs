@@ -2,6 +2,7 @@
 
 use crate::ground::Ground;
 use crate::link::Link;
+use crate::problem::ALL;
 use crate::runs::{Run, Runs};
 use std::collections::VecDeque;
 use std::mem::take;
@@ -88,7 +89,9 @@ impl<'g> Owner<'g> {
                 places.start += 1;
             }
             if sup != sub && self.owns(sup) {
-                self.links.push(Link::new(sup, self.slots[sup as usize], first..places.start));
+                let everywhere = self.ground.constraint(places.start - 1).at == ALL;
+                let slot = self.slots[sup as usize];
+                self.links.push(Link::new(sup, slot, first..places.start, everywhere));
             }
         }
     }

@@ -3,6 +3,9 @@
 use crate::runs::Run;
 use crate::tables::Lists;
 
+/// Stands in place of a point where a constraint holds at all points.
+pub const ALL: u32 = u32::MAX;
+
 /// `('sup: 'sub) @ at`.
 #[derive(Clone, Copy, PartialEq, Eq, PartialOrd, Ord)]
 pub struct Constraint {
@@ -32,7 +35,7 @@ pub struct Problem<'t> {
     /// For each region its base elements but those that universals have by themselves, by as few
     /// runs as can be, ascending.
     pub bases: Vec<Vec<Run>>,
-    /// Ascending by sub-region and point.
+    /// Ascending by sub-region and point; those at all points come last.
     pub constraints: Vec<Constraint>,
     /// For each universal those that an `outlives` line puts below it.
     pub outlives: Vec<Universals>,

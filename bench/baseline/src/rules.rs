@@ -2,7 +2,7 @@
 
 use crate::body::{Body, Call, Line, Make, CONST};
 use crate::known::{Known, Number};
-use crate::problem::{count, join, push_point, Constraint, Labels, Problem};
+use crate::problem::{count, join, push_point, Constraint, Labels, Problem, ALL};
 use crate::runs::Run;
 use crate::shapes::{Form, Source, Typed, STATIC_ITEM};
 use crate::tables::Lists;
@@ -272,6 +272,9 @@ impl Asking<'_, '_> {
     }
 }
 
+/// Stands in a key in place of a point for all points; no point has this number.
+const KEY_OF_ALL: u64 = 1 << 20;
+
 /// The keys, each once, where they aren't more than the limit.
 fn distinct(keys: &mut Vec<u64>) -> Option<()> {
     keys.sort_unstable();
@@ -287,23 +290,27 @@ fn constraints(body: &Body, successors: &Lists) -> Option<Vec<Constraint>> {
         pairs: Vec::new(),
         crossed: Vec::new(),
     };
-    let mut keys = Vec::new();
+    // A region, a point or `KEY_OF_ALL`, and a region.
+    let key = |at: u64, sup: u32, sub: u32| u64::from(sub) << 37 | at << 16 | u64::from(sup);
+    let mut keys: Vec<u64> =
+        body.asserts.iter().map(|&(sup, sub)| key(KEY_OF_ALL, sup, sub)).collect();
     for (p, line) in body.lines.iter().enumerate() {
         asking.ask(line);
         for &q in successors.of(p as u32) {
-            let at = u64::from(q) << 16;
-            let key = |&(sup, sub): &(u32, u32)| u64::from(sub) << 36 | at | u64::from(sup);
-            keys.extend(asking.pairs.iter().map(key));
+            keys.extend(asking.pairs.iter().map(|&(sup, sub)| key(u64::from(q), sup, sub)));
         }
         if keys.len() > 4 * CONSTRAINTS {
             distinct(&mut keys)?;
         }
     }
     distinct(&mut keys)?;
-    let constraint = |key: u64| Constraint {
-        sub: (key >> 36) as u32,
-        at: (key >> 16) as u32 & 0xF_FFFF,
-        sup: key as u32 & 0xFFFF,
+    let constraint = |key: u64| {
+        let at = key >> 16 & 0x1F_FFFF;
+        Constraint {
+            sub: (key >> 37) as u32,
+            at: if at == KEY_OF_ALL { ALL } else { at as u32 },
+            sup: key as u32 & 0xFFFF,
+        }
     };
     Some(keys.into_iter().map(constraint).collect())
 }

@@ -2,7 +2,7 @@
 //! whose value grew is visited. For each region that its constraints fill, the walks from their
 //! points are made anew, a stretch of a line of points at a time; no walk is kept.
 
-use crate::problem::{Constraint, Problem};
+use crate::problem::{Constraint, Problem, ALL};
 use crate::solve::order_of;
 
 /// The elements from the first to the last.
@@ -185,10 +185,15 @@ impl Walk {
         enter(lines, inside, point, &mut self.reached, &mut self.todo);
     }
 
-    /// Reaches what walks inside a set reach from the points of constraints, which ascend.
+    /// Reaches what walks inside a set reach from the points of constraints, which ascend; the whole
+    /// set where the last one holds at all points.
     fn reach(&mut self, lines: &Lines, sub: &Runs, pair: &[Constraint]) {
         let points = lines.ends.len() as u32;
         self.reached.0.clear();
+        if pair.last().is_some_and(|constraint| constraint.at == ALL) {
+            self.reached.0.extend_from_slice(&sub.0);
+            return;
+        }
         let mut place = 0;
         let mut near = 0;
         while place < pair.len() {

@@ -1,7 +1,7 @@
 //! The least values: each region has a bit row of elements, each pair of a sub-region and a point
 //! has the set of what paths reach from the point inside the region, kept under insertions.
 
-use crate::problem::{Constraint, Problem};
+use crate::problem::{Constraint, Problem, ALL};
 use crate::tables::Lists;
 
 /// A set of elements as a row of bits; a row without words is empty.
@@ -54,7 +54,8 @@ impl Iterator for Bits {
 /// Above so many words for all reached sets together none is kept, and paths are walked anew.
 const KEPT_WORDS: usize = 1 << 24;
 
-/// What paths from `at` reach inside one region, asked for by constraints of several regions.
+/// What paths from `at` reach inside one region, asked for by constraints of several regions. Where
+/// `at` is `ALL` nothing is kept: what comes into the region is passed on.
 struct Frontier {
     at: u32,
     /// Where its super-regions stand in the list of constraints.
@@ -193,6 +194,16 @@ impl<'p> Solver<'p> {
         let fresh = std::mem::take(&mut self.fresh[at]);
         let mut found = Vec::new();
         for index in self.starts[at]..self.starts[at + 1] {
+            if self.frontiers[index].at == ALL {
+                if begun {
+                    found.extend_from_slice(&fresh);
+                } else {
+                    found.extend(self.values[at].iter());
+                }
+                self.pass_on(index, region, &found);
+                found.clear();
+                continue;
+            }
             if !self.keeps {
                 self.frontiers[index].reached = std::mem::take(&mut self.spare);
             }

@@ -1,5 +1,5 @@
 -- A text of either format has at most one meaning, at most one fault, and never both.
-use Rattle.std.proofs.Common.{◌≡◌, ◌≢◌, ◌↔◌, ℕ, List, [], ◌∷◌, inl, inr, refl, sym, ap, ◌∙◌, subst, length, arith}
+use Rattle.std.proofs.Common.{◌≡◌, ◌≢◌, ◌↔◌, ℕ, List, inl, inr, refl, sym, ap, ◌∙◌, subst, length, arith}
 use Rattle.std.specs.Prelude.{codes}
 use Rattle.nll_problem.specs.Problem.{Problem, SameProblem}
 use Rattle.nll_problem.proofs.SameLemmas.{same_set_back, same_set_chain}
@@ -7,6 +7,7 @@ use Rattle.nll_reading.specs.Labels.{Labels}
 use Rattle.nll_reading.specs.Text.{IsHeader}
 use Rattle.nll_reading.specs.declared.error.TextKind.{TextKind}
 use Rattle.nll_facts.specs.FactsText.{facts, Means as IsFactsOf}
+use Rattle.nll_facts.specs.declared.version.Version.{Version}
 use Rattle.nll_facts.proofs.LawLemmas as facts_laws
 use Rattle.nll_body.specs.Bodies.{BodyText}
 use Rattle.nll_mir_text.specs.MirText.{IsMirHeader, Means as IsBodyOf}
@@ -21,8 +22,8 @@ use Rattle.nll_answer.proofs.MeaningLemmas.{same_head, header_of}
 -- ---- a text is of one format
 
 -- no line is the header of both formats
-two_headers : (line : List ℕ) → IsHeader facts line → IsMirHeader line → ⊥
-two_headers line f m =
+two_headers : (version : Version) (line : List ℕ) → IsHeader (facts version) line → IsMirHeader line → ⊥
+two_headers version line f m =
     let kinds : codes "nll-facts" ≡ codes "nll-mir" = same_head (codes "nll-facts") (codes "nll-mir") _ _ (sym f ∙ m.1) in
     let lengths : 9 ≡ 7 = ap length kinds in
     absurd (omega (arith, lengths))
@@ -31,7 +32,7 @@ two_headers line f m =
 two_formats : (text : List ℕ) (q : Problem) (labels : Labels) → IsFactsOf text q labels → IsMir text → ⊥
 two_formats text q labels h m =
     let headed = h.fits.headed in
-    two_headers headed.header headed.is_header (header_of text headed.header h.fits.body headed.cut.cut m)
+    two_headers h.version headed.header headed.is_header (header_of text headed.header h.fits.body headed.cut.cut m)
 
 of_body : (text : List ℕ) (body : BodyText) → IsBodyOf text body → IsMir text
 of_body text body h = (let headed = h.fits.headed in (headed.header, h.fits.body, headed.cut.cut, (h.version, headed.is_header)))

@@ -5,11 +5,11 @@ use Rattle.std.proofs.lemmas.Bool.{false≢true}
 use Rattle.nll_problem.specs.Problem.{Problem}
 use Rattle.nll_text.specs.Lines.{lines_of}
 use Rattle.nll_reading.specs.Labels.{Labels}
-use Rattle.nll_reading.specs.Text.{IsFault, IsRefusal}
+use Rattle.nll_reading.specs.Text.{IsRefusal}
 use Rattle.nll_reading.specs.declared.error.TextError.{TextError}
 use Rattle.nll_reading.specs.declared.error.TextKind.{TextKind}
 use Rattle.nll_reading.specs.declared.error.TextKind.TheVariants as kind
-use Rattle.nll_facts.specs.FactsText.{facts}
+use Rattle.nll_facts.specs.FactsText.{IsFactsFault}
 use Rattle.nll_body.specs.Bodies.{BodyText, labels_of}
 use Rattle.nll_mir_text.specs.MirText.{IsMirHeader, IsMirFault, Means as IsBodyOf}
 use Rattle.nll_answer.specs.declared.error.AnswerError.{AnswerError}
@@ -28,7 +28,7 @@ pub header_of : (text header : List ℕ) (body : List (List ℕ)) → lines_of t
 header_of text header body cut of = subst IsMirHeader (same_head of.0 header of.1 body (sym of.2 ∙ cut)) of.3
 
 -- errors as those of a facts text, of a MIR text and of its body
-pub as_facts : (text : List ℕ) (e : AnswerError) → (IsMir text → ⊥) → IsErrorOf (IsFault facts text) e → IsAnswerError text e
+pub as_facts : (text : List ℕ) (e : AnswerError) → (IsMir text → ⊥) → IsErrorOf (IsFactsFault text) e → IsAnswerError text e
 as_facts text (Text error) other h = inr (other, h)
 as_facts text (Rule error) other h = absurd h
 as_facts text (Run error) other h = absurd h

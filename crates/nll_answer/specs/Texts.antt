@@ -7,11 +7,10 @@ use Rattle.nll_problem.specs.Problem.{Problem}
 use Rattle.nll_problem.specs.declared.error.Kind.TheVariants.{Constraints}
 use Rattle.nll_text.specs.Lines.{lines_of}
 use Rattle.nll_reading.specs.Labels.{Labels}
-use Rattle.nll_reading.specs.Text.{IsFault}
 use Rattle.nll_reading.specs.declared.error.TextError.{TextError}
 use Rattle.nll_reading.specs.declared.error.TextKind.{TextKind}
 use Rattle.nll_reading.specs.declared.error.TextKind.TheVariants as kind
-use Rattle.nll_facts.specs.FactsText.{facts, Means as IsFactsOf}
+use Rattle.nll_facts.specs.FactsText.{IsFactsFault, Means as IsFactsOf}
 use Rattle.nll_body.specs.Bodies.{BodyText, labels_of}
 use Rattle.nll_mir_text.specs.MirText.{IsMirHeader, IsMirFault, Means as IsBodyOf}
 use Rattle.nll_body_problem.specs.BodyProblem.{IsProblemOf, HasTooMany}
@@ -29,7 +28,7 @@ IsMir text = (header : List ℕ) × (body : List (List ℕ)) × (lines_of text �
 abbrev pub IsTextFault : List ℕ → ℕ → TextKind → Type 0
 IsTextFault text line kind =
     (IsMir text × IsMirFault text line kind)
-    ⊎ ((IsMir text → ⊥) × IsFault facts text line kind)
+    ⊎ ((IsMir text → ⊥) × IsFactsFault text line kind)
 
 -- The body has this problem, within the limit of constraints, and these are its labels.
 pub record HasProblem (body : BodyText) (q : Problem) (names : Labels) : Type 0 where

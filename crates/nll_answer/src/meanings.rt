@@ -1,10 +1,9 @@
 //! The problem that a text means.
 
 ghost use Rattle.std.specs.Prelude.{◌≡◌, ◌↔◌, length, Err, IfErr, IfOk, IsOkAnd, IsTrue, Ok};
-ghost use Rattle.nll_facts.specs.FactsText.{facts, Means as IsFactsOf};
+ghost use Rattle.nll_facts.specs.FactsText.{IsFactsFault, Means as IsFactsOf};
 ghost use Rattle.nll_body.specs.Bodies.{labels_of};
 ghost use Rattle.nll_mir_text.specs.MirText.{IsMirFault, Means as IsBodyOf};
-ghost use Rattle.nll_reading.specs.Text.{IsFault};
 ghost use Rattle.nll_answer.specs.Texts.{HasProblem, IsAnswerError, IsBodyError, IsErrorOf};
 ghost use Rattle.nll_answer.specs.Texts.{IsMeaning, IsMir, error_of_body, error_of_text};
 
@@ -107,7 +106,7 @@ fn facts_meaning(alloc: Global, text: &[u8]) -> Result<Facts, AnswerError>
 fn facts_of(alloc: Global, text: &[u8]) -> Result<Facts, AnswerError>
     ensures ok { IfOk result (λ facts. IsFactsOf text.now facts.problem facts.labels) }
     ensures named { IfOk result (λ facts. length facts.labels.names ≡ facts.problem.regions) }
-    ensures err { IfErr result (IsErrorOf (IsFault facts text.now)) }
+    ensures err { IfErr result (IsErrorOf (IsFactsFault text.now)) }
 {
     told(read_facts(alloc, text))
 }

@@ -10,12 +10,14 @@ use Rattle.nll_statements.specs.Statements.{Statement, is_terminator, return}
 use Rattle.nll_statements.specs.Effects.{targets}
 
 -- A body: its regions' names, 'static first and the universal ones before the others, the pairs of
--- universal regions of which the first is known to outlive the second, its structs, the types of
--- its variables, the first point of each block, and what stands at each point.
+-- universal regions of which the first is known to outlive the second, the pairs of regions of
+-- which the first is to hold, at all points, what the second holds, its structs, the types of its
+-- variables, the first point of each block, and what stands at each point.
 pub record BodyText : Type 0 where
   pub names : List (List ℕ)
   pub universals : ℕ
   pub outlives : List (ℕ × ℕ)
+  pub asserts : List (ℕ × ℕ)
   pub structs : List Struct
   pub variables : List TypeTree
   pub starts : List ℕ

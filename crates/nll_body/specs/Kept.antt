@@ -18,12 +18,13 @@ starts_of numbers = []
 starts_of (blocks starts) = starts
 
 -- the body that labels, a graph and these lists say
-abbrev pub kept_body : Labels → List (ℕ × ℕ) → List Declaration → List Ty → List (Kept ℕ Ty)
-    → Graph → BodyText
-kept_body labels outlives structs variables points graph = record {
+abbrev pub kept_body : Labels → List (ℕ × ℕ) → List (ℕ × ℕ) → List Declaration → List Ty
+    → List (Kept ℕ Ty) → Graph → BodyText
+kept_body labels outlives asserts structs variables points graph = record {
   names = labels.names;
   universals = graph.universals;
   outlives = outlives;
+  asserts = asserts;
   structs = structs_of structs;
   variables = map tree variables;
   starts = starts_of labels.points;

@@ -13,6 +13,7 @@ body_of p = record {
   names = p.names;
   universals = p.universals;
   outlives = p.outlives.items;
+  asserts = p.asserts.items;
   structs = structs_of p.structs;
   variables = map tree p.variables.items;
   starts = p.starts.items;

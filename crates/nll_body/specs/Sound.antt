@@ -13,9 +13,9 @@ use Rattle.nll_body.specs.Bodies.{BodyText, StandsAt, GoesOn}
 use Rattle.nll_body.specs.Edges.{edge_count}
 
 -- The points, the regions and the variables keep to the limits, each edge leads to a point, each
--- target is one of the blocks, the outlives pairs are of universal regions, the regions that are
--- written at the points are declared, and the types that are written there and those of the
--- variables keep to what is declared.
+-- target is one of the blocks, the outlives pairs are of universal regions, the asserted pairs are
+-- of declared ones, the regions that are written at the points are declared, and the types that are
+-- written there and those of the variables keep to what is declared.
 pub record IsSound (body : BodyText) : Type 0 where
   pub some_point : 0 < length body.points
   pub point_limit : length body.points ≤ most_points
@@ -27,6 +27,8 @@ pub record IsSound (body : BodyText) : Type 0 where
   pub variable_limit : length body.variables ≤ most_variables
   pub known_universals : (a b : ℕ) → Contains body.outlives (a, b)
       → (a < body.universals) × (b < body.universals)
+  pub known_asserts : (a b : ℕ) → Contains body.asserts (a, b)
+      → (a < length body.names) × (b < length body.names)
   pub first_points : AreFirstPoints body.starts
   pub in_range : (p q : ℕ) → GoesOn body p q → q < length body.points
   pub blocks : (p b : ℕ) (i : Statement ℕ TypeTree) → StandsAt body p i → Contains (targets i) b

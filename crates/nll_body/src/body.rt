@@ -29,6 +29,7 @@ use std::marker::Model;
 pub struct Body {
     labels: Labels,
     outlives: Vec<(u32, u32)>,
+    asserts: Vec<(u32, u32)>,
     structs: Structs,
     variables: Vec<Ty>,
     points: Vec<Stmt>,
@@ -41,6 +42,7 @@ impl Drop for Body {
         let Body {
             labels: _,
             outlives: _,
+            asserts: _,
             structs: _,
             variables: _,
             points: _,
@@ -61,10 +63,12 @@ impl Model for Body {
         Prim.hlevel (codes, tree_code step, trees_code step) };
 
     ghost view = { λ b.
-        kept_body b.labels b.outlives.items b.structs b.variables.items b.points.items b.graph };
+        kept_body b.labels b.outlives.items b.asserts.items b.structs b.variables.items
+        b.points.items b.graph };
 
     ghost invariant = { λ b. IsKept
-        (kept_body b.labels b.outlives.items b.structs b.variables.items b.points.items b.graph)
+        (kept_body b.labels b.outlives.items b.asserts.items b.structs b.variables.items
+        b.points.items b.graph)
         b.labels b.graph };
 }
 
@@ -77,6 +81,7 @@ fn assembled(parts: BodyParts, graph: Graph) -> Body
     Body {
         labels: Labels::with_blocks(parts.names, parts.starts),
         outlives: parts.outlives,
+        asserts: parts.asserts,
         structs: parts.structs,
         variables: parts.variables,
         points: parts.points,
@@ -126,6 +131,7 @@ impl Body {
         let Body {
             labels,
             outlives: _,
+            asserts: _,
             structs: _,
             variables: _,
             points: _,
@@ -176,6 +182,13 @@ impl Body {
         ensures { result.now ≡ self.now.outlives }
     {
         self.outlives.as_slice()
+    }
+
+    /// The pairs of regions of which the first is to hold, at all points, what the second holds.
+    pub fn asserts(&self) -> &[(u32, u32)]
+        ensures { result.now ≡ self.now.asserts }
+    {
+        self.asserts.as_slice()
     }
 
     /// The structs that its types name.

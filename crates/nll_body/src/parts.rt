@@ -13,6 +13,8 @@ pub struct BodyParts {
     pub universals: u32,
     /// Of each pair of universal regions the first is known to outlive the second.
     pub outlives: Vec<(u32, u32)>,
+    /// Of each pair of regions the first is to hold, at all points, what the second holds.
+    pub asserts: Vec<(u32, u32)>,
     pub structs: Structs,
     /// The types of its variables.
     pub variables: Vec<Ty>,

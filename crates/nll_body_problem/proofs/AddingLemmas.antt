@@ -6,8 +6,11 @@ use Rattle.std.proofs.lemmas.List.{take-append-drop}
 use Rattle.std.proofs.lemmas.List.Elements.{Contains-push, Contains-push_cases, Contains-append_left}
 use Rattle.std.proofs.lemmas.Map.Made.{length-le_from_is_member, IsDistinct-from_AllPairs}
 use Rattle.nll_problem.specs.Answers.{AddsFact}
+use Rattle.nll_problem.specs.At.{IsAmong, is_among}
+use Rattle.nll_problem.specs.declared.at.At.{At}
+use Rattle.nll_problem.specs.declared.at.At.TheVariants.{All, Point}
 use Rattle.nll_problem.specs.BaseRuns.{AddsRun}
-use Rattle.nll_problem.specs.Building.{first_error, same_constraint, is_point, is_region, has_constraint, is_full, constraint_error}
+use Rattle.nll_problem.specs.Building.{first_error, same_constraint, is_region, has_constraint, is_full, constraint_error}
 use Rattle.nll_problem.specs.Limits.{most_constraints}
 use Rattle.nll_problem.specs.Problem.{Problem, IsOnce, IsSound}
 use Rattle.nll_problem.specs.declared.base_run.BaseRun.{BaseRun}
@@ -17,7 +20,7 @@ use Rattle.nll_problem.specs.declared.error.BuildError.TheVariants.{PointRange, 
 use Rattle.nll_problem.specs.declared.error.Kind.TheVariants.{Constraints}
 use Rattle.nll_problem.proofs.BaseRunLemmas.{in_next}
 use Rattle.nll_problem.proofs.FactLemmas.{exact_equivalence, constraint_is, constraint_same, constraint_found, once_constraint_absent}
-use Rattle.nll_body_problem.specs.Adding.{AddsOutlives, AddsBases, AddsConstraints, Overflows, IsRefused, IsOfPair, IsOfPairs}
+use Rattle.nll_body_problem.specs.Adding.{AddsOutlives, AddsBases, AddsConstraints, Overflows, IsRefused, IsOfPair, IsOfPairs, IsOfPairsEverywhere, everywhere}
 
 -- ---- lists
 
@@ -138,15 +141,20 @@ passed : (at sup sub : Bool) (one other : BuildError) (rows : List (Bool × Buil
     → first_error ((not at, one) ∷ (not (sup && sub), other) ∷ rows) ≡ first_error rows
 passed at sup sub one other rows p q r = rw (p, q, r) refl
 
+-- the test of where a constraint holds
+among_test : (n : ℕ) (place : At) → IsAmong n place → is_among n place ≡ true
+among_test n All among = refl
+among_test n (Point p) among = lt-ltb p n among
+
 -- a constraint that a problem has no room for, or memory
-pub refused_one : (q : Problem) (c : Constraint) (e : BuildError) → IsSound q → c.at < q.graph.points → c.sup < q.regions → c.sub < q.regions
+pub refused_one : (q : Problem) (c : Constraint) (e : BuildError) → IsSound q → IsAmong q.graph.points c.at → c.sup < q.regions → c.sub < q.regions
     → (constraint_error q c ≡ Some e) ⊎ ((constraint_error q c ≡ None) × (e ≡ Memory)) → IsRefused (λ d. c ≡ d) q e
 refused_one q c e sound at sup sub answers = ⊎_elim (λ due. by (has_constraint q c) refl (is_full q) refl (sym past ∙ due)) (λ none. inl none.1) answers
   where
     past : constraint_error q c ≡ first_error ((not (has_constraint q c) && is_full q, Limit Constraints) ∷ [])
     past =
-        passed (is_point q c.at) (is_region q c.sup) (is_region q c.sub) PointRange RegionRange ((not (has_constraint q c) && is_full q, Limit Constraints) ∷ [])
-        (lt-ltb c.at q.graph.points at) (lt-ltb c.sup q.regions sup) (lt-ltb c.sub q.regions sub)
+        passed (is_among q.graph.points c.at) (is_region q c.sup) (is_region q c.sub) PointRange RegionRange ((not (has_constraint q c) && is_full q, Limit Constraints) ∷ [])
+        (among_test q.graph.points c.at at) (lt-ltb c.sup q.regions sup) (lt-ltb c.sub q.regions sub)
 
     limit_is : Some (Limit Constraints) ≡ Some e → e ≡ Limit Constraints
     limit_is due = cc
@@ -179,33 +187,38 @@ no_more some all once among =
 
 -- the constraint of a pair of regions at a point
 abbrev pub at_point : ℕ × ℕ → ℕ → Constraint
-at_point pair p = record { sub = pair.1; sup = pair.0; at = p }
+at_point pair p = record { sub = pair.1; sup = pair.0; at = Point p }
 
-made_is : (c : Constraint) (pair : ℕ × ℕ) (p : ℕ) → (c.sup, c.sub) ≡ pair → p ≡ c.at → at_point pair p ≡ c
-made_is c pair p is at = ap (λ (x : ℕ × ℕ). at_point x p) (sym is) ∙ ap (λ (n : ℕ). at_point (c.sup, c.sub) n) at
+made_is : (c : Constraint) (pair : ℕ × ℕ) (p : ℕ) → (c.sup, c.sub) ≡ pair → c.at ≡ Point p → at_point pair p ≡ c
+made_is c pair p is at = ap (λ (x : ℕ × ℕ). at_point x p) (sym is) ∙ ap (λ (place : At). record { sub = c.sub; sup = c.sup; at = place }) (sym at)
 
 is_made : (points : List ℕ) (pair : ℕ × ℕ) (p : ℕ) (c : Constraint) → Contains points p → at_point pair p ≡ c → IsOfPair points pair c
 is_made points pair p c there is = (
   ap (λ (d : Constraint). (d.sup, d.sub)) (sym is),
-  subst (Contains points) (ap (λ (d : Constraint). d.at) is) there,
+  p,
+  there,
+  ap (λ (d : Constraint). d.at) (sym is),
 )
 
 pub pair_none : (pair : ℕ × ℕ) (q : Problem) → AddsConstraints (IsOfPair [] pair) q q
-pair_none pair q = adds_none (IsOfPair [] pair) q (λ c h. nothing c.at h.1)
+pair_none pair q = adds_none (IsOfPair [] pair) q (λ c h. nothing h.1 h.2)
 
 pub pair_more : (front : List ℕ) (p : ℕ) (pair : ℕ × ℕ) (old mid new : Problem) → AddsConstraints (IsOfPair front pair) old mid
     → AddsConstraints (λ c. at_point pair p ≡ c) mid new → AddsConstraints (IsOfPair (front ++ p ∷ []) pair) old new
 pair_more front p pair old mid new =
     adds_both (IsOfPair front pair) (λ c. at_point pair p ≡ c) (IsOfPair (front ++ p ∷ []) pair) old mid new (λ c. (
-      λ h. ⊎_elim (λ before. inl (h.0, before)) (λ is. inr (made_is c pair p h.0 is)) (Contains-push_cases front p c.at h.1),
-      ⊎_elim (λ h. (h.0, Contains-append_left front (p ∷ []) c.at h.1)) (λ is. is_made (front ++ p ∷ []) pair p c (Contains-push front p) is),
+      λ h. ⊎_elim
+          (λ before. inl (h.0, h.1, before, h.3))
+          (λ (is : p ≡ h.1). inr (made_is c pair p h.0 (h.3 ∙ ap (λ (n : ℕ). Point n) (sym is))))
+          (Contains-push_cases front p h.1 h.2),
+      ⊎_elim (λ h. (h.0, h.1, Contains-append_left front (p ∷ []) h.1 h.2, h.3)) (λ is. is_made (front ++ p ∷ []) pair p c (Contains-push front p) is),
     ))
 
 pub pair_refused : (points : List ℕ) (k p : ℕ) (pair : ℕ × ℕ) (old mid : Problem) (e : BuildError) → AddsConstraints (IsOfPair (take k points) pair) old mid → Contains points p
     → IsRefused (λ c. at_point pair p ≡ c) mid e → IsRefused (IsOfPair points pair) old e
 pair_refused points k p pair old mid e before there =
     refused_after (IsOfPair (take k points) pair) (λ c. at_point pair p ≡ c) (IsOfPair points pair) old mid e before
-    (λ c h. (h.0, taken k points c.at h.1)) (λ c is. is_made points pair p c there is)
+    (λ c h. (h.0, h.1, taken k points h.1 h.2, h.3)) (λ c is. is_made points pair p c there is)
 
 pub pairs_none : (points : List ℕ) (q : Problem) → AddsConstraints (IsOfPairs points []) q q
 pairs_none points q = adds_none (IsOfPairs points []) q (λ c h. nothing (c.sup, c.sub) h.0)
@@ -225,3 +238,31 @@ pub pairs_refused : (points : List ℕ) (pairs : List (ℕ × ℕ)) (k : ℕ) (p
 pairs_refused points pairs k pair old mid e before there =
     refused_after (IsOfPairs points (take k pairs)) (IsOfPair points pair) (IsOfPairs points pairs) old mid e before
     (λ c h. (taken k pairs (c.sup, c.sub) h.0, h.1)) (λ c h. (subst (Contains pairs) (sym h.0) there, h.1))
+
+-- ---- pairs of regions at all points
+
+every_is : (c : Constraint) (pair : ℕ × ℕ) → (c.sup, c.sub) ≡ pair → c.at ≡ All → everywhere pair ≡ c
+every_is c pair is at = ap everywhere (sym is) ∙ ap (λ (place : At). record { sub = c.sub; sup = c.sup; at = place }) (sym at)
+
+is_every : (pairs : List (ℕ × ℕ)) (pair : ℕ × ℕ) (c : Constraint) → Contains pairs pair → everywhere pair ≡ c → IsOfPairsEverywhere pairs c
+is_every pairs pair c there is = (
+  ap (λ (d : Constraint). d.at) (sym is),
+  subst (Contains pairs) (ap (λ (d : Constraint). (d.sup, d.sub)) is) there,
+)
+
+pub every_none : (q : Problem) → AddsConstraints (IsOfPairsEverywhere []) q q
+every_none q = adds_none (IsOfPairsEverywhere []) q (λ c h. nothing (c.sup, c.sub) h.1)
+
+pub every_more : (front : List (ℕ × ℕ)) (pair : ℕ × ℕ) (old mid new : Problem) → AddsConstraints (IsOfPairsEverywhere front) old mid
+    → AddsConstraints (λ c. everywhere pair ≡ c) mid new → AddsConstraints (IsOfPairsEverywhere (front ++ pair ∷ [])) old new
+every_more front pair old mid new =
+    adds_both (IsOfPairsEverywhere front) (λ c. everywhere pair ≡ c) (IsOfPairsEverywhere (front ++ pair ∷ [])) old mid new (λ c. (
+      λ h. ⊎_elim (λ before. inl (h.0, before)) (λ is. inr (every_is c pair (sym is) h.0)) (Contains-push_cases front pair (c.sup, c.sub) h.1),
+      ⊎_elim (λ h. (h.0, Contains-append_left front (pair ∷ []) (c.sup, c.sub) h.1)) (λ is. is_every (front ++ pair ∷ []) pair c (Contains-push front pair) is),
+    ))
+
+pub every_refused : (pairs : List (ℕ × ℕ)) (k : ℕ) (pair : ℕ × ℕ) (old mid : Problem) (e : BuildError) → AddsConstraints (IsOfPairsEverywhere (take k pairs)) old mid
+    → Contains pairs pair → IsRefused (λ c. everywhere pair ≡ c) mid e → IsRefused (IsOfPairsEverywhere pairs) old e
+every_refused pairs k pair old mid e before there =
+    refused_after (IsOfPairsEverywhere (take k pairs)) (λ c. everywhere pair ≡ c) (IsOfPairsEverywhere pairs) old mid e before
+    (λ c h. (h.0, taken k pairs (c.sup, c.sub) h.1)) (λ c is. is_every pairs pair c there is)

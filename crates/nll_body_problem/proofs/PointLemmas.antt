@@ -12,11 +12,11 @@ use Rattle.nll_statements.specs.Statements.{Statement}
 use Rattle.nll_body.specs.Bodies.{BodyText, StandsAt, GoesOn}
 use Rattle.nll_rules.specs.Asking.{Asks}
 use Rattle.nll_rules.specs.Pairs.{AddsPairs}
-use Rattle.nll_body_problem.specs.BodyProblem.{IsAskedAt, IsConstraint}
+use Rattle.nll_body_problem.specs.BodyProblem.{IsAskedAt, IsAskedSomewhere, IsAsserted, IsConstraint}
 use Rattle.nll_body_problem.specs.Adding.{AddsConstraints, IsRefused, IsOfPairs, IsAskedBefore}
 use Rattle.nll_body_problem.specs.Known.{AreAskedAt, AreKnown}
 use Rattle.nll_body_problem.specs.declared.known.Entry.{Entry}
-use Rattle.nll_body_problem.proofs.AddingLemmas.{nothing, only_new, adds_none, adds_same, adds_both, refused_after}
+use Rattle.nll_body_problem.proofs.AddingLemmas.{nothing, only_new, adds_none, adds_same, adds_both, refused_after, refused_same}
 
 some_same : (i j : Statement ℕ TypeTree) → Some i ≡ Some j → i ≡ j
 some_same i j e = cc
@@ -46,10 +46,12 @@ pub asked_here : (body : BodyText) (p : ℕ) (i : Statement ℕ TypeTree) (next 
     → ((q : ℕ) → Contains next q ↔ GoesOn body p q) → ((x : ℕ × ℕ) → Contains asked x ↔ Asks body.structs body.variables i x)
     → (c : Constraint) → IsOfPairs next asked c ↔ IsAskedAt body p c
 asked_here body p i next asked at goes asks c = (
-  λ h. (i, at, (goes c.at).0 h.1, (asks (c.sup, c.sub)).0 h.0),
+  λ h. (i, at, (h.1, (goes h.1).0 h.2, h.3), (asks (c.sup, c.sub)).0 h.0),
   λ h. (
     (asks (c.sup, c.sub)).1 (subst (λ (j : Statement ℕ TypeTree). Asks body.structs body.variables j (c.sup, c.sub)) (some_same h.0 i (sym h.1 ∙ at)) h.3),
-    (goes c.at).1 h.2,
+    h.2.0,
+    (goes h.2.0).1 h.2.1,
+    h.2.2,
   ),
 )
 
@@ -70,15 +72,26 @@ module _ (body : BodyText) where
   pub before_more : (n : ℕ) (old mid new : Problem) → AddsConstraints (IsAskedBefore body n) old mid → AddsConstraints (IsAskedAt body n) mid new → AddsConstraints (IsAskedBefore body (n + 1)) old new
   before_more n old mid new = adds_both (IsAskedBefore body n) (IsAskedAt body n) (IsAskedBefore body (n + 1)) old mid new (one_more n)
 
-  pub before_all : (n : ℕ) (old new : Problem) → length body.points ≤ n → AddsConstraints (IsAskedBefore body n) old new → AddsConstraints (IsConstraint body) old new
-  before_all n old new past = adds_same (IsAskedBefore body n) (IsConstraint body) old new (λ c. (
+  pub before_all : (n : ℕ) (old new : Problem) → length body.points ≤ n → AddsConstraints (IsAskedBefore body n) old new → AddsConstraints (IsAskedSomewhere body) old new
+  before_all n old new past = adds_same (IsAskedBefore body n) (IsAskedSomewhere body) old new (λ c. (
     λ h. (h.0, h.2),
     λ h. (h.0, omega (arith, slice_get_within body.points h.0 h.1.0 h.1.1, past), h.1),
   ))
 
-  pub before_refused : (n : ℕ) (old mid : Problem) (e : BuildError) → AddsConstraints (IsAskedBefore body n) old mid → IsRefused (IsAskedAt body n) mid e → IsRefused (IsConstraint body) old e
+  pub before_refused : (n : ℕ) (old mid : Problem) (e : BuildError) → AddsConstraints (IsAskedBefore body n) old mid → IsRefused (IsAskedAt body n) mid e → IsRefused (IsAskedSomewhere body) old e
   before_refused n old mid e before =
-      refused_after (IsAskedBefore body n) (IsAskedAt body n) (IsConstraint body) old mid e before (λ c h. (h.0, h.2)) (λ c h. (n, h))
+      refused_after (IsAskedBefore body n) (IsAskedAt body n) (IsAskedSomewhere body) old mid e before (λ c h. (h.0, h.2)) (λ c h. (n, h))
+
+  -- ---- what is asked, and what is asserted
+
+  pub asserted_asked : (old mid new : Problem) → AddsConstraints (IsAsserted body) old mid → AddsConstraints (IsAskedSomewhere body) mid new → AddsConstraints (IsConstraint body) old new
+  asserted_asked old mid new = adds_both (IsAsserted body) (IsAskedSomewhere body) (IsConstraint body) old mid new (λ c. (⊎_elim inr inl, ⊎_elim inr inl))
+
+  pub asserted_refused : (q : Problem) (e : BuildError) → IsRefused (IsAsserted body) q e → IsRefused (IsConstraint body) q e
+  asserted_refused q e = refused_same (IsAsserted body) (IsConstraint body) q e (λ c h. inr h)
+
+  pub asked_refused : (old mid : Problem) (e : BuildError) → AddsConstraints (IsAsserted body) old mid → IsRefused (IsAskedSomewhere body) mid e → IsRefused (IsConstraint body) old e
+  asked_refused old mid e before = refused_after (IsAsserted body) (IsAskedSomewhere body) (IsConstraint body) old mid e before (λ c h. inr h) (λ c h. inl h)
 
 -- ---- pairs that are known of a point
 
@@ -94,8 +107,8 @@ asked_pairs body p i pairs at asks x = (
 pub known_here : (body : BodyText) (p : ℕ) (next : List ℕ) (pairs : List (ℕ × ℕ)) → ((q : ℕ) → Contains next q ↔ GoesOn body p q) → AreAskedAt body p pairs
     → (c : Constraint) → IsOfPairs next pairs c ↔ IsAskedAt body p c
 known_here body p next pairs goes asked c = (
-  λ h. let a = (asked (c.sup, c.sub)).0 h.0 in (a.0, a.1, (goes c.at).0 h.1, a.2),
-  λ h. ((asked (c.sup, c.sub)).1 (h.0, h.1, h.3), (goes c.at).1 h.2),
+  λ h. let a = (asked (c.sup, c.sub)).0 h.0 in (a.0, a.1, (h.1, (goes h.1).0 h.2, h.3), a.2),
+  λ h. ((asked (c.sup, c.sub)).1 (h.0, h.1, h.3), h.2.0, (goes h.2.0).1 h.2.1, h.2.2),
 )
 
 -- what a statement that asks the same asks at another point is known here

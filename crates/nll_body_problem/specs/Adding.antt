@@ -7,6 +7,8 @@ use Rattle.nll_problem.specs.Graph.{Graph}
 use Rattle.nll_problem.specs.Limits.{most_constraints}
 use Rattle.nll_problem.specs.Problem.{Problem, IsOnce, IsUniversal}
 use Rattle.nll_problem.specs.declared.base_run.BaseRun.{BaseRun}
+use Rattle.nll_problem.specs.declared.at.At.{At}
+use Rattle.nll_problem.specs.declared.at.At.TheVariants.{All, Point}
 use Rattle.nll_problem.specs.declared.constraint.Constraint.{Constraint}
 use Rattle.nll_problem.specs.declared.error.BuildError.{BuildError}
 use Rattle.nll_problem.specs.declared.error.BuildError.TheVariants.{Limit, Memory}
@@ -64,13 +66,25 @@ IsRefused kind q e = (e ≡ Memory) ⊎ ((e ≡ Limit Constraints) × Overflows 
 abbrev pub IsRefusedFor : BodyText → BuildError → Type 0
 IsRefusedFor body e = (e ≡ Memory) ⊎ ((e ≡ Limit Constraints) × HasTooMany body)
 
+-- it is one of the points
+abbrev pub IsOnePoint : List ℕ → At → Type 0
+IsOnePoint points place = (p : ℕ) × Contains points p × (place ≡ Point p)
+
 -- a constraint of this pair of regions at one of the points
 abbrev pub IsOfPair : List ℕ → ℕ × ℕ → Constraint → Type 0
-IsOfPair points pair c = ((c.sup, c.sub) ≡ pair) × Contains points c.at
+IsOfPair points pair c = ((c.sup, c.sub) ≡ pair) × IsOnePoint points c.at
 
 -- a constraint of one of the pairs of regions at one of the points
 abbrev pub IsOfPairs : List ℕ → List (ℕ × ℕ) → Constraint → Type 0
-IsOfPairs points pairs c = Contains pairs (c.sup, c.sub) × Contains points c.at
+IsOfPairs points pairs c = Contains pairs (c.sup, c.sub) × IsOnePoint points c.at
+
+-- a constraint of one of the pairs of regions at all points
+abbrev pub IsOfPairsEverywhere : List (ℕ × ℕ) → Constraint → Type 0
+IsOfPairsEverywhere pairs c = (c.at ≡ All) × Contains pairs (c.sup, c.sub)
+
+-- the constraint of a pair of regions at all points
+abbrev pub everywhere : ℕ × ℕ → Constraint
+everywhere pair = record { sub = pair.1; sup = pair.0; at = All }
 
 -- what stands at one of the first n points asks the constraint
 abbrev pub IsAskedBefore : BodyText → ℕ → Constraint → Type 0

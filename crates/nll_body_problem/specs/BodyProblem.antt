@@ -1,11 +1,14 @@
 -- The problem of a body.
 -- Source: RFC 2094, "Liveness" and "Drop" (base elements), "Subtyping" and "Reborrow constraints"
 -- (constraints), "Layer 4: Named lifetimes" (universal regions). That what a point asks stands at
--- every point that may come after it is project's choice after the RFC's examples; docs/FORMATS.md
--- says the same in words. The code goes over points, successors and pairs; this speaks of what is.
-use Rattle.std.specs.Prelude.{◌≡◌, ◌↔◌, ◌<◌, ℕ, List, length, Contains}
+-- every point that may come after it is project's choice after the RFC's examples, and so are
+-- constraints at all points; docs/FORMATS.md says the same in words. The code goes over points,
+-- successors and pairs; this speaks of what is.
+use Rattle.std.specs.Prelude.{◌≡◌, ◌⊎◌, ◌↔◌, ◌<◌, ℕ, List, length, Contains}
 use Rattle.nll_problem.specs.Limits.{most_constraints}
 use Rattle.nll_problem.specs.Problem.{Problem, IsOnce, SameSet}
+use Rattle.nll_problem.specs.declared.at.At.{At}
+use Rattle.nll_problem.specs.declared.at.At.TheVariants.{All, Point}
 use Rattle.nll_problem.specs.declared.constraint.Constraint.{Constraint}
 use Rattle.nll_problem.specs.declared.error.Kind.TheVariants.{Constraints}
 use Rattle.nll_types.specs.Types.{TypeTree}
@@ -16,17 +19,30 @@ use Rattle.nll_rules.specs.Asking.{Asks}
 use Rattle.nll_body_problem.specs.declared.error.RuleError.{RuleError}
 use Rattle.nll_body_problem.specs.declared.error.RuleError.TheVariants.{Limit, Memory}
 
+-- it is a point that may come after p
+abbrev pub IsNextTo : BodyText → ℕ → At → Type 0
+IsNextTo body p place = (q : ℕ) × GoesOn body p q × (place ≡ Point q)
+
 -- what stands at p asks the constraint: its pair of regions, at a point that may come after p
 abbrev pub IsAskedAt : BodyText → ℕ → Constraint → Type 0
-IsAskedAt body p c = (i : Statement ℕ TypeTree) × StandsAt body p i × GoesOn body p c.at
+IsAskedAt body p c = (i : Statement ℕ TypeTree) × StandsAt body p i × IsNextTo body p c.at
     × Asks body.structs body.variables i (c.sup, c.sub)
 
--- the constraint is one of the body: what stands at some point asks it
+-- what stands at some point asks the constraint
+abbrev pub IsAskedSomewhere : BodyText → Constraint → Type 0
+IsAskedSomewhere body c = (p : ℕ) × IsAskedAt body p c
+
+-- the body asserts the constraint: its pair of regions, at all points
+abbrev pub IsAsserted : BodyText → Constraint → Type 0
+IsAsserted body c = (c.at ≡ All) × Contains body.asserts (c.sup, c.sub)
+
+-- the constraint is one of the body: what stands at some point asks it, or the body asserts it
 abbrev pub IsConstraint : BodyText → Constraint → Type 0
-IsConstraint body c = (p : ℕ) × IsAskedAt body p c
+IsConstraint body c = IsAskedSomewhere body c ⊎ IsAsserted body c
 
 -- The problem is the body's: it has the body's graph and regions, a base fact just where a variable
--- that is live asks for one, just the constraints that are asked, and the body's outlives facts.
+-- that is live asks for one, just the constraints that are asked or asserted, and the body's
+-- outlives facts.
 -- (That a universal region holds all points and its own end needs no fact: `IsBase`.)
 pub record IsProblemOf (body : BodyText) (q : Problem) : Type 0 where
   pub graph : IsGraphOf body q.graph

@@ -1,17 +1,20 @@
-//! The constraints of a body: what stands at a point asks them at each point that may come after.
+//! The constraints of a body: what stands at a point asks them at each point that may come after,
+//! and a body asserts some at all points.
 
 ghost use Rattle.std.specs.Prelude.{◌≡◌, ◌<◌, ℕ, [], Contains, IfErr, OnOk, length};
+ghost use Rattle.nll_problem.specs.At.{IsAmong};
 ghost use Rattle.nll_body.specs.Sound.{IsSound};
 ghost use Rattle.nll_rules.specs.RegionFree.{AreRegionFree};
 ghost use Rattle.nll_body_problem.specs.Adding.{AddsConstraints, AreRegions, IsRefused};
-ghost use Rattle.nll_body_problem.specs.Adding.{IsOfPair, IsOfPairs};
-ghost use Rattle.nll_body_problem.specs.BodyProblem.{IsAskedAt, IsConstraint};
+ghost use Rattle.nll_body_problem.specs.Adding.{IsOfPair, IsOfPairs, IsOfPairsEverywhere};
+ghost use Rattle.nll_body_problem.specs.Adding.{everywhere};
+ghost use Rattle.nll_body_problem.specs.BodyProblem.{IsAskedAt, IsAskedSomewhere, IsConstraint};
 ghost use Rattle.nll_body_problem.specs.Known.{AreAskedAt, AreKinds, AreKnown};
 
 use crate::kinds::kinds_of;
 use crate::known::{Known, find, keep_once, nothing_known, remember};
 use nll_body::Body;
-use nll_problem::{BuildError, Constraint, ProblemBuilder, RegionId};
+use nll_problem::{At, BuildError, Constraint, ProblemBuilder, RegionId};
 use nll_rules::{asks, region_free};
 use std::alloc::Global;
 
@@ -25,6 +28,55 @@ pub(crate) fn add_constraints(
     requires regions { builder.old.regions ≡ length body.now.names }
     ensures ok { OnOk result (AddsConstraints (IsConstraint body.now) builder.old builder.new) }
     ensures err { IfErr result (IsRefused (IsConstraint body.now) builder.old) }
+{
+    // No effect at run time. The proof reads from this call that the body is sound.
+    let _ = body.points();
+    add_everywhere(builder, body.asserts())?;
+    add_asked(alloc, body, builder)?;
+    Ok(())
+}
+
+// Adds these pairs of regions, the first of which is to hold what the second holds, at all points.
+fn add_everywhere(builder: &mut ProblemBuilder, pairs: &[(u32, u32)]) -> Result<(), BuildError>
+    requires { (x : ℕ × ℕ) → Contains pairs.now x → AreRegions x builder.old }
+    ensures ok { OnOk result
+        (AddsConstraints (IsOfPairsEverywhere pairs.now) builder.old builder.new) }
+    ensures err { IfErr result (IsRefused (IsOfPairsEverywhere pairs.now) builder.old) }
+{
+    for pair in pairs {
+        add_one_everywhere(builder, *pair)?;
+    }
+    Ok(())
+}
+
+// Adds a pair of regions at all points.
+fn add_one_everywhere(builder: &mut ProblemBuilder, pair: (u32, u32)) -> Result<(), BuildError>
+    requires { AreRegions pair builder.old }
+    ensures ok { OnOk result
+        (AddsConstraints (λ c. everywhere pair ≡ c) builder.old builder.new) }
+    ensures err { IfErr result (IsRefused (λ c. everywhere pair ≡ c) builder.old) }
+{
+    add_constraint(
+        builder,
+        Constraint {
+            sup: RegionId(pair.0),
+            sub: RegionId(pair.1),
+            at: At::All,
+        },
+    )
+}
+
+// Adds what stands at each point of a body asks.
+fn add_asked(
+    alloc: Global,
+    body: &Body,
+    builder: &mut ProblemBuilder,
+) -> Result<(), BuildError>
+    requires points { builder.old.graph.points ≡ length body.now.points }
+    requires regions { builder.old.regions ≡ length body.now.names }
+    ensures ok { OnOk result
+        (AddsConstraints (IsAskedSomewhere body.now) builder.old builder.new) }
+    ensures err { IfErr result (IsRefused (IsAskedSomewhere body.now) builder.old) }
 {
     let free = region_free(alloc, body.structs(), body.variable_types())?;
     let kinds = kinds_of(alloc, body.variable_types())?;
@@ -59,8 +111,9 @@ fn add_points(
     requires none { known.old.entries.items ≡ [] }
     requires points { builder.old.graph.points ≡ length body.now.points }
     requires regions { builder.old.regions ≡ length body.now.names }
-    ensures ok { OnOk result (AddsConstraints (IsConstraint body.now) builder.old builder.new) }
-    ensures err { IfErr result (IsRefused (IsConstraint body.now) builder.old) }
+    ensures ok { OnOk result
+        (AddsConstraints (IsAskedSomewhere body.now) builder.old builder.new) }
+    ensures err { IfErr result (IsRefused (IsAskedSomewhere body.now) builder.old) }
 {
     for point in 0..body.points() {
         add_next(alloc, body, free, kinds, point, known, asked, builder)?;
@@ -190,15 +243,15 @@ fn add_pair(
 {
     let (sup, sub) = pair;
     for point in points {
-        let at = *point;
+        let at = At::Point(*point);
         add_constraint(builder, Constraint { sup, sub, at })?;
     }
     Ok(())
 }
 
-// Adds a constraint of regions and a point of the problem.
+// Adds a constraint of regions of the problem, at all points or at one of the problem.
 fn add_constraint(builder: &mut ProblemBuilder, constraint: Constraint) -> Result<(), BuildError>
-    requires point { constraint.at < builder.old.graph.points }
+    requires at { IsAmong builder.old.graph.points constraint.at }
     requires sup { constraint.sup < builder.old.regions }
     requires sub { constraint.sub < builder.old.regions }
     ensures ok { OnOk result (AddsConstraints (λ c. constraint ≡ c) builder.old builder.new) }

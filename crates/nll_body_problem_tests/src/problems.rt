@@ -2,7 +2,7 @@
 use super::telling::problem_told;
 use nll_body_problem::one_problem;
 use nll_worked_texts::{
-    CALLED, DROPPED, FUNCTIONS, MOVED, REBORROW, RETURNED, TAKERS, TWO_BORROWS,
+    ASSERTED, CALLED, DROPPED, FUNCTIONS, MOVED, REBORROW, RETURNED, TAKERS, TWO_BORROWS,
 };
 
 // Texts, and the problems of their bodies. Regions and points go by their numbers; constraints
@@ -30,6 +30,10 @@ const WORKED: &[(&str, &str)] = &[
     (
         TAKERS,
         "5 regions|base 1 0|base 2 0|base 3 1|base 4 1|1: 3 @ 1|2: 4 @ 1|",
+    ),
+    (
+        ASSERTED,
+        "5 regions|base 1 0|base 2 0|base 3 1|base 4 1|3: 1 @ all|4: 2 @ 1|1: 3 @ 1|2: 4 @ 1|",
     ),
 ];
 
@@ -191,6 +195,14 @@ const SECOND: &[(&str, &str)] = &[
         let _1: D<fn(&'1 int) -> &'2 int>|blocks 2|block bb0|nop|drop _1 -> bb1|block bb1|return|\
         end|",
         "3 regions|base 1 0|base 1 1|base 2 0|base 2 1|",
+    ),
+    // What a body asserts stands beside what its statements ask of the same regions, and is there
+    // once; between universal regions too, and of one region by itself.
+    (
+        "nll-mir 2|universal 'u|universal 'v|region 'a|region 'b|assert 'a : 'b|assert 'u : 'v|\
+        assert 'a : 'b|assert 'b : 'b|let _0: int|let _1: &'a int|let _2: &'b int|blocks 1|\
+        block bb0|_2 = copy _1|return|end|",
+        "5 regions|base 3 0|1: 2 @ all|3: 4 @ all|3: 4 @ 1|4: 4 @ all|",
     ),
     // A text of version 1 means in version 2 what it means in version 1.
     (

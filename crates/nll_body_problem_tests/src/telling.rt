@@ -2,7 +2,7 @@
 use nll_body::Body;
 use nll_body_problem::problem_of;
 use nll_mir_text::read_mir;
-use nll_problem::{BaseRun, Problem};
+use nll_problem::{At, BaseRun, Problem};
 use nll_worked_texts::text_of;
 use std::alloc::{AllocError, Global};
 
@@ -26,13 +26,17 @@ fn write_run(out: &mut String, run: &BaseRun) -> Result<(), AllocError> {
     Ok(())
 }
 
-// Writes the constraints, by the region that is outlived, the one that outlives it and the point.
+// Writes the constraints, by the region that is outlived, the one that outlives it and the point;
+// those at all points come before those of the same regions at a point.
 fn write_constraints(out: &mut String, alloc: Global, problem: &Problem) -> Result<(), AllocError> {
     let mut constraints = Vec::from_slice(alloc, problem.constraints())?;
     constraints.sort_unstable();
     for constraint in constraints.as_slice() {
-        let (sup, sub, at) = (constraint.sup.0, constraint.sub.0, constraint.at);
-        write!(out, "{sup}: {sub} @ {at}|")?;
+        let (sup, sub) = (constraint.sup.0, constraint.sub.0);
+        match constraint.at {
+            At::All => write!(out, "{sup}: {sub} @ all|")?,
+            At::Point(point) => write!(out, "{sup}: {sub} @ {point}|")?,
+        }
     }
     Ok(())
 }

@@ -7,15 +7,20 @@ use Rattle.nll_sets.specs.Runs.{IsInRuns, IsWithin, Fills}
 use Rattle.nll_sets.specs.declared.run.Run.{Run}
 use Rattle.nll_problem.specs.Graph.{Graph, element_count, IsNext, IsReturn, IsStep, IsSound}
 use Rattle.nll_problem.specs.Walks.{Reaches}
-use Rattle.nll_problem.proofs.WalkLemmas.{reaches_first, reaches_starts, reaches_inside, reaches_more, reaches_carries, reaches_weaker}
+use Rattle.nll_problem.specs.At.{IsAmong}
+use Rattle.nll_problem.specs.declared.at.At.{At}
+use Rattle.nll_problem.specs.declared.at.At.TheVariants.{All, Point}
+use Rattle.nll_problem.proofs.AskLemmas.{asked_inside, asked_more, asked_weaker}
+use Rattle.nll_problem.proofs.WalkLemmas.{reaches_first, reaches_starts, reaches_inside, reaches_more, reaches_carries}
 use Rattle.nll_core.specs.Search.{IsIn}
 use Rattle.nll_core.specs.Lines.{IsJump}
 use Rattle.nll_core.specs.Walking.{Grows, IsLedTo, IsSpread, AreOfPoints, FillsFrom}
-use Rattle.nll_core.specs.Frontiers.{Frontier, ReachesFrom, IsReachedFrom, IsFrontierIn, IsBeside, GoesOn, ResumesPoints, ListsNew}
+use Rattle.nll_core.specs.Frontiers.{Frontier, ReachesFrom, WalksOn, IsAskedFrom, IsFrontierIn, IsBeside, GoesOn, ResumesPoints, ListsNew, places_of}
 use Rattle.nll_core.specs.declared.landing.Landing.{Landing}
 use Rattle.nll_core.proofs.SearchLemmas.{none_in_empty, flag_within}
 use Rattle.nll_core.proofs.WalkingLemmas.{grows_none, grows_append, grows_weaker, reaches_append}
 use Rattle.nll_core.proofs.ListingLemmas.{lists_grown, lists_append}
+use Rattle.nll_core.proofs.PlaceLemmas.{point_in, no_all}
 
 -- ---- runs and jumps
 
@@ -53,32 +58,6 @@ module _ (g : Graph) (set : List Bool) (starts : List ℕ) where
   -- what walks reach is inside
   pub from_inside : (x : ℕ) → ReachesFrom g (IsIn set) starts x → IsIn set x
   from_inside x w = reaches_inside g (IsIn set) w.0 x w.2
-
-  -- ---- a frontier that lacked what a run has
-
-  module _ (run : Run) (old : List Bool) (before : IsReachedFrom g (IsBeside set run) starts old) where
-    pub beside_sound : (x : ℕ) → IsIn old x → ReachesFrom g (IsIn set) starts x
-    beside_sound x h = let w = (before x).0 h in (w.0, w.1, reaches_weaker g (IsBeside set run) w.0 (IsIn set) (λ y t. t.0) x w.2)
-
-    -- a step inside the set from what is reached leads to what is reached, or into the run
-    old_closed : (x y : ℕ) → IsIn old x → IsStep g x y → IsIn set y → IsIn old y ⊎ IsWithin run y
-    old_closed x y h step inside =
-        let w = (before x).0 h in
-        ⊎_elim inr (λ out. inl ((before y).1 (w.0, w.1, reaches_more g (IsBeside set run) w.0 x y w.2 step (inside, outside run y out)))) (within_or run y)
-
-    old_begun : (p : ℕ) → Contains starts p → IsIn set p → IsIn old p ⊎ IsWithin run p
-    old_begun p at inside = ⊎_elim inr (λ out. inl ((before p).1 (p, at, reaches_first g (IsBeside set run) p (inside, outside run p out)))) (within_or run p)
-
-    -- once walks went on from the run, it is what they reach
-    pub goes_on_whole : (new : List Bool) → GoesOn g set run starts old new → IsReachedFrom g (IsIn set) starts new
-    goes_on_whole new w x = (
-      w.sound x,
-      λ (way : ReachesFrom g (IsIn set) starts x). reaches_carries g (IsIn set) way.0 (IsIn new) go_on x
-          (⊎_elim (w.kept way.0) (w.begun way.0 way.1) (old_begun way.0 way.1 (reaches_starts g (IsIn set) way.0 x way.2))) way.2,
-    )
-      where
-        go_on : (y z : ℕ) → IsIn new y → IsStep g y z → IsIn set z → IsIn new z
-        go_on y z h step inside = ⊎_elim (λ i. i) (λ o. ⊎_elim (w.kept z) (λ own. absurd (o.1 own)) (old_closed y z o.0 step inside)) (w.closed y z h step inside)
 
   -- ---- walks go on from a run
 
@@ -179,7 +158,7 @@ module _ (g : Graph) (set : List Bool) (starts : List ℕ) where
         reached_sound = sound_more old points_reached es list old_sound p.grows
 
         -- where no end can be newly reached, that is all
-        pub resumed : ended ≡ false → ((x : ℕ) → IsIn points_reached x → IsReturn g x → run.last < g.points) → GoesOn g set run starts old points_reached
+        pub resumed : ended ≡ false → ((x : ℕ) → IsIn points_reached x → IsReturn g x → run.last < g.points) → WalksOn g set run starts old points_reached
         resumed none never = record { kept = p.grows.kept; sound = reached_sound; begun = p.begun; closed = go_on }
           where
             go_on : (y z : ℕ) → IsIn points_reached y → IsStep g y z → IsIn set z → IsIn points_reached z ⊎ (IsIn old y × (IsWithin run z → ⊥))
@@ -190,7 +169,7 @@ module _ (g : Graph) (set : List Bool) (starts : List ℕ) where
                 (p.ends y h back.0)
 
         -- else all ends in the set come to it
-        pub resumed_ends : (all : List Bool) (n : ℕ) → n ≡ g.points → length set ≡ element_count g → (x : ℕ) × IsIn points_reached x × IsReturn g x → FillsFrom n set points_reached all → GoesOn g set run starts old all
+        pub resumed_ends : (all : List Bool) (n : ℕ) → n ≡ g.points → length set ≡ element_count g → (x : ℕ) × IsIn points_reached x × IsReturn g x → FillsFrom n set points_reached all → WalksOn g set run starts old all
         resumed_ends all n n_is wide some f = record {
           kept = λ x h. f.kept x (p.grows.kept x h);
           sound = λ x h. ⊎_elim
@@ -341,24 +320,120 @@ module _ (g : Graph) (set : List Bool) (list : List Landing) (old : List Bool) (
   landing_end now then count past p l (k, within, is) from =
       subst (λ (m : Landing). IsIn now m.to) is (p.covers k l (omega (arith, within, past)) within (subst (λ (m : Landing). IsIn old m.from) (sym is) from))
 
+-- ---- what constraints ask for
+
+module _ (g : Graph) (set : List Bool) (points : List ℕ) where
+  -- where none holds at all points, what is asked for from places is what walks reach from their points
+  pub asked_walks : (x : ℕ) → IsAskedFrom g (IsIn set) (places_of false points) x → ReachesFrom g (IsIn set) points x
+  asked_walks x (All, there, here) = absurd (no_all points there)
+  asked_walks x (Point p, there, way) = (p, (point_in false points p).0 there, way)
+
+  pub walks_asked : (x : ℕ) → ReachesFrom g (IsIn set) points x → IsAskedFrom g (IsIn set) (places_of false points) x
+  walks_asked x (p, there, way) = (Point p, (point_in false points p).1 there, way)
+
+-- walks went on from the points
+pub goes_by_walks : (g : Graph) (set : List Bool) (run : Run) (points : List ℕ) (old new : List Bool) → WalksOn g set run points old new → GoesOn g set run (places_of false points) old new
+goes_by_walks g set run points old new w = record {
+  kept = w.kept;
+  sound = λ x h. walks_asked g set points x (w.sound x h);
+  whole = λ every. absurd (no_all points every);
+  alone = λ every. absurd (no_all points every);
+  begun = λ p there own. w.begun p ((point_in false points p).0 there) own;
+  closed = λ x y h step inside. ⊎_elim inl (λ o. inr (inl o.0, o.1)) (w.closed x y h step inside);
+}
+
+-- where no constraint is, nothing is asked for
+pub goes_nowhere : (g : Graph) (set : List Bool) (run : Run) (starts : List At) (old : List Bool) → starts ≡ [] → ((x : ℕ) → IsIn old x → IsAskedFrom g (IsIn set) starts x) → GoesOn g set run starts old old
+goes_nowhere g set run starts old none sound = record {
+  kept = λ x h. h;
+  sound = sound;
+  whole = λ every. absurd (nothing All every);
+  alone = λ every. absurd (nothing All every);
+  begun = λ p there. absurd (nothing (Point p) there);
+  closed = λ x y h step inside. absurd (let w = sound x h in nothing w.0 w.1);
+}
+  where
+    nothing : (place : At) → Contains starts place → ⊥
+    nothing place there = absurd (let h = subst (λ (xs : List At). Contains xs place) none there in omega (arith, h.1))
+
+-- points among places of a graph are points of the graph
+pub points_among : (n : ℕ) (points : List ℕ) → ((place : At) → Contains (places_of false points) place → IsAmong n place) → (p : ℕ) → Contains points p → p < n
+points_among n points among p h = among (Point p) ((point_in false points p).1 h)
+
+module _ (g : Graph) (set : List Bool) (run : Run) (starts : List At) where
+  -- the run came as it is
+  pub goes_whole : (old new : List Bool) → Contains starts All → ((x : ℕ) → IsWithin run x → IsIn set x) → ((x : ℕ) → IsIn old x → IsAskedFrom g (IsIn set) starts x) → Fills old new run → GoesOn g set run starts old new
+  goes_whole old new every inside sound f = record {
+    kept = f.kept;
+    sound = λ x h. ⊎_elim (sound x) (λ own. (All, every, inside x own)) (f.cause x h);
+    whole = λ _ x own. f.filled x own.0 own.1;
+    alone = λ _ x h. f.cause x h;
+    begun = λ p _ own. f.filled p own.0 own.1;
+    closed = λ x y h step in_set. ⊎_elim
+        (λ own. inl (f.filled y own.0 own.1))
+        (λ out. inr (inr every, outside run y out))
+        (within_or run y);
+  }
+
+  -- ---- a frontier that lacked what a run has
+
+  module _ (old : List Bool) (before : (x : ℕ) → IsIn old x ↔ IsAskedFrom g (IsBeside set run) starts x) where
+    pub beside_sound : (x : ℕ) → IsIn old x → IsAskedFrom g (IsIn set) starts x
+    beside_sound x h = let w = (before x).0 h in (w.0, w.1, asked_weaker g (IsBeside set run) w.0 (IsIn set) (λ y t. t.0) x w.2)
+
+    -- a step inside the set from what is asked for leads to what is asked for, or into the run
+    old_closed : (x y : ℕ) → IsIn old x → IsStep g x y → IsIn set y → IsIn old y ⊎ IsWithin run y
+    old_closed x y h step inside =
+        let w = (before x).0 h in
+        ⊎_elim inr (λ out. inl ((before y).1 (w.0, w.1, asked_more g (IsBeside set run) w.0 x y w.2 step (inside, outside run y out)))) (within_or run y)
+
+    old_begun : (p : ℕ) → Contains starts (Point p) → IsIn set p → IsIn old p ⊎ IsWithin run p
+    old_begun p there inside = ⊎_elim inr (λ out. inl ((before p).1 (Point p, there, reaches_first g (IsBeside set run) p (inside, outside run p out)))) (within_or run p)
+
+    old_whole : Contains starts All → (x : ℕ) → IsIn set x → IsIn old x ⊎ IsWithin run x
+    old_whole every x inside = ⊎_elim inr (λ out. inl ((before x).1 (All, every, (inside, outside run x out)))) (within_or run x)
+
+    -- once it went on from the run, it is what is asked for
+    pub goes_on_whole : (new : List Bool) → GoesOn g set run starts old new → (x : ℕ) → IsIn new x ↔ IsAskedFrom g (IsIn set) starts x
+    goes_on_whole new w x = (w.sound x, back)
+      where
+        go_on : (y z : ℕ) → IsIn new y → IsStep g y z → IsIn set z → IsIn new z
+        go_on y z h step inside = ⊎_elim
+            (λ i. i)
+            (λ o. ⊎_elim
+            (λ early. ⊎_elim (w.kept z) (λ own. absurd (o.1 own)) (old_closed y z early step inside))
+            (λ every. ⊎_elim (w.kept z) (λ own. absurd (o.1 own)) (old_whole every z inside))
+            o.0)
+            (w.closed y z h step inside)
+
+        back : IsAskedFrom g (IsIn set) starts x → IsIn new x
+        back (All, every, inside) = ⊎_elim (w.kept x) (w.whole every x) (old_whole every x inside)
+        back (Point p, there, way) = reaches_carries g (IsIn set) p (IsIn new) go_on x
+            (⊎_elim (w.kept p) (w.begun p there) (old_begun p there (reaches_starts g (IsIn set) p x way))) way
+
 -- ---- more room
 
--- with more room walks go on as without
-pub goes_on_widened : (g : Graph) (set : List Bool) (run : Run) (starts : List ℕ) (old wide new : List Bool) → ((x : ℕ) → flag wide x ≡ flag old x) → GoesOn g set run starts wide new → GoesOn g set run starts old new
+-- with more room it goes on as without
+pub goes_on_widened : (g : Graph) (set : List Bool) (run : Run) (starts : List At) (old wide new : List Bool) → ((x : ℕ) → flag wide x ≡ flag old x) → GoesOn g set run starts wide new → GoesOn g set run starts old new
 goes_on_widened g set run starts old wide new same w = record {
   kept = λ x h. w.kept x (same x ∙ h);
   sound = w.sound;
+  whole = w.whole;
+  alone = λ every x h. ⊎_elim (λ o. inl (sym (same x) ∙ o)) inr (w.alone every x h);
   begun = w.begun;
-  closed = λ x y h step inside. ⊎_elim inl (λ o. inr (sym (same x) ∙ o.0, o.1)) (w.closed x y h step inside);
+  closed = λ x y h step inside. ⊎_elim
+      inl
+      (λ o. inr (⊎_elim (λ early. inl (sym (same x) ∙ early)) inr o.0, o.1))
+      (w.closed x y h step inside);
 }
 
 -- ---- other words for the same set
 
--- a frontier of walks inside one set is one of walks inside any that has the same elements
+-- a frontier inside one set is one inside any that has the same elements
 pub frontier_alike : (g : Graph) (inside other : ℕ → Type 0) (f : Frontier) → ((x : ℕ) → inside x ↔ other x) → IsFrontierIn g inside f → IsFrontierIn g other f
 frontier_alike g inside other f same is x = (
-  λ h. let w = (is x).0 h in (w.0, w.1, reaches_weaker g inside w.0 other (λ y t. (same y).0 t) x w.2),
-  λ w. (is x).1 (w.0, w.1, reaches_weaker g other w.0 inside (λ y t. (same y).1 t) x w.2),
+  λ h. let w = (is x).0 h in (w.0, w.1, asked_weaker g inside w.0 other (λ y t. (same y).0 t) x w.2),
+  λ w. (is x).1 (w.0, w.1, asked_weaker g other w.0 inside (λ y t. (same y).1 t) x w.2),
 )
 
 -- what a set had before a run of others came is what it has beside the run
@@ -368,9 +443,9 @@ beside_filled old new run f lacks x = (
   λ h. ⊎_elim (λ early. early) (λ own. absurd (h.1 own)) (f.cause x h.0),
 )
 
--- a frontier that has reached nothing is one of walks inside the empty set
-pub frontier_none : (g : Graph) (n : ℕ) (starts : List ℕ) → (x : ℕ) → IsIn [] x ↔ ReachesFrom g (IsIn (replicate n false)) starts x
+-- a frontier that has reached nothing is one inside the empty set
+pub frontier_none : (g : Graph) (n : ℕ) (starts : List At) → (x : ℕ) → IsIn [] x ↔ IsAskedFrom g (IsIn (replicate n false)) starts x
 frontier_none g n starts x = (
   λ h. absurd (false≢true h),
-  λ w. absurd (none_in_empty n w.0 (reaches_starts g (IsIn (replicate n false)) w.0 x w.2)),
+  λ w. absurd (none_in_empty n x (asked_inside g (IsIn (replicate n false)) w.0 x w.2)),
 )

@@ -11,5 +11,6 @@ pub mod WorklistLemmas
 pub mod OrderLemmas
 pub mod ListingLemmas
 pub mod StartLemmas
+pub mod PlaceLemmas
 pub mod ReturnLemmas
 pub mod FrontierLemmas

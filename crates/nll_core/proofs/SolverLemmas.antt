@@ -13,7 +13,7 @@ use Rattle.nll_core.specs.Growing.{Gains, Tells, IsBelow, StaysBelow, IsMet, IsC
 use Rattle.nll_problem.specs.declared.base_run.BaseRun.{BaseRun}
 use Rattle.nll_problem.specs.declared.constraint.Constraint.{Constraint}
 use Rattle.nll_problem.proofs.BaseRunLemmas.{run_there, in_next}
-use Rattle.nll_problem.proofs.WalkLemmas.{reaches_weaker}
+use Rattle.nll_problem.proofs.AskLemmas.{asked_weaker}
 use Rattle.nll_core.proofs.GrowingLemmas.{held_one, gains_none, gains_one, gains_append, gains_weaker, tells_none, tells_append}
 
 module _ (q : Problem) where
@@ -100,7 +100,7 @@ module _ (q : Problem) where
   pub below_gains : (c : Constraint) (old new : List (List Bool)) → Contains q.constraints c → Gains (λ r e. (r ≡ c.sup) × Asks q.graph (IsHeld old) c e) old new → StaysBelow q old new
   below_gains c old new of_problem g = λ assignment sat under r e h. ⊎_elim
       (under r e)
-      (λ asked. subst (λ x. IsTrue (assignment x e)) (sym asked.0) (sat.each c of_problem e (reaches_weaker q.graph (IsHeld old c.sub) c.at _ (λ x k. under c.sub x k) e asked.1)))
+      (λ asked. subst (λ x. IsTrue (assignment x e)) (sym asked.0) (sat.each c of_problem e (asked_weaker q.graph (IsHeld old c.sub) c.at _ (λ x k. under c.sub x k) e asked.1)))
       (g.cause r e h)
 
   -- The values of a round after the first `count` constraints.

@@ -10,9 +10,14 @@ use Rattle.nll_core.specs.Search.{missing, IsIn}
 use Rattle.nll_sets.specs.Runs.{first_of, last_of, IsInRuns, IsInRunsFrom, IsWithin, IsRunFrom, Fills}
 use Rattle.nll_sets.proofs.GapLemmas.{front_of, last_there}
 use Rattle.nll_core.specs.Lines.{IsJump, IsLineEnd}
-use Rattle.nll_core.specs.Walking.{IsLineClosed, IsStretch, IsFreeTo, Grows, IsJumpedTo, IsFollowed, IsLedTo, IsSpread, FillsFrom, constraint_at, no_constraint, PointsAscend, IsLedFrom, AreLedFrom, NoneInside}
+use Rattle.nll_core.specs.Walking.{IsLineClosed, IsStretch, IsFreeTo, Grows, IsJumpedTo, IsFollowed, IsLedTo, IsSpread, FillsFrom, constraint_at, no_constraint, PointsAscend, IsLedFrom, AreLedFrom, NoneInside, point_of, AreAskedOf, AreAmong, AreAtPoints, IsPointOf}
 use Rattle.nll_sets.specs.declared.run.Run.{Run}
 use Rattle.nll_problem.specs.declared.constraint.Constraint.{Constraint}
+use Rattle.nll_problem.specs.At.{IsAmong, at_rank}
+use Rattle.nll_problem.specs.Solution.{IsAskedIn}
+use Rattle.nll_problem.specs.declared.at.At.{At}
+use Rattle.nll_problem.specs.declared.at.At.TheVariants.{All, Point}
+use Rattle.nll_problem.proofs.AskLemmas.{asked_inside}
 use Rattle.nll_problem.proofs.WalkLemmas.{reaches_first, reaches_more, reaches_starts, reaches_carries, reaches_inside}
 use Rattle.nll_core.proofs.SearchLemmas.{flag_within}
 
@@ -380,24 +385,24 @@ module _ (g : Graph) (sub : List Bool) where
   pub record Entering (pair : List Constraint) (old now : List Bool) (before after : List Run) (place : ℕ) : Type 0 where
     pub grows : Grows g sub (IsLedFrom g sub pair) old now before after
     pub closed : IsLineClosed g sub now
-    pub covers : (k : ℕ) → k < place → IsIn sub (constraint_at pair k).at → IsIn now (constraint_at pair k).at
+    pub covers : (k : ℕ) → k < place → IsIn sub (point_of (constraint_at pair k)) → IsIn now (point_of (constraint_at pair k))
     pub within : place ≤ length pair
 
   pub entering_first : (pair : List Constraint) (old : List Bool) (before : List Run) → IsLineClosed g sub old → Entering pair old old before before 0
   entering_first pair old before closed = record { grows = grows_none (IsLedFrom g sub pair) old before; closed = closed; covers = λ k h. absurd (omega (arith, h)); within = omega arith }
 
-  pub entering_more : (pair : List Constraint) (old now new : List Bool) (before then next : List Run) (place point least place' : ℕ) → PointsAscend pair → point ≡ (constraint_at pair place).at → place < length pair
+  pub entering_more : (pair : List Constraint) (old now new : List Bool) (before then next : List Run) (place point least place' : ℕ) → PointsAscend pair → point ≡ point_of (constraint_at pair place) → place < length pair
       → Entering pair old now before then place → Grows g sub (Reaches g (IsIn sub) point) now new then next
       → ((x : ℕ) → point ≤ x → x < least → IsIn sub x → IsIn new x) → (IsIn sub point → IsIn new point)
-      → place' ≤ length pair → ((k : ℕ) → place + 1 ≤ k → k < place' → (constraint_at pair k).at < least) → Entering pair old new before next place'
+      → place' ≤ length pair → ((k : ℕ) → place + 1 ≤ k → k < place' → point_of (constraint_at pair k) < least) → Entering pair old new before next place'
   entering_more pair old now new before then next place point least place' ascending is within e p settled own bound passed = record {
     grows = grows_append (IsLedFrom g sub pair) _ _ _ _ _ _ e.grows (grows_weaker _ (IsLedFrom g sub pair) (λ x way. (constraint_at pair place, contained_at pair place within, subst (λ y. Reaches g (IsIn sub) y x) is way)) _ _ _ _ p);
     closed = line_closed (Reaches g (IsIn sub) point) _ _ _ _ p e.closed;
     covers = λ k h s. ⊎_elim
         (λ front. p.kept _ (e.covers k front s))
         (λ other. ⊎_elim
-        (λ here. let same : (constraint_at pair k).at ≡ point = ap (λ i. (constraint_at pair i).at) here ∙ sym is in subst (IsIn new) (sym same) (own (subst (IsIn sub) same s)))
-        (λ past. settled (constraint_at pair k).at (omega (arith, is, ascending place k (omega (arith, other)) (omega (arith, h, bound)))) (passed k (omega (arith, other, past)) h) s)
+        (λ here. let same : point_of (constraint_at pair k) ≡ point = ap (λ i. point_of (constraint_at pair i)) here ∙ sym is in subst (IsIn new) (sym same) (own (subst (IsIn sub) same s)))
+        (λ past. settled (point_of (constraint_at pair k)) (omega (arith, is, ascending place k (omega (arith, other)) (omega (arith, h, bound)))) (passed k (omega (arith, other, past)) h) s)
         (cases_eq k place))
         (cases_lt k place);
     within = bound;
@@ -415,14 +420,14 @@ module _ (g : Graph) (sub : List Bool) where
   -- ---- the whole
 
   module _ (sound : IsSound g) (pair : List Constraint) (old middle new : List Bool) (list : List Run) (all_runs : List Run) (ends : Bool) (nothing : (x : ℕ) → flag old x ≡ false)
-      (p : Grows g sub (IsLedFrom g sub pair) old middle [] list) (covers : (c : Constraint) → Contains pair c → IsIn sub c.at → IsIn middle c.at) (s : IsSpread g sub middle new list all_runs ends) where
+      (p : Grows g sub (IsLedFrom g sub pair) old middle [] list) (covers : (c : Constraint) → Contains pair c → IsIn sub (point_of c) → IsIn middle (point_of c)) (s : IsSpread g sub middle new list all_runs ends) where
     entered : (x : ℕ) → IsIn middle x → IsLedFrom g sub pair x
     entered x h = ⊎_elim (λ o. absurd (false≢true (sym (nothing x) ∙ o))) (λ from. from) (p.cause x h)
 
     led : (x : ℕ) → IsIn new x → IsLedFrom g sub pair x
     led x h = ⊎_elim
         (entered x)
-        (λ w. let from = entered w.0 w.1 in (from.0, from.1, reaches_append from.0.at w.0 x from.2 w.2))
+        (λ w. let from = entered w.0 w.1 in (from.0, from.1, reaches_append (point_of from.0) w.0 x from.2 w.2))
         (s.grows.cause x h)
 
     all_listed : (x : ℕ) → IsIn new x → IsInRuns all_runs x
@@ -439,7 +444,7 @@ module _ (g : Graph) (sub : List Bool) where
 
     from_return : (y x : ℕ) → IsIn new y → IsJump g y g.points → IsEnd g x → IsIn sub x → IsLedFrom g sub pair x
     from_return y x h (inl next) is_end in_sub = absurd (omega (arith, (sound.edges_in_range y g.points next.0).1))
-    from_return y x h (inr back) is_end in_sub = let from = led y h in (from.0, from.1, reaches_more g (IsIn sub) from.0.at y x from.2 (inr (back.0, is_end)) in_sub)
+    from_return y x h (inr back) is_end in_sub = let from = led y h in (from.0, from.1, reaches_more g (IsIn sub) (point_of from.0) y x from.2 (inr (back.0, is_end)) in_sub)
 
     along_edge : (y z : ℕ) → IsIn new y → IsNext g y z → IsIn sub z → IsIn new z
     along_edge y z h next in_sub = ⊎_elim
@@ -454,7 +459,7 @@ module _ (g : Graph) (sub : List Bool) where
     go_on y z (inr h) (inr back) in_sub = absurd (omega (arith, h.0.0, sound.returns_in_range y back.0))
 
     complete : (x : ℕ) → IsLedFrom g sub pair x → IsIn new x ⊎ (IsEnd g x × (ends ≡ true))
-    complete x (c, listed, way) = reaches_carries g (IsIn sub) c.at (λ y. IsIn new y ⊎ (IsEnd g y × (ends ≡ true))) go_on x (inl (s.grows.kept c.at (covers c listed (reaches_starts g (IsIn sub) c.at x way)))) way
+    complete x (c, listed, way) = reaches_carries g (IsIn sub) (point_of c) (λ y. IsIn new y ⊎ (IsEnd g y × (ends ≡ true))) go_on x (inl (s.grows.kept (point_of c) (covers c listed (reaches_starts g (IsIn sub) (point_of c) x way)))) way
 
     -- where no return point is reached, that is all
     pub reached_points : ends ≡ false → AreLedFrom g sub pair new
@@ -467,7 +472,7 @@ module _ (g : Graph) (sub : List Bool) where
           (led x)
           (λ (past, in_sub). let w = s.ends_from some in from_return w.0 x w.1 w.2 (past, omega (arith, flag_within sub x in_sub, wide)) in_sub)
           (f.cause x h),
-      λ h. ⊎_elim (f.kept x) (λ e. f.filled x e.0.0 (reaches_inside g (IsIn sub) h.0.at x h.2)) (complete x h),
+      λ h. ⊎_elim (f.kept x) (λ e. f.filled x e.0.0 (reaches_inside g (IsIn sub) (point_of h.0) x h.2)) (complete x h),
     )
 
   module _ (pair : List Constraint) (old middle : List Bool) (list : List Run) (nothing : (x : ℕ) → flag old x ≡ false) (p : Grows g sub (IsLedFrom g sub pair) old middle [] list) where
@@ -478,4 +483,52 @@ module _ (g : Graph) (sub : List Bool) where
     )
 
     pub start_inside : (x : ℕ) → IsIn middle x → IsIn sub x
-    start_inside x h = ⊎_elim (λ o. absurd (false≢true (sym (nothing x) ∙ o))) (λ from. reaches_inside g (IsIn sub) from.0.at x from.2) (p.cause x h)
+    start_inside x h = ⊎_elim (λ o. absurd (false≢true (sym (nothing x) ∙ o))) (λ from. reaches_inside g (IsIn sub) (point_of from.0) x from.2) (p.cause x h)
+
+-- ---- what constraints ask for
+
+-- what isn't all points is a point
+among_point : (g : Graph) (place : At) → IsAmong g.points place → (place ≡ All → ⊥) → IsPointOf g place
+among_point g All within other = other refl
+among_point g (Point p) within other = within
+
+-- its number is below that of points
+pub point_below : (g : Graph) (place : At) → IsPointOf g place → at_rank place - 1 < g.points
+point_below g All never = absurd never
+point_below g (Point p) within = omega (arith, within)
+
+-- where none holds at all points, the constraints are at points
+pub among_points : (g : Graph) (pair : List Constraint) → AreAmong g pair → ((c : Constraint) → Contains pair c → c.at ≡ All → ⊥) → AreAtPoints g pair
+among_points g pair among none c h = among_point g c.at (among c h) (none c h)
+
+-- at a point, what is asked for is what a walk leads to
+point_asks : (g : Graph) (sub : List Bool) (place : At) (x : ℕ) → IsPointOf g place → Reaches g (IsIn sub) (at_rank place - 1) x ↔ IsAskedIn g (IsIn sub) place x
+point_asks g sub All x never = absurd never
+point_asks g sub (Point p) x within =
+    let same : p + 1 - 1 ≡ p = omega arith in
+    (subst (λ q. Reaches g (IsIn sub) q x) same, subst (λ q. Reaches g (IsIn sub) q x) (sym same))
+
+-- what walks lead to from points of constraints is what these ask for
+pub led_asks : (g : Graph) (sub : List Bool) (pair : List Constraint) (reached : List Bool) → AreAtPoints g pair → AreLedFrom g sub pair reached → AreAskedOf g sub pair reached
+led_asks g sub pair reached points led x = (
+  λ h. let w = (led x).0 h in (w.0, w.1, (point_asks g sub w.0.at x (points w.0 w.1)).0 w.2),
+  λ w. (led x).1 (w.0, w.1, (point_asks g sub w.0.at x (points w.0 w.1)).1 w.2),
+)
+
+-- a constraint at all points asks for the whole set, and no other asks for more
+pub whole_asked : (g : Graph) (sub : List Bool) (pair : List Constraint) (old reached : List Bool) → (c : Constraint) × Contains pair c × (c.at ≡ All) → ((x : ℕ) → flag old x ≡ false) → FillsFrom 0 sub old reached → AreAskedOf g sub pair reached
+whole_asked g sub pair old reached every nothing f x = (
+  λ h. (every.0, every.1, subst (λ place. IsAskedIn g (IsIn sub) place x) (sym every.2) (⊎_elim (λ o. absurd (false≢true (sym (nothing x) ∙ o))) (λ own. own.1) (f.cause x h))),
+  λ w. f.filled x (omega arith) (asked_inside g (IsIn sub) w.0.at x w.2),
+)
+
+-- the first constraint holds at all points where any does
+rank_of : (place : At) → at_rank place ≤ 0 → place ≡ All
+rank_of All low = refl
+rank_of (Point p) low = absurd (omega (arith, low))
+
+pub first_everywhere : (pair : List Constraint) (first : Constraint) → PointsAscend pair → first ≡ get_or pair 0 first → 0 < length pair → (c : Constraint) → Contains pair c → c.at ≡ All → first.at ≡ All
+first_everywhere pair first ascending is some c (k, within, there) every =
+    let here : constraint_at pair 0 ≡ first = get_or_default pair 0 no_constraint first some ∙ sym is in
+    let other : constraint_at pair k ≡ c = get_or_default pair k no_constraint c within ∙ there in
+    rank_of first.at (omega (arith, ascending 0 k (omega arith) within, ap (λ (d : Constraint). at_rank d.at) here, ap (λ (d : Constraint). at_rank d.at) other, ap at_rank every))

@@ -8,13 +8,14 @@ use Rattle.nll_sets.specs.declared.run.Run.{Run}
 use Rattle.nll_sets.proofs.RunSetLemmas.{same_flags}
 use Rattle.nll_problem.specs.ConstraintIndex.{IsLower}
 use Rattle.nll_problem.specs.Problem.{Problem, IsSound}
-use Rattle.nll_problem.specs.Walks.{Reaches}
+use Rattle.nll_problem.specs.At.{at_rank}
+use Rattle.nll_problem.specs.Solution.{IsAskedIn}
 use Rattle.nll_problem.specs.declared.constraint.Constraint.{Constraint}
-use Rattle.nll_problem.proofs.WalkLemmas.{reaches_inside, reaches_weaker}
+use Rattle.nll_problem.proofs.AskLemmas.{asked_inside, asked_weaker}
 use Rattle.nll_core.specs.Search.{IsIn}
 use Rattle.nll_core.specs.Values.{set_of, IsHeld, IsShaped}
 use Rattle.nll_core.specs.Growing.{Gains, Tells, StaysBelow, IsMet, IsClosed}
-use Rattle.nll_core.specs.Walking.{no_constraint, constraint_at, PointsAscend, IsLedFrom}
+use Rattle.nll_core.specs.Walking.{no_constraint, constraint_at, PointsAscend, IsAskedOf}
 use Rattle.nll_core.specs.Worklist.{IsTracked, IsCleared, Advances, Visits, Turns, AreOfPair, AreOfOneSup, SupsAscend}
 use Rattle.nll_core.proofs.GrowingLemmas.{tells_none, tells_append, gains_none, gains_append, gains_weaker}
 use Rattle.nll_core.proofs.SolverLemmas.{shaped_gains}
@@ -70,12 +71,12 @@ module _ (q : Problem) where
 
     -- a constraint of the region that is met stays so
     pub met_stays : (c : Constraint) (old new : List (List Bool)) → set_of new c.sub ≡ set_of old c.sub → ((r e : ℕ) → IsHeld old r e → IsHeld new r e) → IsMet q old c → IsMet q new c
-    met_stays c old new same kept met = λ e asked. kept c.sup e (met e (subst (λ flags. Reaches q.graph (λ x. flag flags x ≡ true) c.at e) same asked))
+    met_stays c old new same kept met = λ e asked. kept c.sup e (met e (subst (λ flags. IsAskedIn q.graph (λ x. flag flags x ≡ true) c.at e) same asked))
 
     -- what the constraints of the region with another ask is put in, and the other region is marked if it gets something
     module _ (sup : ℕ) (pair : List Constraint) (old new : List (List Bool)) (before : List Bool) (changed : Bool)
         (of_pair : AreOfPair q sub sup pair) (apart : sup ≢ sub) (within : sup < length before) (s : IsShaped q old)
-        (g : Gains (λ r e. (r ≡ sup) × IsLedFrom q.graph (set_of old sub) pair e) old new) (asks : (e : ℕ) → IsLedFrom q.graph (set_of old sub) pair e → IsHeld new sup e) (t : Tells changed old new) where
+        (g : Gains (λ r e. (r ≡ sup) × IsAskedOf q.graph (set_of old sub) pair e) old new) (asks : (e : ℕ) → IsAskedOf q.graph (set_of old sub) pair e → IsHeld new sup e) (t : Tells changed old new) where
       abbrev after : List Bool
       after = set before sup (flag before sup || changed)
 
@@ -89,7 +90,7 @@ module _ (q : Problem) where
           (λ (is, (c, listed, way)).
           let own = of_pair c listed in
           let inside : (x : ℕ) → IsIn (set_of old sub) x → IsTrue (assignment c.sub x) = λ x k. subst (λ b. IsTrue (assignment b x)) (sym own.1) (under sub x k) in
-          subst (λ x. IsTrue (assignment x e)) (own.2 ∙ sym is) (sat.each c own.0 e (reaches_weaker q.graph (IsIn (set_of old sub)) c.at _ inside e way)))
+          subst (λ x. IsTrue (assignment x e)) (own.2 ∙ sym is) (sat.each c own.0 e (asked_weaker q.graph (IsIn (set_of old sub)) c.at _ inside e way)))
           (g.cause r e h)
 
       pub visits_pair : Visits q sub old new before after changed
@@ -112,15 +113,15 @@ module _ (q : Problem) where
       met_pair c listed =
           let own = of_pair c listed in
           let same : set_of new c.sub ≡ set_of old sub = ap (set_of new) own.1 ∙ other_set sub (λ e. apart (sym e)) in
-          λ e asked. subst (λ r. IsHeld new r e) (sym own.2) (asks e (c, listed, subst (λ flags. Reaches q.graph (λ x. flag flags x ≡ true) c.at e) same asked))
+          λ e asked. subst (λ r. IsHeld new r e) (sym own.2) (asks e (c, listed, subst (λ flags. IsAskedIn q.graph (λ x. flag flags x ≡ true) c.at e) same asked))
 
     -- a constraint is met where the region that it fills has all of the region that it reads
     pub met_within : (c : Constraint) (values : List (List Bool)) → ((e : ℕ) → IsHeld values c.sub e → IsHeld values c.sup e) → IsMet q values c
-    met_within c values within = λ e asked. within e (reaches_inside q.graph (IsHeld values c.sub) c.at e asked)
+    met_within c values within = λ e asked. within e (asked_inside q.graph (IsHeld values c.sub) c.at e asked)
 
     -- a constraint of a region with itself is always met
     pub met_self : (c : Constraint) (values : List (List Bool)) → c.sup ≡ c.sub → IsMet q values c
-    met_self c values same = λ e asked. subst (λ r. IsHeld values r e) (sym same) (reaches_inside q.graph (IsHeld values c.sub) c.at e asked)
+    met_self c values same = λ e asked. subst (λ r. IsHeld values r e) (sym same) (asked_inside q.graph (IsHeld values c.sub) c.at e asked)
 
   -- ---- the constraints that read a region, pair by pair
 
@@ -239,7 +240,7 @@ sups_ascend constraints pairs = record {
       (cases_lt j k);
   points = λ j k le within same. ⊎_elim
       (λ before. ⊎_elim (λ less. absurd (omega (arith, less, same))) (λ low. omega (arith, low.1)) (pairs j k no_constraint before within))
-      (λ back. let here : j ≡ k = omega (arith, le, back) in omega (arith, ap (λ i. (constraint_at constraints i).at) here))
+      (λ back. let here : j ≡ k = omega (arith, le, back) in omega (arith, ap (λ i. at_rank (constraint_at constraints i).at) here))
       (cases_lt j k);
 }
 
@@ -260,7 +261,7 @@ module _ (constraints : List Constraint) (place end : ℕ) (low : place < end) (
       let a : k < end - place = omega (arith, within, part_length) in
       let b : j < end - place = omega (arith, a, le) in
       let same : (constraint_at constraints (place + j)).sup ≡ (constraint_at constraints (place + k)).sup = one (place + j) (omega arith) (omega (arith, b)) ∙ sym (one (place + k) (omega arith) (omega (arith, a))) in
-      omega (arith, ap (λ (c : Constraint). c.at) (part_at j no_constraint b), ap (λ (c : Constraint). c.at) (part_at k no_constraint a), s.points (place + j) (place + k) (omega (arith, le)) (omega (arith, a, high)) same)
+      omega (arith, ap (λ (c : Constraint). at_rank c.at) (part_at j no_constraint b), ap (λ (c : Constraint). at_rank c.at) (part_at k no_constraint a), s.points (place + j) (place + k) (omega (arith, le)) (omega (arith, a, high)) same)
 
   -- each constraint of the part stands in the list, between the two places
   pub part_of : AreOfOneSup constraints place end → (c : Constraint) → Contains part c → Contains constraints c × (c.sup ≡ (constraint_at constraints place).sup)

@@ -1,36 +1,37 @@
 -- Frontiers: reachable sets that are kept while runs of elements are added to the set in which
 -- walks may go.
 -- Source: RFC 2094, "Solving constraints" (the search from a constraint's point that stops where it
--- leaves the region); that it is resumed when the region grows is project's choice. The code looks
--- at the points of one new run at a time; this speaks of whole walks.
+-- leaves the region); that it is resumed when the region grows, and that a constraint may hold at
+-- all points, is project's choice. The code looks at the points of one new run at a time; this
+-- speaks of whole walks.
 use Rattle.std.specs.Prelude.{◌≡◌, ◌⊎◌, ◌↔◌, ℕ, ◌<◌, ◌≤◌, Bool, true, false, List, [], length}
-use Rattle.std.specs.Prelude.{Contains, AllPairs}
+use Rattle.std.specs.Prelude.{Contains, AllPairs, Option, Some, None, ◌∷◌, map}
 use Rattle.nll_sets.specs.ElementSet.{flag}
 use Rattle.nll_sets.specs.Runs.{first_of, last_of, IsInRunsFrom, AreApartFrom, IsWithin}
 use Rattle.nll_sets.specs.declared.run.Run.{Run}
 use Rattle.nll_problem.specs.Graph.{Graph, IsNext, IsReturn, IsStep}
+use Rattle.nll_problem.specs.Solution.{IsAskedIn}
 use Rattle.nll_problem.specs.Walks.{Reaches}
+use Rattle.nll_problem.specs.declared.at.At.{At}
+use Rattle.nll_problem.specs.declared.at.At.TheVariants.{All, Point}
 use Rattle.nll_core.specs.Search.{IsIn}
 use Rattle.nll_core.specs.Walking.{Grows}
 
--- A frontier: the points from which walks go, what they reached, and whether a call of it was
--- refused.
+-- A frontier: where the constraints hold for which it is kept, what they asked for, and whether a
+-- call of it was refused.
 pub record Frontier : Type 0 where
-  pub starts : List ℕ
+  pub starts : List At
   pub reached : List Bool
   pub refused : Bool
 
--- some walk of the graph inside the set leads to x from a point of the list
-abbrev pub ReachesFrom : Graph → (ℕ → Type 0) → List ℕ → ℕ → Type 0
-ReachesFrom g inside starts x = (p : ℕ) × Contains starts p × Reaches g inside p x
+-- x is asked for inside the set from one of these on: all points, or a point from which some walk
+-- of the graph inside the set leads to x
+abbrev pub IsAskedFrom : Graph → (ℕ → Type 0) → List At → ℕ → Type 0
+IsAskedFrom g inside starts x = (place : At) × Contains starts place × IsAskedIn g inside place x
 
--- the set has just what walks of the graph inside another one reach from these points
-abbrev pub IsReachedFrom : Graph → (ℕ → Type 0) → List ℕ → List Bool → Type 0
-IsReachedFrom g inside starts reached = (x : ℕ) → IsIn reached x ↔ ReachesFrom g inside starts x
-
--- the frontier has just what walks of the graph inside the set reach from its points
+-- the frontier has just what is asked for inside the set from where its constraints hold
 abbrev pub IsFrontierIn : Graph → (ℕ → Type 0) → Frontier → Type 0
-IsFrontierIn g inside f = IsReachedFrom g inside f.starts f.reached
+IsFrontierIn g inside f = (x : ℕ) → IsIn f.reached x ↔ IsAskedFrom g inside f.starts x
 
 -- x is an element of the set beside those of the run
 abbrev pub IsBeside : List Bool → Run → ℕ → Type 0
@@ -47,21 +48,48 @@ pub record ListsNew (old new : List Bool) (before after : List Run) : Type 0 whe
       ↔ (IsIn new x × (flag old x ≡ false))
   pub apart : AreApartFrom (length before) after
 
+-- A frontier went on from a run of elements of a set. Where a constraint holds at all points, the
+-- run itself came, and nothing else. Else walks went on: what is newly reached is followed to its
+-- end; of what was reached before, the steps into the run.
+pub record GoesOn (g : Graph) (set : List Bool) (run : Run) (starts : List At) (old new : List Bool)
+    : Type 0 where
+  pub kept : (x : ℕ) → IsIn old x → IsIn new x
+  pub sound : (x : ℕ) → IsIn new x → IsAskedFrom g (IsIn set) starts x
+  pub whole : Contains starts All → (x : ℕ) → IsWithin run x → IsIn new x
+  pub alone : Contains starts All → (x : ℕ) → IsIn new x → IsIn old x ⊎ IsWithin run x
+  pub begun : (p : ℕ) → Contains starts (Point p) → IsWithin run p → IsIn new p
+  pub closed : (x y : ℕ) → IsIn new x → IsStep g x y → IsIn set y
+      → IsIn new y ⊎ ((IsIn old x ⊎ Contains starts All) × (IsWithin run y → ⊥))
+
+-- ---- how it goes on: private contracts alone cite what follows
+
+-- the numbers of the list rise
+abbrev pub IsAscending : List ℕ → Type 0
+IsAscending xs = AllPairs (λ x y. x < y) xs
+
+-- the points of a list that may be missing
+abbrev pub listed : Option (List ℕ) → List ℕ
+listed None = []
+listed (Some points) = points
+
+-- all points, where they are among the places, and then these points
+abbrev pub places_of : Bool → List ℕ → List At
+places_of true points = All ∷ map (λ p. Point p) points
+places_of false points = map (λ p. Point p) points
+
+-- some walk of the graph inside the set leads to x from a point of the list
+abbrev pub ReachesFrom : Graph → (ℕ → Type 0) → List ℕ → ℕ → Type 0
+ReachesFrom g inside starts x = (p : ℕ) × Contains starts p × Reaches g inside p x
+
 -- Walks inside a set went on from a run of its elements. What is newly reached is followed to its
 -- end; of what was reached before, the steps into the run.
-pub record GoesOn (g : Graph) (set : List Bool) (run : Run) (starts : List ℕ) (old new : List Bool)
-    : Type 0 where
+pub record WalksOn (g : Graph) (set : List Bool) (run : Run) (starts : List ℕ)
+    (old new : List Bool) : Type 0 where
   pub kept : (x : ℕ) → IsIn old x → IsIn new x
   pub sound : (x : ℕ) → IsIn new x → ReachesFrom g (IsIn set) starts x
   pub begun : (p : ℕ) → Contains starts p → IsWithin run p → IsIn new p
   pub closed : (x y : ℕ) → IsIn new x → IsStep g x y → IsIn set y
       → IsIn new y ⊎ (IsIn old x × (IsWithin run y → ⊥))
-
--- ---- how a frontier goes on: private contracts alone cite what follows
-
--- the numbers of the list rise
-abbrev pub IsAscending : List ℕ → Type 0
-IsAscending xs = AllPairs (λ x y. x < y) xs
 
 -- Walks inside a set went on from a run to points alone, and the list got what was newly reached.
 -- `ended` says whether they came to a return point now.
@@ -75,5 +103,5 @@ pub record ResumesPoints (g : Graph) (set : List Bool) (run : Run) (starts : Lis
   pub ends : (x : ℕ) → IsIn new x → IsReturn g x → (ended ≡ true) ⊎ IsIn old x
 
 -- a frontier that has reached nothing yet
-abbrev pub first_frontier : List ℕ → Frontier
-first_frontier points = record { starts = points; reached = []; refused = false }
+abbrev pub first_frontier : List At → Frontier
+first_frontier places = record { starts = places; reached = []; refused = false }

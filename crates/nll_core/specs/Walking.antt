@@ -1,13 +1,17 @@
 -- What a walk through the lines of a graph, inside the value of a region, has reached, and what it
 -- adds.
 -- Source: project's choice. Private contracts alone cite this file.
-use Rattle.std.specs.Prelude.{◌≡◌, ◌⊎◌, ◌↔◌, ℕ, ◌+◌, ◌≤◌, ◌<◌, Bool, true, false}
+use Rattle.std.specs.Prelude.{◌≡◌, ◌⊎◌, ◌↔◌, ℕ, ◌+◌, ◌-◌, ◌≤◌, ◌<◌, Bool, true, false}
 use Rattle.std.specs.Prelude.{List, length, Contains, slice_index_or}
 use Rattle.nll_sets.specs.ElementSet.{flag}
 use Rattle.nll_sets.specs.Runs.{first_of, last_of, IsInRuns, IsInRunsFrom, AreApartFrom, IsWithin}
 use Rattle.nll_sets.specs.declared.run.Run.{Run}
+use Rattle.nll_problem.specs.At.{IsAmong, at_rank}
 use Rattle.nll_problem.specs.Graph.{Graph, IsNext}
+use Rattle.nll_problem.specs.Solution.{IsAskedIn}
 use Rattle.nll_problem.specs.Walks.{Reaches}
+use Rattle.nll_problem.specs.declared.at.At.{At}
+use Rattle.nll_problem.specs.declared.at.At.TheVariants.{All, Point}
 use Rattle.nll_problem.specs.declared.constraint.Constraint.{Constraint}
 use Rattle.nll_core.specs.Lines.{IsJump}
 use Rattle.nll_core.specs.Search.{missing, IsIn}
@@ -104,29 +108,54 @@ pub record FillsFrom (from : ℕ) (sub old new : List Bool) : Type 0 where
 
 -- what is read past the end of a list of constraints
 abbrev pub no_constraint : Constraint
-no_constraint = record { sub = 0; sup = 0; at = 0 }
+no_constraint = record { sub = 0; sup = 0; at = All }
 
 -- the constraint at a place of the list
 abbrev pub constraint_at : List Constraint → ℕ → Constraint
 constraint_at pair k = slice_index_or pair k no_constraint
 
--- the points of the constraints never descend
+-- where the constraints hold never descends: those that hold at all points come first, and the
+-- points of the others never descend
 abbrev pub PointsAscend : List Constraint → Type 0
 PointsAscend pair =
-    (j k : ℕ) → j ≤ k → k < length pair → (constraint_at pair j).at ≤ (constraint_at pair k).at
+    (j k : ℕ) → j ≤ k → k < length pair
+    → at_rank (constraint_at pair j).at ≤ at_rank (constraint_at pair k).at
+
+-- each constraint holds at all points or at one of the graph
+abbrev pub AreAmong : Graph → List Constraint → Type 0
+AreAmong g pair = (c : Constraint) → Contains pair c → IsAmong g.points c.at
+
+-- a constraint of the list asks for x inside `sub`
+abbrev pub IsAskedOf : Graph → List Bool → List Constraint → ℕ → Type 0
+IsAskedOf g sub pair x = (c : Constraint) × Contains pair c × IsAskedIn g (IsIn sub) c.at x
+
+-- the set has what the constraints ask for inside `sub`
+abbrev pub AreAskedOf : Graph → List Bool → List Constraint → List Bool → Type 0
+AreAskedOf g sub pair reached = (x : ℕ) → IsIn reached x ↔ IsAskedOf g sub pair x
+
+-- ---- those of a pair that all hold at points
+
+-- the point of a constraint, and 0 where it holds at all points
+abbrev pub point_of : Constraint → ℕ
+point_of c = at_rank c.at - 1
+
+-- it is a point of the graph, and not all points
+abbrev pub IsPointOf : Graph → At → Type 0
+IsPointOf g All = ⊥
+IsPointOf g (Point p) = p < g.points
+
+-- the constraints hold at points of the graph
+abbrev pub AreAtPoints : Graph → List Constraint → Type 0
+AreAtPoints g pair = (c : Constraint) → Contains pair c → IsPointOf g c.at
 
 -- the points of the constraints at the places from one up to another aren't in `sub`
 abbrev pub NoneInside : List Bool → List Constraint → ℕ → ℕ → Type 0
 NoneInside sub pair from to =
-    (k : ℕ) → from ≤ k → k < to → flag sub (constraint_at pair k).at ≡ false
-
--- the constraints are at points
-abbrev pub AreAtPoints : Graph → List Constraint → Type 0
-AreAtPoints g pair = (c : Constraint) → Contains pair c → c.at < g.points
+    (k : ℕ) → from ≤ k → k < to → flag sub (point_of (constraint_at pair k)) ≡ false
 
 -- a walk inside `sub` leads to x from the point of a constraint of the list
 abbrev pub IsLedFrom : Graph → List Bool → List Constraint → ℕ → Type 0
-IsLedFrom g sub pair x = (c : Constraint) × Contains pair c × Reaches g (IsIn sub) c.at x
+IsLedFrom g sub pair x = (c : Constraint) × Contains pair c × Reaches g (IsIn sub) (point_of c) x
 
 -- the set has what walks inside `sub` reach from the points of the constraints
 abbrev pub AreLedFrom : Graph → List Bool → List Constraint → List Bool → Type 0

@@ -3,6 +3,7 @@
 use Rattle.std.specs.Prelude.{◌≡◌, ◌≢◌, ◌⊎◌, ℕ, ◌≤◌, ◌<◌, Bool, true, false}
 use Rattle.std.specs.Prelude.{List, length, Contains}
 use Rattle.nll_sets.specs.ElementSet.{flag}
+use Rattle.nll_problem.specs.At.{at_rank}
 use Rattle.nll_problem.specs.Problem.{Problem}
 use Rattle.nll_problem.specs.declared.constraint.Constraint.{Constraint}
 use Rattle.nll_core.specs.Growing.{Tells, StaysBelow, IsMet}
@@ -69,10 +70,10 @@ AreOfOneSup constraints from to =
     (k : ℕ) → from ≤ k → k < to
     → (constraint_at constraints k).sup ≡ (constraint_at constraints from).sup
 
--- the regions of the constraints, and the points of those of one region, never descend
+-- the regions of the constraints, and where those of one region hold, never descend
 pub record SupsAscend (constraints : List Constraint) : Type 0 where
   pub sups : (j k : ℕ) → j ≤ k → k < length constraints
       → (constraint_at constraints j).sup ≤ (constraint_at constraints k).sup
   pub points : (j k : ℕ) → j ≤ k → k < length constraints
       → (constraint_at constraints j).sup ≡ (constraint_at constraints k).sup
-      → (constraint_at constraints j).at ≤ (constraint_at constraints k).at
+      → at_rank (constraint_at constraints j).at ≤ at_rank (constraint_at constraints k).at

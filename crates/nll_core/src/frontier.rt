@@ -1,30 +1,34 @@
-//! Reachable sets that are kept while runs are added to the set in which walks may go.
+//! What constraints ask for, kept while runs are added to the set inside which they ask.
 
 ghost use Rattle.std.specs.Prelude.{◌≡◌, ℕ, ◌≤◌, ◌<◌, true, false, [], ◌∷◌, ◌++◌, Contains};
 ghost use Rattle.std.specs.Prelude.{length, OnOk, OnErr};
 ghost use Rattle.nll_problem.specs.Graph.{element_count};
 ghost use Rattle.nll_core.specs.Search.{IsIn};
 ghost use Rattle.nll_core.specs.Walking.{AreIn};
-ghost use Rattle.nll_core.specs.Frontiers.{IsFrontierIn, IsBeside, GoesOn, ReachesFrom, ListsNew};
+ghost use Rattle.nll_core.specs.Frontiers.{IsFrontierIn, IsBeside, GoesOn, IsAskedFrom, ListsNew};
 ghost use Rattle.nll_core.specs.Frontiers.{first_frontier};
+ghost use Rattle.nll_problem.specs.At.{IsAmong, at_rank};
+ghost use Rattle.nll_problem.specs.declared.at.At.{At as places};
 
+use crate::places::Places;
 use crate::resuming::resume;
-use crate::starts::Starts;
 use crate::steps::Steps;
-use nll_sets::{Element, Memory, Run, RunSet};
+use nll_problem::At;
+use nll_sets::{Memory, Run, RunSet};
 use std::alloc::Global;
 use std::marker::Model;
 
-/// What the walks from some points reach inside a set, kept while runs of elements are put into the
-/// set. (It isn't the worklist of a breadth-first search, which has that name too.)
+/// What constraints ask for inside a set, kept while runs of elements are put into the set: what
+/// walks from their points reach; all of the set, where one holds at all points. (It isn't
+/// the worklist of a breadth-first search, which has that name too.)
 ///
 /// # Cost
-/// A call looks at the jumps that land in the run, and goes on through what it newly reaches alone,
-/// by stretches of lines. Where the run has an end, it looks at the return points or at the reached
+/// Where a constraint holds at all points, a call looks at the run alone. Else it looks at the jumps
+/// that land in the run, and goes on through what it newly reaches alone, by stretches of lines. Where the run has an end, it looks at the return points or at the reached
 /// runs, whichever are fewer (not proved).
 #[derive(Drop)]
 pub struct Frontier {
-    starts: Starts,
+    starts: Places,
     reached: RunSet,
     refusal: Option<Memory>,
 }
@@ -43,34 +47,35 @@ impl Model for Frontier {
 }
 
 impl Frontier {
-    /// A frontier of walks from one point, which has reached nothing yet. Takes no memory.
-    pub fn new(alloc: Global, at: Element) -> Frontier
+    /// A frontier of a constraint that holds there, which has reached nothing yet. Takes no memory.
+    pub fn new(alloc: Global, at: At) -> Frontier
         ensures { result ≡ first_frontier (at ∷ []) }
     {
         Frontier {
-            starts: Starts::of(alloc, at.0),
+            starts: Places::of(alloc, at),
             reached: RunSet::new(alloc),
             refusal: None,
         }
     }
 
-    /// Adds a point from which walks begin, behind all others.
+    /// Adds where a further constraint holds, behind all others.
     ///
     /// # Errors
     /// - `Memory`: the frontier is as before.
-    pub fn add_point(&mut self, at: Element) -> Result<(), Memory>
-        requires { (x : ℕ) → Contains self.old.starts x → x < at }
+    pub fn add(&mut self, alloc: Global, at: At) -> Result<(), Memory>
+        requires { (x : places) → Contains self.old.starts x → at_rank x < at_rank at }
         ensures ok { OnOk result
             (self.new ≡ record self.old { starts = self.old.starts ++ at ∷ [] }) }
         ensures err { OnErr result (self.new ≡ self.old) }
     {
-        self.starts.push(at.0)
+        self.starts.push(alloc, at)
     }
 
     /// Reaches what can be reached once a run of elements is in the set: walks go on through those
     /// at which one begins, or to which a step leads from what is reached; so they go on at a hole
-    /// that is filled later. Clears a list, and puts the runs of what is newly reached into it,
-    /// each element once. The points from which walks go are points of the graph.
+    /// that is filled later. Where a constraint holds at all points, that is the run itself. Clears
+    /// a list, and puts the runs of what is newly reached into it, each element once. The points
+    /// from which walks go are points of the graph.
     ///
     /// # Errors
     /// - `Memory`: the list is of no use; each later call answers `Memory` too.
@@ -84,7 +89,8 @@ impl Frontier {
         requires width { length seen.now ≡ element_count steps.now }
         requires fits { let old = self.old in
             old.refused ≡ false → length old.reached ≤ element_count steps.now }
-        requires starts { (p : ℕ) → Contains self.old.starts p → p < steps.now.points }
+        requires starts { (at : places)
+            → Contains self.old.starts at → IsAmong steps.now.points at }
         requires proper { run.first ≤ run.last }
         requires run { AreIn seen.now run }
         requires reached { self.old.refused ≡ false
@@ -102,9 +108,9 @@ impl Frontier {
 
     /// Goes on from a run of elements of the set in which walks may go, which may have grown by
     /// other elements too: through those at which a walk begins, or to which a step leads from what
-    /// is reached, and from there through the whole set. Clears a list, and puts the runs of what
-    /// is newly reached into it, each element once. The points from which walks go are points of
-    /// the graph.
+    /// is reached, and from there through the whole set. Where a constraint holds at all points, the
+    /// run itself is reached and nothing else. Clears a list, and puts the runs of what is newly
+    /// reached into it, each element once. The points from which walks go are those of the graph.
     ///
     /// # Errors
     /// - `Memory`: the list is of no use; each later call answers `Memory` too.
@@ -118,11 +124,12 @@ impl Frontier {
         requires width { length inside.now ≡ element_count steps.now }
         requires fits { let old = self.old in
             old.refused ≡ false → length old.reached ≤ element_count steps.now }
-        requires starts { (p : ℕ) → Contains self.old.starts p → p < steps.now.points }
+        requires starts { (at : places)
+            → Contains self.old.starts at → IsAmong steps.now.points at }
         requires proper { run.first ≤ run.last }
         requires run { AreIn inside.now run }
         requires sound { self.old.refused ≡ false → (x : ℕ) → IsIn self.old.reached x
-            → ReachesFrom steps.now (IsIn inside.now) self.old.starts x }
+            → IsAskedFrom steps.now (IsIn inside.now) self.old.starts x }
         ensures starts { self.new.starts ≡ self.old.starts }
         ensures fits { OnOk result (length self.new.reached ≤ element_count steps.now) }
         ensures reached { OnOk result (GoesOn steps.now inside.now run self.old.starts

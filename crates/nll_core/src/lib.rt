@@ -3,7 +3,7 @@
 //!
 //! Reading order: `values`, `bases`, `lines` (with `line_ends`, `jumps`), `stretches`, `filling`,
 //! `walk`, `pairs`, `inclusion`, `meeting`, `order`, `solver`; `returns`, `landings`, `steps`,
-//! `starts`, `resuming`, `frontier`; `search`, `reachability`, `outliving`, `fault_check`.
+//! `starts`, `places`, `resuming`, `frontier`; `search`, `reachability`, `outliving`, `fault_check`.
 //! The definitions are in specs/.
 #![tactic(auto)]
 
@@ -21,6 +21,7 @@ mod meeting;
 mod order;
 mod outliving;
 mod pairs;
+mod places;
 mod reachability;
 mod region_elements;
 mod resuming;
@@ -37,7 +38,7 @@ pub use bases::base_values;
 pub use fault_check::faults;
 pub use frontier::Frontier;
 pub use nll_problem::{
-    BuildError, Constraint, Graph, Kind, MAX_CONSTRAINTS, MAX_EDGES, MAX_POINTS, MAX_REGIONS,
+    At, BuildError, Constraint, Graph, Kind, MAX_CONSTRAINTS, MAX_EDGES, MAX_POINTS, MAX_REGIONS,
     MAX_UNIVERSALS, Problem, ProblemBuilder, RegionId,
 };
 pub use nll_sets::{BitSet, Element, ElementSet, Elements, Memory, Run, RunSet};

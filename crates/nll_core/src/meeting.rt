@@ -6,7 +6,7 @@ ghost use Rattle.nll_problem.specs.Graph.{element_count};
 ghost use Rattle.nll_problem.specs.declared.constraint.Constraint as spec;
 ghost use Rattle.nll_core.specs.Values.{set_of, IsHeld, IsShaped};
 ghost use Rattle.nll_core.specs.Growing.{Gains, Tells, IsMet};
-ghost use Rattle.nll_core.specs.Walking.{PointsAscend, IsLedFrom};
+ghost use Rattle.nll_core.specs.Walking.{PointsAscend, IsAskedOf};
 ghost use Rattle.nll_core.specs.Worklist.{AreOfPair, Visits};
 
 use crate::inclusion::is_seen_within;
@@ -42,7 +42,7 @@ pub fn meet(
     ensures met { OnOk result
         ((c : spec.Constraint) → Contains pair.now c → IsMet problem.now values.new c) }
 {
-    // What a walk inside a region reaches is in the region, so in another one that has all of it.
+    // What is asked for inside a region is in it, and so in another one that has all of it.
     if sup == sub || is_seen_within(values.set(sub), values.set(sup)) {
         return Ok(false);
     }
@@ -69,10 +69,10 @@ fn fill(
     requires pair { AreOfPair problem.now sub sup pair.now }
     requires ascending { PointsAscend pair.now }
     ensures gains { OnOk result (Gains
-        (λ r e. (r ≡ sup) × IsLedFrom problem.now.graph (set_of values.old sub) pair.now e)
+        (λ r e. (r ≡ sup) × IsAskedOf problem.now.graph (set_of values.old sub) pair.now e)
         values.old values.new) }
     ensures asks { OnOk result ((e : ℕ)
-        → IsLedFrom problem.now.graph (set_of values.old sub) pair.now e
+        → IsAskedOf problem.now.graph (set_of values.old sub) pair.now e
         → IsHeld values.new sup e) }
     ensures tells { IfOk result (λ new. Tells new values.old values.new) }
     ensures walk { OnOk result (length walk.new.reached ≡ element_count lines.now) }

@@ -1,25 +1,77 @@
-//! How the walks of a frontier go on once a run is in the set in which they may go.
+//! How a frontier goes on once a run is in the set inside which its constraints ask.
 
 ghost use Rattle.std.specs.Prelude.{◌≡◌, ◌↔◌, ℕ, ◌+◌, ◌≤◌, ◌<◌, true, false, [], Contains, length};
 ghost use Rattle.std.specs.Prelude.{OnOk, IfOk, IfSome, IfNone};
+ghost use Rattle.nll_problem.specs.At.{IsAmong};
 ghost use Rattle.nll_problem.specs.Graph.{element_count, IsNext, IsReturn};
 ghost use Rattle.nll_problem.specs.Walks.{Reaches};
-ghost use Rattle.nll_sets.specs.Runs.{IsWithin};
+ghost use Rattle.nll_problem.specs.declared.at.At.{At as places};
+ghost use Rattle.nll_sets.specs.Runs.{Fills, IsWithin};
 ghost use Rattle.nll_core.specs.Lines.{IsJump};
 ghost use Rattle.nll_core.specs.Search.{IsIn};
 ghost use Rattle.nll_core.specs.Walking.{AreIn, Grows, IsLedTo};
-ghost use Rattle.nll_core.specs.Frontiers.{GoesOn, ReachesFrom, ListsNew, ResumesPoints};
+ghost use Rattle.nll_core.specs.Frontiers.{GoesOn, IsAskedFrom, ListsNew, ReachesFrom};
+ghost use Rattle.nll_core.specs.Frontiers.{ResumesPoints, WalksOn};
 
 use crate::filling::fill_from;
 use crate::landings::Landings;
 use crate::lines::Lines;
+use crate::places::Places;
 use crate::starts::Starts;
 use crate::stretches::{enter, spread};
 use nll_sets::{Element, ElementSet, Memory, Run, RunSet};
 
-/// Goes on with walks from some points from a run of the set in which they go, and puts the runs of
-/// what is newly reached into an empty list.
+/// Goes on with what constraints ask for from a run of the set inside which they ask, and puts the
+/// runs of what is newly reached into an empty list. Where one of them holds at all points, that is
+/// what of the run is new; else walks go on from their points.
 pub fn resume(
+    lines: &Lines,
+    landings: &Landings,
+    seen: &RunSet,
+    starts: &Places,
+    run: Run,
+    reached: &mut RunSet,
+    found: &mut Vec<Run>,
+) -> Result<(), Memory>
+    requires landings { landings.now ≡ lines.now }
+    requires seen_width { length seen.now ≡ element_count lines.now }
+    requires width { length reached.old ≡ element_count lines.now }
+    requires starts { (p : places) → Contains starts.now p → IsAmong lines.now.points p }
+    requires run { AreIn seen.now run }
+    requires proper { run.first ≤ run.last }
+    requires before { (x : ℕ) → IsIn reached.old x
+        → IsAskedFrom lines.now (IsIn seen.now) starts.now x }
+    requires none { found.old.items ≡ [] }
+    ensures width { OnOk result (length reached.new ≡ length reached.old) }
+    ensures after { OnOk result
+        (GoesOn lines.now seen.now run starts.now reached.old reached.new) }
+    ensures found { OnOk result (ListsNew reached.old reached.new [] found.new.items) }
+{
+    if starts.has_all() {
+        return take(run, reached, found);
+    }
+    match starts.points() {
+        Some(points) => resume_walks(lines, landings, seen, points, run, reached, found),
+        None => Ok(()),
+    }
+}
+
+// Puts a run into a set, and the runs of what of it is new into an empty list.
+fn take(run: Run, reached: &mut RunSet, found: &mut Vec<Run>) -> Result<(), Memory>
+    requires proper { run.first ≤ run.last }
+    requires below { run.last < length reached.old }
+    requires none { found.old.items ≡ [] }
+    ensures fills { OnOk result (Fills reached.old reached.new run) }
+    ensures found { OnOk result (ListsNew reached.old reached.new [] found.new.items) }
+{
+    reached.gaps(run, found)?;
+    reached.insert_run(run)?;
+    Ok(())
+}
+
+// Goes on with walks from some points from a run of the set in which they go, and puts the runs of
+// what is newly reached into an empty list.
+fn resume_walks(
     lines: &Lines,
     landings: &Landings,
     seen: &RunSet,
@@ -39,7 +91,7 @@ pub fn resume(
     requires none { found.old.items ≡ [] }
     ensures width { OnOk result (length reached.new ≡ length reached.old) }
     ensures after { OnOk result
-        (GoesOn lines.now seen.now run starts.now reached.old reached.new) }
+        (WalksOn lines.now seen.now run starts.now reached.old reached.new) }
     ensures found { OnOk result (ListsNew reached.old reached.new [] found.new.items) }
 {
     let points = lines.points();

@@ -1,19 +1,22 @@
-//! Walks from the points of the constraints of a pair of regions.
+//! What the constraints of a pair of regions ask for: by walks from their points, or all of one.
 
-ghost use Rattle.std.specs.Prelude.{◌≡◌, ℕ, ◌≤◌, ◌<◌, false, Contains, length, [], OnOk, IfOk};
+ghost use Rattle.std.specs.Prelude.{◌≡◌, ◌≢◌, ℕ, ◌≤◌, ◌<◌, true, false, Contains, length, []};
+ghost use Rattle.std.specs.Prelude.{OnOk, IfOk};
 ghost use Rattle.std.specs.Prelude.{IfSome, IfNone};
 ghost use Rattle.nll_sets.specs.ElementSet.{flag};
 ghost use Rattle.nll_problem.specs.Graph.{element_count};
+ghost use Rattle.nll_problem.specs.declared.at.At.TheVariants as ats;
 ghost use Rattle.nll_problem.specs.declared.constraint.Constraint as spec;
 ghost use Rattle.nll_core.specs.Search.{IsIn};
-ghost use Rattle.nll_core.specs.Walking.{Grows, IsLineClosed, PointsAscend, AreAtPoints};
-ghost use Rattle.nll_core.specs.Walking.{IsLedFrom, AreLedFrom, NoneInside, constraint_at};
+ghost use Rattle.nll_core.specs.Walking.{Grows, IsLineClosed, PointsAscend, AreAmong};
+ghost use Rattle.nll_core.specs.Walking.{AreAskedOf, AreAtPoints, IsLedFrom, AreLedFrom};
+ghost use Rattle.nll_core.specs.Walking.{NoneInside, constraint_at, point_of};
 ghost use Rattle.nll_sets.specs.Runs.{IsRunFrom, IsWithin};
 
 use crate::filling::fill_from;
 use crate::lines::Lines;
 use crate::stretches::{enter, spread};
-use nll_problem::Constraint;
+use nll_problem::{At, Constraint};
 use nll_sets::{ElementSet, Memory, Run, RunSet};
 use std::alloc::Global;
 
@@ -37,18 +40,51 @@ impl Walk {
         })
     }
 
-    /// Reaches what walks inside a set reach from the points of constraints, and nothing else.
+    /// Reaches what constraints of a pair ask for inside the set of the region that they read, and
+    /// nothing else: what walks reach from their points; or all of the set, without a walk, where
+    /// one of them holds at all points.
     pub fn reach(&mut self, lines: &Lines, sub: &RunSet, pair: &[Constraint]) -> Result<(), Memory>
         requires sub_width { length sub.now ≡ element_count lines.now }
         requires width { length self.old.reached ≡ element_count lines.now }
-        requires points { AreAtPoints lines.now pair.now }
+        requires among { AreAmong lines.now pair.now }
         requires ascending { PointsAscend pair.now }
         ensures width { OnOk result (length self.new.reached ≡ element_count lines.now) }
-        ensures reached { OnOk result (AreLedFrom lines.now sub.now pair.now self.new.reached) }
+        ensures reached { OnOk result (AreAskedOf lines.now sub.now pair.now self.new.reached) }
     {
         self.reached.clear();
         self.todo.clear();
+        if is_everywhere(pair) {
+            // The proof reads from this call that there are few elements.
+            let _points = lines.points();
+            return fill_from(sub, &mut self.reached, &mut self.todo, 0);
+        }
         reach_all(lines, sub, &mut self.reached, &mut self.todo, pair)
+    }
+}
+
+// Whether one of the constraints holds at all points. The first one does then.
+fn is_everywhere(pair: &[Constraint]) -> bool
+    requires ascending { PointsAscend pair.now }
+    ensures some { result ≡ true → (c : spec.Constraint) × Contains pair.now c × (c.at ≡ ats.All) }
+    ensures none { result ≡ false → (c : spec.Constraint) → Contains pair.now c → c.at ≢ ats.All }
+{
+    if pair.is_empty() {
+        return false;
+    }
+    match pair[0].at {
+        At::All => true,
+        At::Point(_) => false,
+    }
+}
+
+// The point of the constraint at a place, and 0 where it holds at all points.
+fn point_at(pair: &[Constraint], place: usize) -> u32
+    requires { place < length pair.now }
+    ensures { result ≡ point_of (constraint_at pair.now place) }
+{
+    match pair[place].at {
+        At::All => 0,
+        At::Point(point) => point,
     }
 }
 
@@ -94,12 +130,13 @@ fn enter_all(
     ensures grows { OnOk result (Grows lines.now sub.now (IsLedFrom lines.now sub.now pair.now)
         reached.old reached.new todo.old.items todo.new.items) }
     ensures covers { OnOk result ((c : spec.Constraint)
-        → Contains pair.now c → IsIn sub.now c.at → IsIn reached.new c.at) }
+        → Contains pair.now c → IsIn sub.now (point_of c) → IsIn reached.new (point_of c)) }
 {
     let mut place = 0;
     let mut near = 0;
     while let Some(found) = next_inside(sub, near, pair, place) {
-        let next = enter(lines, found.run, reached, todo, pair[found.place].at)?;
+        let point = point_at(pair, found.place);
+        let next = enter(lines, found.run, reached, todo, point)?;
         place = place_from(pair, found.place + 1, next);
         near = found.near;
     }
@@ -119,15 +156,16 @@ fn next_inside(sub: &RunSet, near: usize, pair: &[Constraint], from: usize) -> O
     requires ascending { PointsAscend pair.now }
     requires from { from ≤ length pair.now }
     ensures found { IfSome result (λ f. (from ≤ f.place) × (f.place < length pair.now)) }
-    ensures run { IfSome result (λ f. IsRunFrom sub.now (constraint_at pair.now f.place).at f.run) }
-    ensures has { IfSome result (λ f. IsWithin f.run (constraint_at pair.now f.place).at) }
+    ensures run { IfSome result
+        (λ f. IsRunFrom sub.now (point_of (constraint_at pair.now f.place)) f.run) }
+    ensures has { IfSome result (λ f. IsWithin f.run (point_of (constraint_at pair.now f.place))) }
     ensures before { IfSome result (λ f. NoneInside sub.now pair.now from f.place) }
     ensures none { IfNone result (NoneInside sub.now pair.now from (length pair.now)) }
 {
     let mut place = from;
     let mut near = near;
     while place < pair.len() {
-        let point = pair[place].at;
+        let point = point_at(pair, place);
         let (at, inside) = sub.run_near(near, point);
         let Some(run) = inside else {
             return None;
@@ -147,17 +185,17 @@ fn place_from(pair: &[Constraint], from: usize, least: u32) -> usize
     requires from { from ≤ length pair.now }
     ensures low { from ≤ result }
     ensures bound { result ≤ length pair.now }
-    ensures before { (k : ℕ) → from ≤ k → k < result → (constraint_at pair.now k).at < least }
+    ensures before { (k : ℕ) → from ≤ k → k < result → point_of (constraint_at pair.now k) < least }
 {
     // Most pairs have one constraint, or the next point isn't settled.
-    if from == pair.len() || pair[from].at >= least {
+    if from == pair.len() || point_at(pair, from) >= least {
         return from;
     }
     let mut low = from;
     let mut high = pair.len();
     while low < high {
         let middle = low + (high - low) / 2;
-        if pair[middle].at < least {
+        if point_at(pair, middle) < least {
             low = middle + 1;
         } else {
             high = middle;

@@ -7,10 +7,12 @@ use Rattle.nll_text.specs.Lines.{is_skipped}
 use Rattle.nll_text.specs.Tokens.{word, IsMadeOf}
 use Rattle.nll_text.specs.Lexing.{BeginsWith, BeginsNotWith}
 use Rattle.nll_text.proofs.Utf8Lemmas.{IsUtf8-word}
-use Rattle.nll_reading.specs.Parts.{Name, Part, keyword, number, region, token_of, Spells, one_number, two_numbers, one_region, two_regions, region_number, two_regions_number}
+use Rattle.nll_reading.specs.Parts.{Name, Part, keyword, number, region, token_of, Spells, one_number, two_numbers, one_region, two_regions, region_number}
 use Rattle.nll_reading.proofs.PartLemmas.{spells_rest, none_first, other_word, spelled_utf8, spelled_kept}
-use Rattle.nll_facts.specs.FactsForms.{Form, points, universal, outlives, further, next, return, base, constraint, end, parts, HasForm}
+use Rattle.nll_facts.specs.FactsForms.{Form, points, universal, outlives, further, next, return, base, constraint, end, parts, one_place, two_regions_place, HasForm}
 use Rattle.nll_facts.specs.FactsReading.{IsText, HasTexts}
+use Rattle.nll_problem.specs.declared.at.At.{At}
+use Rattle.nll_problem.specs.declared.at.At.TheVariants.{All, Point}
 
 -- ---- what stands behind the first word of a line
 
@@ -23,7 +25,7 @@ module _ (line rest : List ℕ) where
   behind_next (next p q) begins h = ((p, q), (spells_rest line rest _ _ _ begins h).1)
   behind_next f begins h = absurd (other_word _ _ refl (spells_rest line rest _ _ _ begins h).0)
 
-  pub behind_constraint : (f : Form) → BeginsWith line (word (codes "constraint")) rest → Spells line (parts f) → (b : Name × Name × ℕ) × Spells rest (two_regions_number b)
+  pub behind_constraint : (f : Form) → BeginsWith line (word (codes "constraint")) rest → Spells line (parts f) → (b : Name × Name × At) × Spells rest (two_regions_place b)
   behind_constraint (constraint x y p) begins h = ((x, y, p), (spells_rest line rest _ _ _ begins h).1)
   behind_constraint f begins h = absurd (other_word _ _ refl (spells_rest line rest _ _ _ begins h).0)
 
@@ -110,3 +112,15 @@ texts_of line (region x ∷ these) h = (IsUtf8-word x h.4, texts_of h.1 these h.
 -- the names in a line are UTF-8
 pub texts_in : (line : List ℕ) (f : Form) → HasForm line f → HasTexts f
 texts_in line f h = texts_of line (parts f) h.made
+
+-- ---- where a constraint holds
+
+-- behind the word for all points stands nothing
+pub behind_all : (rest after : List ℕ) (place : At) → BeginsWith rest (word (codes "all")) after → ((p : ℕ) → Spells rest (one_number p) → ⊥) → Spells rest (one_place place) → Spells after []
+behind_all rest after All begins none h = (spells_rest rest after _ _ _ begins h).1
+behind_all rest after (Point p) begins none h = absurd (none p h)
+
+-- where neither a number nor that word stands, no constraint holds
+pub no_place : (rest : List ℕ) (place : At) → BeginsNotWith rest (word (codes "all")) → ((p : ℕ) → Spells rest (one_number p) → ⊥) → Spells rest (one_place place) → ⊥
+no_place rest All other none h = none_first rest _ _ other h
+no_place rest (Point p) other none h = none p h

@@ -5,34 +5,35 @@ use Rattle.nll_facts.specs.FactsForms.{Form, points, universal, outlives, furthe
 use Rattle.nll_facts.specs.FactsSaid.{Said, said, group, reached}
 use Rattle.nll_facts.specs.FactsReading.{SameSaid, Adds, ReadsLine}
 use Rattle.nll_facts.specs.FactsText.{facts}
+use Rattle.nll_facts.specs.declared.version.Version.{Version}
 use Rattle.nll_facts.proofs.SaidLemmas.{same_fault, adds_said, same_itself}
 use Rattle.nll_reading.specs.Text.{HasFault, IsFaulty, Says}
 use Rattle.nll_reading.specs.declared.error.TextKind.{TextKind}
 use Rattle.nll_reading.proofs.ReadingLemmas as lemmas
 
 -- Of all lines those in front are read, they are of the forms and what they say is s.
-abbrev pub IsRead : List (List ℕ) → List (List ℕ) → List (List ℕ) → List Form → Said → ℕ → Type 0
-IsRead = lemmas.IsRead facts SameSaid
+abbrev pub IsRead : Version → List (List ℕ) → List (List ℕ) → List (List ℕ) → List Form → Said → ℕ → Type 0
+IsRead v = lemmas.IsRead (facts v) SameSaid
 
 -- nothing is read yet
-pub read_none : (all : List (List ℕ)) (s : Said) → s ≡ said [] → IsRead all [] all [] s 1
-read_none all s e = lemmas.read_none facts SameSaid all s (subst (SameSaid (said [])) (sym e) (same_itself (said [])))
+pub read_none : (v : Version) (all : List (List ℕ)) (s : Said) → s ≡ said [] → IsRead v all [] all [] s 1
+read_none v all s e = lemmas.read_none (facts v) SameSaid all s (subst (SameSaid (said [])) (sym e) (same_itself (said [])))
 
 -- one more line is read
-pub read_more : (all front rest : List (List ℕ)) (line : List ℕ) (after : List (List ℕ)) (forms : List Form) (s t : Said) (number : ℕ) → rest ≡ line ∷ after → IsRead all front rest forms s number → ReadsLine s line t → (more : List Form) × IsRead all (front ++ line ∷ []) after more t (number + 1)
-read_more all front rest line after forms s t number step r h =
-    lemmas.read_more facts SameSaid same_fault Adds adds_said all front rest line after forms s t number step r h
+pub read_more : (v : Version) (all front rest : List (List ℕ)) (line : List ℕ) (after : List (List ℕ)) (forms : List Form) (s t : Said) (number : ℕ) → rest ≡ line ∷ after → IsRead v all front rest forms s number → ReadsLine v s line t → (more : List Form) × IsRead v all (front ++ line ∷ []) after more t (number + 1)
+read_more v all front rest line after forms s t number step r h =
+    lemmas.read_more (facts v) SameSaid same_fault Adds adds_said all front rest line after forms s t number step r h
 
 -- the next line is faulty
-pub read_fault : (all front rest : List (List ℕ)) (line : List ℕ) (after : List (List ℕ)) (forms : List Form) (s : Said) (number : ℕ) → rest ≡ line ∷ after → IsRead all front rest forms s number → (kind : TextKind) → IsFaulty facts s line kind → HasFault facts all (number + 1 - 2) kind
-read_fault = lemmas.read_fault facts SameSaid same_fault
+pub read_fault : (v : Version) (all front rest : List (List ℕ)) (line : List ℕ) (after : List (List ℕ)) (forms : List Form) (s : Said) (number : ℕ) → rest ≡ line ∷ after → IsRead v all front rest forms s number → (kind : TextKind) → IsFaulty (facts v) s line kind → HasFault (facts v) all (number + 1 - 2) kind
+read_fault v = lemmas.read_fault (facts v) SameSaid same_fault
 
-pub read_bound : (all front rest : List (List ℕ)) (forms : List Form) (s : Said) (number : ℕ) → IsRead all front rest forms s number → number ≤ 1 + length all
-read_bound = lemmas.read_bound facts SameSaid
+pub read_bound : (v : Version) (all front rest : List (List ℕ)) (forms : List Form) (s : Said) (number : ℕ) → IsRead v all front rest forms s number → number ≤ 1 + length all
+read_bound v = lemmas.read_bound (facts v) SameSaid
 
 -- all lines are read
-pub read_all : (all front : List (List ℕ)) (forms : List Form) (s : Said) (number : ℕ) → IsRead all front [] forms s number → Says facts [] all forms × SameSaid (said forms) s × (number ≡ 1 + length all)
-read_all = lemmas.read_all facts SameSaid
+pub read_all : (v : Version) (all front : List (List ℕ)) (forms : List Form) (s : Said) (number : ℕ) → IsRead v all front [] forms s number → Says (facts v) [] all forms × SameSaid (said forms) s × (number ≡ 1 + length all)
+read_all v = lemmas.read_all (facts v) SameSaid
 
 -- ---- the last line
 

@@ -1,6 +1,8 @@
--- The forms of the lines of a facts text, version 1, and how they are spelled.
+-- The forms of the lines of a facts text, and how they are spelled.
 -- Source: project's choice; docs/FORMATS.md says the same in words.
 use Rattle.std.specs.Prelude.{ℕ, List, [], ◌∷◌, codes}
+use Rattle.nll_problem.specs.declared.at.At.{At}
+use Rattle.nll_problem.specs.declared.at.At.TheVariants.{All, Point}
 use Rattle.nll_reading.specs.Parts.{Name, Part, keyword, number, region, Spells}
 
 -- A line that isn't skipped, by its form.
@@ -12,8 +14,25 @@ pub data Form : Type 0 where
   next : ℕ → ℕ → Form
   return : ℕ → Form
   base : Name → ℕ → Form
-  constraint : Name → Name → ℕ → Form
+  constraint : Name → Name → At → Form
   end : Form
+
+-- where a constraint holds, as a part: `all`, or the number of a point
+abbrev pub place_part : At → Part
+place_part All = keyword (codes "all")
+place_part (Point p) = number p
+
+-- where a constraint holds
+abbrev pub one_place : At → List Part
+one_place place = place_part place ∷ []
+
+-- a region, and where a constraint holds
+abbrev pub region_place : Name × At → List Part
+region_place n = region n.0 ∷ one_place n.1
+
+-- two regions, and where a constraint holds
+abbrev pub two_regions_place : Name × Name × At → List Part
+two_regions_place n = region n.0 ∷ region_place (n.1, n.2)
 
 -- the parts of a line of the form
 abbrev pub parts : Form → List Part
@@ -24,7 +43,7 @@ parts (further x) = keyword (codes "region") ∷ region x ∷ []
 parts (next p q) = keyword (codes "next") ∷ number p ∷ number q ∷ []
 parts (return p) = keyword (codes "return") ∷ number p ∷ []
 parts (base x p) = keyword (codes "base") ∷ region x ∷ number p ∷ []
-parts (constraint a b p) = keyword (codes "constraint") ∷ region a ∷ region b ∷ number p ∷ []
+parts (constraint a b place) = keyword (codes "constraint") ∷ two_regions_place (a, b, place)
 parts end = keyword (codes "end") ∷ []
 
 -- the line has the form: it is made of the form's parts

@@ -14,5 +14,5 @@ view (lines.Region x) = further x.now
 view (lines.Next p q) = next p q
 view (lines.Return p) = return p
 view (lines.Base x p) = base x.now p
-view (lines.Constraint a b p) = constraint a.now b.now p
+view (lines.Constraint a b place) = constraint a.now b.now place
 view lines.End = end

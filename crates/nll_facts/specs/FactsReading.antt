@@ -21,6 +21,7 @@ use Rattle.nll_facts.specs.FactsForms.{base, constraint, end, parts}
 use Rattle.nll_facts.specs.FactsSaid.{Said, said, group, is_in_order, first_fault}
 use Rattle.nll_facts.specs.FactsText.{facts}
 use Rattle.nll_facts.specs.declared.reader.Reader.{Reader}
+use Rattle.nll_facts.specs.declared.version.Version.{Version}
 
 -- ---- what a reader holds
 
@@ -88,11 +89,11 @@ Takes s (base x p) t =
     (t.names ≡ s.names)
     × (t.problem ≡ record s.problem { bases = t.problem.bases })
     × AddsFact s.problem.bases t.problem.bases (number_of s.names x, p)
-Takes s (constraint a b p) t =
+Takes s (constraint a b place) t =
     (t.names ≡ s.names)
     × (t.problem ≡ record s.problem { constraints = t.problem.constraints })
     × AddsFact s.problem.constraints t.problem.constraints
-    (record { sup = number_of s.names a; sub = number_of s.names b; at = p })
+    (record { sup = number_of s.names a; sub = number_of s.names b; at = place })
 Takes s end t = (t.names ≡ s.names) × (t.problem ≡ s.problem)
 
 -- t is what is said after a line of the form
@@ -129,9 +130,9 @@ pub record IsTaken (s : Said) (f : Form) (r : Reader) : Type 0 where
 abbrev pub IsRefused : Said → Form → TextKind → Type 0
 IsRefused s f kind = (kind ≡ Memory) ⊎ (first_fault s f ≡ Some kind)
 
--- t is what is said after a line that has no fault
-abbrev pub ReadsLine : Said → List ℕ → Said → Type 0
-ReadsLine = reading.ReadsLine facts Adds
+-- t is what is said after a line that has no fault in a text of the version
+abbrev pub ReadsLine : Version → Said → List ℕ → Said → Type 0
+ReadsLine version = reading.ReadsLine (facts version) Adds
 
 -- ---- all lines
 
@@ -143,11 +144,13 @@ pub record SameSaid (s t : Said) : Type 0 where
   pub edge_count : length s.problem.graph.edges ≡ length t.problem.graph.edges
   pub constraint_count : length s.problem.constraints ≡ length t.problem.constraints
 
--- the lines have no fault, and the reader holds what they say
-abbrev pub HasRead : List (List ℕ) → Reader → Type 0
-HasRead body r = (forms : List Form) × Says facts [] body forms × SameSaid (said forms) (said_by r)
+-- the lines have no fault in a text of the version, and the reader holds what they say
+abbrev pub HasRead : Version → List (List ℕ) → Reader → Type 0
+HasRead version body r =
+    (forms : List Form) × Says (facts version) [] body forms × SameSaid (said forms) (said_by r)
 
--- the error refuses each text that has a header and these lines behind it
-abbrev pub RefusesBody : List (List ℕ) → TextError → Type 0
-RefusesBody body error =
-    (text : List ℕ) → IsHeaded facts text body → IsRefusal (IsFault facts text) error
+-- the error refuses each text that has the header of the version and these lines behind it
+abbrev pub RefusesBody : Version → List (List ℕ) → TextError → Type 0
+RefusesBody version body error =
+    (text : List ℕ) → IsHeaded (facts version) text body
+    → IsRefusal (IsFault (facts version) text) error

@@ -5,6 +5,7 @@ use Rattle.std.specs.Prelude.{ℕ, max, Bool, false, ◌==◌, nat_lt, nat_le, �
 use Rattle.std.specs.Prelude.{◌∷◌, ◌++◌, length, codes, find, Option, Some, None}
 use Rattle.std.specs.List.{filter_map}
 use Rattle.indexmap.specs.IndexSet.{insert_all}
+use Rattle.nll_problem.specs.At.{is_among}
 use Rattle.nll_problem.specs.Problem.{Problem}
 use Rattle.nll_problem.specs.Building.{same_pair, same_constraint, is_point, has_edge}
 use Rattle.nll_problem.specs.Building.{has_constraint}
@@ -61,8 +62,8 @@ base_in names _ = None
 
 -- the constraint of a line, by the regions' numbers
 abbrev pub constraint_in : List Name → Form → Option Constraint
-constraint_in names (constraint a b p) =
-    Some (record { sup = number_of names a; sub = number_of names b; at = p })
+constraint_in names (constraint a b place) =
+    Some (record { sup = number_of names a; sub = number_of names b; at = place })
 constraint_in names _ = None
 
 -- ---- what lines say together
@@ -105,7 +106,7 @@ group (further x) = 4
 group (next p q) = 5
 group (return p) = 5
 group (base x p) = 5
-group (constraint a b p) = 5
+group (constraint a b place) = 5
 group end = 6
 
 -- the group may have several lines
@@ -172,11 +173,11 @@ has_fault s (next p q) (Limit Edges) = is_full_of_edges s p q
 has_fault s (return p) Range = not (is_point s.problem p)
 has_fault s (base x p) Unknown = not (is_declared s x)
 has_fault s (base x p) Range = not (is_point s.problem p)
-has_fault s (constraint a b p) Unknown = not (is_declared s a && is_declared s b)
-has_fault s (constraint a b p) Range = not (is_point s.problem p)
-has_fault s (constraint a b p) (Limit Constraints) =
+has_fault s (constraint a b place) Unknown = not (is_declared s a && is_declared s b)
+has_fault s (constraint a b place) Range = not (is_among s.problem.graph.points place)
+has_fault s (constraint a b place) (Limit Constraints) =
     is_full_of_constraints s
-    (record { sup = number_of s.names a; sub = number_of s.names b; at = p })
+    (record { sup = number_of s.names a; sub = number_of s.names b; at = place })
 has_fault s _ _ = false
 
 -- the first kind of fault that a line of the form has, by the order of kinds

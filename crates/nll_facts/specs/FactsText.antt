@@ -3,27 +3,44 @@
 use Rattle.std.specs.Prelude.{◌≡◌, ℕ, List, codes, Contains}
 use Rattle.nll_problem.specs.Problem.{Problem, SameProblem}
 use Rattle.nll_reading.specs.Labels.{Labels, numbers}
-use Rattle.nll_reading.specs.Text.{Format, IsText}
-use Rattle.nll_facts.specs.FactsForms.{Form, HasForm, end}
+use Rattle.nll_reading.specs.Text.{Format, IsText, IsHeaded, IsFault}
+use Rattle.nll_reading.specs.declared.error.TextKind.{TextKind}
+use Rattle.nll_facts.specs.FactsForms.{Form, end}
+use Rattle.nll_facts.specs.FactsVersions.{HasFormIn, version_codes}
 use Rattle.nll_facts.specs.FactsSaid.{Said, said, first_fault, names_said, problem_said}
+use Rattle.nll_facts.specs.declared.version.Version.{Version}
+use Rattle.nll_facts.specs.declared.version.Version.TheVariants.{First, Second}
 
--- facts texts, version 1: the last line that a text needs is an `end` line
-abbrev pub facts : Format
-facts = record {
+-- facts texts of a version: their lines have the forms of the version, and the last line that a
+-- text needs is an `end` line
+abbrev pub facts : Version → Format
+facts version = record {
   kind = codes "nll-facts";
-  version = codes "1";
+  version = version_codes version;
   Form = Form;
-  HasForm = HasForm;
+  HasForm = HasFormIn version;
   Said = Said;
   said = said;
   first_fault = first_fault;
   HasEnded = λ forms. Contains forms end;
 }
 
--- The text fits and means this problem, with these labels: its regions' names, and points by their
--- numbers.
+-- The text fits in one of the versions and means this problem, with these labels: its regions'
+-- names, and points by their numbers.
 pub record Means (text : List ℕ) (problem : Problem) (labels : Labels) : Type 0 where
+  pub version : Version
   pub forms : List Form
-  pub fits : IsText facts text forms
+  pub fits : IsText (facts version) text forms
   pub same_problem : SameProblem (problem_said forms) problem
   pub same_labels : labels ≡ record { names = names_said forms; points = numbers }
+
+-- The version of a text: the second where its first line is the header of version 2, and else the
+-- first.
+abbrev pub IsOfVersion : List ℕ → Version → Type 0
+IsOfVersion text First = (body : List (List ℕ)) → IsHeaded (facts Second) text body → ⊥
+IsOfVersion text Second = (body : List (List ℕ)) × IsHeaded (facts Second) text body
+
+-- The text's fault, by the line, counted from 1, and its kind: that of a text of its version.
+abbrev pub IsFactsFault : List ℕ → ℕ → TextKind → Type 0
+IsFactsFault text line kind =
+    (version : Version) × IsOfVersion text version × IsFault (facts version) text line kind

@@ -1,4 +1,5 @@
 pub mod FactsForms
+pub mod FactsVersions
 pub mod FactsLines
 pub mod FactsSaid
 pub mod FactsText

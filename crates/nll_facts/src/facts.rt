@@ -3,14 +3,16 @@
 ghost use Rattle.std.specs.Prelude.{◌≡◌, ◌<◌, ◌^◌, ℕ, List, [], length};
 ghost use Rattle.std.specs.Prelude.{OnOk, IfOk, IfErr};
 ghost use Rattle.nll_text.specs.Lines.{lines_left};
-ghost use Rattle.nll_reading.specs.Text.{IsFault, IsHeaded, IsRefusal};
+ghost use Rattle.nll_reading.specs.Text.{IsHeaded, IsRefusal};
 ghost use Rattle.nll_facts.specs.FactsSaid.{said};
-ghost use Rattle.nll_facts.specs.FactsText.{facts, Means};
+ghost use Rattle.nll_facts.specs.FactsText.{facts, IsFactsFault, Means};
 ghost use Rattle.nll_facts.specs.FactsReading.{said_by, IsReady, HasRead, RefusesBody};
 
+use crate::header::check_header;
 use crate::reader::Reader;
-use nll_problem::Problem;
-use nll_reading::{Labels, TextError, TextKind, open_text};
+use crate::version::Version;
+use nll_problem::{Kind, Problem};
+use nll_reading::{Labels, MAX_TEXT, TextError, TextKind};
 use nll_text::next_line;
 use std::alloc::Global;
 
@@ -21,22 +23,26 @@ pub struct Facts {
     pub labels: Labels,
 }
 
-// Takes in the lines behind the header, to the end.
-fn read_lines(reader: &mut Reader, body: Option<&[u8]>) -> Result<(), TextError>
+// Takes in the lines behind the header of a text of the version, to the end.
+fn read_lines(
+    reader: &mut Reader,
+    version: Version,
+    body: Option<&[u8]>,
+) -> Result<(), TextError>
     requires start { said_by reader.old ≡ said [] }
     requires ready { IsReady reader.old }
     requires long { length (lines_left body) < 2 ^ 32 }
-    ensures read { OnOk result (HasRead (lines_left body.entry) reader.new) }
+    ensures read { OnOk result (HasRead version (lines_left body.entry) reader.new) }
     ensures ready { OnOk result (IsReady reader.new) }
     ensures ended { OnOk result (reader.new.reached ≡ 6) }
-    ensures fault { IfErr result (RefusesBody (lines_left body.entry)) }
+    ensures fault { IfErr result (RefusesBody version (lines_left body.entry)) }
 {
     let mut number = 1;
     let mut rest = body;
     while let Some(text) = rest {
         let (line, after) = next_line(text);
         number += 1;
-        if let Err(kind) = reader.read_line(line) {
+        if let Err(kind) = reader.read_line(version, line) {
             return Err(TextError::at(number, kind));
         }
         rest = after;
@@ -50,18 +56,19 @@ fn read_lines(reader: &mut Reader, body: Option<&[u8]>) -> Result<(), TextError>
     Ok(())
 }
 
-// Reads the lines behind the header.
-fn read_body(alloc: Global, body: Option<&[u8]>) -> Result<Facts, TextError>
+// Reads the lines behind the header of a text of the version.
+fn read_body(alloc: Global, version: Version, body: Option<&[u8]>) -> Result<Facts, TextError>
     requires long { length (lines_left body) < 2 ^ 32 }
-    ensures ok { IfOk result (λ q. (text : List ℕ) → IsHeaded facts text (lines_left body.entry)
+    ensures ok { IfOk result (λ q. (text : List ℕ)
+        → IsHeaded (facts version) text (lines_left body.entry)
         → Means text q.problem q.labels) }
-    ensures fault { IfErr result (RefusesBody (lines_left body.entry)) }
+    ensures fault { IfErr result (RefusesBody version (lines_left body.entry)) }
 {
     let mut reader = match Reader::new(alloc) {
         Ok(reader) => reader,
         Err(kind) => return Err(TextError { line: 0, kind }),
     };
-    if let Err(error) = read_lines(&mut reader, body) {
+    if let Err(error) = read_lines(&mut reader, version, body) {
         drop(reader);
         return Err(error);
     }
@@ -72,7 +79,7 @@ fn read_body(alloc: Global, body: Option<&[u8]>) -> Result<Facts, TextError>
     })
 }
 
-/// Reads a facts text, version 1.
+/// Reads a facts text, of version 1 or 2 by its header.
 ///
 /// # Errors
 /// The text's one fault: its first faulty line, and of that line the first kind in the order of
@@ -82,8 +89,15 @@ fn read_body(alloc: Global, body: Option<&[u8]>) -> Result<Facts, TextError>
 /// Time linear in the text, and memory for what it says; the text isn't copied (not proved).
 pub fn read_facts(alloc: Global, text: &[u8]) -> Result<Facts, TextError>
     ensures ok { IfOk result (λ q. Means text.now q.problem q.labels) }
-    ensures fault { IfErr result (IsRefusal (IsFault facts text.now)) }
+    ensures fault { IfErr result (IsRefusal (IsFactsFault text.now)) }
 {
-    let body = open_text(text, b"nll-facts", b"1")?;
-    read_body(alloc, body)
+    if text.len() > MAX_TEXT {
+        return Err(TextError {
+            line: 1,
+            kind: TextKind::Limit(Kind::Text),
+        });
+    }
+    let (header, body) = next_line(text);
+    let version = check_header(header)?;
+    read_body(alloc, version, body)
 }

@@ -3,22 +3,23 @@
 ghost use Rattle.std.specs.Prelude.{◌≡◌, ◌⊎◌, ℕ, List};
 ghost use Rattle.nll_problem.specs.Problem.{Problem, SameProblem};
 ghost use Rattle.nll_reading.specs.Labels.{Labels};
-ghost use Rattle.nll_reading.specs.Text.{IsFault, HasAtMost};
+ghost use Rattle.nll_reading.specs.Text.{HasAtMost};
 ghost use Rattle.nll_facts.specs.FactsForms.{most_tokens};
-ghost use Rattle.nll_facts.specs.FactsText.{facts, Means};
+ghost use Rattle.nll_facts.specs.declared.version.Version.{Version};
+ghost use Rattle.nll_facts.specs.FactsText.{facts, IsFactsFault, Means};
 ghost use Rattle.nll_reading.specs.declared.error.TextKind.{TextKind};
 
 /// States that a text has at most one fault.
 pub fn one_fault()
     ensures { (text : List ℕ) (line other_line : ℕ) (kind other_kind : TextKind)
-        → IsFault facts text line kind → IsFault facts text other_line other_kind
+        → IsFactsFault text line kind → IsFactsFault text other_line other_kind
         → (line ≡ other_line) × (kind ≡ other_kind) }
 {}
 
 /// States that a text that means a problem has no fault.
 pub fn not_both()
     ensures { (text : List ℕ) (problem : Problem) (labels : Labels) (line : ℕ) (kind : TextKind)
-        → Means text problem labels → IsFault facts text line kind → ⊥ }
+        → Means text problem labels → IsFactsFault text line kind → ⊥ }
 {}
 
 /// States that a text means at most one problem, with one set of labels.
@@ -32,10 +33,10 @@ pub fn one_meaning()
 pub fn some_meaning_or_fault()
     ensures { (text : List ℕ)
         → ((problem : Problem) × (labels : Labels) × Means text problem labels)
-        ⊎ ((line : ℕ) × (kind : TextKind) × IsFault facts text line kind) }
+        ⊎ ((line : ℕ) × (kind : TextKind) × IsFactsFault text line kind) }
 {}
 
 /// States how many tokens a line of a form has at most, so that a reader may stop behind as many.
 pub fn few_tokens()
-    ensures { HasAtMost facts most_tokens }
+    ensures { (version : Version) → HasAtMost (facts version) most_tokens }
 {}

@@ -1,16 +1,17 @@
 //! The lines of a facts text.
 
-ghost use Rattle.std.specs.Prelude.{codes};
+ghost use Rattle.std.specs.Prelude.{ℕ, codes};
 ghost use Rattle.nll_text.specs.Lexing.{BeginsNotWith};
 ghost use Rattle.nll_text.specs.Tokens as lex;
+ghost use Rattle.nll_facts.specs.FactsForms as forms;
 ghost use Rattle.nll_facts.specs.FactsForms.{parts};
 ghost use Rattle.nll_facts.specs.FactsLines.{view};
-ghost use Rattle.nll_reading.specs.Parts.{Reads};
+ghost use Rattle.nll_reading.specs.Parts as shapes;
+ghost use Rattle.nll_reading.specs.Parts.{Reads, Spells};
 
-use nll_reading::{
-    nothing, number, region, region_number, two_numbers, two_regions, two_regions_number,
-};
-use nll_text::after_word;
+use nll_problem::At;
+use nll_reading::{nothing, number, region, region_number, two_numbers, two_regions};
+use nll_text::{after_word, first_region};
 
 /// A line, with its names where they lie in the text.
 #[derive(Clone, Copy)]
@@ -22,8 +23,46 @@ pub enum Line<'a> {
     Next(u32, u32),
     Return(u32),
     Base(&'a [u8], u32),
-    Constraint(&'a [u8], &'a [u8], u32),
+    Constraint(&'a [u8], &'a [u8], At),
     End,
+}
+
+// Where a constraint holds: `all`, where no number stands there.
+fn all_points(rest: &[u8]) -> Option<At>
+    requires { (p : ℕ) → Spells rest.now (shapes.one_number p) → ⊥ }
+    ensures { Reads forms.one_place (λ place. place) rest.now result }
+{
+    let rest = after_word(rest, b"all")?;
+    nothing(rest)?;
+    Some(At::All)
+}
+
+// Where a constraint holds: the number of a point, or `all`.
+fn place(rest: &[u8]) -> Option<At>
+    ensures { Reads forms.one_place (λ place. place) rest.now result }
+{
+    match number(rest) {
+        Some(point) => Some(At::Point(point)),
+        None => all_points(rest),
+    }
+}
+
+// A region's name, and where a constraint holds.
+fn region_place(rest: &[u8]) -> Option<(&[u8], At)>
+    ensures { Reads forms.region_place (λ n. (n.0.now, n.1)) rest.now result }
+{
+    let (name, rest) = first_region(rest)?;
+    let at = place(rest)?;
+    Some((name, at))
+}
+
+// Two regions' names, and where a constraint holds.
+fn two_regions_place(rest: &[u8]) -> Option<(&[u8], &[u8], At)>
+    ensures { Reads forms.two_regions_place (λ n. (n.0.now, n.1.now, n.2)) rest.now result }
+{
+    let (first, rest) = first_region(rest)?;
+    let (second, at) = region_place(rest)?;
+    Some((first, second, at))
 }
 
 /// Reads a line as one of the forms.
@@ -39,7 +78,7 @@ pub fn line_of(line: &[u8]) -> Option<Line<'_>>
         return Some(Line::Next(from, to));
     }
     if let Some(rest) = after_word(line, b"constraint") {
-        let (sup, sub, at) = two_regions_number(rest)?;
+        let (sup, sub, at) = two_regions_place(rest)?;
         return Some(Line::Constraint(sup, sub, at));
     }
     if let Some(rest) = after_word(line, b"return") {

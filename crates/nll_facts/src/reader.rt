@@ -18,8 +18,9 @@ ghost use Rattle.nll_reading.specs.Text.{IsFaulty};
 ghost use Rattle.nll_reading.specs.Names.{number_of};
 
 use crate::line::{Line, line_of};
+use crate::version::{Version, is_of_version};
 use nll_problem::{
-    Constraint, Kind, MAX_POINTS, MAX_UNIVERSALS, Problem, ProblemBuilder, RegionId,
+    At, Constraint, Kind, MAX_POINTS, MAX_UNIVERSALS, Problem, ProblemBuilder, RegionId,
 };
 use nll_reading::{Names, TextKind, pass_over};
 use std::alloc::Global;
@@ -242,7 +243,7 @@ impl Reader {
     }
 
     // Adds a constraint.
-    fn add_constraint(&mut self, sup: &[u8], sub: &[u8], at: u32) -> Result<(), TextKind>
+    fn add_constraint(&mut self, sup: &[u8], sub: &[u8], at: At) -> Result<(), TextKind>
         requires { IsDue self.old (forms.constraint sup.now sub.now at) }
         ensures taken { OnOk result
             (IsTaken (said_by self.old) (forms.constraint sup.now sub.now at) self.new) }
@@ -286,17 +287,22 @@ impl Reader {
         }
     }
 
-    /// Takes in a line behind the header.
-    pub fn read_line(&mut self, line: &[u8]) -> Result<(), TextKind>
+    /// Takes in a line behind the header of a text of the version.
+    pub fn read_line(&mut self, version: Version, line: &[u8]) -> Result<(), TextKind>
         requires ready { IsReady self.old }
-        ensures ok { OnOk result (ReadsLine (said_by self.old) line.now (said_by self.new)) }
+        ensures ok { OnOk result
+            (ReadsLine version (said_by self.old) line.now (said_by self.new)) }
         ensures ready { OnOk result (IsReady self.new) }
         ensures fault { IfErr result
-            (λ kind. (kind ≡ TextKind.Memory) ⊎ IsFaulty facts (said_by self.old) line.now kind) }
+            (λ kind. (kind ≡ TextKind.Memory)
+            ⊎ IsFaulty (facts version) (said_by self.old) line.now kind) }
     {
         let Some(form) = line_of(line) else {
             return pass_over(line);
         };
+        if !is_of_version(version, &form) {
+            return Err(TextKind::Syntax);
+        }
         self.accept(&form)?;
         Ok(())
     }

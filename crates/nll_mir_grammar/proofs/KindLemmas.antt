@@ -129,6 +129,7 @@ keyword_in w =
     cond (bytes_eq w (codes "universal")) (Some words.Universal)
     (cond (bytes_eq w (codes "outlives")) (Some words.Outlives)
     (cond (bytes_eq w (codes "region")) (Some words.Region)
+    (cond (bytes_eq w (codes "assert")) (Some words.Assert)
     (cond (bytes_eq w (codes "struct")) (Some words.Struct)
     (cond (bytes_eq w (codes "let")) (Some words.Let)
     (cond (bytes_eq w (codes "blocks")) (Some words.Blocks)
@@ -142,7 +143,7 @@ keyword_in w =
     (cond (bytes_eq w (codes "drop")) (Some words.Drop)
     (cond (bytes_eq w (codes "return")) (Some words.Return)
     (cond (bytes_eq w (codes "stop")) (Some words.Stop)
-    (cond (bytes_eq w (codes "end")) (Some words.End) None))))))))))))))))
+    (cond (bytes_eq w (codes "end")) (Some words.End) None)))))))))))))))))
 
 -- the kind of the line in front
 pub line_kind : List Token → Option Keyword
@@ -155,6 +156,7 @@ line_kind_of None p r = refl
 line_kind_of (Some words.Universal) p r = refl
 line_kind_of (Some words.Outlives) p r = refl
 line_kind_of (Some words.Region) p r = refl
+line_kind_of (Some words.Assert) p r = refl
 line_kind_of (Some words.Struct) p r = refl
 line_kind_of (Some words.Let) p r = refl
 line_kind_of (Some words.Blocks) p r = refl
@@ -175,6 +177,7 @@ unfolding line_kind keyword_in
 line_kind_of_name words.Universal ts = refl
 line_kind_of_name words.Outlives ts = refl
 line_kind_of_name words.Region ts = refl
+line_kind_of_name words.Assert ts = refl
 line_kind_of_name words.Struct ts = refl
 line_kind_of_name words.Let ts = refl
 line_kind_of_name words.Blocks ts = refl
@@ -205,6 +208,7 @@ tails_one : (k : Keyword) → IsOne (tails k)
 tails_one words.Universal = regions_one
 tails_one words.Outlives = pair_one regions regions (regions_join regions) regions_one regions_one
 tails_one words.Region = regions_one
+tails_one words.Assert = pair_one regions (behind (sign 58) regions) (regions_join (behind (sign 58) regions)) regions_one (behind_one regions (sign 58) regions_one)
 tails_one words.Struct = structs_one
 tails_one words.Let = pair_one variables (behind (sign 58) types) (variables_join (behind (sign 58) types)) variables_one (behind_one types (sign 58) types_one)
 tails_one words.Blocks = prefixed_one []

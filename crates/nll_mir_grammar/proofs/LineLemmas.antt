@@ -13,7 +13,7 @@ use Rattle.nll_type_grammar.specs.TypeTexts.{written}
 use Rattle.nll_type_grammar.specs.declared.type_text.TypeNode.{TypeNode}
 use Rattle.nll_mir_grammar.specs.Lines.{argument_of}
 use Rattle.nll_statements.specs.Statements.{assign, borrow, make, read, live, dead, nop, goto, switch, drop, call, return, stop}
-use Rattle.nll_mir_grammar.specs.MirForms.{Form, universal, outlives, further, struct_line, variable, blocks, block, at_point, end, spelled_form, IsWritable, IsWritableOperand, IsSpelled}
+use Rattle.nll_mir_grammar.specs.MirForms.{Form, universal, outlives, further, assert_line, struct_line, variable, blocks, block, at_point, end, spelled_form, IsWritable, IsWritableOperand, IsSpelled}
 use Rattle.nll_mir_grammar.specs.Grammars.{Begins, HasNone, IsNotNext, behind, pair}
 use Rattle.nll_mir_grammar.specs.Parts.{any_words, places, operands, arguments, block_names, MayFollowOperand, MayFollowUnwind}
 use Rattle.nll_mir_grammar.specs.Kinds.{borrows, makes, signatures, value, borrowed, made, called, rights, tails, keyword_name, LineParts, line_grammars, lines, parts_of, IsLine, IsRightSide, IsBehind, HasNoKeyword}
@@ -148,6 +148,7 @@ form_from (None, (p, (called, x))) = at_point (call p x.1.0 x.1.1.0 x.1.1.1.0 x.
 form_from (Some words.Universal, a) = universal a
 form_from (Some words.Outlives, a) = outlives a.0 a.1
 form_from (Some words.Region, x) = further x
+form_from (Some words.Assert, a) = assert_line a.0 a.1
 form_from (Some words.Struct, x) = struct_line x.0 x.1.0 x.1.1.0 x.1.1.1
 form_from (Some words.Let, x) = variable x.0 x.1
 form_from (Some words.Blocks, n) = blocks n
@@ -168,6 +169,7 @@ unfolding form_from
 from_parts c (universal a) = refl
 from_parts c (outlives a b) = refl
 from_parts c (further x) = refl
+from_parts c (assert_line a b) = refl
 from_parts c (struct_line n ps d ts) = refl
 from_parts c (variable x t) = refl
 from_parts c (blocks n) = refl
@@ -191,6 +193,7 @@ spelled_parts : (c : List ℕ) (f : Form) → spelled_form c f ≡ lines.spells 
 spelled_parts c (universal a) = refl
 spelled_parts c (outlives a b) = refl
 spelled_parts c (further x) = refl
+spelled_parts c (assert_line a b) = refl
 spelled_parts c (struct_line n ps d ts) = refl
 spelled_parts c (variable x t) = refl
 spelled_parts c (blocks n) = refl
@@ -223,6 +226,7 @@ allowed_parts : (c : List ℕ) (f : Form) → IsWritable f → lines.IsAllowed (
 allowed_parts c (universal a) h = tt
 allowed_parts c (outlives a b) h = (tt, tt)
 allowed_parts c (further x) h = tt
+allowed_parts c (assert_line a b) h = (tt, tt)
 allowed_parts c (struct_line n ps d ts) h = (h.0, (h.1, (tt, h.2)))
 allowed_parts c (variable x t) h = (h.0, h.1)
 allowed_parts c (blocks n) h = h
@@ -246,6 +250,7 @@ writable_parts : (c : List ℕ) (f : Form) → lines.IsAllowed (parts_of c f) �
 writable_parts c (universal a) h = tt
 writable_parts c (outlives a b) h = tt
 writable_parts c (further x) h = tt
+writable_parts c (assert_line a b) h = tt
 writable_parts c (struct_line n ps d ts) h = (h.0, h.1.0, h.1.1.1)
 writable_parts c (variable x t) h = (h.0, h.1)
 writable_parts c (blocks n) h = h
@@ -285,6 +290,7 @@ ends : (c : List ℕ) (f : Form) → lines.MayFollow (parts_of c f) []
 ends c (universal a) = tt
 ends c (outlives a b) = tt
 ends c (further x) = tt
+ends c (assert_line a b) = tt
 ends c (struct_line n ps d ts) = free_end
 ends c (variable x t) = free_end
 ends c (blocks n) = tt

@@ -9,12 +9,14 @@ use Rattle.nll_mir_grammar.specs.Grammars.{Grammar, Begins, behind, empty, pair,
 use Rattle.nll_mir_grammar.specs.Grammars.{by_kind}
 use Rattle.nll_mir_grammar.specs.Parts.{regions, any_words, names, numbers, variables, block_names}
 use Rattle.nll_mir_grammar.specs.Parts.{places, operands, types, tuples, arguments, mutabilities}
-use Rattle.nll_mir_grammar.specs.Parts.{drop_marks, parameter_lists, bound_lists, block_lists}
+use Rattle.nll_mir_grammar.specs.Parts.{drop_marks, parameter_lists, bounds, bound_lists}
+use Rattle.nll_mir_grammar.specs.Parts.{block_lists}
 use Rattle.nll_mir_grammar.specs.Parts.{exits}
 use Rattle.nll_statements.specs.Statements.{assign, borrow, make, read, live, dead, nop}
 use Rattle.nll_statements.specs.Statements.{goto, switch, drop, call, return, stop}
-use Rattle.nll_mir_grammar.specs.MirForms.{Form, universal, outlives, further, struct_line}
-use Rattle.nll_mir_grammar.specs.MirForms.{variable, blocks, block, at_point, end, WrittenParameter}
+use Rattle.nll_mir_grammar.specs.MirForms.{Form, universal, outlives, further, assert_line}
+use Rattle.nll_mir_grammar.specs.MirForms.{struct_line, variable, blocks, block, at_point, end}
+use Rattle.nll_mir_grammar.specs.MirForms.{WrittenParameter}
 use Rattle.nll_mir_grammar.specs.declared.keyword.Keyword.{Keyword}
 use Rattle.nll_mir_grammar.specs.declared.keyword.Keyword.TheVariants as words
 
@@ -25,6 +27,7 @@ abbrev pub keyword_name : Keyword → List ℕ
 keyword_name words.Universal = codes "universal"
 keyword_name words.Outlives = codes "outlives"
 keyword_name words.Region = codes "region"
+keyword_name words.Assert = codes "assert"
 keyword_name words.Struct = codes "struct"
 keyword_name words.Let = codes "let"
 keyword_name words.Blocks = codes "blocks"
@@ -45,6 +48,7 @@ pub record IsNoLineKeyword (w : List ℕ) : Type 0 where
   pub universal : w ≡ codes "universal" → ⊥
   pub outlives : w ≡ codes "outlives" → ⊥
   pub region : w ≡ codes "region" → ⊥
+  pub asserts : w ≡ codes "assert" → ⊥
   pub struct_line : w ≡ codes "struct" → ⊥
   pub variable : w ≡ codes "let" → ⊥
   pub blocks : w ≡ codes "blocks" → ⊥
@@ -68,6 +72,7 @@ abbrev pub Behind : Keyword → Type 0
 Behind words.Universal = Name
 Behind words.Outlives = Name × Name
 Behind words.Region = Name
+Behind words.Assert = Name × Name
 Behind words.Struct = Name × (List WrittenParameter × (Bool × WrittenTypes))
 Behind words.Let = ℕ × WrittenType
 Behind words.Blocks = ℕ
@@ -92,6 +97,7 @@ abbrev pub tails : (k : Keyword) → Grammar (Behind k)
 tails words.Universal = regions
 tails words.Outlives = pair regions regions
 tails words.Region = regions
+tails words.Assert = bounds
 tails words.Struct = structs
 tails words.Let = pair variables (behind (sign 58) types)
 tails words.Blocks = numbers
@@ -173,6 +179,7 @@ abbrev pub parts_of : List ℕ → Form → (k : Option Keyword) × LineParts k
 parts_of f (universal a) = (Some words.Universal, a)
 parts_of f (outlives a b) = (Some words.Outlives, (a, b))
 parts_of f (further x) = (Some words.Region, x)
+parts_of f (assert_line a b) = (Some words.Assert, (a, b))
 parts_of f (struct_line n ps has_drop fields) = (Some words.Struct, (n, (ps, (has_drop, fields))))
 parts_of f (variable x t) = (Some words.Let, (x, t))
 parts_of f (blocks n) = (Some words.Blocks, n)

@@ -11,8 +11,8 @@ use Rattle.nll_type_grammar.specs.declared.type_text.TypeNode.{TypeNode}
 use Rattle.nll_statements.specs.Statements.{map_statement}
 use Rattle.nll_statements.specs.Kept.{statement_of}
 use Rattle.nll_statements.specs.declared.statement.Statement.{Statement as Kept}
-use Rattle.nll_mir_grammar.specs.MirForms.{Form, universal, outlives, further, struct_line}
-use Rattle.nll_mir_grammar.specs.MirForms.{variable, blocks, block, at_point, end}
+use Rattle.nll_mir_grammar.specs.MirForms.{Form, universal, outlives, further, assert_line}
+use Rattle.nll_mir_grammar.specs.MirForms.{struct_line, variable, blocks, block, at_point, end}
 use Rattle.nll_mir_grammar.specs.MirForms.{WrittenParameter, region_parameter, type_parameter}
 pub use Rattle.nll_mir_grammar.specs.Tuples.{parts}
 use Rattle.nll_mir_grammar.specs.declared.line.Line.{Line}
@@ -51,6 +51,7 @@ abbrev pub form_of : Line → Form
 form_of (lines.Universal a) = universal a.now
 form_of (lines.Outlives a b) = outlives a.now b.now
 form_of (lines.Region x) = further x.now
+form_of (lines.Assert a b) = assert_line a.now b.now
 form_of (lines.Struct b) = struct_form b.value
 form_of (lines.Let x t) = variable x (written t)
 form_of (lines.Blocks n) = blocks n

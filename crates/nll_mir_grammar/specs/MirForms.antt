@@ -28,6 +28,8 @@ pub data Form : Type 0 where
   universal : Name → Form
   outlives : Name → Name → Form
   further : Name → Form
+  -- that the first region holds, at all points, what the second one holds
+  assert_line : Name → Name → Form
   -- a struct with its parameters, whether it has a drop of its own, and its fields
   struct_line : Name → List WrittenParameter → Bool → WrittenTypes → Form
   variable : ℕ → WrittenType → Form
@@ -145,6 +147,7 @@ abbrev pub spelled_form : List ℕ → Form → List Token
 spelled_form f (universal a) = word (codes "universal") ∷ region a ∷ []
 spelled_form f (outlives a b) = word (codes "outlives") ∷ region a ∷ region b ∷ []
 spelled_form f (further x) = word (codes "region") ∷ region x ∷ []
+spelled_form f (assert_line a b) = word (codes "assert") ∷ region a ∷ sign 58 ∷ region b ∷ []
 spelled_form f (struct_line n ps has_drop fields) =
     word (codes "struct") ∷ word n
     ∷ (spelled_parameters ps ++ (drop_mark has_drop ++ spelled (tuple fields)))

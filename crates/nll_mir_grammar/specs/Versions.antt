@@ -1,5 +1,5 @@
 -- Which lines a MIR text of each version has: version 2 has all forms, and version 1 those without
--- a function type and without a contravariant parameter.
+-- a function type, without a contravariant parameter and without a constraint at all points.
 -- Source: project's choice; docs/FORMATS.md says the same in words.
 use Rattle.std.specs.Prelude.{◌≡◌, ℕ, Bool, true, false, not, ◌&&◌, List, codes}
 use Rattle.std.specs.List.{list_all}
@@ -9,7 +9,8 @@ use Rattle.nll_types.specs.declared.parameter.Sign.TheVariants.{Invariant}
 use Rattle.nll_type_grammar.specs.Functions.{has_function, have_function}
 use Rattle.nll_statements.specs.Statements.{types_written}
 use Rattle.nll_mir_grammar.specs.MirForms.{WrittenParameter, region_parameter, type_parameter}
-use Rattle.nll_mir_grammar.specs.MirForms.{Form, struct_line, variable, at_point, HasForm}
+use Rattle.nll_mir_grammar.specs.MirForms.{Form, assert_line, struct_line, variable, at_point}
+use Rattle.nll_mir_grammar.specs.MirForms.{HasForm}
 use Rattle.nll_mir_grammar.specs.declared.version.Version.{Version}
 use Rattle.nll_mir_grammar.specs.declared.version.Version.TheVariants.{First, Second}
 
@@ -29,8 +30,10 @@ abbrev pub is_first_parameter : WrittenParameter → Bool
 is_first_parameter (region_parameter a p) = is_first_sign p.sign
 is_first_parameter (type_parameter n p) = is_first_sign p.sign
 
--- a line of the form has no function type and no contravariant parameter
+-- a line of the form has no function type and no contravariant parameter, and is no constraint at
+-- all points
 abbrev pub is_of_first : Form → Bool
+is_of_first (assert_line a b) = false
 is_of_first (struct_line n ps has_drop fields) =
     list_all is_first_parameter ps && not (have_function fields)
 is_of_first (variable x t) = not (has_function t)

@@ -1,4 +1,4 @@
-//! The bounds of a call: of which regions one must outlive another.
+//! Bounds: of which regions one must outlive another.
 
 ghost use Rattle.std.specs.Prelude.{◌≡◌, [], IfOk, MatchOption, map};
 ghost use Rattle.nll_text.specs.Tokens as lex;
@@ -14,8 +14,8 @@ use std::alloc::Global;
 /// Of each pair the first region must outlive the second.
 pub type Bounds<'a> = Vec<(&'a [u8], &'a [u8])>;
 
-// The bound at the front.
-fn bound_at<'a>(tokens: &[Token<'a>], at: usize) -> Option<((&'a [u8], &'a [u8]), usize)>
+/// The bound at the front.
+pub fn bound_at<'a>(tokens: &[Token<'a>], at: usize) -> Option<((&'a [u8], &'a [u8]), usize)>
     ensures { MatchOption result (HasNone parts.bounds (from at tokens.now))
         (λ p. Begins parts.bounds (from at tokens.now) (p.0.0.now, p.0.1.now)
         (from p.1 tokens.now)) }

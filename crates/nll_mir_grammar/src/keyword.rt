@@ -10,6 +10,7 @@ pub enum Keyword {
     Universal,
     Outlives,
     Region,
+    Assert,
     Struct,
     Let,
     Blocks,
@@ -47,6 +48,9 @@ fn line_keyword(word: &[u8]) -> Option<Keyword>
     }
     if word == b"universal".as_slice() {
         return Some(Keyword::Universal);
+    }
+    if word == b"assert".as_slice() {
+        return Some(Keyword::Assert);
     }
     if word == b"blocks".as_slice() {
         return Some(Keyword::Blocks);

@@ -72,6 +72,8 @@ pub enum Line<'a> {
     Universal(&'a [u8]),
     Outlives(&'a [u8], &'a [u8]),
     Region(&'a [u8]),
+    /// That the first region holds, at all points, what the second one holds.
+    Assert(&'a [u8], &'a [u8]),
     Struct(Box<StructText<'a>>),
     Let(u32, TypeText<'a>),
     Blocks(u32),

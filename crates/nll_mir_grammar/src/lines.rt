@@ -9,6 +9,7 @@ ghost use Rattle.nll_mir_grammar.specs.Parts.{drop_marks, parameter_lists, tuple
 ghost use Rattle.nll_mir_grammar.specs.Tuples.{parts};
 ghost use Rattle.nll_mir_grammar.specs.declared.keyword.Keyword.TheVariants as keyword;
 
+use crate::bounds::bound_at;
 use crate::line::{Line, ParameterText, StructText, TupleText};
 use crate::pairs::{Read, with};
 use crate::parameters::parameters_in;
@@ -44,6 +45,15 @@ pub fn region_line<'a>(tokens: &[Token<'a>], at: usize) -> Option<(Line<'a>, usi
 {
     let (name, rest) = region_at(tokens, at)?;
     Some((Line::Region(name), rest))
+}
+
+/// Behind `assert`.
+pub fn assert_line<'a>(tokens: &[Token<'a>], at: usize) -> Option<(Line<'a>, usize)>
+    ensures { MatchOption result (HasNone (tails keyword.Assert) (from at tokens.now))
+        (λ p. IsBehind keyword.Assert (from at tokens.now) (form_of p.0) (from p.1 tokens.now)) }
+{
+    let ((longer, shorter), rest) = bound_at(tokens, at)?;
+    Some((Line::Assert(longer, shorter), rest))
 }
 
 /// Behind `blocks`.

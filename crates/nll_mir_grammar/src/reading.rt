@@ -14,7 +14,8 @@ use crate::assignment::assignment_at;
 use crate::keyword::{Keyword, keyword_of};
 use crate::line::Line;
 use crate::lines::{
-    block_line, blocks_line, let_line, outlives_line, region_line, struct_line, universal_line,
+    assert_line, block_line, blocks_line, let_line, outlives_line, region_line, struct_line,
+    universal_line,
 };
 use crate::pairs::Read;
 use crate::points::{dead_line, drop_line, goto_line, live_line, read_line, switch_line};
@@ -39,6 +40,7 @@ fn line_behind<'a>(
         Keyword::Universal => Ok(universal_line(tokens, at)),
         Keyword::Outlives => Ok(outlives_line(tokens, at)),
         Keyword::Region => Ok(region_line(tokens, at)),
+        Keyword::Assert => Ok(assert_line(tokens, at)),
         Keyword::Struct => struct_line(alloc, tokens, at),
         Keyword::Let => let_line(alloc, tokens, at),
         Keyword::Blocks => Ok(blocks_line(tokens, at)),

@@ -17,7 +17,7 @@ use std::alloc::Global;
 /// A version of MIR texts.
 #[derive(Clone, Copy, PartialEq, Eq)]
 pub enum Version {
-    /// Without function types, and without contravariant parameters.
+    /// Without function types, contravariant parameters and constraints at all points.
     First,
     Second,
 }
@@ -113,6 +113,7 @@ pub fn is_of_version(alloc: Global, version: Version, line: &Line<'_>) -> Result
         return Ok(true);
     }
     match line {
+        Line::Assert(_, _) => Ok(false),
         Line::Struct(text) => is_first_struct(alloc, text),
         Line::Let(_, ty) => is_first_type(alloc, ty),
         Line::At(statement) => is_first_statement(alloc, statement),

@@ -1,6 +1,6 @@
 //! Bodies of worked texts: regions, points, edges, and what is used, defined and dropped.
 use super::reading::{Asked, compare_lines};
-use nll_worked_texts::{CALLED, DROPPED, MOVED, REBORROW, RETURNED, TWO_BORROWS};
+use nll_worked_texts::{ASSERTED, CALLED, DROPPED, MOVED, REBORROW, RETURNED, TWO_BORROWS};
 
 // Texts, and the bodies that they mean.
 const BODIES: &[(&str, &str)] = &[
@@ -47,6 +47,16 @@ const BODIES: &[(&str, &str)] = &[
         "universal 'static|universal 'a|universal 'b|region 'c|\
         outlives 2 1|outlives 1 0|1 variables|bb0/0|",
     ),
+    (
+        ASSERTED,
+        "universal 'static|region '1|region '2|region '3|region '4|assert 3 1|3 variables|\
+        bb0/0 to 1 uses 1 defines 2|bb0/1 to 2 uses 2|bb0/2 returns uses 0|",
+    ),
+    (
+        ASSERTING,
+        "universal 'static|universal 'a|region 'b|outlives 1 0|assert 2 1|assert 1 2|assert 0 0|\
+        1 variables|bb0/0|",
+    ),
 ];
 
 // The text in which a struct is dropped, with other blanks, remarks and empty lines.
@@ -57,6 +67,10 @@ const SPACED: &str = "\tnll-mir \t 1\r|  | # the region of a W|region\t'w\r||\
 // A body in which two universal regions are known to outlive others, one of them by two lines.
 const OUTLIVING: &str = "nll-mir 1|universal 'a|universal 'b|outlives 'b 'a|outlives 'a 'static|\
     outlives 'b 'a|region 'c|let _0: &'c int|blocks 1|block bb0|stop|end|";
+
+// A body that asserts something of regions of both kinds, once by two lines.
+const ASSERTING: &str = "nll-mir 2|universal 'a|outlives 'a 'static|region 'b|assert 'b : 'a|\
+    assert'a:'b|assert 'b : 'a|assert 'static : 'static|let _0: int|blocks 1|block bb0|stop|end|";
 
 // The bodies of worked texts.
 #[test]

@@ -48,10 +48,11 @@ fn write_regions(rt: &impl Abort, out: &mut String, body: &Body) {
     }
 }
 
-// Writes which universal region is known to outlive which.
-fn write_outlives(rt: &impl Abort, out: &mut String, pairs: &[(u32, u32)]) {
+// Writes pairs of regions behind a word: which universal region is known to outlive which, or which
+// region is to hold all that another one holds.
+fn write_pairs(rt: &impl Abort, out: &mut String, word: &str, pairs: &[(u32, u32)]) {
     for (longer, shorter) in pairs {
-        write_number(rt, out, "outlives ", u64::from(*longer), " ");
+        write_number(rt, out, word, u64::from(*longer), " ");
         write_number(rt, out, "", u64::from(*shorter), "|");
     }
 }
@@ -114,7 +115,8 @@ fn write_lines(rt: &impl Abort, alloc: Global, out: &mut String, body: &Body) {
 // Writes what a body says.
 fn write_body(rt: &impl Abort, alloc: Global, out: &mut String, body: &Body) {
     write_regions(rt, out, body);
-    write_outlives(rt, out, body.outlives());
+    write_pairs(rt, out, "outlives ", body.outlives());
+    write_pairs(rt, out, "assert ", body.asserts());
     write_number(rt, out, "", body.variables() as u64, " variables|");
     write_lines(rt, alloc, out, body);
 }

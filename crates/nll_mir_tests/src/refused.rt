@@ -222,6 +222,33 @@ struct F(fn() -> int) ~ line 4: Syntax
 struct F<'x +>(&'x int) ~ line 4: End
 let _0: fn ~ line 4: Syntax
 let _0: Fn ~ line 4: Unknown
+assert 'r : 'static ~ line 4: Syntax
+assert 'r : 'q ~ line 4: Syntax
+";
+
+// Lines that assert something, behind the header and a region, in version 2.
+const ASSERTS: &str = "
+assert 'r : 'static ~ line 3: End
+assert 'static : 'r ~ line 3: End
+assert'r:'r ~ line 3: End
+assert 'r : 'r|assert 'r : 'r ~ line 4: End
+assert 'r : 'q ~ line 3: Unknown
+assert 'q : 'r ~ line 3: Unknown
+assert 'r : 'q|region 'q ~ line 3: Unknown
+assert 'r : 'r|region 'q ~ line 4: Syntax
+assert 'r : 'r|universal 'q ~ line 4: Syntax
+assert 'r : 'r|outlives 'static 'static ~ line 4: Syntax
+assert 'r : 'r|struct S() ~ line 4: End
+struct S()|assert 'r : 'r ~ line 4: Syntax
+let _0: int|assert 'r : 'r ~ line 4: Syntax
+assert 'r 'r ~ line 3: Syntax
+assert 'r : ~ line 3: Syntax
+assert 'r ~ line 3: Syntax
+assert ~ line 3: Syntax
+assert 'r : 'r, 'r : 'r ~ line 3: Syntax
+assert 'r : r ~ line 3: Syntax
+assert 'r : 'r : 'r ~ line 3: Syntax
+Assert 'r : 'r ~ line 3: Syntax
 ";
 
 // The same in version 2. A function is known where its parts are, and a function type isn't made.
@@ -294,6 +321,7 @@ const TABLES: &[Table<'static>] = &[
         ("", ""),
         IN_SECOND,
     ),
+    (Asked::All, ("nll-mir 2|region 'r|", "|"), ("", ""), ASSERTS),
     (Asked::All, (FUNCTIONAL, "|"), ("", ""), OF_FUNCTIONS),
     (
         Asked::All,

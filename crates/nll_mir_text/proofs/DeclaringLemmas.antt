@@ -29,7 +29,7 @@ use Rattle.nll_mir_text.proofs.StructLemmas.{IsFine, struct_fine, kinds_pushed, 
 
 -- what is said with other structs
 abbrev said_with : Said → List Name → List (List Bool) → List Struct → Said
-said_with s names kinds structs = record s { reached = 4; struct_names = names; kinds = kinds; structs = structs }
+said_with s names kinds structs = record s { reached = 5; struct_names = names; kinds = kinds; structs = structs }
 
 module _ (r : Reader) (own : OwnNames) (text : StructText) (due : IsDue r (struct_form text)) (h : AreOwn (map parameter_of text.parameters.items) own) (fine : first_fault (said_by r) (struct_form text) ≡ None) where
   abbrev parameters : List WrittenParameter
@@ -69,7 +69,7 @@ module _ (r : Reader) (own : OwnNames) (text : StructText) (due : IsDue r (struc
 
     module _ (t : Tables) (s : StructNames) (structs : t.structs ≡ r.variables.table.structs ++ d ∷ []) (shapes : t.shapes ≡ r.variables.table.shapes) (names : s.names ≡ r.structs.names ++ text.name.now ∷ []) (kinds : map (λ ks. ks.items) s.kinds.items ≡ map (λ ks. ks.items) r.structs.kinds.items ++ map is_region parameters ∷ []) (none : s.none ≡ r.structs.none) where
       abbrev after : Reader
-      after = record r { reached = 4; structs = s; variables = record r.variables { table = t } }
+      after = record r { reached = 5; structs = s; variables = record r.variables { table = t } }
 
       more_structs : structs_of t.structs ≡ structs_of r.variables.table.structs ++ more ∷ []
       more_structs = ap structs_of structs ∙ (map_push kept.declared r.variables.table.structs d ∙ ap (λ x. structs_of r.variables.table.structs ++ x ∷ []) declares)
@@ -110,7 +110,7 @@ module _ (r : Reader) (own : OwnNames) (text : StructText) (due : IsDue r (struc
           few_variables = due.ready.few_variables;
           shapes = subst (λ (ns : List Node). AreShapes ns r.variables.shapes.items r.variables.types.items) (sym shapes) due.ready.shapes;
           few_blocks = due.ready.few_blocks;
-          no_start = λ _. due.ready.no_start (omega (arith, leb-true r.reached 4 due.order));
+          no_start = λ _. due.ready.no_start (omega (arith, leb-true r.reached 5 due.order));
           starts = due.ready.starts;
           few_points = due.ready.few_points;
           edges = due.ready.edges;

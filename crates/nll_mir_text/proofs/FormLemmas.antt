@@ -5,7 +5,7 @@ use Rattle.nll_problem.specs.Limits.{most_bytes}
 use Rattle.nll_text.specs.Tokens.{Token, sign, AreTokens}
 use Rattle.nll_text.proofs.Utf8Lemmas.{IsUtf8-word}
 use Rattle.nll_text.proofs.TokenLemmas.{made_of_tokens}
-use Rattle.nll_mir_grammar.specs.MirForms.{Form, universal, outlives, further, struct_line, variable, blocks, block, at_point, end, HasForm, spelled_form, spelled_parameter, spelled_parameters, drop_mark, WrittenParameter, region_parameter, type_parameter}
+use Rattle.nll_mir_grammar.specs.MirForms.{Form, universal, outlives, further, assert_line, struct_line, variable, blocks, block, at_point, end, HasForm, spelled_form, spelled_parameter, spelled_parameters, drop_mark, WrittenParameter, region_parameter, type_parameter}
 use Rattle.nll_type_grammar.specs.WrittenTypes.{tuple, spelled}
 use Rattle.nll_mir_text.specs.MirReading.{IsNamed, HasTexts, HasFewParameters}
 use Rattle.nll_mir_text.proofs.TextLemmas.{few_made}
@@ -39,6 +39,7 @@ parameters_named (p ∷ ps) h =
 texts_spelled : (callee : List ℕ) (f : Form) → AreTokens (spelled_form callee f) → HasTexts f
 texts_spelled callee (universal a) h = IsUtf8-word a h.1.0
 texts_spelled callee (outlives a b) h = tt
+texts_spelled callee (assert_line a b) h = tt
 texts_spelled callee (further x) h = IsUtf8-word x h.1.0
 texts_spelled callee (struct_line n ps has_drop fields) h =
     (IsUtf8-word n h.1.0, parameters_named ps (first_tokens (spelled_parameters ps) _ h.1.1))
@@ -72,6 +73,7 @@ parameters_long (p ∷ ps) =
 few_spelled : (callee : List ℕ) (f : Form) → length (spelled_form callee f) ≤ most_bytes → HasFewParameters f
 few_spelled callee (universal a) h = tt
 few_spelled callee (outlives a b) h = tt
+few_spelled callee (assert_line a b) h = tt
 few_spelled callee (further x) h = tt
 few_spelled callee (struct_line n ps has_drop fields) h =
     omega (arith, h, parameters_long ps, length-append (spelled_parameters ps) (drop_mark has_drop ++ spelled (tuple fields)))

@@ -206,7 +206,7 @@ edges_written i = same_edges (λ (r : Bor (List ℕ)). r.now) written (statement
 -- the statement stands at the next point
 pub point_said : (s : Said) (i : Statement Name WrittenType) (points : List (Statement ℕ TypeTree)) (owes : Bool) (blocks : ℕ) (starts : List ℕ)
     → blocks ≡ s.blocks → starts ≡ s.starts → points ≡ s.points ++ statement_meant s i ∷ [] → owes ≡ not (is_terminator i)
-    → record s { reached = 7; points = points; owes = owes; blocks = blocks; starts = starts } ≡ says s (at_point i)
+    → record s { reached = 8; points = points; owes = owes; blocks = blocks; starts = starts } ≡ says s (at_point i)
 point_said s i points owes blocks starts b c h k = rw (b, c, h, k) refl
 
 -- what the code keeps ends the block as its line does

@@ -18,7 +18,7 @@ use Rattle.nll_statements.specs.Statements.{Statement, is_terminator, map_statem
 use Rattle.nll_statements.specs.Effects.{targets}
 use Rattle.nll_statements.specs.Written.{regions_written, variables_written}
 use Rattle.nll_statements.proofs.MapLemmas.{regions_mapped, types_mapped}
-use Rattle.nll_mir_grammar.specs.MirForms.{Form, WrittenParameter, universal, outlives, further, struct_line, variable, blocks, block, at_point, end}
+use Rattle.nll_mir_grammar.specs.MirForms.{Form, WrittenParameter, universal, outlives, further, assert_line, struct_line, variable, blocks, block, at_point, end}
 use Rattle.nll_naming.specs.Naming.{meant, is_among, has_arguments, have_arguments, is_known, are_known}
 use Rattle.nll_reading.specs.Text.{Fits, skipped, of_form, Says, IsText}
 use Rattle.nll_body.specs.Edges.{edges_from, edge_count}
@@ -110,7 +110,7 @@ record IsDeclared (reached universals : ℕ) (names : List Name) (longer : List 
   counted : length kinds ≡ length structs
   takes : AreKinds kinds structs
   order : AreInOrder structs
-  none_yet : reached < 5 → variables ≡ []
+  none_yet : reached < 6 → variables ≡ []
   keep : All (IsWellFormed structs (length names) 0) variables
 
 -- one more than the last point that may come behind these
@@ -131,13 +131,13 @@ same_edges f g i = rw (same_end f g i, same_targets f g i) refl
 
 -- What stands at the points leads to points and blocks, and the blocks begin at points.
 record ArePlaced (reached count : ℕ) (starts : List ℕ) (points : List (Statement ℕ TypeTree)) (owes : Bool) : Type 0 where
-  some_block : 6 ≤ reached → 0 < count
-  none_yet : reached < 7 → length points ≡ 0
+  some_block : 7 ≤ reached → 0 < count
+  none_yet : reached < 8 → length points ≡ 0
   begun : length starts ≡ 0 → ends points owes ≡ 0
   within : All (λ q. q < ends points owes) starts
   rise : IsStrictlyIncreasing starts
   at_zero : 0 < length starts → slice_get starts 0 ≡ Some 0
-  whole : reached ≡ 8 → (owes ≡ false) × (count ≤ length starts)
+  whole : reached ≡ 9 → (owes ≡ false) × (count ≤ length starts)
   few_points : length points ≤ most_points
   few_edges : edge_count points ≤ most_edges
   goes_on : (p : ℕ) (i : Statement ℕ TypeTree) → slice_get points p ≡ Some i → is_terminator i ≡ false → p + 1 < ends points owes
@@ -148,7 +148,16 @@ record AreWritten (names : List Name) (structs : List Struct) (points : List (St
   regions : (p r : ℕ) (i : Statement ℕ TypeTree) → slice_get points p ≡ Some i → Contains (regions_written i) r → r < length names
   types : (p : ℕ) (t : TypeTree) (i : Statement ℕ TypeTree) → slice_get points p ≡ Some i → Contains (types_written i) t → IsWellFormed structs (length names) 0 t
 
+-- The asserted pairs are of declared regions.
+abbrev AreAsserted : List Name → List (ℕ × ℕ) → Type 0
+AreAsserted names pairs = (a b : ℕ) → Contains pairs (a, b) → (a < length names) × (b < length names)
+
+-- they are so where there are more regions
+asserted_more : (old new : List Name) (pairs : List (ℕ × ℕ)) → length old ≤ length new → AreAsserted old pairs → AreAsserted new pairs
+asserted_more old new pairs more all a b c = let k = all a b c in (omega (arith, k.0, more), omega (arith, k.1, more))
+
 record IsWell (s : Said) : Type 0 where
+  asserted : AreAsserted s.names s.asserts
   declares : IsDeclared s.reached s.universals s.names s.outlives s.struct_names s.kinds s.structs s.variables
   places : ArePlaced s.reached s.blocks s.starts s.points s.owes
   written : AreWritten s.names s.structs s.points
@@ -161,7 +170,7 @@ written_nowhere names structs points none = record {
 }
 
 -- a line in front of the blocks stands in front of all points
-written_early : (reached count : ℕ) (starts : List ℕ) (points : List (Statement ℕ TypeTree)) (owes : Bool) → ArePlaced reached count starts points owes → reached < 7
+written_early : (reached count : ℕ) (starts : List ℕ) (points : List (Statement ℕ TypeTree)) (owes : Bool) → ArePlaced reached count starts points owes → reached < 8
     → (names : List Name) (structs : List Struct) → AreWritten names structs points
 written_early reached count starts points owes h early names structs = written_nowhere names structs points (h.none_yet early)
 
@@ -169,6 +178,7 @@ written_early reached count starts points owes h early names structs = written_n
 
 well_nothing : IsWell nothing_said
 well_nothing = record {
+  asserted = λ a b c. absurd (omega (arith, c.1));
   declares = record {
     some = omega arith;
     few = omega arith;
@@ -203,7 +213,7 @@ well_nothing = record {
 
 -- a line in front of the blocks leaves the points as they are
 module _ (reached count : ℕ) (starts : List ℕ) (points : List (Statement ℕ TypeTree)) (owes : Bool) where
-  places_early : (after : ℕ) → ArePlaced reached count starts points owes → reached ≤ after → after < 6 → ArePlaced after count starts points owes
+  places_early : (after : ℕ) → ArePlaced reached count starts points owes → reached ≤ after → after < 7 → ArePlaced after count starts points owes
   places_early after h le early = record {
     some_block = λ l. absurd (omega (arith, l, early));
     none_yet = λ l. h.none_yet (omega (arith, le, early));
@@ -220,7 +230,7 @@ module _ (reached count : ℕ) (starts : List ℕ) (points : List (Statement ℕ
 
 -- a line behind the declarations leaves them as they are
 module _ (reached universals : ℕ) (names : List Name) (longer : List (ℕ × ℕ)) (struct_names : List Name) (kinds : List (List Bool)) (structs : List Struct) (variables : List TypeTree) where
-  declares_late : (after : ℕ) → IsDeclared reached universals names longer struct_names kinds structs variables → 5 ≤ after → IsDeclared after universals names longer struct_names kinds structs variables
+  declares_late : (after : ℕ) → IsDeclared reached universals names longer struct_names kinds structs variables → 6 ≤ after → IsDeclared after universals names longer struct_names kinds structs variables
   declares_late after h late = record {
     some = h.some;
     few = h.few;
@@ -237,7 +247,7 @@ module _ (reached universals : ℕ) (names : List Name) (longer : List (ℕ × �
   }
 
   -- names and structs are declared before variables
-  keeps_none : reached < 5 → IsDeclared reached universals names longer struct_names kinds structs variables → (P : TypeTree → Type 0) → All P variables
+  keeps_none : reached < 6 → IsDeclared reached universals names longer struct_names kinds structs variables → (P : TypeTree → Type 0) → All P variables
   keeps_none early h P = subst (All P) (sym (h.none_yet early)) (All-nil P)
 
 -- the line is of a group that isn't before that reached
@@ -253,6 +263,7 @@ module _ (s : Said) (w : IsWell s) where
       let regions : length s.names < most_regions = leb-false most_regions (length s.names) no.regions in
       let d = w.declares in
       record {
+        asserted = asserted_more s.names (s.names ++ a ∷ []) s.asserts (omega (arith, length-append s.names (a ∷ []))) w.asserted;
         declares = record {
           some = omega arith;
           few = omega (arith, few);
@@ -278,6 +289,7 @@ module _ (s : Said) (w : IsWell s) where
       let both = and_parts (is_universal s a) (is_universal s b) (not-false (is_universal s a && is_universal s b) no.unknown) in
       let d = w.declares in
       record {
+        asserted = w.asserted;
         declares = record {
           some = d.some;
           few = d.few;
@@ -303,6 +315,7 @@ module _ (s : Said) (w : IsWell s) where
       let regions : length s.names < most_regions = leb-false most_regions (length s.names) no.regions in
       let d = w.declares in
       record {
+        asserted = asserted_more s.names (s.names ++ x ∷ []) s.asserts (omega (arith, length-append s.names (x ∷ []))) w.asserted;
         declares = record {
           some = d.some;
           few = d.few;
@@ -321,15 +334,42 @@ module _ (s : Said) (w : IsWell s) where
         written = written_early _ _ _ _ _ w.places (omega (arith, le)) (s.names ++ x ∷ []) s.structs;
       }
 
+  well_assert : (a b : Name) → first_fault s (assert_line a b) ≡ None → IsWell (says s (assert_line a b))
+  well_assert a b e =
+      let no = faultless s (assert_line a b) e in
+      let le : s.reached ≤ 4 = in_group s 4 no.syntax' in
+      let both = and_parts (is_among s.names a) (is_among s.names b) (not-false (is_among s.names a && is_among s.names b) no.unknown) in
+      let d = w.declares in
+      record {
+        asserted = λ x y c. ⊎_elim (w.asserted x y) (λ same. subst (λ (p : ℕ × ℕ). (p.0 < length s.names) × (p.1 < length s.names)) same (ltb-true (number_of s.names a) (length s.names) both.0, ltb-true (number_of s.names b) (length s.names) both.1)) (inserted (list_any (same_pair (number_of s.names a, number_of s.names b)) s.asserts) s.asserts (number_of s.names a, number_of s.names b) (x, y) c);
+        declares = record {
+          some = d.some;
+          few = d.few;
+          all = d.all;
+          few_names = d.few_names;
+          few_variables = d.few_variables;
+          known = d.known;
+          named = d.named;
+          counted = d.counted;
+          takes = d.takes;
+          order = d.order;
+          none_yet = λ _. d.none_yet (omega (arith, le));
+          keep = d.keep;
+        };
+        places = places_early _ _ _ _ _ 4 w.places le (omega arith);
+        written = written_early _ _ _ _ _ w.places (omega (arith, le)) s.names s.structs;
+      }
+
   well_struct : (n : Name) (ps : List WrittenParameter) (has_drop : Bool) (fields : WrittenTypes) → first_fault s (struct_line n ps has_drop fields) ≡ None → IsWell (says s (struct_line n ps has_drop fields))
   well_struct n ps has_drop fields e =
       let no = faultless s (struct_line n ps has_drop fields) e in
-      let le : s.reached ≤ 4 = in_group s 4 no.syntax' in
+      let le : s.reached ≤ 5 = in_group s 5 no.syntax' in
       let known : are_known (field_scope s ps) fields ≡ true = not-false _ no.unknown in
       let has : have_arguments (field_scope s ps) fields ≡ true = not-false _ no.shape in
       let d = w.declares in
       let more = declared s ps has_drop fields in
       record {
+        asserted = w.asserted;
         declares = record {
           some = d.some;
           few = d.few;
@@ -344,19 +384,20 @@ module _ (s : Said) (w : IsWell s) where
           none_yet = λ _. d.none_yet (omega (arith, le));
           keep = keeps_none _ _ _ _ _ _ _ _ (omega (arith, le)) d (IsWellFormed (s.structs ++ more ∷ []) (length s.names) 0);
         };
-        places = places_early _ _ _ _ _ 4 w.places le (omega arith);
+        places = places_early _ _ _ _ _ 5 w.places le (omega arith);
         written = written_early _ _ _ _ _ w.places (omega (arith, le)) s.names (s.structs ++ more ∷ []);
       }
 
   well_variable : (x : ℕ) (t : WrittenType) → first_fault s (variable x t) ≡ None → IsWell (says s (variable x t))
   well_variable x t e =
       let no = faultless s (variable x t) e in
-      let le : s.reached ≤ 5 = in_group s 5 no.syntax' in
+      let le : s.reached ≤ 6 = in_group s 6 no.syntax' in
       let known : is_known (body_scope s) t ≡ true = not-false _ no.unknown in
       let has : has_arguments (body_scope s) t ≡ true = not-false _ no.shape in
       let limit : length s.variables < most_variables = leb-false most_variables (length s.variables) no.variables in
       let d = w.declares in
       record {
+        asserted = w.asserted;
         declares = record {
           some = d.some;
           few = d.few;
@@ -371,19 +412,20 @@ module _ (s : Said) (w : IsWell s) where
           none_yet = λ l. absurd (omega (arith, l));
           keep = All-push (IsWellFormed s.structs (length s.names) 0) s.variables (meant (body_scope s) t) d.keep (well_formed (body_scope s) s.structs d.takes d.named t known has);
         };
-        places = places_early _ _ _ _ _ 5 w.places le (omega arith);
+        places = places_early _ _ _ _ _ 6 w.places le (omega arith);
         written = written_early _ _ _ _ _ w.places (omega (arith, le)) s.names s.structs;
       }
 
   well_blocks : (n : ℕ) → first_fault s (blocks n) ≡ None → IsWell (says s (blocks n))
   well_blocks n e =
       let no = faultless s (blocks n) e in
-      let at : s.reached ≡ 5 = eqb-true s.reached 5 (not-false _ no.syntax') in
+      let at : s.reached ≡ 6 = eqb-true s.reached 6 (not-false _ no.syntax') in
       let some : 0 < n = positive n no.range in
       let p = w.places in
       let none = p.none_yet (omega (arith, at)) in
       record {
-        declares = declares_late _ _ _ _ _ _ _ _ 6 w.declares (omega arith);
+        asserted = w.asserted;
+        declares = declares_late _ _ _ _ _ _ _ _ 7 w.declares (omega arith);
         places = record {
           some_block = λ _. some;
           none_yet = λ _. none;
@@ -401,7 +443,7 @@ module _ (s : Said) (w : IsWell s) where
       }
 
   -- a block begins where no terminator is owed
-  begins : s.owes ≡ false → 6 ≤ s.reached → ArePlaced 7 s.blocks (s.starts ++ length s.points ∷ []) s.points true
+  begins : s.owes ≡ false → 7 ≤ s.reached → ArePlaced 8 s.blocks (s.starts ++ length s.points ∷ []) s.points true
   begins done late =
       let p = w.places in
       let here_ends : ends s.points s.owes ≡ length s.points = rw done refl in
@@ -421,16 +463,17 @@ module _ (s : Said) (w : IsWell s) where
 
   well_block : (n : ℕ) → first_fault s (block n) ≡ None → IsWell (says s (block n))
   well_block n e =
-      let order = three (nat_le 6 s.reached) (nat_le s.reached 7) (not s.owes) (not-false _ (faultless s (block n) e).syntax') in
+      let order = three (nat_le 7 s.reached) (nat_le s.reached 8) (not s.owes) (not-false _ (faultless s (block n) e).syntax') in
       record {
-        declares = declares_late _ _ _ _ _ _ _ _ 7 w.declares (omega arith);
-        places = begins (not-true s.owes order.2) (leb-true 6 s.reached order.0);
+        asserted = w.asserted;
+        declares = declares_late _ _ _ _ _ _ _ _ 8 w.declares (omega arith);
+        places = begins (not-true s.owes order.2) (leb-true 7 s.reached order.0);
         written = w.written;
       }
 
   -- a statement or terminator stands where a terminator is owed
-  stands : (i : Statement Name WrittenType) → s.reached ≡ 7 → s.owes ≡ true → has_targets s i ≡ true → length s.points < most_points → edge_count s.points + edges_from i ≤ most_edges
-      → ArePlaced 7 s.blocks s.starts (s.points ++ statement_meant s i ∷ []) (not (is_terminator i))
+  stands : (i : Statement Name WrittenType) → s.reached ≡ 8 → s.owes ≡ true → has_targets s i ≡ true → length s.points < most_points → edge_count s.points + edges_from i ≤ most_edges
+      → ArePlaced 8 s.blocks s.starts (s.points ++ statement_meant s i ∷ []) (not (is_terminator i))
   stands i at owed targeted few_points few_edges =
       let p = w.places in
       let j = statement_meant s i in
@@ -490,12 +533,13 @@ module _ (s : Said) (w : IsWell s) where
   well_at_point : (i : Statement Name WrittenType) → first_fault s (at_point i) ≡ None → IsWell (says s (at_point i))
   well_at_point i e =
       let no = faultless s (at_point i) e in
-      let order = and_parts (s.reached == 7) s.owes (not-false _ no.syntax') in
+      let order = and_parts (s.reached == 8) s.owes (not-false _ no.syntax') in
       let few_points : length s.points < most_points = leb-false most_points (length s.points) no.points in
       let few_edges : edge_count s.points + edges_from i ≤ most_edges = ltb-false most_edges (edge_count s.points + edges_from i) no.edges in
-      let at : s.reached ≡ 7 = eqb-true s.reached 7 order.0 in
+      let at : s.reached ≡ 8 = eqb-true s.reached 8 order.0 in
       record {
-        declares = declares_late _ _ _ _ _ _ _ _ 7 w.declares (omega arith);
+        asserted = w.asserted;
+        declares = declares_late _ _ _ _ _ _ _ _ 8 w.declares (omega arith);
         places = stands i at order.1 (not-false (has_targets s i) no.range) few_points few_edges;
         written = writes i (not-false (knows s i) no.unknown) (not-false (shapes_fit s i) no.shape);
       }
@@ -503,13 +547,14 @@ module _ (s : Said) (w : IsWell s) where
   well_end : first_fault s end ≡ None → IsWell (says s end)
   well_end e =
       let no = faultless s end e in
-      let order = three (nat_le 6 s.reached) (nat_le s.reached 7) (not s.owes) (not-false _ no.syntax') in
+      let order = three (nat_le 7 s.reached) (nat_le s.reached 8) (not s.owes) (not-false _ no.syntax') in
       let p = w.places in
-      let late = leb-true 6 s.reached order.0 in
+      let late = leb-true 7 s.reached order.0 in
       let done : s.owes ≡ false = not-true s.owes order.2 in
       let enough : s.blocks ≤ length s.starts = ltb-false (length s.starts) s.blocks no.range in
       record {
-        declares = declares_late _ _ _ _ _ _ _ _ 8 w.declares (omega arith);
+        asserted = w.asserted;
+        declares = declares_late _ _ _ _ _ _ _ _ 9 w.declares (omega arith);
         places = record {
           some_block = λ _. p.some_block late;
           none_yet = λ l. absurd (omega (arith, l));
@@ -530,6 +575,7 @@ module _ (s : Said) (w : IsWell s) where
   well_says (universal a) e = well_universal a e
   well_says (outlives a b) e = well_outlives a b e
   well_says (further x) e = well_further x e
+  well_says (assert_line a b) e = well_assert a b e
   well_says (struct_line n ps has_drop fields) e = well_struct n ps has_drop fields e
   well_says (variable x t) e = well_variable x t e
   well_says (blocks n) e = well_blocks n e
@@ -550,7 +596,7 @@ well_said v before (line ∷ lines) forms h w = well_said v (before ++ h.0) line
 
 -- ---- the body
 
-module _ (s : Said) (w : IsWell s) (at_end : s.reached ≡ 8) where
+module _ (s : Said) (w : IsWell s) (at_end : s.reached ≡ 9) where
   done : ends s.points s.owes ≡ length s.points
   done = let e = (w.places.whole at_end).0 in rw e refl
 
@@ -574,6 +620,7 @@ module _ (s : Said) (w : IsWell s) (at_end : s.reached ≡ 8) where
         region_limit = d.few_names;
         variable_limit = d.few_variables;
         known_universals = d.known;
+        known_asserts = w.asserted;
         first_points = record { rise = p.rise; at_zero = first };
         in_range = λ q r goes. ⊎_elim
             (λ plain. (let l = p.goes_on q goes.0 goes.1 plain.0 in omega (arith, l, plain.1, done)))

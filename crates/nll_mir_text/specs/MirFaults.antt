@@ -20,8 +20,8 @@ use Rattle.nll_statements.specs.Written.{regions_written, variables_written}
 use Rattle.nll_statements.specs.Edges.{edges_from, edge_count}
 use Rattle.nll_typing.specs.Typing.{types_agree, types_are_small, are_small}
 use Rattle.nll_mir_grammar.specs.MirForms.{WrittenParameter}
-use Rattle.nll_mir_grammar.specs.MirForms.{Form, universal, outlives, further, struct_line}
-use Rattle.nll_mir_grammar.specs.MirForms.{variable, blocks, block, at_point, end}
+use Rattle.nll_mir_grammar.specs.MirForms.{Form, universal, outlives, further, assert_line}
+use Rattle.nll_mir_grammar.specs.MirForms.{struct_line, variable, blocks, block, at_point, end}
 use Rattle.nll_naming.specs.Naming.{is_among, is_known, are_known, has_arguments}
 use Rattle.nll_naming.specs.Naming.{have_arguments, meant, all_meant}
 use Rattle.nll_mir_text.specs.MirSaid.{Said, body_scope, field_scope, group}
@@ -32,10 +32,10 @@ use Rattle.nll_mir_text.specs.MirSaid.{statement_meant}
 -- The line stands in order: no line of a later group is there, a text has a `let` line before the
 -- one `blocks` line, then blocks, each a `block` line, statements and one terminator, then `end`.
 abbrev pub is_in_order : Said → Form → Bool
-is_in_order s (blocks n) = s.reached == 5
-is_in_order s (block n) = nat_le 6 s.reached && nat_le s.reached 7 && not s.owes
-is_in_order s (at_point i) = s.reached == 7 && s.owes
-is_in_order s end = nat_le 6 s.reached && nat_le s.reached 7 && not s.owes
+is_in_order s (blocks n) = s.reached == 6
+is_in_order s (block n) = nat_le 7 s.reached && nat_le s.reached 8 && not s.owes
+is_in_order s (at_point i) = s.reached == 8 && s.owes
+is_in_order s end = nat_le 7 s.reached && nat_le s.reached 8 && not s.owes
 is_in_order s f = nat_le s.reached (group f)
 
 -- ---- names
@@ -94,6 +94,7 @@ has_fault s (universal a) (Limit Regions) = nat_le most_regions (length s.names)
 has_fault s (outlives a b) Unknown = not (is_universal s a && is_universal s b)
 has_fault s (further x) Duplicate = is_among s.names x
 has_fault s (further x) (Limit Regions) = nat_le most_regions (length s.names)
+has_fault s (assert_line a b) Unknown = not (is_among s.names a && is_among s.names b)
 has_fault s (struct_line n ps has_drop fields) Unknown =
     not (are_known (field_scope s ps) fields)
 has_fault s (struct_line n ps has_drop fields) Duplicate = redeclares s n ps

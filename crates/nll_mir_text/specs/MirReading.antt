@@ -52,6 +52,7 @@ said_by r = record {
   names = r.regions.names;
   universals = r.regions.universals;
   outlives = r.regions.outlives.keys;
+  asserts = r.regions.asserts.keys;
   struct_names = r.structs.names;
   kinds = map (λ ks. ks.items) r.structs.kinds.items;
   structs = structs_of r.variables.table.structs;
@@ -120,7 +121,7 @@ pub record IsReady (r : Reader) : Type 0 where
   pub shapes :
       AreShapes r.variables.table.shapes r.variables.shapes.items r.variables.types.items
   pub few_blocks : r.points.blocks ≤ most_points
-  pub no_start : r.reached < 6 → length r.points.starts.items ≡ 0
+  pub no_start : r.reached < 7 → length r.points.starts.items ≡ 0
   pub starts : length r.points.starts.items ≤ r.points.blocks
   pub few_points : length r.points.statements.items ≤ most_points
   pub edges : r.points.edges ≡ edge_count (map statement_kept r.points.statements.items)

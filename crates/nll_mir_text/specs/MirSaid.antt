@@ -13,8 +13,8 @@ use Rattle.nll_types.specs.declared.parameter.Parameter.{Parameter}
 use Rattle.nll_type_grammar.specs.WrittenTypes.{Name, WrittenType, WrittenTypes}
 use Rattle.nll_statements.specs.Statements.{Statement, is_terminator, map_statement}
 use Rattle.nll_mir_grammar.specs.MirForms.{WrittenParameter, region_parameter, type_parameter}
-use Rattle.nll_mir_grammar.specs.MirForms.{Form, universal, outlives, further, struct_line}
-use Rattle.nll_mir_grammar.specs.MirForms.{variable, blocks, block, at_point, end}
+use Rattle.nll_mir_grammar.specs.MirForms.{Form, universal, outlives, further, assert_line}
+use Rattle.nll_mir_grammar.specs.MirForms.{struct_line, variable, blocks, block, at_point, end}
 use Rattle.nll_naming.specs.Naming.{Scope, meant, all_meant}
 
 -- ---- the parameters of a struct
@@ -52,6 +52,9 @@ pub record Said : Type 0 where
   pub universals : ℕ
   -- of each pair of regions the first is known to outlive the second; each pair once
   pub outlives : List (ℕ × ℕ)
+  -- of each pair of regions the first is to hold, at all points, what the second holds; each pair
+  -- once
+  pub asserts : List (ℕ × ℕ)
   -- the structs' names, for each whether each of its parameters is one of a region, and what each
   -- declares
   pub struct_names : List Name
@@ -74,6 +77,7 @@ nothing_said = record {
   names = codes "static" ∷ [];
   universals = 1;
   outlives = [];
+  asserts = [];
   struct_names = [];
   kinds = [];
   structs = [];
@@ -117,12 +121,13 @@ abbrev pub group : Form → ℕ
 group (universal a) = 1
 group (outlives a b) = 2
 group (further x) = 3
-group (struct_line n ps has_drop fields) = 4
-group (variable x t) = 5
-group (blocks n) = 6
-group (block n) = 7
-group (at_point i) = 7
-group end = 8
+group (assert_line a b) = 4
+group (struct_line n ps has_drop fields) = 5
+group (variable x t) = 6
+group (blocks n) = 7
+group (block n) = 8
+group (at_point i) = 8
+group end = 9
 
 -- What is said after a further line of the form.
 abbrev pub says : Said → Form → Said
@@ -133,23 +138,27 @@ says s (outlives a b) = record s {
   outlives = insert_all same_pair s.outlives ((number_of s.names a, number_of s.names b) ∷ []);
 }
 says s (further x) = record s { reached = 3; names = s.names ++ x ∷ [] }
-says s (struct_line n ps has_drop fields) = record s {
+says s (assert_line a b) = record s {
   reached = 4;
+  asserts = insert_all same_pair s.asserts ((number_of s.names a, number_of s.names b) ∷ []);
+}
+says s (struct_line n ps has_drop fields) = record s {
+  reached = 5;
   struct_names = s.struct_names ++ n ∷ [];
   kinds = s.kinds ++ map is_region ps ∷ [];
   structs = s.structs ++ declared s ps has_drop fields ∷ [];
 }
 says s (variable x t) =
-    record s { reached = 5; variables = s.variables ++ meant (body_scope s) t ∷ [] }
-says s (blocks n) = record s { reached = 6; blocks = n }
+    record s { reached = 6; variables = s.variables ++ meant (body_scope s) t ∷ [] }
+says s (blocks n) = record s { reached = 7; blocks = n }
 says s (block n) =
-    record s { reached = 7; starts = s.starts ++ length s.points ∷ []; owes = true }
+    record s { reached = 8; starts = s.starts ++ length s.points ∷ []; owes = true }
 says s (at_point i) = record s {
-  reached = 7;
+  reached = 8;
   points = s.points ++ statement_meant s i ∷ [];
   owes = not (is_terminator i);
 }
-says s end = record s { reached = 8 }
+says s end = record s { reached = 9 }
 
 -- what lines of these forms say, after others that say s
 abbrev pub said_after : Said → List Form → Said

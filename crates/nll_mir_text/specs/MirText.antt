@@ -31,6 +31,7 @@ body_said s = record {
   names = s.names;
   universals = s.universals;
   outlives = s.outlives;
+  asserts = s.asserts;
   structs = s.structs;
   variables = s.variables;
   starts = s.starts;

@@ -2,6 +2,7 @@
 
 ghost use Rattle.std.specs.Prelude.{◌≡◌, map, Some, None, true, false};
 ghost use Rattle.std.specs.Prelude.{IfOk, IfErr, OnOk, OnErr};
+ghost use Rattle.nll_naming.specs.Naming.{is_among};
 ghost use Rattle.nll_reading.specs.Names.{number_of};
 ghost use Rattle.nll_type_grammar.specs.TypeTexts.{written};
 ghost use Rattle.nll_mir_grammar.specs.MirForms as forms;
@@ -94,6 +95,35 @@ impl Reader {
         Ok(())
     }
 
+    // The number of a declared region.
+    fn region(&self, name: &[u8]) -> Result<u32, TextKind>
+        requires { IsReady self.now }
+        ensures ok { IfOk result (λ r. r ≡ number_of self.now.regions.names name.now) }
+        ensures declared { OnOk result (is_among self.now.regions.names name.now ≡ true) }
+        ensures other { OnErr result (is_among self.now.regions.names name.now ≡ false) }
+        ensures err { IfErr result (λ kind. kind ≡ TextKind.Unknown) }
+    {
+        match self.regions.names.number_of(name) {
+            Some(number) => Ok(number as u32),
+            None => Err(TextKind::Unknown),
+        }
+    }
+
+    /// Adds that one region is to hold, at all points, what another one holds.
+    pub(crate) fn add_assert(&mut self, longer: &[u8], shorter: &[u8]) -> Result<(), TextKind>
+        requires { IsDue self.old (forms.assert_line longer.now shorter.now) }
+        ensures taken { OnOk result
+            (IsTaken (said_by self.old) (forms.assert_line longer.now shorter.now) self.new) }
+        ensures refused { IfErr result
+            (IsRefused (said_by self.old) (forms.assert_line longer.now shorter.now)) }
+    {
+        let longer = self.region(longer)?;
+        let shorter = self.region(shorter)?;
+        self.regions.asserts.insert((longer, shorter))?;
+        self.reached = 4;
+        Ok(())
+    }
+
     /// Sets the number of blocks.
     pub(crate) fn set_blocks(&mut self, count: u32) -> Result<(), TextKind>
         requires { IsDue self.old (forms.blocks count) }
@@ -108,7 +138,7 @@ impl Reader {
             return Err(TextKind::Limit(Kind::Points));
         }
         self.points.blocks = count;
-        self.reached = 6;
+        self.reached = 7;
         Ok(())
     }
 
@@ -162,7 +192,7 @@ impl Reader {
         let ty = type_meant(self.alloc, &self.regions, &self.structs, text)?;
         self.variables.types.push(ty)?;
         self.variables.shapes.push(judged.shape)?;
-        self.reached = 5;
+        self.reached = 6;
         Ok(())
     }
 
@@ -245,7 +275,7 @@ impl Reader {
         self.variables.table.declare(self.alloc, declaration)?;
         let kinds = kinds(self.alloc, parameters)?;
         self.structs.add(self.alloc, text.name, kinds)?;
-        self.reached = 4;
+        self.reached = 5;
         Ok(())
     }
 }

@@ -11,7 +11,18 @@ use crate::reader::Reader;
 use crate::text::read_text;
 use nll_body::Body;
 use nll_reading::{TextError, TextKind};
+use nll_sets::Memory;
 use std::alloc::Global;
+
+// The pairs of regions that a reader's lines say: the known ones, and the asserted ones.
+fn pairs(alloc: Global, reader: &Reader) -> Result<(Vec<(u32, u32)>, Vec<(u32, u32)>), Memory>
+    ensures outlives { IfOk result (λ p. p.0.items ≡ (said_by reader.now).outlives) }
+    ensures asserts { IfOk result (λ p. p.1.items ≡ (said_by reader.now).asserts) }
+{
+    let outlives = reader.outlives(alloc)?;
+    let asserts = reader.asserts(alloc)?;
+    Ok((outlives, asserts))
+}
 
 // Makes the body that a reader's lines say.
 fn make_body(alloc: Global, reader: Reader) -> Result<Body, TextKind>
@@ -20,9 +31,9 @@ fn make_body(alloc: Global, reader: Reader) -> Result<Body, TextKind>
     ensures ok { IfOk result (λ body. body ≡ body_said (said_by reader)) }
     ensures err { IfErr result (λ kind. kind ≡ TextKind.Memory) }
 {
-    match reader.outlives(alloc) {
-        Ok(outlives) => {
-            let body = Body::new(alloc, reader.finish(outlives))?;
+    match pairs(alloc, &reader) {
+        Ok((outlives, asserts)) => {
+            let body = Body::new(alloc, reader.finish(outlives, asserts))?;
             Ok(body)
         }
         Err(memory) => {

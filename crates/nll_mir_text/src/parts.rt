@@ -145,7 +145,7 @@ fn read_parts(
     requires long { before + length (lines_in (option_map (λ v. v.items) first)) ≤ 2 ^ 32 }
     requires short { AreShort (lines_in (option_map (λ v. v.items) first)) }
     ensures ready { OnOk result (IsReady reader.new) }
-    ensures ended { OnOk result ((said_by reader.new).reached ≡ 8) }
+    ensures ended { OnOk result ((said_by reader.new).reached ≡ 9) }
     ensures read { OnOk result ((all : List (List ℕ))
         → IsAmid version all (lines_in (option_map (λ v. v.items) first))
         (said_by reader.old) before → HasRead version all reader.new) }

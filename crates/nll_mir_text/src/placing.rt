@@ -42,7 +42,7 @@ impl Reader {
         let start = self.points.statements.len() as u32;
         self.points.starts.push(start)?;
         self.points.owes = true;
-        self.reached = 7;
+        self.reached = 8;
         Ok(())
     }
 
@@ -56,7 +56,7 @@ impl Reader {
         if self.points.starts.len() < self.points.blocks as usize {
             return Err(TextKind::Range);
         }
-        self.reached = 8;
+        self.reached = 9;
         Ok(())
     }
 
@@ -135,7 +135,7 @@ impl Reader {
         let (regions, structs) = (&self.regions, &self.structs);
         let meant = statement_meant(self.alloc, regions, structs, statement, admitted.region)?;
         add_point(&mut self.points, meant, admitted.edges)?;
-        self.reached = 7;
+        self.reached = 8;
         Ok(())
     }
 

@@ -44,11 +44,12 @@ fn group(line: &Line<'_>) -> u8
         Line::Universal(_) => 1,
         Line::Outlives(_, _) => 2,
         Line::Region(_) => 3,
-        Line::Struct(_) => 4,
-        Line::Let(_, _) => 5,
-        Line::Blocks(_) => 6,
-        Line::Block(_) | Line::At(_) => 7,
-        Line::End => 8,
+        Line::Assert(_, _) => 4,
+        Line::Struct(_) => 5,
+        Line::Let(_, _) => 6,
+        Line::Blocks(_) => 7,
+        Line::Block(_) | Line::At(_) => 8,
+        Line::End => 9,
     }
 }
 
@@ -99,6 +100,7 @@ impl Reader {
                 names,
                 universals: 1,
                 outlives: IndexSet::new(alloc),
+                asserts: IndexSet::new(alloc),
             },
             structs: StructNames {
                 names: Names::empty(alloc),
@@ -119,11 +121,11 @@ impl Reader {
         ensures { result ≡ is_in_order (said_by self.now) (form_of line.now) }
     {
         match line {
-            Line::Blocks(_) => self.reached == 5,
+            Line::Blocks(_) => self.reached == 6,
             Line::Block(_) | Line::End => {
-                6 <= self.reached && self.reached <= 7 && !self.points.owes
+                7 <= self.reached && self.reached <= 8 && !self.points.owes
             }
-            Line::At(_) => self.reached == 7 && self.points.owes,
+            Line::At(_) => self.reached == 8 && self.points.owes,
             _ => self.reached <= group(line),
         }
     }
@@ -138,6 +140,7 @@ impl Reader {
             Line::Universal(name) => self.add_universal(name),
             Line::Outlives(longer, shorter) => self.add_outlives(longer, shorter),
             Line::Region(name) => self.add_region(name),
+            Line::Assert(longer, shorter) => self.add_assert(longer, shorter),
             Line::Struct(text) => {
                 let taken = self.add_struct(&*text);
                 drop(text);
@@ -229,9 +232,9 @@ impl Reader {
 
     /// Whether the last line that a text needs was read.
     pub fn has_ended(&self) -> bool
-        ensures { IsTrue result ↔ ((said_by self.now).reached ≡ 8) }
+        ensures { IsTrue result ↔ ((said_by self.now).reached ≡ 9) }
     {
-        self.reached == 8
+        self.reached == 9
     }
 
     /// The pairs of regions of which the first is known to outlive the second.
@@ -242,10 +245,20 @@ impl Reader {
         Ok(outlives)
     }
 
-    /// The parts of the body that the lines say, of which these are the pairs of regions.
-    pub fn finish(self, outlives: Vec<(u32, u32)>) -> BodyParts
+    /// The pairs of regions of which the first is to hold, at all points, what the second holds.
+    pub fn asserts(&self, alloc: Global) -> Result<Vec<(u32, u32)>, Memory>
+        ensures { IfOk result (λ v. v.items ≡ (said_by self.now).asserts) }
+    {
+        let asserts = Vec::from_slice(alloc, self.regions.asserts.as_slice())?;
+        Ok(asserts)
+    }
+
+    /// The parts of the body that the lines say, of which these are the pairs of regions: those
+    /// that are known, and those that are asserted.
+    pub fn finish(self, outlives: Vec<(u32, u32)>, asserts: Vec<(u32, u32)>) -> BodyParts
         requires ready { IsReady self }
         requires outlives { outlives.items ≡ (said_by self).outlives }
+        requires asserts { asserts.items ≡ (said_by self).asserts }
         ensures { body_of result ≡ body_said (said_by self) }
     {
         let Reader {
@@ -262,6 +275,7 @@ impl Reader {
             names: names_of(regions),
             universals,
             outlives,
+            asserts,
             structs,
             variables,
             starts: points.starts,

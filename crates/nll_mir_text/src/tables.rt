@@ -12,13 +12,14 @@ use nll_statements::Statement;
 use nll_types::{Ty, TypeTable};
 use std::alloc::Global;
 
-/// The regions: their names, `'static` first, how many of them are universal, and which of those
-/// are known to outlive which.
+/// The regions: their names, `'static` first, how many of them are universal, which of those are
+/// known to outlive which, and which regions are to hold, at all points, what others hold.
 #[derive(Drop)]
 pub struct Regions {
     pub names: Names,
     pub universals: usize,
     pub outlives: IndexSet<(u32, u32)>,
+    pub asserts: IndexSet<(u32, u32)>,
 }
 
 /// The structs' names, and for each struct, for each argument that it takes, whether it is a

@@ -42,7 +42,7 @@ fn read_lines(
     requires short { AreShort (lines_left body) }
     ensures read { OnOk result (HasRead version (lines_left body.entry) reader.new) }
     ensures ready { OnOk result (IsReady reader.new) }
-    ensures ended { OnOk result ((said_by reader.new).reached ≡ 8) }
+    ensures ended { OnOk result ((said_by reader.new).reached ≡ 9) }
     ensures fault { IfErr result (RefusesBody version (lines_left body.entry)) }
 {
     let mut tokens = Vec::new(alloc);

@@ -8,7 +8,7 @@ use Rattle.std.proofs.lemmas.List.Elements.{Contains-append_left}
 use Rattle.std.proofs.lemmas.List.Sums.{get_or-le-sum_by}
 use Rattle.nll_problem.specs.Problem.{Problem, IsSound as IsSoundProblem}
 use Rattle.nll_problem.specs.Solution.{Least}
-use Rattle.nll_problem.proofs.WalkLemmas.{reaches_weaker}
+use Rattle.nll_problem.proofs.AskLemmas.{asked_weaker}
 use Rattle.nll_cut.specs.Partition.{Cut, owner_of}
 use Rattle.nll_mail.specs.declared.growth.Growth.{Growth}
 use Rattle.nll_owner.specs.Logs.{IsWellFormed, part, IsTold, list_of, IsWellSupported, IsSaturated, IsCutOf, log_of, AreSound, AreSettled}
@@ -58,7 +58,7 @@ module _ (q : Problem) (c : Cut) (i : ℕ) (s : Seat) (sound : IsSoundSeat q c i
       here : IsSaturated s.owner.problem s.owner.cut s.owner.me (list_of c i s.owner.log (received_from s.owner))
       here = record {
         base = λ r e own b. subst (λ xs. IsTold xs r e) (seat_list r) (done.base r e own b);
-        each = λ k there own e h. subst (λ xs. IsTold xs k.sup e) (seat_list k.sup) (done.each k there own e (reaches_weaker s.owner.problem.graph _ k.at _ (λ f t. subst (λ xs. IsTold xs k.sub f) (sym (seat_list k.sub)) t) e h));
+        each = λ k there own e h. subst (λ xs. IsTold xs k.sup e) (seat_list k.sup) (done.each k there own e (asked_weaker s.owner.problem.graph _ k.at _ (λ f t. subst (λ xs. IsTold xs k.sub f) (sym (seat_list k.sub)) t) e h));
       }
 
   seat_part : (j : ℕ) → part_for s.owner j ≡ part q c j s.owner.log
@@ -159,7 +159,7 @@ module _ (q : Problem) (c : Cut) (w : State) (sound : IsSoundState q c w) where
           let f = seat_saturated q c i s.0 (sound.seats i s.0 s.1) ((sound.seats i s.0 s.1).done (resting i s.0 s.1).0) in
           record {
             base = λ r e own b. subst (λ xs. IsTold xs r e) (sym (list_at i s.0 s.1 r)) (f.base r e own b);
-            each = λ k there own e h. subst (λ xs. IsTold xs k.sup e) (sym (list_at i s.0 s.1 k.sup)) (f.each k there own e (reaches_weaker q.graph _ k.at _ (λ x t. subst (λ xs. IsTold xs k.sub x) (list_at i s.0 s.1 k.sub) t) e h));
+            each = λ k there own e h. subst (λ xs. IsTold xs k.sup e) (sym (list_at i s.0 s.1 k.sup)) (f.each k there own e (asked_weaker q.graph _ k.at _ (λ x t. subst (λ xs. IsTold xs k.sub x) (list_at i s.0 s.1 k.sub) t) e h));
           };
       told = λ i j li lj differ.
           let s = seat_at i li in

@@ -1,6 +1,6 @@
 //! Schedules come to answers, balances and values that were found by hand.
 use super::failure::Failure;
-use super::problems::{BY_TURNS, REACHED, Written};
+use super::problems::{BY_TURNS, EVERYWHERE, REACHED, Written};
 use super::telling::{compare, replayed};
 use nll_event::Event::{self, Clear, Leave, Load, Owe, Push, Take};
 use std::alloc::Global;
@@ -49,6 +49,37 @@ const ROWS: &[Row] = &[
         1,
         &[Load(0), Owe(0), Leave(0), Clear(0), Leave(0), Load(0)],
         "done|done|not now|done|quiet|not now|balance 0|0: 0 1 2 3|1: 1 2|2: 1 2|",
+    ),
+    (
+        EVERYWHERE,
+        1,
+        &[Load(0), Owe(0), Clear(0), Leave(0)],
+        "done|done|done|quiet|balance 0|0: 0 1 2 3 4 5|1: 0 1 3 4|2: 0 1 3 4|",
+    ),
+    // Of what an owner holds at all points another one gets what it is told, one after another.
+    (
+        EVERYWHERE,
+        2,
+        &[
+            Load(0),
+            Owe(0),
+            Clear(0),
+            Load(1),
+            Owe(1),
+            Push(1, 0),
+            Push(1, 0),
+            Push(1, 0),
+            Clear(1),
+            Take(0, 1),
+            Owe(0),
+            Clear(0),
+            Take(0, 1),
+            Owe(0),
+            Clear(0),
+            Take(0, 1),
+        ],
+        "done|done|done|done|done|done|done|done|done|done|done|done|done|done|done|done|\
+            balance 2|0: 0 1 2 3 4 5|1: 0 1 3 4|2: 0 1 3|",
     ),
     // Nothing has happened.
     (BY_TURNS, 2, &[], "balance 2|0:|1:|2:|"),

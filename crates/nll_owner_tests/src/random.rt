@@ -4,7 +4,7 @@ ghost use Rattle.std.specs.Prelude.{◌≡◌, ◌<◌, ◌≤◌, length};
 
 use super::driving::driven_over;
 use super::failure::Failure;
-use nll_core::{BuildError, Constraint, Problem, ProblemBuilder, RegionId, Values, solve};
+use nll_core::{At, BuildError, Constraint, Problem, ProblemBuilder, RegionId, Values, solve};
 use nll_cut::Cut;
 use nll_driver::Turn::{self, Load, Post, Take};
 use nll_mail::{Mail, QueueMail};
@@ -25,10 +25,15 @@ fn enter_one(builder: &mut ProblemBuilder, number: u32) -> Result<(), BuildError
         1 | 2 => builder.next(first, (first + 1) % 9),
         3 | 4 => builder.base(RegionId(first), second),
         5 if third < 3 => builder.ret(first),
+        7 if third < 3 => builder.constraint(Constraint {
+            sup: RegionId(first),
+            sub: RegionId(second),
+            at: At::All,
+        }),
         _ => builder.constraint(Constraint {
             sup: RegionId(first),
             sub: RegionId(second),
-            at: third,
+            at: At::Point(third),
         }),
     }
 }

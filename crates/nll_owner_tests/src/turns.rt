@@ -1,7 +1,7 @@
 //! Owners that are driven by all orders of turns that are named here come to the same values.
 use super::driving::{answers_of, driven, logs_of};
 use super::failure::Failure;
-use super::problems::{BY_TURNS, FILLED_HOLE, REACHED, TWO_SOURCES, Written};
+use super::problems::{BY_TURNS, EVERYWHERE, FILLED_HOLE, REACHED, TWO_SOURCES, Written};
 use nll_driver::Stop;
 use nll_driver::Turn::{self, Load, Post, Take};
 use nll_mail::QueueMail;
@@ -99,6 +99,24 @@ pub const ROWS: &[Row] = &[
         REACHED,
         3,
         "0: 0 1 2 3|1: 1 2|2: 1 2|4 0 0|2 2 0|2 0 2|",
+        &[THREE, THREE_BACK, NONE],
+    ),
+    (
+        EVERYWHERE,
+        1,
+        "0: 0 1 2 3 4 5|1: 0 1 3 4|2: 0 1 3 4|14 0 0|",
+        &[&[Load(0)]],
+    ),
+    (
+        EVERYWHERE,
+        2,
+        "0: 0 1 2 3 4 5|1: 0 1 3 4|2: 0 1 3 4|10 0 4|4 4 0|",
+        &[TWO, TWO_LATE, TWO_FAST, NONE],
+    ),
+    (
+        EVERYWHERE,
+        3,
+        "0: 0 1 2 3 4 5|1: 0 1 3 4|2: 0 1 3 4|6 0 0|4 4 0|4 0 4|",
         &[THREE, THREE_BACK, NONE],
     ),
     (

@@ -7,8 +7,11 @@ use Rattle.std.proofs.lemmas.List.Elements.{Contains-push, Contains-push_cases, 
 use Rattle.std.proofs.lemmas.Map.Views.{Contains-from_any, list_any-from_Contains}
 use Rattle.std.proofs.lemmas.Bool.{eqb-true, eq-eqb, false≢true, cases_Bool, false_from_ne_true}
 use Rattle.std.proofs.lemmas.List.Quantifiers.{all_pairs_push}
+use Rattle.nll_problem.specs.At.{same_at}
 use Rattle.nll_problem.specs.Building.{AddsFact, same_pair, same_constraint}
 use Rattle.nll_problem.specs.Problem.{IsOnce}
+use Rattle.nll_problem.specs.declared.at.At.{At}
+use Rattle.nll_problem.specs.declared.at.At.TheVariants.{All, Point}
 use Rattle.nll_problem.specs.declared.constraint.Constraint.{Constraint}
 
 -- both tests passed
@@ -90,18 +93,29 @@ pair_is x y h =
 pub pair_same : (x : ℕ × ℕ) → same_pair x x ≡ true
 pair_same x = rw (eq-eqb x.0 x.0 refl, eq-eqb x.1 x.1 refl) refl
 
+-- equal tests of where constraints hold
+pub at_is : (a b : At) → same_at a b ≡ true → a ≡ b
+at_is All All h = refl
+at_is All (Point q) h = absurd (false≢true h)
+at_is (Point p) All h = absurd (false≢true h)
+at_is (Point p) (Point q) h = ap Point (eqb-true p q h)
+
+pub at_same : (a : At) → same_at a a ≡ true
+at_same All = refl
+at_same (Point p) = eq-eqb p p refl
+
 -- equal tests of constraints
 pub constraint_is : (c d : Constraint) → same_constraint c d ≡ true → c ≡ d
 constraint_is c d h =
     let first = and_true (nat_eq c.sub d.sub) _ h in
-    let others = and_true (nat_eq c.sup d.sup) (nat_eq c.at d.at) first.1 in
-    made_same c.sub d.sub c.sup d.sup c.at d.at (eqb-true _ _ first.0) (eqb-true _ _ others.0) (eqb-true _ _ others.1)
+    let others = and_true (nat_eq c.sup d.sup) (same_at c.at d.at) first.1 in
+    made_same c.sub d.sub c.sup d.sup c.at d.at (eqb-true _ _ first.0) (eqb-true _ _ others.0) (at_is _ _ others.1)
   where
-    made_same : (a b e f p q : ℕ) → a ≡ b → e ≡ f → p ≡ q → ◌≡◌ {A = Constraint} (record { sub = a; sup = e; at = p }) (record { sub = b; sup = f; at = q })
+    made_same : (a b e f : ℕ) (p q : At) → a ≡ b → e ≡ f → p ≡ q → ◌≡◌ {A = Constraint} (record { sub = a; sup = e; at = p }) (record { sub = b; sup = f; at = q })
     made_same a b e f p q h i j = cc
 
 pub constraint_same : (c : Constraint) → same_constraint c c ≡ true
-constraint_same c = rw (eq-eqb c.sub c.sub refl, eq-eqb c.sup c.sup refl, eq-eqb c.at c.at refl) refl
+constraint_same c = rw (eq-eqb c.sub c.sub refl, eq-eqb c.sup c.sup refl, at_same c.at) refl
 
 -- what a search finds among pairs, constraints and numbers
 pub pair_found : (ks : List (ℕ × ℕ)) (a b : ℕ) → (list_any (same_pair (a, b)) ks ≡ true) ↔ Contains ks (a, b)

@@ -1,6 +1,6 @@
 -- Lists by a key of their elements: the part that has one key. Constraints by the region that they read: their order, and the part of one region.
-use Rattle.std.proofs.Common.{◌≡◌, ◌↔◌, ℕ, ◌+◌, ◌-◌, ◌<◌, ◌≤◌, true, false, ltb, leb, List, AllPairs, Contains, length, get_or, take, drop, slice_range, inl, inr, ⊎_elim, Ordering, Less, Equal, Greater, nat_cmp, sym, ap, subst, ◌∙◌, IsSorted, length-take, length-drop, get_or-take, get_or-drop, ltb-true, ltb-false, leb-true, leb-false, arith}
-use Rattle.std.specs.Ordering.{MatchOrdering, ordering_then}
+use Rattle.std.proofs.Common.{◌≡◌, ◌↔◌, refl, ℕ, ◌+◌, ◌-◌, ◌<◌, ◌≤◌, true, false, ltb, leb, List, AllPairs, Contains, length, get_or, take, drop, slice_range, inl, inr, ⊎_elim, Ordering, Less, Equal, Greater, nat_cmp, sym, ap, subst, ◌∙◌, IsSorted, length-take, length-drop, get_or-take, get_or-drop, ltb-true, ltb-false, leb-true, leb-false, arith}
+use Rattle.std.specs.Ordering.{MatchOrdering, ordering_reverse, ordering_then}
 use Rattle.std.specs.List.Sorted.{IsNonDecreasingBy, IsPartitionPoint, IsPermutation}
 use Rattle.std.specs.Cmp.{IsTotalOrder, then_total, on_total, nat_cmp_total, ranks}
 use Rattle.std.proofs.lemmas.Bool.{cases_lt}
@@ -8,28 +8,70 @@ use Rattle.std.proofs.lemmas.List.Sorted.{Contains-permutation, IsPermutation-sy
 use Rattle.std.specs.Bool.{Decides}
 use Rattle.std.proofs.lemmas.Map.Keys.{IsDistinct-IsPermutation}
 use Rattle.std.proofs.lemmas.Map.Made.{AllPairs-from_IsDistinct, IsDistinct-from_AllPairs}
+use Rattle.nll_problem.specs.At.{at_cmp, at_rank}
 use Rattle.nll_problem.specs.Building.{same_constraint}
 use Rattle.nll_problem.proofs.FactLemmas.{constraint_is, constraint_same, exact_equivalence}
 use Rattle.nll_problem.specs.Problem.{IsOnce, SameSet}
 use Rattle.nll_problem.specs.ConstraintIndex.{AreStarts, IsLower, IsReadEarlier, IsStart, constraint_cmp}
+use Rattle.nll_problem.specs.declared.at.At.{At}
+use Rattle.nll_problem.specs.declared.at.At.TheVariants.{All, Point}
 use Rattle.nll_problem.specs.declared.constraint.Constraint.{Constraint}
-use Rattle.nll_problem.proofs.OrderLemmas.{pair_ranks, sorted_once_ascends}
+use Rattle.nll_problem.proofs.OrderLemmas.{sorted_once_ascends}
+
+-- where constraints hold compares by its rank
+at_ranks : (a b : At) → MatchOrdering (at_cmp a b) (at_rank a < at_rank b) (a ≡ b) (at_rank b < at_rank a)
+at_ranks All All = refl
+at_ranks All (Point q) = omega arith
+at_ranks (Point p) All = omega arith
+at_ranks (Point p) (Point q) = by (nat_cmp p q) (ranks p q)
+  where
+    by : (o : Ordering) → MatchOrdering o (p < q) (p ≡ q) (q < p) → MatchOrdering o (p + 1 < q + 1) (◌≡◌ {A = At} (Point p) (Point q)) (q + 1 < p + 1)
+    by Less h = omega (arith, h)
+    by Equal h = ap Point h
+    by Greater h = omega (arith, h)
+
+at_reversed : (a b : At) → at_cmp a b ≡ ordering_reverse (at_cmp b a)
+at_reversed All All = refl
+at_reversed All (Point q) = refl
+at_reversed (Point p) All = refl
+at_reversed (Point p) (Point q) = nat_cmp_total.antisymm p q
+
+at_chain : (a b c : At) → at_cmp a b ≡ Less → at_cmp b c ≡ Less → at_cmp a c ≡ Less
+at_chain All All c h k = absurd cc
+at_chain All (Point q) All h k = absurd cc
+at_chain All (Point q) (Point r) h k = refl
+at_chain (Point p) All c h k = absurd cc
+at_chain (Point p) (Point q) All h k = absurd cc
+at_chain (Point p) (Point q) (Point r) h k = nat_cmp_total.trans p q r h k
+
+at_tied : (a b c : At) → at_cmp a b ≡ Equal → at_cmp a c ≡ at_cmp b c
+at_tied All All c h = refl
+at_tied All (Point q) c h = absurd cc
+at_tied (Point p) All c h = absurd cc
+at_tied (Point p) (Point q) All h = refl
+at_tied (Point p) (Point q) (Point r) h = nat_cmp_total.congr p q r h
+
+at_total : IsTotalOrder at_cmp
+at_total = record { antisymm = at_reversed; trans = at_chain; congr = at_tied }
 
 constraint_ranks : (c d : Constraint) → MatchOrdering (constraint_cmp c d) (IsReadEarlier c d) (c ≡ d) (IsReadEarlier d c)
-constraint_ranks c d = by (nat_cmp c.sub d.sub) (ordering_then (nat_cmp c.sup d.sup) (nat_cmp c.at d.at)) (ranks c.sub d.sub) (pair_ranks (c.sup, c.at) (d.sup, d.at))
+constraint_ranks c d = by (nat_cmp c.sub d.sub) (nat_cmp c.sup d.sup) (at_cmp c.at d.at) (ranks c.sub d.sub) (ranks c.sup d.sup) (at_ranks c.at d.at)
   where
-    same : (a b : ℕ) (x y : ℕ × ℕ) → a ≡ b → x ≡ y → ◌≡◌ {A = Constraint} (record { sub = a; sup = x.0; at = x.1 }) (record { sub = b; sup = y.0; at = y.1 })
-    same a b x y p q = cc
+    same : (a b e f : ℕ) (p q : At) → a ≡ b → e ≡ f → p ≡ q → ◌≡◌ {A = Constraint} (record { sub = a; sup = e; at = p }) (record { sub = b; sup = f; at = q })
+    same a b e f p q h i j = cc
 
-    by : (a b : Ordering) → MatchOrdering a (c.sub < d.sub) (c.sub ≡ d.sub) (d.sub < c.sub) → MatchOrdering b (IsLower c d) (◌≡◌ {A = ℕ × ℕ} (c.sup, c.at) (d.sup, d.at)) (IsLower d c) → MatchOrdering (ordering_then a b) (IsReadEarlier c d) (c ≡ d) (IsReadEarlier d c)
-    by Less b h k = inl h
-    by Equal Less h k = inr (h, k)
-    by Equal Equal h k = same c.sub d.sub (c.sup, c.at) (d.sup, d.at) h k
-    by Equal Greater h k = inr (sym h, k)
-    by Greater b h k = inl h
+    by : (o r s : Ordering) → MatchOrdering o (c.sub < d.sub) (c.sub ≡ d.sub) (d.sub < c.sub) → MatchOrdering r (c.sup < d.sup) (c.sup ≡ d.sup) (d.sup < c.sup) → MatchOrdering s (at_rank c.at < at_rank d.at) (c.at ≡ d.at) (at_rank d.at < at_rank c.at)
+        → MatchOrdering (ordering_then o (ordering_then r s)) (IsReadEarlier c d) (c ≡ d) (IsReadEarlier d c)
+    by Less r s h i j = inl h
+    by Equal Less s h i j = inr (h, inl i)
+    by Equal Equal Less h i j = inr (h, inr (i, j))
+    by Equal Equal Equal h i j = same c.sub d.sub c.sup d.sup c.at d.at h i j
+    by Equal Equal Greater h i j = inr (sym h, inr (sym i, j))
+    by Equal Greater s h i j = inr (sym h, inl i)
+    by Greater r s h i j = inl h
 
 constraint_total : IsTotalOrder constraint_cmp
-constraint_total = then_total (on_total (λ (c : Constraint). c.sub) nat_cmp_total) (then_total (on_total (λ (c : Constraint). c.sup) nat_cmp_total) (on_total (λ (c : Constraint). c.at) nat_cmp_total))
+constraint_total = then_total (on_total (λ (c : Constraint). c.sub) nat_cmp_total) (then_total (on_total (λ (c : Constraint). c.sup) nat_cmp_total) (on_total (λ (c : Constraint). c.at) at_total))
 
 same_Decides : (c d : Constraint) → Decides (same_constraint c d) (c ≡ d)
 same_Decides c d = (constraint_is c d, λ is. subst (λ x. same_constraint c x ≡ true) is (constraint_same c))
@@ -133,7 +175,7 @@ module _ (xs : List Constraint) (starts : List ℕ) (are : AreStarts xs starts) 
   -- a region's constraints start where those of the regions before it end, or later
   pub starts_rise : get_or starts sub 0 ≤ get_or starts (sub + 1) 0
   starts_rise = ⊎_elim
-      (λ turned. let none : Constraint = record { sub = 0; sup = 0; at = 0 } in absurd (omega (arith, first.bound, turned, first.below (get_or starts (sub + 1) 0) none turned, end.others (get_or starts (sub + 1) 0) none (omega arith) (omega (arith, turned, first.bound)))))
+      (λ turned. let none : Constraint = record { sub = 0; sup = 0; at = All } in absurd (omega (arith, first.bound, turned, first.below (get_or starts (sub + 1) 0) none turned, end.others (get_or starts (sub + 1) 0) none (omega arith) (omega (arith, turned, first.bound)))))
       (λ rise. rise)
       (cases_lt (get_or starts (sub + 1) 0) (get_or starts sub 0))
 

@@ -1,4 +1,5 @@
 pub mod FactLemmas
+pub mod EqualLemmas
 pub mod SameLemmas
 pub mod BaseLemmas
 pub mod RowLemmas
@@ -8,6 +9,7 @@ pub mod SearchLemmas
 pub mod TurningLemmas
 pub mod ProblemLemmas
 pub mod WalkLemmas
+pub mod AskLemmas
 pub mod OrderLemmas
 pub mod IndexLemmas
 pub mod BaseRunLemmas

@@ -1,6 +1,7 @@
 -- A problem stays sound as facts are added.
-use Rattle.std.proofs.Common.{◌≡◌, ℕ, ◌+◌, ◌<◌, ◌≤◌, List, [], ◌⊎◌, AllPairs, Contains, length, refl, subst, ⊎_elim, arith}
+use Rattle.std.proofs.Common.{◌≡◌, ℕ, ◌+◌, ◌<◌, ◌≤◌, List, [], ◌⊎◌, AllPairs, Contains, length, refl, sym, subst, ⊎_elim, arith}
 use Rattle.nll_problem.specs.Graph.{Graph, IsSound as IsSoundGraph}
+use Rattle.nll_problem.specs.At.{IsAmong}
 use Rattle.nll_problem.specs.Limits.{most_regions, most_constraints}
 use Rattle.nll_problem.specs.BaseRuns.{IsInBaseRun}
 use Rattle.nll_problem.specs.Building.{bare_problem}
@@ -99,7 +100,7 @@ module _ (q : Problem) (s : IsSound q) where
       (λ own. (omega (arith, own.0, region), omega (arith, own.2, points)))
       (only r p h)) once
 
-  pub sound_constraints : (new : List Constraint) (c : Constraint) → ((d : Constraint) → Contains new d → Contains q.constraints d ⊎ (c ≡ d)) → IsOnce new → c.sup < q.regions → c.sub < q.regions → c.at < q.graph.points → length new ≤ most_constraints → IsSound (record q { constraints = new })
+  pub sound_constraints : (new : List Constraint) (c : Constraint) → ((d : Constraint) → Contains new d → Contains q.constraints d ⊎ (c ≡ d)) → IsOnce new → c.sup < q.regions → c.sub < q.regions → IsAmong q.graph.points c.at → length new ≤ most_constraints → IsSound (record q { constraints = new })
   sound_constraints new c only once sup sub at room = record {
     graph = s.graph;
     universals_are_regions = s.universals_are_regions;
@@ -112,7 +113,7 @@ module _ (q : Problem) (s : IsSound q) where
         (only d h);
     constraint_points = λ d h. ⊎_elim
         (s.constraint_points d)
-        (λ is. subst (λ (x : Constraint). x.at < q.graph.points) is at)
+        (λ is. subst (λ (x : Constraint). IsAmong q.graph.points x.at) is at)
         (only d h);
     outlives_in_range = s.outlives_in_range;
     bases_once = s.bases_once;
@@ -129,7 +130,7 @@ module _ (q : Problem) (s : IsSound q) where
     constraint_limit = s.constraint_limit;
     bases_in_range = λ r e h. let w = s.bases_in_range r e h in (w.0, omega (arith, w.1));
     constraint_regions = s.constraint_regions;
-    constraint_points = λ c h. omega (arith, s.constraint_points c h);
+    constraint_points = λ c h. subst (λ n. IsAmong n c.at) (sym points) (s.constraint_points c h);
     outlives_in_range = λ a b h. let w = s.outlives_in_range a b h in (omega (arith, w.0), omega (arith, w.1));
     bases_once = s.bases_once;
     constraints_once = s.constraints_once;

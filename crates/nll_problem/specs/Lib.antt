@@ -1,5 +1,6 @@
 pub mod Limits
 pub mod Graph
+pub mod At
 pub mod Walks
 pub mod Problem
 pub mod Solution

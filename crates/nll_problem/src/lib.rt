@@ -1,10 +1,11 @@
 //! Problems of location-aware regions over a control-flow graph: what they are, and what they mean.
 //! It knows no text and no names.
 //!
-//! Reading order: `region`, `constraint`, `base_run`, `graph`, `graph_builder`, `predecessors`,
-//! `problem`, `builder`, `constraint_index`. The definitions are in specs/.
+//! Reading order: `region`, `at`, `constraint`, `base_run`, `graph`, `graph_builder`,
+//! `predecessors`, `problem`, `builder`, `constraint_index`. The definitions are in specs/.
 #![tactic(auto)]
 
+mod at;
 mod base_run;
 mod bases;
 mod builder;
@@ -26,6 +27,7 @@ mod rows_builder;
 mod searchable_rows;
 mod turning;
 
+pub use at::At;
 pub use base_run::BaseRun;
 pub use builder::ProblemBuilder;
 pub use constraint::Constraint;

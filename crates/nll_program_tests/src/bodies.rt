@@ -5,7 +5,7 @@ use super::program::run_on;
 use super::rows::{ALONE, Asked, compare_row, compare_rows};
 use super::saying::say;
 use nll_worked_texts::{
-    CALLED, DROPPED, FUNCTIONS, MOVED, REBORROW, RETURNED, TAKERS, TWO_BORROWS,
+    ASSERTED, CALLED, DROPPED, FUNCTIONS, MOVED, REBORROW, RETURNED, TAKERS, TWO_BORROWS,
 };
 use std::process::Abort;
 use std::sync::Wait;
@@ -131,6 +131,29 @@ fn answers_mir_texts_of_version_2(rt: HostRuntime) {
             'p: bb0/2 bb1/0 end('static)|'arg: bb1/0 end('static)|>",
         OK,
     );
+    // A region holds, at all points, what another one holds.
+    compare_body(
+        &rt,
+        ASSERTED,
+        "0>'static: bb0/0 bb0/1 bb0/2 end('static)|'1: bb0/0 bb0/1|'2: bb0/0 bb0/1|\
+            '3: bb0/0 bb0/1|'4: bb0/1|>",
+        OK,
+    );
+    // A universal one holds the end of another: no path to a return point is needed.
+    compare_body(
+        &rt,
+        "nll-mir 2|universal 'a|universal 'b|assert 'a : 'b|let _0: int|blocks 1|block bb0|\
+            goto bb0|end|",
+        "0>'static: bb0/0 end('static)|'a: bb0/0 end('a) end('b)|'b: bb0/0 end('b)|>",
+        "1>fault 'a must outlive 'b|>",
+    );
+    compare_body(
+        &rt,
+        "nll-mir 2|universal 'a|universal 'b|outlives 'a 'b|assert 'a : 'b|let _0: int|blocks 1|\
+            block bb0|goto bb0|end|",
+        "0>'static: bb0/0 end('static)|'a: bb0/0 end('a) end('b)|'b: bb0/0 end('b)|>",
+        OK,
+    );
 }
 
 // The same of texts in which something is moved, called, dropped or returned.
@@ -173,6 +196,8 @@ fn answers_further_mir_texts(rt: HostRuntime) {
 // MIR texts with a fault, with the line that tells it.
 const REFUSED: &str = "
 nll-mir 3| ~ 2>>nllc: line 1: header|
+nll-mir 1|assert 'static : 'static| ~ 2>>nllc: line 2: syntax|
+nll-mir 2|assert 'static : 'a| ~ 2>>nllc: line 2: unknown|
 nll-mir 1|points 1|end| ~ 2>>nllc: line 2: syntax|
 nll-facts 1|let _0: int| ~ 2>>nllc: line 2: syntax|
 nll-mir 1|region 'w|struct W<'x +> drop (&'x int)|let _0: int|let _1: W<'w>|blocks 2|block bb0|\

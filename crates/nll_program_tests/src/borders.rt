@@ -134,6 +134,23 @@ const LONG: &[(&[Piece], &[Piece])] = &[
         ],
         &[("2>>nllc: line 1048580: limit constraints|", 0, 1)],
     ),
+    // A constraint at all points is one more, and repeated it is none.
+    (
+        &[
+            ("nll-facts 2|points 1048576|region '1|", 0, 1),
+            ("constraint '1 '1 #|", 0, 1_048_576),
+            ("constraint '1 '1 all|end|", 0, 1),
+        ],
+        &[("2>>nllc: line 1048580: limit constraints|", 0, 1)],
+    ),
+    (
+        &[
+            ("nll-facts 2|points 1048576|region '1|constraint '1 '1 all|", 0, 1),
+            ("constraint '1 '1 #|", 0, 1_048_575),
+            ("constraint '1 '1 all|constraint '1 '1 5|end|", 0, 1),
+        ],
+        OK,
+    ),
     (
         &[
             ("nll-mir 1|let _0: int|blocks 1|block bb0|", 0, 1),

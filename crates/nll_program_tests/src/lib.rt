@@ -23,6 +23,8 @@ mod borders;
 #[cfg(test)]
 mod comparing;
 #[cfg(test)]
+mod everywhere;
+#[cfg(test)]
 mod fakes;
 #[cfg(test)]
 mod faults;

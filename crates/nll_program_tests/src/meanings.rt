@@ -49,10 +49,30 @@ nll-facts 1|points 12|region 'x|next 11 10|return 11|base 'x 11|constraint 'x 'x
     points 12|universal 'static|region 'x|next 11 10|return 11|base 'x 11|constraint 'x 'x 11|
 ";
 
+// The same of version 2: what version 1 has, and constraints at all points.
+const MEANT_BY_SECOND: &str = "
+nll-facts 2|points 1|end| ~ points 1|universal 'static|
+nll-facts 2|points 2|region 'x|next 0 1|return 1|base 'x 1|constraint 'x 'x 0|end| ~ \
+    points 2|universal 'static|region 'x|next 0 1|return 1|base 'x 1|constraint 'x 'x 0|
+nll-facts 2|points 1|region 'x|constraint 'x 'x all|end| ~ \
+    points 1|universal 'static|region 'x|constraint 'x 'x all|
+\tnll-facts\t2\r|points 1|region 'x|constraint'x'x\tall \r|end| ~ \
+    points 1|universal 'static|region 'x|constraint 'x 'x all|
+// All points are none of the points, and said twice they are said once.
+nll-facts 2|points 2|region 'x|constraint 'x 'x 1|constraint 'x 'x all|constraint 'x 'x 0|\
+    constraint 'x 'x all|end| ~ \
+    points 2|universal 'static|region 'x|constraint 'x 'x 1|constraint 'x 'x all|\
+    constraint 'x 'x 0|
+// A region may have this name.
+nll-facts 2|points 1|region 'all|constraint 'all 'all all|constraint 'all 'all 0|end| ~ \
+    points 1|universal 'static|region 'all|constraint 'all 'all all|constraint 'all 'all 0|
+";
+
 // A text that fits says this, and nothing else.
 #[test]
 fn reads_texts(rt: HostRuntime) {
     compare_rows(&rt, Asked::Said, MEANT);
+    compare_rows(&rt, Asked::Said, MEANT_BY_SECOND);
 }
 
 // Facts texts name points by their numbers.

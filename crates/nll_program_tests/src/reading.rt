@@ -1,6 +1,6 @@
 //! What a facts text says, and what is wrong with one, as text.
 use super::saying::{count, say, show};
-use nll_core::{Constraint, Element, Graph, Problem, RegionId};
+use nll_core::{At, Constraint, Element, Graph, Problem, RegionId};
 use nll_facts::{Facts, read_facts};
 use nll_reading::{Labels, TextError};
 use nll_report::{Command, answer_of};
@@ -80,7 +80,10 @@ fn write_constraints(out: &mut String, constraints: &[Constraint], labels: &Labe
         say(out, "constraint");
         say_name(out, name_of(labels, constraint.sup));
         say_name(out, name_of(labels, constraint.sub));
-        end_line(out, constraint.at);
+        match constraint.at {
+            At::All => say(out, " all\n"),
+            At::Point(point) => end_line(out, point),
+        }
     }
 }
 

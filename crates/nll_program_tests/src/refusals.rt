@@ -13,7 +13,7 @@ points 1|end| ~ line 1: Header
 # facts|nll-facts 1|points 1|end| ~ line 1: Header
 nll-facts|points 1|end| ~ line 1: Header
 nll-facts1|points 1|end| ~ line 1: Header
-nll-facts 2|points 1|end| ~ line 1: Header
+nll-facts 3|points 1|end| ~ line 1: Header
 nll-facts 1 1|points 1|end| ~ line 1: Header
 nll-facts 1 # one|points 1|end| ~ line 1: Header
 nll-mir 1|points 1|end| ~ line 1: Header
@@ -22,7 +22,7 @@ NLL-FACTS 1|points 1|end| ~ line 1: Header
 nll-facts 1 ^|points 1|end| ~ line 1: NotUtf8
 nll-facts `|points 1|end| ~ line 1: NotUtf8
 // A fault of the first line comes before all others.
-nll-facts 2|^| ~ line 1: Header
+nll-facts 3|^| ~ line 1: Header
 nll-facts 1 ~ line 1: End
 nll-facts 1| ~ line 1: End
 nll-facts 1|| ~ line 2: End
@@ -41,6 +41,24 @@ nll-facts 1|points 0|first|^| ~ line 2: Range
 nll-facts 1|# ^|points 0| ~ line 2: NotUtf8
 // A faulty line comes before an end that is lacking.
 nll-facts 1|points 1|return 1| ~ line 3: Range
+// All points, in version 1 and in version 2.
+nll-facts 1|points 1|region 'x|constraint 'x 'x all|end| ~ line 4: Syntax
+nll-facts 1|points 1|constraint 'x 'x all|end| ~ line 3: Syntax
+nll-facts 2|points 1|region 'x|constraint 'x 'x all| ~ line 4: End
+nll-facts 2|points 1|region 'x|constraint 'x 'x all|region 'y| ~ line 5: Syntax
+nll-facts 2|points 1|region 'x|constraint 'x 'y all| ~ line 4: Unknown
+nll-facts 2|points 1|region 'x|constraint 'x 'y 1| ~ line 4: Unknown
+nll-facts 2|points 1|region 'x|constraint 'x 'x 1| ~ line 4: Range
+nll-facts 2|points 1|region 'x|constraint 'x 'x all 0| ~ line 4: Syntax
+nll-facts 2|points 1|region 'x|constraint 'x 'x all all| ~ line 4: Syntax
+nll-facts 2|points 1|region 'x|constraint 'x 'x 'all| ~ line 4: Syntax
+nll-facts 2|points 1|region 'x|constraint 'x 'x All| ~ line 4: Syntax
+nll-facts 2|points 1|region 'x|constraint 'x 'x alls| ~ line 4: Syntax
+nll-facts 2|points 1|region 'x|constraint 'x all| ~ line 4: Syntax
+nll-facts 2|points 1|region 'x|base 'x all| ~ line 4: Syntax
+nll-facts 2|points 1|next 0 all| ~ line 3: Syntax
+nll-facts 2|points 1|return all| ~ line 3: Syntax
+nll-facts 2|points all| ~ line 2: Syntax
 ";
 
 // Lines that are faulty as the first line behind the header.

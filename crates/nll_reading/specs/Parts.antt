@@ -65,10 +65,6 @@ two_regions n = region n.0 ∷ region n.1 ∷ []
 abbrev pub region_number : Name × ℕ → List Part
 region_number n = region n.0 ∷ number n.1 ∷ []
 
--- two regions and a number
-abbrev pub two_regions_number : Name × Name × ℕ → List Part
-two_regions_number n = region n.0 ∷ region n.1 ∷ number n.2 ∷ []
-
 -- ---- lists of tokens
 
 -- The tokens are those of the parts, and their numbers have at most nine digits.

@@ -59,12 +59,3 @@ pub fn region_number(rest: &[u8]) -> Option<(&[u8], u32)>
     let point = number(rest)?;
     Some((name, point))
 }
-
-/// Two regions' names and a number.
-pub fn two_regions_number(rest: &[u8]) -> Option<(&[u8], &[u8], u32)>
-    ensures { Reads shapes.two_regions_number (λ n. (n.0.now, n.1.now, n.2)) rest.now result }
-{
-    let (first, rest) = first_region(rest)?;
-    let (second, point) = region_number(rest)?;
-    Some((first, second, point))
-}

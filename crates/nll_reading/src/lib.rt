@@ -12,9 +12,7 @@ mod name;
 mod names;
 mod opening;
 
-pub use arguments::{
-    nothing, number, region, region_number, two_numbers, two_regions, two_regions_number,
-};
+pub use arguments::{nothing, number, region, region_number, two_numbers, two_regions};
 pub use error::{TextError, TextKind};
 pub use labels::{Labels, PointName};
 pub use limits::MAX_TEXT;

@@ -1,20 +1,21 @@
 //! Worked problems, and how their regions are dealt.
 ghost use Rattle.std.specs.Prelude.{◌≡◌, length, IfOk};
 
+use nll_core::At::{self, All, Point};
 use nll_core::{BuildError, Constraint, Problem, ProblemBuilder, RegionId};
 use nll_cut::{Cut, CutError};
 use std::alloc::Global;
 
 /// A problem: its points, of which the last returns, each next to the one before; its region
 /// variables; those of them that have all points; its other base facts, as a region and a point;
-/// and its constraints, as the larger region, the smaller one and the point.
+/// and its constraints, as the larger region, the smaller one and where it holds.
 #[derive(Clone, Copy)]
 pub struct Written {
     pub points: u32,
     pub variables: u32,
     pub full: &'static [u32],
     pub bases: &'static [(u32, u32)],
-    pub constraints: &'static [(u32, u32, u32)],
+    pub constraints: &'static [(u32, u32, At)],
 }
 
 /// A region gets what is reached from the point.
@@ -23,7 +24,16 @@ pub const REACHED: Written = Written {
     variables: 2,
     full: &[],
     bases: &[(1, 1), (1, 2)],
-    constraints: &[(2, 1, 1)],
+    constraints: &[(2, 1, Point(1))],
+};
+
+/// A region gets what another one holds, at all points.
+pub const EVERYWHERE: Written = Written {
+    points: 5,
+    variables: 2,
+    full: &[],
+    bases: &[(1, 0), (1, 1), (1, 3), (1, 4)],
+    constraints: &[(2, 1, All)],
 };
 
 /// Two regions grow by turns.
@@ -32,7 +42,7 @@ pub const BY_TURNS: Written = Written {
     variables: 2,
     full: &[],
     bases: &[(1, 0), (2, 1)],
-    constraints: &[(2, 1, 0), (1, 2, 0)],
+    constraints: &[(2, 1, Point(0)), (1, 2, Point(0))],
 };
 
 /// A hole that is filled opens the way.
@@ -41,7 +51,7 @@ pub const FILLED_HOLE: Written = Written {
     variables: 3,
     full: &[],
     bases: &[(1, 0), (1, 2), (3, 1)],
-    constraints: &[(1, 3, 1), (2, 1, 0)],
+    constraints: &[(1, 3, Point(1)), (2, 1, Point(0))],
 };
 
 /// One point, and no region but the universal one.
@@ -59,7 +69,7 @@ pub const MANY: Written = Written {
     variables: 2,
     full: &[1],
     bases: &[],
-    constraints: &[(2, 1, 0)],
+    constraints: &[(2, 1, Point(0))],
 };
 
 /// Two regions have more points than a ring has places, and each gets those of the other.
@@ -68,7 +78,7 @@ pub const MANY_BOTH_WAYS: Written = Written {
     variables: 2,
     full: &[1, 2],
     bases: &[],
-    constraints: &[(2, 1, 0), (1, 2, 0)],
+    constraints: &[(2, 1, Point(0)), (1, 2, Point(0))],
 };
 
 /// How the regions are dealt to so many owners.

@@ -1,6 +1,6 @@
 //! Runs of worked problems come to values and counts that were found by hand.
 use super::problems::{
-    BY_TURNS, Deal, FILLED_HOLE, MANY, MANY_BOTH_WAYS, ONE_POINT, REACHED, Written,
+    BY_TURNS, Deal, EVERYWHERE, FILLED_HOLE, MANY, MANY_BOTH_WAYS, ONE_POINT, REACHED, Written,
 };
 use super::telling::{compare, filled, told};
 use nll_ledger::{Ledger, LockLedger, WordLedger};
@@ -57,6 +57,26 @@ const ROWS: &[Row] = &[
         REACHED,
         Deal::Blocks(64),
         "0: 0 1 2 3|1: 1 2|2: 1 2|64: 0 4 1 2 2 2|4032: 1-2 2",
+    ),
+    (
+        EVERYWHERE,
+        Deal::Round(1),
+        "0: 0 1 2 3 4 5|1: 0 1 3 4|2: 0 1 3 4|1: 0 14|0:",
+    ),
+    (
+        EVERYWHERE,
+        Deal::Round(2),
+        "0: 0 1 2 3 4 5|1: 0 1 3 4|2: 0 1 3 4|2: 0 10 1 4|2: 1-0 4",
+    ),
+    (
+        EVERYWHERE,
+        Deal::Blocks(2),
+        "0: 0 1 2 3 4 5|1: 0 1 3 4|2: 0 1 3 4|2: 0 10 1 4|2: 0-1 4",
+    ),
+    (
+        EVERYWHERE,
+        Deal::Round(16),
+        "0: 0 1 2 3 4 5|1: 0 1 3 4|2: 0 1 3 4|16: 0 6 1 4 2 4|240: 1-2 4",
     ),
     (
         BY_TURNS,

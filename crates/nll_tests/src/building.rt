@@ -1,5 +1,5 @@
 //! Calls of a builder: what they answer, and the problems that they make.
-use super::calls::Call::{Base, Holds, Next, Outlives, Region, Ret, Run};
+use super::calls::Call::{Base, Holds, HoldsEverywhere, Next, Outlives, Region, Ret, Run};
 use super::calls::Calls;
 use super::rows::Asked::{Behind, Made, New};
 use super::rows::{Row, compare_rows};
@@ -124,6 +124,19 @@ const CALLS: &[Row] = &[
         Behind((2, 2), REGION, &[Holds(2, 0, 2), Holds(3, 3, 2)]),
         "Err(PointRange)|Err(PointRange)|",
     ),
+    (
+        "constraints at all points, of the last region, of none and on none",
+        Behind(
+            (2, 2),
+            REGION,
+            &[
+                HoldsEverywhere(2, 0),
+                HoldsEverywhere(3, 0),
+                HoldsEverywhere(0, 3),
+            ],
+        ),
+        "Ok(())|Err(RegionRange)|Err(RegionRange)|",
+    ),
 ];
 
 // Points, calls that come to a limit, further ones, and what these answer.
@@ -143,15 +156,35 @@ const FULL: &[Row] = &[
         ),
         "Err(Limit(Edges))|Ok(())|",
     ),
-    // A new constraint, one of no region, and the last one again.
+    // A new constraint, one of no region, and the last one again. One at all points is new where
+    // each point has one, and one at a point is where all points have one.
     (
         "behind as many as the limit allows",
         Behind(
             (4096, 256),
             (Calls::Constraints, 1_048_576),
-            &[Holds(255, 1, 0), Holds(256, 0, 0), Holds(255, 0, 4095)],
+            &[
+                Holds(255, 1, 0),
+                Holds(256, 0, 0),
+                Holds(255, 0, 4095),
+                HoldsEverywhere(255, 0),
+            ],
         ),
-        "Err(Limit(Constraints))|Err(RegionRange)|Ok(())|",
+        "Err(Limit(Constraints))|Err(RegionRange)|Ok(())|Err(Limit(Constraints))|",
+    ),
+    (
+        "behind as many as the limit allows, some of them at all points",
+        Behind(
+            (4096, 256),
+            (Calls::ConstraintsEverywhere, 1_048_576),
+            &[
+                HoldsEverywhere(255, 1),
+                Holds(255, 0, 0),
+                Holds(255, 0, 4095),
+                HoldsEverywhere(255, 0),
+            ],
+        ),
+        "Err(Limit(Constraints))|Err(Limit(Constraints))|Ok(())|Ok(())|",
     ),
 ];
 
@@ -244,6 +277,15 @@ const MADE: &[Row] = &[
          1 over 0, back false|2 over 2, back true|",
     ),
     (
+        "a constraint at all points, and one of the same regions at a point",
+        Made(
+            (1, 1),
+            &[Region, Holds(1, 0, 0), HoldsEverywhere(1, 0)],
+            Facts,
+        ),
+        "0 to [] from []|out []|0: 0 1|1:|1 holds 0 at 0|1 holds 0 at all|",
+    ),
+    (
         "each fact twice",
         Made(
             (2, 1),
@@ -264,7 +306,8 @@ const MADE: &[Row] = &[
     ),
 ];
 
-// Constraints, and those that read each region, by their larger region and then by their point.
+// Constraints, and those that read each region, by their larger region and then by their point: the
+// one at all points comes first.
 const READ: &[Row] = &[
     ("none", Made((2, 1), &[Region], Readers), "0:|1:|"),
     (
@@ -292,6 +335,22 @@ const READ: &[Row] = &[
             Readers,
         ),
         "0: 0 at 0 1 at 1|1:|",
+    ),
+    (
+        "at all points too",
+        Made(
+            (2, 1),
+            &[
+                Region,
+                Holds(1, 0, 1),
+                HoldsEverywhere(1, 0),
+                Holds(1, 0, 0),
+                HoldsEverywhere(0, 0),
+                HoldsEverywhere(1, 0),
+            ],
+            Readers,
+        ),
+        "0: 0 at all 1 at all 1 at 0 1 at 1|1:|",
     ),
 ];
 

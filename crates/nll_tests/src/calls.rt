@@ -1,7 +1,7 @@
 //! Calls of a problem's builder, what they answer, and what the problems that they make tell.
 use super::telling::{OfProblem, tell};
 use super::transcript::Transcript;
-use nll_core::{BuildError, Constraint, ProblemBuilder, RegionId};
+use nll_core::{At, BuildError, Constraint, ProblemBuilder, RegionId};
 use nll_problem::BaseRun;
 
 /// A call of a builder.
@@ -16,6 +16,8 @@ pub enum Call {
     Run(u32, u32, u32),
     // The larger region, the smaller one and the point.
     Holds(u32, u32, u32),
+    // The larger region and the smaller one, at all points.
+    HoldsEverywhere(u32, u32),
 }
 
 /// Calls, one after another.
@@ -31,6 +33,8 @@ pub enum Calls {
     Random(u32),
     /// Constraints of the region 0 on 'static at each point below 4096, then of the region 1.
     Constraints,
+    /// The same, but the first of each region holds at all points.
+    ConstraintsEverywhere,
 }
 
 // The call that stands behind so many.
@@ -41,6 +45,10 @@ fn call_at(calls: Calls, place: u32) -> Option<Call> {
         Calls::Edges => Some(Call::Next(place / 2048, place % 2048)),
         Calls::Random(seed) => Some(random_call(seed, place)),
         Calls::Constraints => Some(Call::Holds(place / 4096, 0, place % 4096)),
+        Calls::ConstraintsEverywhere if place % 4096 == 0 => {
+            Some(Call::HoldsEverywhere(place / 4096, 0))
+        }
+        Calls::ConstraintsEverywhere => Some(Call::Holds(place / 4096, 0, place % 4096)),
     }
 }
 
@@ -59,6 +67,7 @@ fn random_call(seed: u32, place: u32) -> Call {
         2 | 3 => Call::Base(first, second),
         4 => Call::Run(first, second, 9.min(second + third)),
         5 if third < 3 => Call::Ret(first),
+        7 if third < 3 => Call::HoldsEverywhere(first, second),
         _ => Call::Holds(first, second, third),
     }
 }
@@ -79,7 +88,12 @@ fn make(builder: &mut ProblemBuilder, call: Call) -> Result<(), BuildError> {
         Call::Holds(sup, sub, at) => builder.constraint(Constraint {
             sup: RegionId(sup),
             sub: RegionId(sub),
-            at,
+            at: At::Point(at),
+        }),
+        Call::HoldsEverywhere(sup, sub) => builder.constraint(Constraint {
+            sup: RegionId(sup),
+            sub: RegionId(sub),
+            at: At::All,
         }),
     }
 }

@@ -1,14 +1,26 @@
 //! Frontiers, where runs of elements come into the set.
-ghost use Rattle.std.specs.Prelude.{◌≡◌, ◌≤◌, ◌<◌, ℕ, false, length, Contains, OnOk, replicate};
+ghost use Rattle.std.specs.Prelude.{◌≡◌, ◌≤◌, ◌<◌, false, length, Contains, OnOk, replicate};
+ghost use Rattle.nll_problem.specs.At.{IsAmong};
 ghost use Rattle.nll_problem.specs.Graph.{element_count};
 ghost use Rattle.nll_core.specs.Search.{IsIn};
 ghost use Rattle.nll_core.specs.Frontiers.{IsFrontierIn};
 
-use super::rows::Asked::{Frontier as Asked, FrontierToEnd};
+use super::rows::Asked::{Frontier as Asked, FrontierEverywhere, FrontierToEnd};
 use super::rows::{Row, compare_rows};
 use super::transcript::Transcript;
-use nll_core::{Element, ElementSet, Frontier, Graph, Memory, Run, RunSet, Steps};
+use nll_core::{At, ElementSet, Frontier, Graph, Memory, Run, RunSet, Steps};
 use nll_problem::GraphBuilder;
+
+// Where a frontier's constraints hold.
+#[derive(Clone, Copy)]
+enum From {
+    // The point 0.
+    One,
+    // The points 0 and 2.
+    Both,
+    // All points, and the point 2.
+    All,
+}
 
 // Puts the first gap of a run into a set, and lets the frontier go on; lists what it newly reaches.
 fn grow(
@@ -21,7 +33,7 @@ fn grow(
     requires width { length seen.old ≡ element_count steps.now }
     requires fits { length frontier.old.reached ≤ element_count steps.now }
     requires whole { frontier.old.refused ≡ false }
-    requires starts { (p : ℕ) → Contains frontier.old.starts p → p < steps.now.points }
+    requires starts { (p : _) → Contains frontier.old.starts p → IsAmong steps.now.points p }
     requires last { run.last < element_count steps.now }
     requires reached { IsFrontierIn steps.now (IsIn seen.old) frontier.old }
     ensures width { OnOk result (length seen.new ≡ element_count steps.now) }
@@ -64,7 +76,7 @@ fn write_grown(
     requires width { length seen.old ≡ element_count steps.now }
     requires fits { length frontier.old.reached ≤ element_count steps.now }
     requires whole { frontier.old.refused ≡ false }
-    requires starts { (p : ℕ) → Contains frontier.old.starts p → p < steps.now.points }
+    requires starts { (p : _) → Contains frontier.old.starts p → IsAmong steps.now.points p }
     requires reached { IsFrontierIn steps.now (IsIn seen.old) frontier.old }
 {
     for run in runs {
@@ -91,9 +103,31 @@ fn write_one(
     requires none { seen.old ≡ replicate (element_count steps.now) false }
 {
     let mut found = Vec::new(out.alloc);
-    let mut frontier = Frontier::new(out.alloc, Element(0));
+    let mut frontier = Frontier::new(out.alloc, At::Point(0));
     let told = write_grown(out, steps, elements, seen, &mut frontier, runs, &mut found);
     out.note(told);
+    drop(frontier);
+    drop(found);
+}
+
+// The same of a frontier of a constraint at all points, and one from the point 2.
+fn write_all(
+    out: &mut Transcript,
+    steps: &Steps,
+    elements: u32,
+    seen: &mut RunSet,
+    runs: &[(u32, u32)],
+)
+    requires elements { elements ≡ element_count steps.now }
+    requires points { 2 < steps.now.points }
+    requires none { seen.old ≡ replicate (element_count steps.now) false }
+{
+    let mut found = Vec::new(out.alloc);
+    let mut frontier = Frontier::new(out.alloc, At::All);
+    if let Ok(()) = frontier.add(out.alloc, At::Point(2)) {
+        let told = write_grown(out, steps, elements, seen, &mut frontier, runs, &mut found);
+        out.note(told);
+    }
     drop(frontier);
     drop(found);
 }
@@ -111,8 +145,8 @@ fn write_both(
     requires none { seen.old ≡ replicate (element_count steps.now) false }
 {
     let mut found = Vec::new(out.alloc);
-    let mut frontier = Frontier::new(out.alloc, Element(0));
-    if let Ok(()) = frontier.add_point(Element(2)) {
+    let mut frontier = Frontier::new(out.alloc, At::Point(0));
+    if let Ok(()) = frontier.add(out.alloc, At::Point(2)) {
         let told = write_grown(out, steps, elements, seen, &mut frontier, runs, &mut found);
         out.note(told);
     }
@@ -121,17 +155,17 @@ fn write_both(
 }
 
 // The same of a set that is made for it.
-fn write_over(out: &mut Transcript, graph: &Graph, both: bool, runs: &[(u32, u32)]) {
+fn write_over(out: &mut Transcript, graph: &Graph, from: From, runs: &[(u32, u32)]) {
     if graph.points() <= 2 {
         return;
     }
     if let Ok(steps) = Steps::of(out.alloc, graph) {
         let elements = graph.points() + graph.universals();
         if let Ok(mut seen) = RunSet::empty(out.alloc, elements) {
-            if both {
-                write_both(out, &steps, elements, &mut seen, runs);
-            } else {
-                write_one(out, &steps, elements, &mut seen, runs);
+            match from {
+                From::One => write_one(out, &steps, elements, &mut seen, runs),
+                From::Both => write_both(out, &steps, elements, &mut seen, runs),
+                From::All => write_all(out, &steps, elements, &mut seen, runs),
             }
             drop(seen);
         }
@@ -146,23 +180,33 @@ pub fn write_frontier(out: &mut Transcript, runs: &[(u32, u32)]) {
         out.note(builder.next(0, 1));
         out.note(builder.next(2, 3));
         let graph = builder.finish();
-        write_over(out, &graph, true, runs);
+        write_over(out, &graph, From::Both, runs);
         drop(graph);
     }
 }
 
-/// Writes the same of walks from the point 0 over the graph of four points with the edges 0 to 1, 1
-/// to 2 and 1 to 3, of which 2 is a return point.
-pub fn write_frontier_to_end(out: &mut Transcript, runs: &[(u32, u32)]) {
+// Writes the same over the graph of four points with the edges 0 to 1, 1 to 2 and 1 to 3, of which
+// 2 is a return point.
+fn write_to_end(out: &mut Transcript, from: From, runs: &[(u32, u32)]) {
     if let Ok(mut builder) = GraphBuilder::new(out.alloc, 4, 1) {
         out.note(builder.next(0, 1));
         out.note(builder.next(1, 2));
         out.note(builder.next(1, 3));
         out.note(builder.ret(2));
         let graph = builder.finish();
-        write_over(out, &graph, false, runs);
+        write_over(out, &graph, from, runs);
         drop(graph);
     }
+}
+
+/// Writes the same of walks from the point 0.
+pub fn write_frontier_to_end(out: &mut Transcript, runs: &[(u32, u32)]) {
+    write_to_end(out, From::One, runs);
+}
+
+/// Writes the same of a constraint at all points.
+pub fn write_frontier_everywhere(out: &mut Transcript, runs: &[(u32, u32)]) {
+    write_to_end(out, From::All, runs);
 }
 
 // Runs that come into the set, and what is newly reached with each.
@@ -215,6 +259,12 @@ const GROWN: &[Row] = &[
         "a jump into a later run",
         FrontierToEnd(&[(0, 1), (3, 3), (2, 2)]),
         " 0 1| 3| 2|",
+    ),
+    // What comes is asked for, and nothing but that: no walk goes on from it.
+    (
+        "at all points",
+        FrontierEverywhere(&[(3, 3), (0, 0), (4, 4), (1, 2)]),
+        " 3| 0| 4| 1 2|",
     ),
 ];
 

@@ -140,6 +140,10 @@ fn write_line(out: &mut Transcript, line: &Line<'_>) {
             out.part("", shorter);
         }
         Line::Region(name) => out.part("region ", name),
+        Line::Assert(longer, shorter) => {
+            out.part("assert ", longer);
+            out.part("", shorter);
+        }
         Line::Struct(text) => write_struct(out, text),
         Line::Let(variable, ty) => {
             out.number("let ", *variable, " ");
@@ -198,6 +202,12 @@ outlives 'a 'b ~ outlives a|b|
 outlives 'a ~ none
 region 'x ~ region x|
 region 'x 'y ~ none
+assert 'x : 'y ~ assert x|y|
+assert'x:'x ~ assert x|x|
+assert 'x 'y ~ none
+assert 'x : ~ none
+assert 'x : 'y 'z ~ none
+assert x : 'y ~ none
 struct W() ~ struct W|tuple|
 struct F<'x - >(fn(&'x int) -> int) ~ struct F|'x|- int|& x| 0|int|fn 1 to 2|tuple 3|
 struct F<'x - ?, T -?, 'y +>() ~ struct F|'x|-? T|-? 'y|+ tuple|

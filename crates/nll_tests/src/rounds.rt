@@ -3,19 +3,26 @@
 //! This is the plain solver, beside which the tests set `nll_core`'s: it has the same contract, and
 //! forgets after each constraint what it has reached.
 
-ghost use Rattle.std.specs.Prelude.{◌≡◌, ℕ, ◌<◌, ◌↔◌, false, Contains, length, IfOk, OnOk};
-ghost use Rattle.nll_problem.specs.Solution.{Least};
+ghost use Rattle.std.specs.Prelude.{◌≡◌, ℕ, ◌<◌, ◌↔◌, true, false, Contains, length, IfOk, OnOk};
+ghost use Rattle.nll_sets.specs.ElementSet.{flag};
+ghost use Rattle.nll_problem.specs.At.{IsAmong};
+ghost use Rattle.nll_problem.specs.Graph.{element_count};
+ghost use Rattle.nll_problem.specs.Solution.{IsAskedIn, Least};
 ghost use Rattle.nll_core.specs.Growing.{Gains, Tells, StaysBelow, IsAskedBy, Meets, IsClosed};
 ghost use Rattle.nll_core.specs.Values.{set_of, IsHeld, IsShaped};
 
-use nll_core::{Constraint, Element, Memory, Problem, RegionId, Values, base_values, reached_from};
+use nll_core::{
+    At, Constraint, Element, ElementSet, Graph, Memory, Problem, RegionId, RunSet, Values,
+    base_values, reached_from,
+};
 use std::alloc::Global;
 
 /// Gives each region its least value: the base elements, and what the constraints ask for.
 ///
 /// # Cost
 /// A round goes through the graph once for each constraint whose point is in the value of its
-/// `sub`, and each round but the last adds an element (not proved).
+/// `sub`, and through all elements for each at all points; each round but the last adds an element
+/// (not proved).
 ///
 /// # Source
 /// RFC 2094, "Solving constraints".
@@ -60,8 +67,41 @@ fn apply(
 {
     let graph = problem.graph();
     let set = values.set(constraint.sub);
-    let found = reached_from(alloc, graph, set, Element(constraint.at))?;
+    let found = asked_inside(alloc, graph, set, constraint.at)?;
     insert_all(values, constraint.sup, &found)
+}
+
+// What a constraint that holds there asks for inside a set.
+fn asked_inside(
+    alloc: Global,
+    graph: &Graph,
+    set: &RunSet,
+    at: At,
+) -> Result<Vec<Element>, Memory>
+    requires width { length set.now ≡ element_count graph.now }
+    requires among { IsAmong graph.now.points at }
+    ensures { IfOk result (λ found. (x : ℕ) → Contains found.items x
+        ↔ IsAskedIn graph.now (λ z. flag set.now z ≡ true) at x) }
+{
+    match at {
+        At::All => all_of(alloc, set, graph.points() + graph.universals()),
+        At::Point(point) => reached_from(alloc, graph, set, Element(point)),
+    }
+}
+
+// The elements of a set of this length.
+fn all_of(alloc: Global, set: &RunSet, count: u32) -> Result<Vec<Element>, Memory>
+    requires { length set.now ≡ count }
+    ensures { IfOk result
+        (λ found. (x : ℕ) → Contains found.items x ↔ (flag set.now x ≡ true)) }
+{
+    let mut found = Vec::new(alloc);
+    for number in 0..count {
+        if set.has(Element(number)) {
+            found.push(Element(number))?;
+        }
+    }
+    Ok(found)
 }
 
 // Puts elements into the set of a region. Answers whether one of them is new.

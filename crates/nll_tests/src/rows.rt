@@ -3,7 +3,7 @@
 use super::building::write_new;
 use super::calls::{Call, Calls, write_behind, write_problem, write_random};
 use super::cuts::{Deal, write_cut, write_cut_file};
-use super::frontiers::{write_frontier, write_frontier_to_end};
+use super::frontiers::{write_frontier, write_frontier_everywhere, write_frontier_to_end};
 use super::graphs::{Then, write_graph_then};
 use super::lines::{OfLine, write_line};
 use super::messages::{write_memory, write_messages};
@@ -40,6 +40,8 @@ pub enum Asked {
     Frontier(&'static [(u32, u32)]),
     /// The same where walks may come to an end.
     FrontierToEnd(&'static [(u32, u32)]),
+    /// The same of a constraint at all points.
+    FrontierEverywhere(&'static [(u32, u32)]),
     /// Of so many regions and owners: how they are dealt.
     Cut(u32, u16, Deal),
     /// Of a text: which owners it lists, as a cut file.
@@ -78,6 +80,7 @@ fn write_told(out: &mut Transcript, says: &str, asked: Asked) {
         Asked::Graph(numbers, calls, then) => write_graph_then(out, numbers, calls, then),
         Asked::Frontier(runs) => write_frontier(out, runs),
         Asked::FrontierToEnd(runs) => write_frontier_to_end(out, runs),
+        Asked::FrontierEverywhere(runs) => write_frontier_everywhere(out, runs),
         Asked::Cut(regions, owners, deal) => write_cut(out, (regions, owners), deal),
         Asked::CutFile(text) => write_cut_file(out, text),
         Asked::Schedule(owners, text) => write_schedule(out, owners, text),

@@ -1,5 +1,5 @@
 //! Worked problems, with their least values and their faults.
-use super::calls::Call::{Base, Holds, Next, Outlives, Region, Ret};
+use super::calls::Call::{Base, Holds, HoldsEverywhere, Next, Outlives, Region, Ret};
 use super::rows::Asked::{Made, Random};
 use super::rows::{Row, compare, compare_rows};
 use super::telling::OfProblem::{Inserted, Values};
@@ -125,6 +125,59 @@ const ROWS: &[Row] = &[
             Values,
         ),
         "0: 0 1 2 3|1: 0 1 2|2: 0 1 2|3: 1|same|",
+    ),
+    (
+        "at all points a region gets what is behind the hole too",
+        Made(
+            (5, 1),
+            &[
+                Region,
+                Region,
+                Next(0, 1),
+                Next(1, 2),
+                Next(2, 3),
+                Next(3, 4),
+                Ret(4),
+                Base(1, 0),
+                Base(1, 1),
+                Base(1, 3),
+                Base(1, 4),
+                HoldsEverywhere(2, 1),
+            ],
+            Values,
+        ),
+        "0: 0 1 2 3 4 5|1: 0 1 3 4|2: 0 1 3 4|same|",
+    ),
+    (
+        "in a circle of regions, and beside points",
+        Made(
+            (3, 1),
+            &[
+                Region,
+                Region,
+                Region,
+                Next(0, 1),
+                Base(1, 2),
+                Base(3, 0),
+                HoldsEverywhere(2, 1),
+                HoldsEverywhere(1, 3),
+                HoldsEverywhere(3, 2),
+                Holds(2, 1, 0),
+                Holds(2, 1, 1),
+            ],
+            Values,
+        ),
+        "0: 0 1 2 3|1: 0 2|2: 0 2|3: 0 2|same|",
+    ),
+    (
+        "the end of 'b flows into 'a at all points, where nothing returns",
+        Made((2, 3), &[Next(0, 1), Next(1, 0), HoldsEverywhere(1, 2)], Values),
+        "0: 0 1 2|1: 0 1 3 4|2: 0 1 4|same|1 over 2|",
+    ),
+    (
+        "'a is known to outlive 'b, which it has to at all points",
+        Made((1, 3), &[Outlives(1, 2), HoldsEverywhere(1, 2)], Values),
+        "0: 0 1|1: 0 2 3|2: 0 3|same|",
     ),
     (
         "the end of 'b flows into 'a at the return",

@@ -8,7 +8,7 @@ use nll_core::{
     Element, ElementSet, Elements, Graph, Memory, Problem, RegionId, Values, faults, solve,
 };
 use nll_cut::Cut;
-use nll_problem::{BaseRun, ConstraintIndex, Predecessors};
+use nll_problem::{At, BaseRun, ConstraintIndex, Predecessors};
 use std::alloc::Global;
 
 /// What is asked of a problem.
@@ -63,6 +63,17 @@ fn write_run(out: &mut Transcript, run: &BaseRun) {
     }
 }
 
+// Writes where a constraint holds, and what stands behind that.
+fn write_at(out: &mut Transcript, at: At, after: &str) {
+    match at {
+        At::All => {
+            out.say("all");
+            out.say(after);
+        }
+        At::Point(point) => out.number("", point, after),
+    }
+}
+
 // Writes the base facts, the constraints and the outlives facts.
 fn write_lists(out: &mut Transcript, problem: &Problem) {
     for run in problem.base_runs() {
@@ -70,7 +81,7 @@ fn write_lists(out: &mut Transcript, problem: &Problem) {
     }
     for constraint in problem.constraints() {
         out.pair(constraint.sup.0, " holds ", constraint.sub.0, " at ");
-        out.number("", constraint.at, "|");
+        write_at(out, constraint.at, "|");
     }
     for (longer, shorter) in problem.outlives_facts() {
         out.pair(longer.0, " over ", shorter.0, ", back ");
@@ -100,7 +111,7 @@ fn write_readers(out: &mut Transcript, problem: &Problem) {
             out.number("", number, ":");
             for constraint in index.reading(RegionId(number)) {
                 out.number(" ", constraint.sup.0, " at ");
-                out.number("", constraint.at, "");
+                write_at(out, constraint.at, "");
             }
             out.say("|");
         }

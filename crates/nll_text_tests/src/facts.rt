@@ -10,6 +10,8 @@ use std::alloc::Global;
 /// What the lines of a facts text say, as far as it matters to later lines.
 #[derive(Drop)]
 pub struct Facts<'a> {
+    // Whether a constraint may hold at all points: from version 2 on.
+    may_be_everywhere: bool,
     // The last group of lines that was reached.
     reached: u32,
     points: u64,
@@ -25,7 +27,7 @@ const FORMS: &[(&str, u32, &str)] = &[
     ("next", 5, "pp"),
     ("return", 5, "p"),
     ("base", 5, "rp"),
-    ("constraint", 5, "rrp"),
+    ("constraint", 5, "rrw"),
     ("end", 6, ""),
 ];
 
@@ -43,6 +45,7 @@ impl<'a> Facts<'a> {
     /// No line says anything.
     pub fn new(alloc: Global) -> Facts<'a> {
         Facts {
+            may_be_everywhere: false,
             reached: 0,
             points: 0,
             regions: Regions::new(alloc),
@@ -62,6 +65,15 @@ impl<'a> Facts<'a> {
         line.wrong_if(point >= self.points, Range);
     }
 
+    // Reads where a constraint holds.
+    fn place(&mut self, line: &mut Line<'a>) {
+        if line.has("all") {
+            line.wrong_if(!self.may_be_everywhere, Syntax);
+        } else {
+            self.point(line);
+        }
+    }
+
     // Reads the part of a letter.
     fn part(&mut self, line: &mut Line<'a>, letter: u8) {
         match letter {
@@ -70,6 +82,7 @@ impl<'a> Facts<'a> {
             b'o' => self.regions.universal(line),
             b'x' => self.regions.declare(line),
             b'r' => self.regions.known(line),
+            b'w' => self.place(line),
             _ => self.point(line),
         }
     }
@@ -82,6 +95,11 @@ impl<'a> Facts<'a> {
 }
 
 impl<'a> Said<'a> for Facts<'a> {
+    fn begin(&mut self, version: &str) -> bool {
+        self.may_be_everywhere = version == "2";
+        true
+    }
+
     fn read(&mut self, line: &mut Line<'a>) {
         let form = form_of(line.take());
         line.wrong_if(form.is_none(), Syntax);

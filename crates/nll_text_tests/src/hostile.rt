@@ -5,7 +5,6 @@ use super::lists::{Cut, Schedule};
 use super::mir::Mir;
 use super::quick::{write_cut, write_facts, write_mir, write_schedule};
 use super::slow::write_slowly;
-use super::spelling::version_of;
 use nll_worked_texts::{
     CALLED, DROPPED, FUNCTIONS, MOVED, REBORROW, RETURNED, TAKERS, TWO_BORROWS, text_of,
 };
@@ -39,21 +38,13 @@ fn told_slowly(alloc: Global, format: Format, text: &[u8]) -> String {
     let mut out = String::new(alloc);
     match format {
         Format::Facts => {
-            let said = &mut Facts::new(alloc);
-            write_slowly(alloc, &mut out, text, ("nll-facts", "1"), said);
+            write_slowly(alloc, &mut out, (text, "nll-facts"), &mut Facts::new(alloc));
         }
-        Format::Mir => {
-            let version = version_of(text, "nll-mir");
-            let said = &mut Mir::new(alloc, version == "2");
-            write_slowly(alloc, &mut out, text, ("nll-mir", version), said);
-        }
-        Format::Cut => {
-            let said = &mut Cut::new(alloc);
-            write_slowly(alloc, &mut out, text, ("nll-cut", "1"), said);
-        }
+        Format::Mir => write_slowly(alloc, &mut out, (text, "nll-mir"), &mut Mir::new(alloc)),
+        Format::Cut => write_slowly(alloc, &mut out, (text, "nll-cut"), &mut Cut::new(alloc)),
         Format::Schedule => {
             let said = &mut Schedule::new(alloc, 2);
-            write_slowly(alloc, &mut out, text, ("nll-schedule", "1"), said);
+            write_slowly(alloc, &mut out, (text, "nll-schedule"), said);
         }
     }
     out
@@ -72,6 +63,10 @@ const LONGEST: usize = 12;
 const FACTS: &str = "nll-facts 1|points 2|universal 'a|outlives 'a 'a|# \u{e9}|region 'x|next 0 1|\
     return 1|base 'x 0|constraint 'x 'a 0|end|";
 
+// A facts text of version 2, with a constraint at all points.
+const EVERYWHERE: &str = "nll-facts 2|points 2|universal 'a|region 'x|next 0 1|return 1|\
+    base 'x 0|constraint 'x 'a all|constraint 'x 'a 1|end|";
+
 // A chain of points.
 const CHAIN: &str = "nll-facts 1|points 3|region '1|region '2|next 0 1|next 1 2|return 2|\
     base '1 1|base '1 2|constraint '2 '1 1|end|";
@@ -85,9 +80,10 @@ const FORMS: &str = "nll-mir 1|universal 'a|universal 'b|outlives 'b 'a|region '
     block bb1|_4 = call f(copy _2.1: (int, S), const: int): &'a int where 'a: 'b, 'x: 'static \
     -> bb2 unwind bb3|block bb2|dead _2|drop _1 -> bb3 unwind bb0|block bb3|read _1.1|return|end|";
 
-// A MIR text of version 2 with functions in each place of a type, and with parameters that are
-// marked `-`.
-const MARKED: &str = "nll-mir 2|region 'x|struct F<'r - ?, T - >(fn(&'r int, T) -> (T, int))|\
+// A MIR text of version 2 with functions in each place of a type, with parameters that are
+// marked `-`, and with what holds at all points.
+const MARKED: &str =
+    "nll-mir 2|universal 'a|region 'x|assert 'x : 'a|assert 'static: 'x|struct F<'r - ?, T - >(fn(&'r int, T) -> (T, int))|\
     let _0: int|let _1: F<'x, fn() -> int>|let _2: fn(fn(&'x int) -> int, int) -> &'x int|\
     let _3: (fn() -> fn() -> int, int)|blocks 2|block bb0|_2 = copy _2|_0 = copy _3.1|\
     _0 = call f(copy _1.0: fn(&'x int, fn() -> int) -> (fn() -> int, int)): int -> bb1|\
@@ -125,6 +121,7 @@ const TEXTS: &[(Format, &str)] = &[
     (Format::Mir, MARKED),
     (Format::Facts, CHAIN),
     (Format::Facts, FACTS),
+    (Format::Facts, EVERYWHERE),
     (Format::Cut, CUT),
     (Format::Schedule, SCHEDULE),
 ];

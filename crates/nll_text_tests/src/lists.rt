@@ -21,6 +21,10 @@ impl Cut {
 }
 
 impl<'a> Said<'a> for Cut {
+    fn begin(&mut self, version: &str) -> bool {
+        version == "1"
+    }
+
     fn read(&mut self, line: &mut Line<'a>) {
         let owner = line.number("");
         line.wrong_if(owner > 65_535, Range);
@@ -81,6 +85,10 @@ fn event_of(word: &[u8]) -> Option<(&'static str, bool)> {
 }
 
 impl<'a> Said<'a> for Schedule {
+    fn begin(&mut self, version: &str) -> bool {
+        version == "1"
+    }
+
     fn read(&mut self, line: &mut Line<'a>) {
         let event = event_of(line.take());
         line.wrong_if(event.is_none(), Syntax);

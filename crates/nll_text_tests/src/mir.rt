@@ -14,8 +14,8 @@ use std::alloc::Global;
 #[derive(Drop)]
 pub struct Mir<'a> {
     pub alloc: Global,
-    /// Whether the text is of version 2, which has functions and parameters that are marked `-`.
-    pub has_functions: bool,
+    // Whether the text is of version 2.
+    pub is_second: bool,
     // The last group of lines that was reached.
     reached: u32,
     pub regions: Regions<'a>,
@@ -35,33 +35,34 @@ const GROUPS: &[(&str, u32)] = &[
     ("universal", 1),
     ("outlives", 2),
     ("region", 3),
-    ("struct", 4),
-    ("let", 5),
-    ("blocks", 6),
-    ("block", 7),
-    ("end", 8),
+    ("assert", 4),
+    ("struct", 5),
+    ("let", 6),
+    ("blocks", 7),
+    ("block", 8),
+    ("end", 9),
 ];
 
-// The group of a line by its first word; 9 of those at points.
+// The group of a line by its first word; 10 of those at points.
 fn group_of(word: &[u8]) -> u32 {
     for (known, group) in GROUPS {
         if is(word, known) {
             return *group;
         }
     }
-    9
+    10
 }
 
-// Reads a parameter of a struct, which may be marked `-` in version 2.
-fn read_parameter<'a>(line: &mut Line<'a>, has_functions: bool) -> Bytes<'a> {
+// Reads a parameter of a struct.
+fn read_parameter<'a>(line: &mut Line<'a>, is_second: bool) -> Bytes<'a> {
     let name = line.front();
     if is_region(name) {
         line.region();
     } else {
         line.name();
     }
-    let is_marked = line.has("+") || (has_functions && line.has("-"));
-    if !is_marked {
+    let is_signed = line.has("+") || (is_second && line.has("-"));
+    if !is_signed {
         line.want("=");
     }
     line.has("?");
@@ -69,13 +70,13 @@ fn read_parameter<'a>(line: &mut Line<'a>, has_functions: bool) -> Bytes<'a> {
 }
 
 // Reads the parameters of a struct, where there are some.
-fn read_parameters<'a>(alloc: Global, line: &mut Line<'a>, has_functions: bool) -> Tokens<'a> {
+fn read_parameters<'a>(alloc: Global, line: &mut Line<'a>, is_second: bool) -> Tokens<'a> {
     let mut parameters = Vec::new(alloc);
     if !line.has("<") {
         return parameters;
     }
     for _ in 0..line.left() {
-        let _ = parameters.push(read_parameter(line, has_functions));
+        let _ = parameters.push(read_parameter(line, is_second));
         if !line.has(",") {
             break;
         }
@@ -95,11 +96,11 @@ fn has_repeats(names: &[Bytes<'_>]) -> bool {
 }
 
 impl<'a> Mir<'a> {
-    /// No line says anything. Whether the text is of version 2 is told.
-    pub fn new(alloc: Global, has_functions: bool) -> Mir<'a> {
+    /// No line says anything.
+    pub fn new(alloc: Global) -> Mir<'a> {
         Mir {
             alloc,
-            has_functions,
+            is_second: false,
             reached: 0,
             regions: Regions::new(alloc),
             structs: Vec::new(alloc),
@@ -113,11 +114,11 @@ impl<'a> Mir<'a> {
 
     // Whether a line of a group may stand behind those before.
     fn is_in_order(&self, group: u32) -> bool {
-        let is_between = (self.reached == 6 || self.reached == 7) && !self.owes;
+        let is_between = (self.reached == 7 || self.reached == 8) && !self.owes;
         match group {
-            6 => self.reached == 5,
-            7 | 8 => is_between,
-            9 => self.reached == 7 && self.owes,
+            7 => self.reached == 6,
+            8 | 9 => is_between,
+            10 => self.reached == 8 && self.owes,
             _ => self.reached <= group,
         }
     }
@@ -149,10 +150,18 @@ impl<'a> Mir<'a> {
         }
     }
 
+    // Reads what stands behind `assert`.
+    fn assert(&mut self, line: &mut Line<'a>) {
+        line.wrong_if(!self.is_second, Syntax);
+        self.regions.known(line);
+        line.want(":");
+        self.regions.known(line);
+    }
+
     // Reads what stands behind `struct`.
     fn declare_struct(&mut self, line: &mut Line<'a>) {
         let name = line.name();
-        let parameters = read_parameters(self.alloc, line, self.has_functions);
+        let parameters = read_parameters(self.alloc, line, self.is_second);
         line.has("drop");
         let mut own: Tokens<'a> = Vec::new(self.alloc);
         let _ = own.push(b"'static");
@@ -206,7 +215,8 @@ impl<'a> Mir<'a> {
                 self.regions.universal(line);
             }
             3 => self.regions.declare(line),
-            4 => self.declare_struct(line),
+            4 => self.assert(line),
+            5 => self.declare_struct(line),
             _ => self.declare_variable(line),
         }
     }
@@ -214,9 +224,9 @@ impl<'a> Mir<'a> {
     // Reads what stands behind the first word of a line of a block, or round blocks.
     fn go_on(&mut self, line: &mut Line<'a>, group: u32, first: Bytes<'a>) {
         match group {
-            6 => self.count_blocks(line),
-            7 => self.begin_block(line),
-            8 => line.wrong_if(self.begun < self.blocks, Range),
+            7 => self.count_blocks(line),
+            8 => self.begin_block(line),
+            9 => line.wrong_if(self.begun < self.blocks, Range),
             _ => self.add_point(line, first),
         }
     }
@@ -240,20 +250,25 @@ impl<'a> Mir<'a> {
 }
 
 impl<'a> Said<'a> for Mir<'a> {
+    fn begin(&mut self, version: &str) -> bool {
+        self.is_second = version == "2";
+        true
+    }
+
     fn read(&mut self, line: &mut Line<'a>) {
         let first = line.take();
         let group = group_of(first);
         line.wrong_if(!self.is_in_order(group), Syntax);
-        if group < 6 {
+        if group < 7 {
             self.declare(line, group);
         } else {
             self.go_on(line, group, first);
         }
-        self.reached = group.min(7 + u32::from(group == 8));
+        self.reached = group.min(8 + u32::from(group == 9));
     }
 
     fn may_stop(&self) -> bool {
-        self.reached == 8
+        self.reached == 9
     }
 
     fn write(&self, out: &mut String) {

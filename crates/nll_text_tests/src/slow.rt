@@ -4,8 +4,14 @@ use super::spelling::{Bytes, is_header, is_skipped, is_utf8, put_lines};
 use nll_reading::TextKind::{self, End, Header, NotUtf8};
 use std::alloc::Global;
 
+// The versions that a format may have.
+const VERSIONS: &[&str] = &["1", "2"];
+
 /// What the lines of a text say together.
 pub trait Said<'a> {
+    /// Begins a text of a version. Whether the format has it.
+    fn begin(&mut self, version: &str) -> bool;
+
     /// Reads a further line, notes what is wrong with it, and adds what it says.
     fn read(&mut self, line: &mut Line<'a>);
 
@@ -16,16 +22,17 @@ pub trait Said<'a> {
     fn write(&self, out: &mut String);
 }
 
-// The kind of fault of a header.
-fn header_fault(line: &[u8], format: (&str, &str)) -> Option<TextKind> {
+// The kind of fault of a header, which tells of which version the text is.
+fn header_fault<'a, S: Said<'a>>(line: &[u8], kind: &str, said: &mut S) -> Option<TextKind> {
     if !is_utf8(line) {
         return Some(NotUtf8);
     }
-    if is_header(line, format) {
-        None
-    } else {
-        Some(Header)
+    for version in VERSIONS {
+        if is_header(line, kind, version) && said.begin(version) {
+            return None;
+        }
     }
+    Some(Header)
 }
 
 // The kind of fault of a further line, which adds what it says.
@@ -45,13 +52,13 @@ fn line_fault<'a, S: Said<'a>>(alloc: Global, line: Bytes<'a>, said: &mut S) -> 
 fn first_fault<'a, S: Said<'a>>(
     alloc: Global,
     lines: &[Bytes<'a>],
-    format: (&str, &str),
+    kind: &str,
     said: &mut S,
 ) -> Option<(usize, TextKind)> {
     for at in 0..lines.len() {
         let line = lines[at];
         let fault = if at == 0 {
-            header_fault(line, format)
+            header_fault(line, kind, said)
         } else {
             line_fault(alloc, line, said)
         };
@@ -76,17 +83,16 @@ pub fn write_counts(out: &mut String, points: u64, regions: (usize, usize), vari
     );
 }
 
-/// Writes what a text of a kind and version says, or its fault. Nothing is said before.
+/// Writes what a text of a kind says, or its fault. Nothing is said before.
 pub fn write_slowly<'a, S: Said<'a>>(
     alloc: Global,
     out: &mut String,
-    text: Bytes<'a>,
-    format: (&str, &str),
+    (text, kind): (Bytes<'a>, &str),
     said: &mut S,
 ) {
     let mut lines = Vec::new(alloc);
     put_lines(&mut lines, text);
-    let fault = first_fault(alloc, lines.as_slice(), format, said);
+    let fault = first_fault(alloc, lines.as_slice(), kind, said);
     match fault {
         Some((at, kind)) => write_fault(out, (at as u64).saturating_add(1), kind),
         None if said.may_stop() => said.write(out),

@@ -38,7 +38,7 @@ fn is_of(byte: u8, class: Class) -> bool {
         Class::Blank => matches!(byte, b' ' | b'\t' | b'\r'),
         Class::Sign => matches!(
             byte,
-            b'=' | b'&' | b'(' | b')' | b'<' | b'>' | b',' | b':' | b'.' | b'*' | b'+' | b'?' | b'-'
+            b'=' | b'&' | b'(' | b')' | b'<' | b'>' | b',' | b':' | b'.' | b'*' | b'+' | b'-' | b'?'
         ),
         Class::Capital => byte.is_ascii_uppercase(),
         Class::Digit => byte.is_ascii_digit(),
@@ -106,25 +106,9 @@ fn behind_run<'a>(line: Bytes<'a>, run: &str) -> Option<Bytes<'a>> {
 }
 
 /// Whether a line is the header of this kind and version of texts.
-pub fn is_header(line: &[u8], (kind, version): (&str, &str)) -> bool {
+pub fn is_header(line: &[u8], kind: &str, version: &str) -> bool {
     let behind = behind_run(line, kind).unwrap_or(b"no run");
     behind_run(behind, version).unwrap_or(b"no run").is_empty()
-}
-
-/// The version that a text has by its first line: the second, or else the first.
-pub fn version_of(text: &[u8], kind: &str) -> &'static str {
-    let mut end = text.len();
-    for at in 0..text.len() {
-        if text[at] == b'\n' {
-            end = end.min(at);
-        }
-    }
-    let line = text.get(..end).unwrap_or(b"");
-    if is_header(line, (kind, "2")) {
-        "2"
-    } else {
-        "1"
-    }
 }
 
 /// Whether a token is this one.

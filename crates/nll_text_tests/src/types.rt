@@ -173,7 +173,7 @@ fn put_type<'a>(
         put_type(shape, line, mir, own, depth - 1);
     } else if is(first, "(") {
         put_types(shape, line, mir, own, depth - 1);
-    } else if is(first, "fn") && mir.has_functions {
+    } else if is(first, "fn") && mir.is_second {
         put_function(shape, line, mir, own, depth - 1);
     } else if !is(first, "int") {
         put_named(shape, line, mir, own, first, depth - 1);

@@ -7,4 +7,6 @@ mod lines;
 mod texts;
 
 pub use lines::text_of;
-pub use texts::{CALLED, DROPPED, FUNCTIONS, MOVED, REBORROW, RETURNED, TAKERS, TWO_BORROWS};
+pub use texts::{
+    ASSERTED, CALLED, DROPPED, FUNCTIONS, MOVED, REBORROW, RETURNED, TAKERS, TWO_BORROWS,
+};

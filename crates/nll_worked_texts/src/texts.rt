@@ -34,6 +34,12 @@ pub const TAKERS: &str = "nll-mir 2|region '1|region '2|region '3|region '4|let 
     let _1: fn(fn(&'1 int) -> int) -> &'2 int|let _2: fn(fn(&'3 int) -> int) -> &'4 int|blocks 1|\
     block bb0|_2 = copy _1|read _2|return|end|";
 
+/// A reference to a reference is moved, and one of its new regions is to hold all that an old one
+/// holds: of version 2.
+pub const ASSERTED: &str = "nll-mir 2|region '1|region '2|region '3|region '4|assert '3 : '1|\
+    let _0: int|let _1: &'1 mut &'2 int|let _2: &'3 mut &'4 int|blocks 1|block bb0|_2 = move _1|\
+    read _2.*.*|return|end|";
+
 /// A function is called.
 pub const CALLED: &str = "nll-mir 1|region 'a|region 'b|region 'c|let _0: int|let _1: &'a int|\
     let _2: &'b int|blocks 2|block bb0|_2 = call f(copy _1: &'c int): &'c int -> bb1|block bb1|\

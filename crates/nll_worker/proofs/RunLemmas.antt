@@ -5,9 +5,9 @@ use Rattle.std.proofs.lemmas.List.Elements.{Contains-append_left}
 use Rattle.nll_problem.specs.Graph.{element_count}
 use Rattle.nll_problem.specs.Problem.{Problem, IsSound as IsSoundProblem}
 use Rattle.nll_problem.specs.Solution.{Least}
-use Rattle.nll_problem.specs.Walks.{Reaches}
+use Rattle.nll_problem.specs.Solution.{IsAskedIn}
 use Rattle.nll_problem.specs.declared.constraint.Constraint.{Constraint}
-use Rattle.nll_problem.proofs.WalkLemmas.{reaches_weaker}
+use Rattle.nll_problem.proofs.AskLemmas.{asked_weaker}
 use Rattle.nll_cut.specs.Partition.{Cut, owner_of}
 use Rattle.nll_mail.specs.declared.growth.Growth.{Growth}
 use Rattle.nll_owner.specs.Logs.{IsWellFormed, part, IsTold, IsToldBefore, list_of, IsWellSupported, IsSaturated, IsCutOf, log_of, AreSound, AreSettled}
@@ -91,8 +91,8 @@ module _ (q : Problem) (c : Cut) (owner : ℕ → Owner) (sent got rest : ℕ �
           let list = list_in (owner i) in
           let old = subst (λ p. IsWellSupported p list (owner i).log) (ends i l).problem (ends i l).sound.supported g (subst (λ xs. Contains xs g) (log_is i l) h) in
           ⊎_elim inl
-          (λ (w : (k : Constraint) × Contains q.constraints k × (k.sup ≡ g.region) × Reaches q.graph (IsToldBefore g.rank (list_in (owner i) k.sub) k.sub) k.at g.element).
-          inr (w.0, w.1, w.2, reaches_weaker q.graph _ w.0.at _ (λ e t. subst (λ xs. IsToldBefore g.rank xs w.0.sub e) (list_is i l w.0.sub (region_owned w.0.sub (problem.constraint_regions w.0 w.1).1)) t) g.element w.3))
+          (λ (w : (k : Constraint) × Contains q.constraints k × (k.sup ≡ g.region) × IsAskedIn q.graph (IsToldBefore g.rank (list_in (owner i) k.sub) k.sub) k.at g.element).
+          inr (w.0, w.1, w.2, asked_weaker q.graph _ w.0.at _ (λ e t. subst (λ xs. IsToldBefore g.rank xs w.0.sub e) (list_is i l w.0.sub (region_owned w.0.sub (problem.constraint_regions w.0 w.1).1)) t) g.element w.3))
           old;
       heard = λ i j li lj differ g h. (filter_from _ (log_of logs j) g h).0;
     }
@@ -105,7 +105,7 @@ module _ (q : Problem) (c : Cut) (owner : ℕ → Owner) (sent got rest : ℕ �
           record {
             base = λ r e own b. subst (λ xs. IsTold xs r e) (list_is i l r (subst (λ n. n < c.owners) (sym own) l)) (f.base r e own b);
             each = λ k there own e h. subst (λ xs. IsTold xs k.sup e) (list_is i l k.sup (subst (λ n. n < c.owners) (sym own) l))
-                (f.each k there own e (reaches_weaker q.graph _ k.at _ (λ x t. subst (λ xs. IsTold xs k.sub x) (sym (list_is i l k.sub (region_owned k.sub (problem.constraint_regions k there).1))) t) e h));
+                (f.each k there own e (asked_weaker q.graph _ k.at _ (λ x t. subst (λ xs. IsTold xs k.sub x) (sym (list_is i l k.sub (region_owned k.sub (problem.constraint_regions k there).1))) t) e h));
           };
       told = λ i j li lj differ. refl;
     }

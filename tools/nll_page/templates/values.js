@@ -38,7 +38,10 @@ const returns = new Set(data.returns);
 const before = data.next.map(() => []);
 data.next.forEach((following, point) => following.forEach((next) => before[next].push(point)));
 
-// Of the region's constraints one that asks for the element, with a shortest walk.
+// Stands in place of a point where a constraint holds at all points.
+const ALL = -1;
+
+// Of the region's constraints one that asks for the element, with a shortest walk; none at all points.
 function reason(region, element) {
   const own = data.constraints.filter(([sup]) => sup === region);
   let best = null;
@@ -46,6 +49,7 @@ function reason(region, element) {
     if (!holds(sub, element)) continue;
     const onward = waysTo(element, setOf("holds", sub));
     for (const [, other, at] of own) {
+      if (other === sub && at === ALL) return { sub, at, walk: [element] };
       const way = other === sub ? onward.get(at) : undefined;
       if (way && (!best || way.length < best.length)) best = { sub, at, length: way.length, onward };
     }

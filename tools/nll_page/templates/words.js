@@ -37,7 +37,7 @@ function constraintsOf(region, label, own) {
     if (constraint[own] === region) addTo(byOther, constraint[1 - own], constraint[2]);
   }
   const pieces = [...byOther].map(([other, points]) => {
-    const isEverywhere = points.length === data.points;
+    const isEverywhere = points.includes(ALL) || points.length === data.points;
     const where = isEverywhere ? "everywhere " : `from ${spanWords(runs(points))} on `;
     return make("span", "", regionChip(other), make("span", "label", where));
   });
@@ -103,8 +103,10 @@ function bothWords(region, element, why) {
   else if (region < data.universals && isOwn) {
     words.push(name, " holds ", it, ", since the signature names it.");
   } else if (why) {
-    words.push(name, " holds ", it, `: from point ${why.at} on it must hold what is reached inside `,
-      code(regionName(why.sub)), ...wayWords(why));
+    words.push(name, " holds ", it, ...(why.at === ALL
+      ? [": at all points it must hold what ", code(regionName(why.sub)), " holds."]
+      : [`: from point ${why.at} on it must hold what is reached inside `, code(regionName(why.sub)),
+        ...wayWords(why)]));
   }
   return make("section", "both", make("p", "", ...words));
 }

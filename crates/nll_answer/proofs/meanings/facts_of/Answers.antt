@@ -1,5 +1,4 @@
-use Rattle.nll_reading.specs.Text.{IsFault}
-use Rattle.nll_facts.specs.FactsText.{facts}
+use Rattle.nll_facts.specs.FactsText.{IsFactsFault}
 use Rattle.nll_answer.proofs.MeaningLemmas.{told_err, told_ok}
 use Rattle.nll_answer.proofs.meanings.facts_of.Goals as goal
 
@@ -8,4 +7,4 @@ returns-clause-ok c = told_ok _ c.read_facts.result c.told.result c.told.ensures
 
 pub returns-clause-err : goal.returns-clause-err
 returns-clause-err c =
-    told_err (IsFault facts c.args.text.now) c.read_facts.result c.told.result c.told.ensures.ok c.told.ensures.err c.read_facts.ensures.fault
+    told_err (IsFactsFault c.args.text.now) c.read_facts.result c.told.result c.told.ensures.ok c.told.ensures.err c.read_facts.ensures.fault

@@ -10,8 +10,8 @@ use Rattle.nll_body_problem.proofs.constraints.add_pair.Goals as goal
 pub loop-point-init : goal.loop-point-init
 loop-point-init c = pair_none c.args.pair c.args.builder.now
 
-pub add_constraint-requires-clause-point : goal.add_constraint-requires-clause-point
-add_constraint-requires-clause-point c =
+pub add_constraint-requires-clause-at : goal.add_constraint-requires-clause-at
+add_constraint-requires-clause-at c =
     let p = slice_index_or c.args.points.now c.loop-point.point-index 0 in
     subst (λ (n : ℕ). p < n) (sym (ap (λ (q : Problem). q.graph.points) c.loop-point.invariant.others)) (c.requires.points p (Contains-get_or c.args.points.now c.loop-point.point-index 0 c.loop-point-test.true))
 

@@ -1,20 +1,41 @@
-use Rattle.nll_core.proofs.FrontierLemmas.{resumed, resumed_ends, lists_resumed, lists_resumed_ends}
+use Rattle.std.proofs.Common.{List, [], sym, subst, ◌∙◌, arith}
+use Rattle.std.proofs.lemmas.Bool.{false≢true}
+use Rattle.std.proofs.lemmas.Result.{on_ok_weaker}
+use Rattle.nll_problem.specs.declared.at.At.{At}
+use Rattle.nll_core.specs.Frontiers.{GoesOn}
+use Rattle.nll_core.proofs.SearchLemmas.{flag_within}
+use Rattle.nll_core.proofs.ListingLemmas.{lists_none}
+use Rattle.nll_core.proofs.FrontierLemmas.{asked_walks, goes_by_walks, goes_nowhere, goes_whole, points_among}
 use Rattle.nll_core.proofs.resuming.resume.Goals as goal
 
-pub returns-then-not-is_ended-clause-after : goal.returns-then-not-is_ended-clause-after
-returns-then-not-is_ended-clause-after c =
-    let none = c.is_ended.ensures.none c.if-not-is_ended.true in
-    resumed c.args.lines.now c.args.seen.now c.args.starts.now c.args.run c.args.reached.now c.requires.before c.points-points.ensures.sound c.requires.starts c.resume_points.new.reached c.args.found.now.items c.resume_points.new.found.items c.in_ok-ended.ended c.in_ok-ended.ensures
-    none.0 none.1
+pub take-requires-clause-below : goal.take-requires-clause-below
+take-requires-clause-below c = omega (arith, flag_within c.args.seen.now _ (c.requires.run c.args.run.last (c.requires.proper, omega arith)), c.requires.seen_width, c.requires.width)
 
-pub returns-then-not-is_ended-clause-found : goal.returns-then-not-is_ended-clause-found
-returns-then-not-is_ended-clause-found c = lists_resumed c.args.lines.now c.args.seen.now c.args.starts.now c.args.run c.args.reached.now c.requires.before c.points-points.ensures.sound c.requires.starts c.resume_points.new.reached c.args.found.now.items c.resume_points.new.found.items c.in_ok-ended.ended c.in_ok-ended.ensures
-    c.requires.none
+pub returns-then-has_all-clause-width : goal.returns-then-has_all-clause-width
+returns-then-has_all-clause-width c = on_ok_weaker c.take.result (λ f. f.width) c.take.ensures.fills
 
-pub returns-clause-after : goal.returns-clause-after
-returns-clause-after c = resumed_ends c.args.lines.now c.args.seen.now c.args.starts.now c.args.run c.args.reached.now c.requires.before c.points-points.ensures.sound c.requires.starts c.resume_points.new.reached c.args.found.now.items c.resume_points.new.found.items c.in_ok-ended.ended c.in_ok-ended.ensures
-    c.fill_from.new.reached c.points-points.result c.points-points.ensures.value c.requires.seen_width (c.is_ended.ensures.some c.if-not-is_ended.false) c.in_ok-fill_from.ensures.fills
+pub returns-then-has_all-clause-after : goal.returns-then-has_all-clause-after
+returns-then-has_all-clause-after c = on_ok_weaker c.take.result
+    (goes_whole c.args.lines.now c.args.seen.now c.args.run c.args.starts.now c.args.reached.now c.take.new.reached (c.has_all.ensures.0 c.if-has_all.true) c.requires.run c.requires.before)
+    c.take.ensures.fills
 
-pub returns-clause-found : goal.returns-clause-found
-returns-clause-found c = lists_resumed_ends c.args.lines.now c.args.seen.now c.args.starts.now c.args.run c.args.reached.now c.requires.before c.points-points.ensures.sound c.requires.starts c.resume_points.new.reached c.args.found.now.items c.resume_points.new.found.items c.in_ok-ended.ended c.in_ok-ended.ensures
-    c.requires.none c.fill_from.new.reached c.points-points.result c.fill_from.new.list.items c.in_ok-fill_from.ensures.fills c.in_ok-fill_from.ensures.lists
+pub points-requires : goal.points-requires
+points-requires c = λ every. false≢true (sym c.if-has_all.false ∙ c.has_all.ensures.1 every)
+
+pub resume_walks-requires-clause-starts : goal.resume_walks-requires-clause-starts
+resume_walks-requires-clause-starts c = points_among c.args.lines.now.points c.in-Some.points.now (rw c.in-Some.ensures at c.requires.starts)
+
+pub resume_walks-requires-clause-before : goal.resume_walks-requires-clause-before
+resume_walks-requires-clause-before c = λ x h. asked_walks c.args.lines.now c.args.seen.now c.in-Some.points.now x (rw c.in-Some.ensures at (c.requires.before x h))
+
+pub returns-in-Some-clause-after : goal.returns-in-Some-clause-after
+returns-in-Some-clause-after c = on_ok_weaker c.resume_walks.result
+    (λ w. subst (λ (starts : List At). GoesOn c.args.lines.now c.args.seen.now c.args.run starts c.args.reached.now c.resume_walks.new.reached) (sym c.in-Some.ensures)
+    (goes_by_walks c.args.lines.now c.args.seen.now c.args.run c.in-Some.points.now c.args.reached.now c.resume_walks.new.reached w))
+    c.resume_walks.ensures.after
+
+pub returns-in-None-clause-after : goal.returns-in-None-clause-after
+returns-in-None-clause-after c = goes_nowhere c.args.lines.now c.args.seen.now c.args.run c.args.starts.now c.args.reached.now c.in-None.ensures c.requires.before
+
+pub returns-in-None-clause-found : goal.returns-in-None-clause-found
+returns-in-None-clause-found c = rw c.requires.none (lists_none c.args.reached.now [])

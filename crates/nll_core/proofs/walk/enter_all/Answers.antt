@@ -1,23 +1,20 @@
-use Rattle.std.proofs.Common.{◌<◌, get_or, subst, sym, ap, ◌∙◌, ⊎_elim, arith}
+use Rattle.std.proofs.Common.{subst, sym, ◌∙◌, ⊎_elim, arith}
 use Rattle.std.proofs.lemmas.Bool.{cases_lt, false≢true}
-use Rattle.std.proofs.lemmas.List.{get_or_default}
 use Rattle.nll_sets.specs.Runs.{IsRunFrom}
 use Rattle.nll_core.specs.Search.{IsIn}
-use Rattle.nll_core.specs.Walking.{no_constraint}
+use Rattle.nll_core.specs.Walking.{point_of}
 use Rattle.nll_problem.specs.declared.constraint.Constraint.{Constraint}
-use Rattle.nll_core.proofs.WalkingLemmas.{contained_at, each_contained, entering_more, entering_skip}
+use Rattle.nll_core.proofs.WalkingLemmas.{contained_at, each_contained, entering_more, entering_skip, point_below}
 use Rattle.nll_core.proofs.walk.enter_all.Goals as goal
 
 pub enter-requires-clause-point : goal.enter-requires-clause-point
 enter-requires-clause-point c =
-    let place = c.in-Some.found.place in
-    subst (λ (k : Constraint). k.at < c.args.lines.now.points) (sym (get_or_default c.args.pair.now place c.index-pair-found.result no_constraint c.in-Some.ensures.found.1))
-    (c.requires.points _ (contained_at c.args.pair.now place c.in-Some.ensures.found.1))
+    let here = c.requires.points _ (contained_at c.args.pair.now c.in-Some.found.place c.in-Some.ensures.found.1) in
+    omega (arith, c.point_at-point.ensures, point_below c.args.lines.now _ here)
 
 pub enter-requires-clause-inside : goal.enter-requires-clause-inside
 enter-requires-clause-inside c =
-    let is = ap (λ (k : Constraint). k.at) (get_or_default c.args.pair.now c.in-Some.found.place c.index-pair-found.result no_constraint c.in-Some.ensures.found.1) in
-    (omega (arith, is, c.in-Some.ensures.has.0), omega (arith, is, c.in-Some.ensures.has.1))
+    (omega (arith, c.point_at-point.ensures, c.in-Some.ensures.has.0), omega (arith, c.point_at-point.ensures, c.in-Some.ensures.has.1))
 
 pub loop-found-preserved : goal.loop-found-preserved
 loop-found-preserved c =
@@ -26,16 +23,15 @@ loop-found-preserved c =
     let pair = c.args.pair.now in
     let place = c.in-Some.found.place in
     let within = c.in-Some.ensures.found.1 in
-    let point = (get_or pair place c.index-pair-found.result).at in
-    let is = ap (λ (k : Constraint). k.at) (get_or_default pair place c.index-pair-found.result no_constraint within) in
+    let is = c.point_at-point.ensures in
     let from = subst (λ p. IsRunFrom sub p c.in-Some.found.run) (sym is) c.in-Some.ensures.run in
-    entering_more graph sub pair _ _ _ _ _ _ place point c.in_ok-next.next c.place_from-place.result c.requires.ascending is within
+    entering_more graph sub pair _ _ _ _ _ _ place c.point_at-point.result c.in_ok-next.next c.place_from-place.result c.requires.ascending is within
     (entering_skip graph sub pair _ _ _ _ c.loop-found.place place (omega (arith, within)) c.in-Some.ensures.before c.loop-found.invariant)
     (c.in_ok-next.ensures.grows sub from) (λ x a b _. c.in_ok-next.ensures.settled sub from c.loop-found.invariant.closed x a b) (λ _. c.in_ok-next.ensures.covers)
     c.place_from-place.ensures.bound c.place_from-place.ensures.before
 
 pub returns-clause-covers : goal.returns-clause-covers
-returns-clause-covers c = each_contained (λ (k : Constraint). IsIn c.args.sub.now k.at → IsIn c.loop-found.reached k.at) c.args.pair.now (λ k l s. ⊎_elim
+returns-clause-covers c = each_contained (λ (k : Constraint). IsIn c.args.sub.now (point_of k) → IsIn c.loop-found.reached (point_of k)) c.args.pair.now (λ k l s. ⊎_elim
     (λ front. c.loop-found.invariant.covers k front s)
     (λ past. absurd (false≢true (sym (c.in_default.ensures.none k past l) ∙ s)))
     (cases_lt k c.loop-found.place))

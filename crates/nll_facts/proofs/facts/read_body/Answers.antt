@@ -9,6 +9,7 @@ pub returns-clause-ok : goal.returns-clause-ok
 returns-clause-ok c = λ text headed.
     let read = c.in_default.ensures.read in
     record {
+      version = c.args.version;
       forms = read.0;
       fits = record { body = lines_left c.args.body; headed = headed; fine = read.1; ended = ended read.0 (read.2.reached ∙ c.in_default.ensures.ended) };
       same_problem = same_problem_chain _ _ _ read.2.problem c.finish-problem.ensures.problem;

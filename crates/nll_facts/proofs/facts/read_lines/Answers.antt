@@ -9,19 +9,19 @@ use Rattle.nll_facts.specs.FactsText.{facts}
 use Rattle.nll_facts.proofs.facts.read_lines.Goals as goal
 
 pub loop-rest-init : goal.loop-rest-init
-loop-rest-init c = record { ready = c.requires.ready; read = ([], [], read_none _ _ c.requires.start) }
+loop-rest-init c = record { ready = c.requires.ready; read = ([], [], read_none c.args.version _ _ c.requires.start) }
 
 pub overflow_add-number : goal.overflow_add-number
-overflow_add-number c = let r = c.loop-rest.invariant.read.2 in omega (arith, read_bound _ _ _ _ _ _ r, c.requires.long)
+overflow_add-number c = let r = c.loop-rest.invariant.read.2 in omega (arith, read_bound c.args.version _ _ _ _ _ _ r, c.requires.long)
 
 pub returns-in-Err-clause-fault : goal.returns-in-Err-clause-fault
 returns-in-Err-clause-fault c = λ text headed.
     let r = c.loop-rest.invariant.read.2 in
     let next = ap lines_left c.in-Some.is ∙ c.next_line.ensures in
-    body_refused facts text _ _ headed (⊎_elim inl
+    body_refused (facts c.args.version) text _ _ headed (⊎_elim inl
     (λ told. ⊎_elim
     (λ memory. absurd (told.1 memory))
-    (λ wrong. rw told.0 (inr (omega (arith, r.place), read_fault _ _ _ _ _ _ _ _ next r c.in-Err.kind wrong)))
+    (λ wrong. rw told.0 (inr (omega (arith, r.place), read_fault c.args.version _ _ _ _ _ _ _ _ next r c.in-Err.kind wrong)))
     c.in-Err.ensures.fault)
     c.at.ensures.fault)
 
@@ -32,20 +32,20 @@ pub loop-rest-preserved : goal.loop-rest-preserved
 loop-rest-preserved c =
     let r = c.loop-rest.invariant.read.2 in
     let next = ap lines_left c.in-Some.is ∙ c.next_line.ensures in
-    let more = read_more _ _ _ _ _ _ _ _ _ next r c.in_default-read_line.ensures.ok in
+    let more = read_more c.args.version _ _ _ _ _ _ _ _ _ next r c.in_default-read_line.ensures.ok in
     record { ready = c.in_default-read_line.ensures.ready; read = (c.loop-rest.invariant.read.0 ++ c.next_line.result.0.now ∷ [], more.0, more.1) }
 
 pub returns-then-not-has_ended-clause-fault : goal.returns-then-not-has_ended-clause-fault
 returns-then-not-has_ended-clause-fault c = λ text headed.
-    let done = read_all _ _ _ _ _ (rw (ap lines_left c.in_default.is) at c.loop-rest.invariant.read.2) in
+    let done = read_all c.args.version _ _ _ _ _ (rw (ap lines_left c.in_default.is) at c.loop-rest.invariant.read.2) in
     let last : length (lines_of text) ≡ c.loop-rest.number = omega (arith, ap length headed.cut.cut, done.2) in
-    inr (subst (λ n. IsFault facts text n End) last
+    inr (subst (λ n. IsFault (facts c.args.version) text n End) last
     (no_end _ _ headed done.0
     (not_ended _ (λ h. false≢true (sym c.if-not-has_ended.true ∙ c.has_ended.ensures.1 (sym done.1.reached ∙ h))))))
 
 pub returns-clause-read : goal.returns-clause-read
 returns-clause-read c =
-    let done = read_all _ _ _ _ _ (rw (ap lines_left c.in_default.is) at c.loop-rest.invariant.read.2) in
+    let done = read_all c.args.version _ _ _ _ _ (rw (ap lines_left c.in_default.is) at c.loop-rest.invariant.read.2) in
     (c.loop-rest.invariant.read.1, done.0, done.1)
 
 pub returns-clause-ready : goal.returns-clause-ready

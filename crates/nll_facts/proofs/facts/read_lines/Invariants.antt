@@ -8,7 +8,7 @@ use Rattle.nll_facts.proofs.facts.read_lines.Given as goal
 abbrev pub invariant-loop-rest : goal.invariant-loop-rest
 invariant-loop-rest l = record {
   ready : IsReady l.reader;
-  read : (front : List (List ℕ)) × (forms : List Form) × IsRead (lines_left l.fn.body) front (lines_left l.rest) forms (said_by l.reader) l.number;
+  read : (front : List (List ℕ)) × (forms : List Form) × IsRead l.version (lines_left l.fn.body) front (lines_left l.rest) forms (said_by l.reader) l.number;
 }
 
 abbrev pub decreases-loop-rest : goal.decreases-loop-rest

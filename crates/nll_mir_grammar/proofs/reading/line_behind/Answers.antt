@@ -9,6 +9,9 @@ returns-in-Outlives c = rw c.in-Outlives.is c.outlives_line.ensures
 pub returns-in-Region : goal.returns-in-Region
 returns-in-Region c = rw c.in-Region.is c.region_line.ensures
 
+pub returns-in-Assert : goal.returns-in-Assert
+returns-in-Assert c = rw c.in-Assert.is c.assert_line.ensures
+
 pub returns-in-Blocks : goal.returns-in-Blocks
 returns-in-Blocks c = rw c.in-Blocks.is c.blocks_line.ensures
 

@@ -20,6 +20,12 @@ returns-in-Region-clause-taken c = rw c.in-Region.is c.add_region.ensures.taken
 pub returns-in-Region-clause-refused : goal.returns-in-Region-clause-refused
 returns-in-Region-clause-refused c = rw c.in-Region.is c.add_region.ensures.refused
 
+pub returns-in-Assert-clause-taken : goal.returns-in-Assert-clause-taken
+returns-in-Assert-clause-taken c = rw c.in-Assert.is c.add_assert.ensures.taken
+
+pub returns-in-Assert-clause-refused : goal.returns-in-Assert-clause-refused
+returns-in-Assert-clause-refused c = rw c.in-Assert.is c.add_assert.ensures.refused
+
 pub returns-in-Let-clause-taken : goal.returns-in-Let-clause-taken
 returns-in-Let-clause-taken c = rw c.in-Let.is c.add_variable-taken.ensures.taken
 

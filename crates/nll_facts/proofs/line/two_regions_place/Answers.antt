@@ -1,6 +1,6 @@
 use Rattle.nll_reading.specs.Parts as parts
 use Rattle.nll_reading.proofs.PartLemmas.{no_region_first, spells_more, spells_rest}
-use Rattle.nll_reading.proofs.arguments.two_regions_number.Goals as goal
+use Rattle.nll_facts.proofs.line.two_regions_place.Goals as goal
 
 pub returns-in_err-first : goal.returns-in_err-first
 returns-in_err-first c = rw c.from_residual.ensures (λ n h. no_region_first _ n.0 _ c.in_err-first.ensures h)

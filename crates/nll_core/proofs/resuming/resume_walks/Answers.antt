@@ -1,0 +1,20 @@
+use Rattle.nll_core.proofs.FrontierLemmas.{resumed, resumed_ends, lists_resumed, lists_resumed_ends}
+use Rattle.nll_core.proofs.resuming.resume_walks.Goals as goal
+
+pub returns-then-not-is_ended-clause-after : goal.returns-then-not-is_ended-clause-after
+returns-then-not-is_ended-clause-after c =
+    let none = c.is_ended.ensures.none c.if-not-is_ended.true in
+    resumed c.args.lines.now c.args.seen.now c.args.starts.now c.args.run c.args.reached.now c.requires.before c.points-points.ensures.sound c.requires.starts c.resume_points.new.reached c.args.found.now.items c.resume_points.new.found.items c.in_ok-ended.ended c.in_ok-ended.ensures
+    none.0 none.1
+
+pub returns-then-not-is_ended-clause-found : goal.returns-then-not-is_ended-clause-found
+returns-then-not-is_ended-clause-found c = lists_resumed c.args.lines.now c.args.seen.now c.args.starts.now c.args.run c.args.reached.now c.requires.before c.points-points.ensures.sound c.requires.starts c.resume_points.new.reached c.args.found.now.items c.resume_points.new.found.items c.in_ok-ended.ended c.in_ok-ended.ensures
+    c.requires.none
+
+pub returns-clause-after : goal.returns-clause-after
+returns-clause-after c = resumed_ends c.args.lines.now c.args.seen.now c.args.starts.now c.args.run c.args.reached.now c.requires.before c.points-points.ensures.sound c.requires.starts c.resume_points.new.reached c.args.found.now.items c.resume_points.new.found.items c.in_ok-ended.ended c.in_ok-ended.ensures
+    c.fill_from.new.reached c.points-points.result c.points-points.ensures.value c.requires.seen_width (c.is_ended.ensures.some c.if-not-is_ended.false) c.in_ok-fill_from.ensures.fills
+
+pub returns-clause-found : goal.returns-clause-found
+returns-clause-found c = lists_resumed_ends c.args.lines.now c.args.seen.now c.args.starts.now c.args.run c.args.reached.now c.requires.before c.points-points.ensures.sound c.requires.starts c.resume_points.new.reached c.args.found.now.items c.resume_points.new.found.items c.in_ok-ended.ended c.in_ok-ended.ensures
+    c.requires.none c.fill_from.new.reached c.points-points.result c.fill_from.new.list.items c.in_ok-fill_from.ensures.fills c.in_ok-fill_from.ensures.lists

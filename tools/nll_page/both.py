@@ -1,0 +1,107 @@
+"""Two answers side by side: each constraint from its point on, and each of them at all points.
+
+rustc's own solver takes a constraint to hold at all points. What the points buy is what stands in the second
+answer alone.
+"""
+
+import re
+
+from . import telling, words
+from .escaping import sentence, text
+
+CONSTRAINT = re.compile(rb"[ \t\r]*constraint[ \t\r]*('\w+)[ \t\r]*('\w+)[ \t\r]+\w+[ \t\r]*")
+MOST_REGIONS = 200  # of more regions whose values differ the first are shown
+
+
+def at_all_points(data):
+    """The text with each pair of regions of its constraints once, at all points."""
+    header, *lines = data.split(b"\n")
+    kept, seen = [b"nll-facts 2" if header.split()[:1] == [b"nll-facts"] else header], set()
+    for line in lines:
+        found = CONSTRAINT.fullmatch(line)
+        if not found:
+            kept.append(line)
+        elif found.groups() not in seen:
+            seen.add(found.groups())
+            kept.append(b"constraint %s %s all" % found.groups())
+    return b"\n".join(kept)
+
+
+def counted(content):
+    """How many faults and loan errors an answer has, in words."""
+    counts = [words.plural(len(found), noun)
+              for found, noun in ((content.faults, "fault"), (content.loans, "loan error")) if found]
+    return ", ".join(counts) or "no fault"
+
+
+def mark(told):
+    """By what a fault is known again in the other answer."""
+    return told.place and told.place[:2], told.code, words.plain(told.head)
+
+
+def alone(content):
+    """The faults and loan errors that stand in one of the two answers alone: in the first, in the second."""
+    first, second = telling.all_of(content), telling.all_of(content.everywhere)
+    known, others = {mark(one) for one in first}, {mark(one) for one in second}
+    return ([one for one in first if mark(one) not in others],
+            [one for one in second if mark(one) not in known])
+
+
+def value_words(facts, elements):
+    """The elements of a value, points by runs."""
+    points = [e for e in elements if e < facts.points]
+    runs = [facts.point_name(a) if a == b else f"{facts.point_name(a)} to {facts.point_name(b)}"
+            for a, b in words.spans(points)]
+    ends = [f"end('{facts.names[e - facts.points]})" for e in elements if e >= facts.points]
+    return ", ".join([*runs, *ends]) or "nothing"
+
+
+def differing(content):
+    """The regions that don't hold the same in both answers."""
+    first, second = content.values, content.everywhere.values
+    return [region for region in range(len(content.facts.names))
+            if first.elements(region) != second.elements(region)]
+
+
+def both(content):
+    """The part of the page; nothing where there is no second answer."""
+    if content.everywhere is None:
+        return ""
+    rows = [row("answer", text(counted(content)), text(counted(content.everywhere)))]
+    only_first, only_second = alone(content)
+    rows += [row(place_of(one), sentence(one.head), "–") for one in only_first]
+    rows += [row(place_of(one), "–", sentence(one.head)) for one in only_second]
+    regions = differing(content)
+    rows += [region_row(content, region) for region in regions[:MOST_REGIONS]]
+    more = f"<p>{len(regions) - MOST_REGIONS:,} more regions differ.</p>" if len(regions) > MOST_REGIONS else ""
+    same = "" if regions else "<p>Each region holds the same in both.</p>"
+    return ('<section class="answers" aria-label="Both answers"><h2>From points on, and at all points</h2>'
+            "<p>On the left each constraint holds from a point on. On the right each one holds at all points, as "
+            "rustc’s own solver takes them. What the points buy is what stands on the right alone.</p>"
+            '<table><thead><tr><td></td><th scope="col">from points on</th><th scope="col">at all points</th></tr>'
+            f'</thead><tbody>{"".join(rows)}</tbody></table>{same}{more}</section>')
+
+
+def row(name, left, right):
+    return f'<tr><th scope="row">{name}</th><td>{left}</td><td>{right}</td></tr>'
+
+
+def place_of(told):
+    return f"line {told.place.line}" if told.place else "fault"
+
+
+def region_row(content, region):
+    facts = content.facts
+    return row(sentence([words.tick(facts, region)]),
+               text(value_words(facts, content.values.elements(region))),
+               text(value_words(facts, content.everywhere.values.elements(region))))
+
+
+def lines(content):
+    """For a terminal: how the second answer differs from the first; no line where it doesn't."""
+    only_first, only_second = alone(content)
+    if not only_first and not only_second:
+        return
+    yield f"with each constraint at all points: {counted(content.everywhere)}, in place of {counted(content)}"
+    for one in only_second:
+        yield from (f"    {line}" for line in telling.lines(content.everywhere, one))

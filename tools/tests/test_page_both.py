@@ -1,0 +1,129 @@
+"""Constraints at all points in texts and on pages, and both answers side by side."""
+
+import unittest
+import unittest.mock
+
+from page_support import EXAMPLES, Folder, file_bytes, random_text, reference, solved, text
+from quick_solver import quick_values
+
+from nll_page import both, nllc
+from nll_page.chains import chain, check
+from nll_page.command import explained
+from nll_page.facts import ALL, read_facts
+from nll_page.faults import faults
+from nll_page.page import Content, page
+from nll_page.refusal import Refusal
+from nll_page.words import plain, step_brief, step_sentence
+
+
+def second(points, *lines):
+    return text(points, *lines).replace(b"nll-facts 1", b"nll-facts 2", 1)
+
+
+def content_of(data):
+    facts, values = solved(data)
+    found = explained(facts, values, faults(facts, values), "nllc")
+    return Content(facts, values, found, "TEXT", None, "nllc.sh", nllc.PROVED)
+
+
+def with_both(data):
+    return content_of(data)._replace(everywhere=content_of(both.at_all_points(data)))
+
+
+class Reading(unittest.TestCase):
+    def test_all_points(self):
+        facts = read_facts(second(2, "region 'all", "constraint 'all 'static all", "constraint'all'static\t1",
+                                  "constraint 'all 'static all"), "TEXT")
+        self.assertEqual(facts.constraints, [(1, 0, ALL), (1, 0, 1)])
+        self.assertEqual([facts.place_name(c.at) for c in facts.constraints], ["all", "1"])
+
+    def test_no_line_of_version_1(self):
+        with self.assertRaisesRegex(Refusal, "line 3"):
+            read_facts(text(1, "constraint 'static 'static all"), "TEXT")
+
+    def test_nowhere_else(self):
+        for line in ["base 'static all", "return all", "next 0 all", "constraint 'static 'static all 0",
+                     "constraint 'static 'static 'all", "constraint 'static all"]:
+            with self.subTest(line=line), self.assertRaisesRegex(Refusal, "line 3"):
+                read_facts(second(1, line), "TEXT")
+
+
+class Chains(unittest.TestCase):
+    def test_without_a_walk(self):
+        facts, values = solved(second(2, "universal 'a", "universal 'b", "next 0 1", "next 1 0",
+                                      "constraint 'a 'b all"))
+        steps = chain(facts, values, 1, 2)
+        self.assertEqual(steps, [((1, 2, ALL), [])])
+        check(facts, values, 1, 2, steps)
+        self.assertEqual(plain(step_sentence(facts, steps[0], 2)),
+                         "At every point `'a` must outlive `'b`: `'a` must hold all that `'b` holds, wherever "
+                         "that is, and so `end('b)`.")
+        self.assertEqual(plain(step_brief(facts, steps[0])), "to `'a`: at every point `'a` must outlive `'b`")
+
+    def test_random_texts(self):
+        for seed in range(60):
+            data = both.at_all_points(random_text(seed))
+            facts, values = solved(data)
+            self.assertEqual(quick_values(facts).rows, values.rows)
+            for fault in explained(facts, values, faults(facts, values), "nllc"):
+                check(facts, values, fault.sup, fault.sub, fault.steps)
+
+
+class Both(unittest.TestCase):
+    def test_the_second_text(self):
+        self.assertEqual(
+            both.at_all_points(b"nll-facts 1\npoints 2\n# constraint\nregion 'x\nconstraint 'x 'x 0\n"
+                               b"constraint'x'x 1\n\tconstraint 'static 'x 1 \nend\n"),
+            b"nll-facts 2\npoints 2\n# constraint\nregion 'x\nconstraint 'x 'x all\n"
+            b"constraint 'static 'x all\nend\n")
+
+    def test_what_it_says(self):
+        for seed in range(60):
+            data = random_text(seed)
+            said = reference.said_in(both.at_all_points(data))
+            first = reference.said_in(data)
+            self.assertEqual(said.constraints, {(a, b, ALL) for a, b, _ in first.constraints})
+            self.assertEqual((said.edges, said.bases), (first.edges, first.bases))
+
+    def test_a_fault_in_the_second_alone(self):
+        content = with_both(file_bytes(EXAMPLES, "overwritten.facts"))
+        self.assertEqual(both.counted(content), "no fault")
+        self.assertEqual(both.counted(content.everywhere), "1 fault")
+        self.assertEqual([content.facts.names[r] for r in both.differing(content)], ["a", "p"])
+        told = list(both.lines(content))
+        self.assertEqual(told[0], "with each constraint at all points: 1 fault, in place of no fault")
+        made = page(content)
+        self.assertIn('<section class="answers"', made)
+        self.assertIn("<td>1, 3 to 4, end(&#x27;static)</td><td>0 to 4, end(&#x27;static)</td>", made)
+
+    def test_both_the_same(self):
+        content = with_both(text(1, "universal 'a", "return 0", "constraint 'static 'a 0"))
+        self.assertEqual(list(both.lines(content)), [])
+        self.assertIn("Each region holds the same in both.", both.both(content))
+
+    def test_no_second_answer(self):
+        content = content_of(text(1, "return 0"))
+        self.assertEqual(both.both(content), "")
+        self.assertNotIn('class="answers"', page(content))
+
+    def test_examples_at_all_points(self):
+        for name in ("running", "overwritten"):
+            first = read_facts(both.at_all_points(file_bytes(EXAMPLES, f"{name}.facts")), "TEXT")
+            other = read_facts(file_bytes(EXAMPLES, f"{name}_everywhere.facts"), "TEXT")
+            self.assertEqual(first.constraints, other.constraints)
+
+
+class Command(Folder):
+    def test_answered(self):
+        from nll_page import command
+        path = self.write("overwritten.facts", file_bytes(EXAMPLES, "overwritten.facts"))
+        self.enterContext(unittest.mock.patch.dict("os.environ", {"NLLC": self.path("nllc")}))
+        said = command.answered(path, False, everywhere=True)
+        self.assertEqual(said["faults"], 0)
+        self.assertEqual(said["everywhere"][0],
+                         "with each constraint at all points: 1 fault, in place of no fault")
+        self.assertEqual(command.answered(path, False)["everywhere"], [])
+
+
+if __name__ == "__main__":
+    unittest.main()
