@@ -20,8 +20,8 @@ SAMPLES = os.path.join(HERE, "page_samples")
 EXAMPLES = os.path.join(ROOT, "examples")
 
 
-def text(points, *lines):
-    return "\n".join(["nll-facts 1", f"points {points}", *lines, "end", ""]).encode()
+def text(points, *lines, version=1):
+    return "\n".join([f"nll-facts {version}", f"points {points}", *lines, "end", ""]).encode()
 
 
 def facts_of(points, *lines):
@@ -41,8 +41,10 @@ def file_bytes(*path):
         return file.read()
 
 
-def random_text(seed):
-    """A small problem with loops, several returns and named lifetimes; many of them have faults."""
+def random_text(seed, places=()):
+    """A small problem with loops, several returns and named lifetimes; many of them have faults.
+    Beside the points, its constraints hold at these places.
+    """
     draw = random.Random(seed)
     points = draw.randint(1, 9)
     universals = [f"u{n}" for n in range(draw.randint(1, 3))]
@@ -57,9 +59,10 @@ def random_text(seed):
               for _ in range(draw.randint(0, 4))]
     lines += [f"return {draw.randrange(points)}" for _ in range(draw.randint(1, 2))]
     lines += [f"base '{name} {p}" for name in regions for p in range(points) if draw.random() < 0.6]
-    lines += [f"constraint '{draw.choice(names)} '{draw.choice(names)} {draw.randrange(points)}"
+    places = [*range(points), *places]
+    lines += [f"constraint '{draw.choice(names)} '{draw.choice(names)} {draw.choice(places)}"
               for _ in range(draw.randint(1, 9))]
-    return text(points, *lines)
+    return text(points, *lines, version=2)
 
 
 class Folder(unittest.TestCase):

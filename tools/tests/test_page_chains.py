@@ -7,6 +7,7 @@ import unittest
 from page_support import EXAMPLES, SAMPLES, file_bytes, random_text, reference, solved
 
 from nll_page import chains
+from nll_page.facts import ALL
 from nll_page.faults import faults
 
 
@@ -15,7 +16,10 @@ def cost(steps):
 
 
 def walks(facts, inside, at):
-    """All walks without a point twice from a point to a return point, inside a set."""
+    """All walks without a point twice from a point to a return point, inside a set; the empty one at
+    all points."""
+    if at == ALL:
+        yield []
     todo = [[at]] if at in inside else []
     while todo:
         walk = todo.pop()
@@ -58,10 +62,11 @@ class Chains(unittest.TestCase):
             larger, smaller = names[constraint.sup], names[constraint.sub]
             self.assertEqual(constraint.sub, holder)
             self.assertIn((larger, smaller, constraint.at), said.constraints)
-            self.assertEqual(walk[0], constraint.at)
+            self.assertEqual(walk[:1], [] if constraint.at == ALL else [constraint.at])
             for pair in zip(walk, walk[1:]):
                 self.assertIn(pair, said.edges)
-            self.assertIn(walk[-1], said.returns)
+            for last in walk[-1:]:
+                self.assertIn(last, said.returns)
             for element in [*walk, end]:
                 self.assertIn(element, values[smaller])
                 self.assertIn(element, values[larger])
@@ -71,7 +76,7 @@ class Chains(unittest.TestCase):
     def test_each_fault_of_random_problems(self):
         seen = 0
         for seed in range(600):
-            data = random_text(seed)
+            data = random_text(seed, ["all"] * (seed % 3))
             facts, values = solved(data)
             for sup, sub in faults(facts, values):
                 seen += 1
@@ -84,7 +89,7 @@ class Chains(unittest.TestCase):
 
     def test_faults_are_those_of_the_reference(self):
         for seed in range(600):
-            data = random_text(seed)
+            data = random_text(seed, ["all"] * (seed % 3))
             facts, values = solved(data)
             lines = [f"fault '{facts.names[a]} must outlive '{facts.names[b]}\n"
                      for a, b in faults(facts, values)]

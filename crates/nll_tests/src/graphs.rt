@@ -107,6 +107,34 @@ const GRAPHS: &[Row] = &[
         "0 to [2, 1] from [] and out|1 to [] from [0]|2 to [2] from [0, 2] and out|out [2, 0]|",
     ),
     (
+        "edges from a point that has more than are searched one by one, behind those of another",
+        Asked::Graph(
+            (12, 1),
+            &[
+                Next(0, 1),
+                Next(0, 2),
+                Next(0, 3),
+                Next(0, 4),
+                Next(0, 5),
+                Next(0, 6),
+                Next(0, 7),
+                Next(0, 8),
+                Next(0, 9),
+                Next(0, 10),
+                Next(1, 0),
+                Next(0, 1),
+                Next(0, 11),
+                Next(0, 2),
+                Next(0, 11),
+            ],
+            Then::Copied,
+        ),
+        "0 to [1, 2, 3, 4, 5, 6, 7, 8, 9, 10, 11] from [1]|1 to [0] from [0]|\
+         2 to [] from [0]|3 to [] from [0]|4 to [] from [0]|5 to [] from [0]|\
+         6 to [] from [0]|7 to [] from [0]|8 to [] from [0]|9 to [] from [0]|\
+         10 to [] from [0]|11 to [] from [0]|out []|",
+    ),
+    (
         "further calls, some of which are refused or say nothing new",
         Asked::Graph(
             (2, 3),

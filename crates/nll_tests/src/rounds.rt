@@ -72,12 +72,7 @@ fn apply(
 }
 
 // What a constraint that holds there asks for inside a set.
-fn asked_inside(
-    alloc: Global,
-    graph: &Graph,
-    set: &RunSet,
-    at: At,
-) -> Result<Vec<Element>, Memory>
+fn asked_inside(alloc: Global, graph: &Graph, set: &RunSet, at: At) -> Result<Vec<Element>, Memory>
     requires width { length set.now ≡ element_count graph.now }
     requires among { IsAmong graph.now.points at }
     ensures { IfOk result (λ found. (x : ℕ) → Contains found.items x

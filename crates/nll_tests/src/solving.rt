@@ -171,7 +171,11 @@ const ROWS: &[Row] = &[
     ),
     (
         "the end of 'b flows into 'a at all points, where nothing returns",
-        Made((2, 3), &[Next(0, 1), Next(1, 0), HoldsEverywhere(1, 2)], Values),
+        Made(
+            (2, 3),
+            &[Next(0, 1), Next(1, 0), HoldsEverywhere(1, 2)],
+            Values,
+        ),
         "0: 0 1 2|1: 0 1 3 4|2: 0 1 4|same|1 over 2|",
     ),
     (

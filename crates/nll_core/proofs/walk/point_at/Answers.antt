@@ -1,16 +1,20 @@
-use Rattle.std.proofs.Common.{ap, arith}
+use Rattle.std.proofs.Common.{◌≡◌, ℕ, ◌-◌, ◌<◌, List, length, get_or, ap, ◌∙◌, sym, arith}
 use Rattle.std.proofs.lemmas.List.{get_or_default}
 use Rattle.nll_problem.specs.At.{at_rank}
+use Rattle.nll_problem.specs.declared.at.At.{At}
+use Rattle.nll_problem.specs.declared.at.At.TheVariants.{All, Point}
 use Rattle.nll_problem.specs.declared.constraint.Constraint.{Constraint}
-use Rattle.nll_core.specs.Walking.{no_constraint}
+use Rattle.nll_core.specs.Walking.{constraint_at, no_constraint, point_of}
 use Rattle.nll_core.proofs.walk.point_at.Goals as goal
 
+-- the point of what stands at a place of the list, whatever would be read past its end
+point_read : (pair : List Constraint) (place : ℕ) (past : Constraint) (at : At) → place < length pair → (get_or pair place past).at ≡ at → point_of (constraint_at pair place) ≡ at_rank at - 1
+point_read pair place past at within is = ap point_of (get_or_default pair place no_constraint past within) ∙ ap (λ (a : At). at_rank a - 1) is
+
 pub returns-in-All : goal.returns-in-All
-returns-in-All c =
-    let read = ap (λ (k : Constraint). at_rank k.at) (get_or_default c.args.pair.now c.args.place c.index.result no_constraint c.requires) in
-    omega (arith, ap at_rank c.in-All.is, read)
+returns-in-All c = sym (point_read c.args.pair.now c.args.place _ All c.requires c.in-All.is)
 
 pub returns-in-Point : goal.returns-in-Point
 returns-in-Point c =
-    let read = ap (λ (k : Constraint). at_rank k.at) (get_or_default c.args.pair.now c.args.place c.index.result no_constraint c.requires) in
-    omega (arith, ap at_rank c.in-Point.is, read)
+    let read = point_read c.args.pair.now c.args.place _ (Point c.in-Point.point) c.requires c.in-Point.is in
+    omega (arith, read)

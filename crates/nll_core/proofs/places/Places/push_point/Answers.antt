@@ -5,10 +5,10 @@ use Rattle.nll_core.proofs.PlaceLemmas.{point_in, point_pushed}
 use Rattle.nll_core.proofs.places.Places.push_point.Goals as goal
 
 pub push-requires : goal.push-requires
-push-requires c = λ x h. (let before = rw (← c.self.view_is, c.in-Some.is) at c.requires in omega (arith, before (Point x) ((point_in c.self.inside.all c.in-Some.points.now x).1 h)))
+push-requires c = λ x h. (let before = rw (← c.self.view_is, c.in-Some.is) at c.requires in omega (arith, before (Point x) ((point_in c.self.inside.all c.in-Some.points x).1 h)))
 
 pub returns-in-Some-clause-ok : goal.returns-in-Some-clause-ok
-returns-in-Some-clause-ok c = rw (← c.self.view_is, c.in-Some.is) (point_pushed c.self.inside.all c.in-Some.points.now c.push.new.self c.args.point c.push.ensures.ok)
+returns-in-Some-clause-ok c = rw (← c.self.view_is, c.in-Some.is) (point_pushed c.self.inside.all c.in-Some.points c.push.new.self c.args.point c.push.ensures.ok)
 
 pub returns-in-None-clause-ok : goal.returns-in-None-clause-ok
 returns-in-None-clause-ok c = rw (← c.self.view_is, c.in-None.is) (point_pushed c.self.inside.all (listed c.self.inside.points) c.of.result c.args.point c.of.ensures)
