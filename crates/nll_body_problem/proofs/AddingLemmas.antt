@@ -195,30 +195,28 @@ made_is c pair p is at = ap (λ (x : ℕ × ℕ). at_point x p) (sym is) ∙ ap 
 is_made : (points : List ℕ) (pair : ℕ × ℕ) (p : ℕ) (c : Constraint) → Contains points p → at_point pair p ≡ c → IsOfPair points pair c
 is_made points pair p c there is = (
   ap (λ (d : Constraint). (d.sup, d.sub)) (sym is),
-  p,
-  there,
-  ap (λ (d : Constraint). d.at) (sym is),
+  (p, there, ap (λ (d : Constraint). d.at) (sym is)),
 )
 
 pub pair_none : (pair : ℕ × ℕ) (q : Problem) → AddsConstraints (IsOfPair [] pair) q q
-pair_none pair q = adds_none (IsOfPair [] pair) q (λ c h. nothing h.1 h.2)
+pair_none pair q = adds_none (IsOfPair [] pair) q (λ c h. nothing h.1.0 h.1.1)
 
 pub pair_more : (front : List ℕ) (p : ℕ) (pair : ℕ × ℕ) (old mid new : Problem) → AddsConstraints (IsOfPair front pair) old mid
     → AddsConstraints (λ c. at_point pair p ≡ c) mid new → AddsConstraints (IsOfPair (front ++ p ∷ []) pair) old new
 pair_more front p pair old mid new =
     adds_both (IsOfPair front pair) (λ c. at_point pair p ≡ c) (IsOfPair (front ++ p ∷ []) pair) old mid new (λ c. (
       λ h. ⊎_elim
-          (λ before. inl (h.0, h.1, before, h.3))
-          (λ (is : p ≡ h.1). inr (made_is c pair p h.0 (h.3 ∙ ap (λ (n : ℕ). Point n) (sym is))))
-          (Contains-push_cases front p h.1 h.2),
-      ⊎_elim (λ h. (h.0, h.1, Contains-append_left front (p ∷ []) h.1 h.2, h.3)) (λ is. is_made (front ++ p ∷ []) pair p c (Contains-push front p) is),
+          (λ before. inl (h.0, (h.1.0, before, h.1.2)))
+          (λ (is : p ≡ h.1.0). inr (made_is c pair p h.0 (h.1.2 ∙ ap (λ (n : ℕ). Point n) (sym is))))
+          (Contains-push_cases front p h.1.0 h.1.1),
+      ⊎_elim (λ h. (h.0, (h.1.0, Contains-append_left front (p ∷ []) h.1.0 h.1.1, h.1.2))) (λ is. is_made (front ++ p ∷ []) pair p c (Contains-push front p) is),
     ))
 
 pub pair_refused : (points : List ℕ) (k p : ℕ) (pair : ℕ × ℕ) (old mid : Problem) (e : BuildError) → AddsConstraints (IsOfPair (take k points) pair) old mid → Contains points p
     → IsRefused (λ c. at_point pair p ≡ c) mid e → IsRefused (IsOfPair points pair) old e
 pair_refused points k p pair old mid e before there =
     refused_after (IsOfPair (take k points) pair) (λ c. at_point pair p ≡ c) (IsOfPair points pair) old mid e before
-    (λ c h. (h.0, h.1, taken k points h.1 h.2, h.3)) (λ c is. is_made points pair p c there is)
+    (λ c h. (h.0, (h.1.0, taken k points h.1.0 h.1.1, h.1.2))) (λ c is. is_made points pair p c there is)
 
 pub pairs_none : (points : List ℕ) (q : Problem) → AddsConstraints (IsOfPairs points []) q q
 pairs_none points q = adds_none (IsOfPairs points []) q (λ c h. nothing (c.sup, c.sub) h.0)

@@ -46,12 +46,10 @@ pub asked_here : (body : BodyText) (p : ℕ) (i : Statement ℕ TypeTree) (next 
     → ((q : ℕ) → Contains next q ↔ GoesOn body p q) → ((x : ℕ × ℕ) → Contains asked x ↔ Asks body.structs body.variables i x)
     → (c : Constraint) → IsOfPairs next asked c ↔ IsAskedAt body p c
 asked_here body p i next asked at goes asks c = (
-  λ h. (i, at, (h.1, (goes h.1).0 h.2, h.3), (asks (c.sup, c.sub)).0 h.0),
+  λ h. (i, at, (h.1.0, (goes h.1.0).0 h.1.1, h.1.2), (asks (c.sup, c.sub)).0 h.0),
   λ h. (
     (asks (c.sup, c.sub)).1 (subst (λ (j : Statement ℕ TypeTree). Asks body.structs body.variables j (c.sup, c.sub)) (some_same h.0 i (sym h.1 ∙ at)) h.3),
-    h.2.0,
-    (goes h.2.0).1 h.2.1,
-    h.2.2,
+    (h.2.0, (goes h.2.0).1 h.2.1, h.2.2),
   ),
 )
 
@@ -107,8 +105,8 @@ asked_pairs body p i pairs at asks x = (
 pub known_here : (body : BodyText) (p : ℕ) (next : List ℕ) (pairs : List (ℕ × ℕ)) → ((q : ℕ) → Contains next q ↔ GoesOn body p q) → AreAskedAt body p pairs
     → (c : Constraint) → IsOfPairs next pairs c ↔ IsAskedAt body p c
 known_here body p next pairs goes asked c = (
-  λ h. let a = (asked (c.sup, c.sub)).0 h.0 in (a.0, a.1, (h.1, (goes h.1).0 h.2, h.3), a.2),
-  λ h. ((asked (c.sup, c.sub)).1 (h.0, h.1, h.3), h.2.0, (goes h.2.0).1 h.2.1, h.2.2),
+  λ h. let a = (asked (c.sup, c.sub)).0 h.0 in (a.0, a.1, (h.1.0, (goes h.1.0).0 h.1.1, h.1.2), a.2),
+  λ h. ((asked (c.sup, c.sub)).1 (h.0, h.1, h.3), (h.2.0, (goes h.2.0).1 h.2.1, h.2.2)),
 )
 
 -- what a statement that asks the same asks at another point is known here

@@ -11,17 +11,19 @@ abbrev as_places : List ℕ → List At
 as_places points = map (λ p. Point p) points
 
 -- a place is one of the points just where its number is
-in_places : (points : List ℕ) (p : ℕ) → Contains (as_places points) (Point p) ↔ Contains points p
-in_places [] p = (λ h. absurd (omega (arith, h.1)), λ h. absurd (omega (arith, h.1)))
-in_places (q ∷ points) p = (there, back)
-  where
-    there : Contains (Point q ∷ as_places points) (Point p) → Contains (q ∷ points) p
-    there (zero, within, is) = (zero, omega arith, omega (arith, ap at_rank is))
-    there (suc k, within, is) = let w = (in_places points p).0 (k, omega (arith, within), is) in (suc w.0, omega (arith, w.1), w.2)
+from_places : (points : List ℕ) (p : ℕ) → Contains (as_places points) (Point p) → Contains points p
+from_places [] p h = absurd (omega (arith, h.1))
+from_places (q ∷ points) p (zero, within, is) = (zero, omega arith, omega (arith, ap at_rank is))
+from_places (q ∷ points) p (suc k, within, is) =
+    let w = from_places points p (k, omega (arith, within), is) in
+    (suc w.0, omega (arith, w.1), w.2)
 
-    back : Contains (q ∷ points) p → Contains (Point q ∷ as_places points) (Point p)
-    back (zero, within, is) = (zero, omega arith, ap (λ r. Point r) is)
-    back (suc k, within, is) = let w = (in_places points p).1 (k, omega (arith, within), is) in (suc w.0, omega (arith, w.1), w.2)
+to_places : (points : List ℕ) (p : ℕ) → Contains points p → Contains (as_places points) (Point p)
+to_places [] p h = absurd (omega (arith, h.1))
+to_places (q ∷ points) p (zero, within, is) = (zero, omega arith, ap (λ r. Point r) is)
+to_places (q ∷ points) p (suc k, within, is) =
+    let w = to_places points p (k, omega (arith, within), is) in
+    (suc w.0, omega (arith, w.1), w.2)
 
 -- all points aren't among points
 pub no_all : (points : List ℕ) → Contains (places_of false points) All → ⊥
@@ -36,12 +38,12 @@ all_in false points = (λ h. absurd cc, λ h. absurd (no_all points h))
 
 -- a point is among places just where it is one of the points
 pub point_in : (all : Bool) (points : List ℕ) (p : ℕ) → Contains (places_of all points) (Point p) ↔ Contains points p
-point_in false points p = in_places points p
-point_in true points p = (there, λ h. let w = (in_places points p).1 h in (suc w.0, omega (arith, w.1), w.2))
+point_in false points p = (from_places points p, to_places points p)
+point_in true points p = (there, λ h. let w = to_places points p h in (suc w.0, omega (arith, w.1), w.2))
   where
     there : Contains (All ∷ as_places points) (Point p) → Contains points p
     there (zero, within, is) = absurd (omega (arith, ap at_rank is))
-    there (suc k, within, is) = (in_places points p).0 (k, omega (arith, within), is)
+    there (suc k, within, is) = from_places points p (k, omega (arith, within), is)
 
 -- a point behind the others
 pub point_pushed : (all : Bool) (old new : List ℕ) (p : ℕ) → new ≡ old ++ p ∷ [] → places_of all new ≡ places_of all old ++ Point p ∷ []

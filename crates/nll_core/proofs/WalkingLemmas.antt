@@ -527,8 +527,9 @@ rank_of : (place : At) → at_rank place ≤ 0 → place ≡ All
 rank_of All low = refl
 rank_of (Point p) low = absurd (omega (arith, low))
 
-pub first_everywhere : (pair : List Constraint) (first : Constraint) → PointsAscend pair → first ≡ get_or pair 0 first → 0 < length pair → (c : Constraint) → Contains pair c → c.at ≡ All → first.at ≡ All
-first_everywhere pair first ascending is some c (k, within, there) every =
-    let here : constraint_at pair 0 ≡ first = get_or_default pair 0 no_constraint first some ∙ sym is in
+pub first_everywhere : (pair : List Constraint) (past : Constraint) → PointsAscend pair → (c : Constraint) → Contains pair c → c.at ≡ All → (get_or pair 0 past).at ≡ All
+first_everywhere pair past ascending c (k, within, there) every =
+    let here : constraint_at pair 0 ≡ get_or pair 0 past = get_or_default pair 0 no_constraint past (omega (arith, within)) in
     let other : constraint_at pair k ≡ c = get_or_default pair k no_constraint c within ∙ there in
-    rank_of first.at (omega (arith, ascending 0 k (omega arith) within, ap (λ (d : Constraint). at_rank d.at) here, ap (λ (d : Constraint). at_rank d.at) other, ap at_rank every))
+    let low = ascending 0 k (omega arith) within in
+    rank_of _ (omega (arith, low, ap (λ (d : Constraint). at_rank d.at) here, ap (λ (d : Constraint). at_rank d.at) other, ap at_rank every))

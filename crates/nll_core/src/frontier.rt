@@ -23,9 +23,10 @@ use std::marker::Model;
 /// the worklist of a breadth-first search, which has that name too.)
 ///
 /// # Cost
-/// Where a constraint holds at all points, a call looks at the run alone. Else it looks at the jumps
-/// that land in the run, and goes on through what it newly reaches alone, by stretches of lines. Where the run has an end, it looks at the return points or at the reached
-/// runs, whichever are fewer (not proved).
+/// Where a constraint holds at all points, a call looks at the run alone. Else it looks at the
+/// jumps that land in the run, and goes on through what it newly reaches alone, by stretches of
+/// lines. Where the run has an end, it looks at the return points or at the reached runs,
+/// whichever are fewer (not proved).
 #[derive(Drop)]
 pub struct Frontier {
     starts: Places,
@@ -108,8 +109,8 @@ impl Frontier {
 
     /// Goes on from a run of elements of the set in which walks may go, which may have grown by
     /// other elements too: through those at which a walk begins, or to which a step leads from what
-    /// is reached, and from there through the whole set. Where a constraint holds at all points, the
-    /// run itself is reached and nothing else. Clears a list, and puts the runs of what is newly
+    /// is reached, and from there through the whole set. Where a constraint holds at all points,
+    /// the run itself is reached and nothing else. Clears a list, and puts the runs of what is newly
     /// reached into it, each element once. The points from which walks go are those of the graph.
     ///
     /// # Errors

@@ -3,8 +3,8 @@
 //!
 //! Reading order: `values`, `bases`, `lines` (with `line_ends`, `jumps`), `stretches`, `filling`,
 //! `walk`, `pairs`, `inclusion`, `meeting`, `order`, `solver`; `returns`, `landings`, `steps`,
-//! `starts`, `places`, `resuming`, `frontier`; `search`, `reachability`, `outliving`, `fault_check`.
-//! The definitions are in specs/.
+//! `starts`, `places`, `resuming`, `frontier`; `search`, `reachability`, `outliving`,
+//! `fault_check`. The definitions are in specs/.
 #![tactic(auto)]
 
 mod bases;

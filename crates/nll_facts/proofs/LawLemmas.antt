@@ -1,5 +1,5 @@
 -- A facts text has one meaning or one fault.
-use Rattle.std.proofs.Common.{◌⊎◌, inl, inr, ⊎_elim, ◌≡◌, ℕ, true, false, List, Contains, refl, sym, ap, ◌∙◌, subst, arith}
+use Rattle.std.proofs.Common.{◌⊎◌, inl, inr, ⊎_elim, ◌≡◌, ℕ, true, List, Contains, refl, sym, ap, ◌∙◌, subst, arith}
 use Rattle.std.proofs.lemmas.Bool.{cases_Bool, cases_eq, false≢true}
 use Rattle.nll_problem.specs.Problem.{Problem, SameProblem}
 use Rattle.nll_problem.proofs.SameLemmas.{same_problem, same_problem_back, same_problem_chain}
@@ -22,7 +22,7 @@ use Rattle.nll_facts.proofs.VersionLemmas.{one_form_in, one_version, of_headed, 
 form_in_or_none : (version : Version) (line : List ℕ) → ((f : Form) × HasFormIn version line f) ⊎ ((f : Form) → HasFormIn version line f → ⊥)
 form_in_or_none version line = ⊎_elim
     (λ (has : (f : Form) × _). ⊎_elim
-    (λ of. inl (has.0, has.1, of))
+    (λ of. inl (has.0, (has.1, of)))
     (λ other. inr (λ g h. false≢true (sym other ∙ subst (λ z. is_of_version version z ≡ true) (one_form line g has.0 h.0 has.1) h.1)))
     (cases_Bool (is_of_version version has.0)))
     (λ none. inr (λ f h. none f h.0))
@@ -85,6 +85,5 @@ some_meaning_or_fault_lem text = ⊎_elim (λ h. of Second h) (λ none. of First
     of : (version : Version) → IsOfVersion text version → ((problem : Problem) × (labels : Labels) × Means text problem labels) ⊎ ((line : ℕ) × (kind : TextKind) × IsFactsFault text line kind)
     of version is = ⊎_elim
         (λ h. inl (problem_said h.0, labels_said h.0, meaning version text h.0 h.1))
-        (λ f. inr (f.0, f.1, version, is, f.2))
+        (λ f. inr (f.0, f.1, (version, is, f.2)))
         (laws.text_or_fault_lem (facts version) (form_in_or_none version) ended_or_not text)
-

@@ -1,13 +1,15 @@
 -- A line of a facts text has one form.
-use Rattle.std.proofs.Common.{map, ◌⊎◌, ⊎_elim, ◌≡◌, ℕ, ◌<◌, ◌≤◌, ◌^◌, length, cond, Bool, true, false, List, [], ◌∷◌, refl, sym, ap, ◌∙◌, arith}
+use Rattle.std.proofs.Common.{map, ◌⊎◌, ⊎_elim, ◌≡◌, ℕ, ◌<◌, ◌≤◌, ◌^◌, length, cond, Bool, true, false, List, [], ◌∷◌, refl, ap, ◌∙◌, subst, arith}
 use Rattle.std.specs.Prelude.{codes}
 use Rattle.std.specs.List.{AllByRecursion}
 use Rattle.std.specs.Str.{bytes_eq}
-use Rattle.std.specs.Str.Parse.{digits_value}
+use Rattle.std.specs.Str.Parse.{AllDigits, digits_value}
 use Rattle.std.specs.Fmt.{decimal}
 use Rattle.std.proofs.lemmas.Bool.{cases_Bool}
+use Rattle.std.proofs.lemmas.Fmt.{decimal_is_IsNumeral}
 use Rattle.std.proofs.lemmas.Slice.Eq.{bytes_eq-Decides}
 use Rattle.nll_text.specs.Tokens.{Token, word, region}
+use Rattle.nll_text.proofs.NumberLemmas.{no_digits}
 use Rattle.nll_problem.specs.declared.at.At.{At}
 use Rattle.nll_problem.specs.declared.at.At.TheVariants.{All, Point}
 use Rattle.nll_reading.specs.Parts.{Name, IsSmall, token_of}
@@ -45,9 +47,8 @@ number_apart : (p : ℕ) → p < 10 ^ 9 → bytes_eq (decimal p) (codes "all") �
 number_apart p small = ⊎_elim
     (λ (same : bytes_eq (decimal p) (codes "all") ≡ true).
     let e : decimal p ≡ codes "all" = (bytes_eq-Decides (decimal p) (codes "all")).0 same in
-    let n : digits_value 10 (codes "all") ≡ p = sym (ap (digits_value 10) e) ∙ printed p small in
-    let l : decimal (digits_value 10 (codes "all")) ≡ codes "all" = ap decimal n ∙ e in
-    absurd (omega (arith, ap length l)))
+    let digits : AllDigits 10 (codes "all") = subst (AllDigits 10) e (decimal_is_IsNumeral p (omega (arith, small))).0.1 in
+    absurd (no_digits (codes "all") 0 (omega arith) refl digits))
     (λ other. other)
     (cases_Bool (bytes_eq (decimal p) (codes "all")))
 

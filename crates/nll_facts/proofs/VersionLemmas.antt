@@ -65,7 +65,7 @@ no_version line a b Second h = b h
 -- ---- refusals
 
 pub too_long : (text : List ℕ) → most_bytes < length text → IsFactsFault text 1 (Limit Text)
-too_long text long = (First, (λ body k. absurd (omega (arith, k.cut.short, long)), texts.too_long long))
+too_long text long = (First, (λ body k. absurd (omega (arith, k.cut.short, long))), texts.too_long long)
 
 pub refused_in : (version : Version) (text : List ℕ) (body : List (List ℕ)) (error : TextError) → IsHeaded (facts version) text body → IsRefusal (IsFault (facts version) text) error → IsRefusal (IsFactsFault text) error
 refused_in version text body error headed refused = ⊎_elim inl (λ f. inr (version, of_headed version text body headed, f)) refused

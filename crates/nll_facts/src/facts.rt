@@ -24,11 +24,7 @@ pub struct Facts {
 }
 
 // Takes in the lines behind the header of a text of the version, to the end.
-fn read_lines(
-    reader: &mut Reader,
-    version: Version,
-    body: Option<&[u8]>,
-) -> Result<(), TextError>
+fn read_lines(reader: &mut Reader, version: Version, body: Option<&[u8]>) -> Result<(), TextError>
     requires start { said_by reader.old ≡ said [] }
     requires ready { IsReady reader.old }
     requires long { length (lines_left body) < 2 ^ 32 }

@@ -71,6 +71,7 @@ declared_by regions structs variables = record {
   names = regions.names;
   universals = regions.universals;
   outlives = regions.outlives.keys;
+  asserts = regions.asserts.keys;
   struct_names = structs.names;
   kinds = map (λ ks. ks.items) structs.kinds.items;
   structs = structs_of variables.table.structs;

@@ -82,8 +82,8 @@ const FORMS: &str = "nll-mir 1|universal 'a|universal 'b|outlives 'b 'a|region '
 
 // A MIR text of version 2 with functions in each place of a type, with parameters that are
 // marked `-`, and with what holds at all points.
-const MARKED: &str =
-    "nll-mir 2|universal 'a|region 'x|assert 'x : 'a|assert 'static: 'x|struct F<'r - ?, T - >(fn(&'r int, T) -> (T, int))|\
+const MARKED: &str = "nll-mir 2|universal 'a|region 'x|assert 'x : 'a|assert 'static: 'x|\
+    struct F<'r - ?, T - >(fn(&'r int, T) -> (T, int))|\
     let _0: int|let _1: F<'x, fn() -> int>|let _2: fn(fn(&'x int) -> int, int) -> &'x int|\
     let _3: (fn() -> fn() -> int, int)|blocks 2|block bb0|_2 = copy _2|_0 = copy _3.1|\
     _0 = call f(copy _1.0: fn(&'x int, fn() -> int) -> (fn() -> int, int)): int -> bb1|\

@@ -40,8 +40,8 @@ pub fn are_same(shape: &[Bytes<'_>], other: &[Bytes<'_>]) -> bool {
     shape.len() == other.len()
 }
 
-// Whether a token stands for a node: a reference, a tuple, an `int`, a struct, a type parameter or a
-// function.
+// Whether a token stands for a node: a reference, a tuple, an `int`, a struct, a type parameter or
+// a function.
 fn is_node(token: &[u8]) -> bool {
     is(token, "&") || is(token, "(") || (is_word(token) && !is(token, "mut"))
 }

@@ -5,10 +5,11 @@ pub returns-clause-said : goal.returns-clause-said
 returns-clause-said c = rw (
   c.in_ok-names.ensures,
   c.new-2.ensures.empty,
+  c.new-3.ensures.empty,
   c.empty.ensures,
-  c.new-3.ensures.items,
-  c.new-4.ensures.structs,
-  c.new-5.ensures.items,
+  c.new-4.ensures.items,
+  c.new-5.ensures.structs,
+  c.new-6.ensures.items,
   c.no_points.ensures.blocks,
   c.no_points.ensures.starts,
   c.no_points.ensures.statements,
@@ -24,12 +25,12 @@ returns-clause-ready c =
       few_universals = omega arith;
       few_regions = omega (arith, ap length c.in_ok-names.ensures);
       no_parameter = c.empty-2.ensures;
-      named_structs = rw (c.empty.ensures, c.new-4.ensures.structs) refl;
-      counted_kinds = rw (c.new-3.ensures.items, c.new-4.ensures.structs) refl;
-      kinds = rw (c.new-3.ensures.items, c.new-4.ensures.structs) record { regions = λ n l. absurd (omega (arith, l)); types = λ n l. absurd (omega (arith, l)) };
-      few_structs = omega (arith, ap length c.new-4.ensures.structs);
-      few_variables = omega (arith, ap length c.new-5.ensures.items);
-      shapes = rw (c.new-6.ensures.items, c.new-5.ensures.items) record { below = λ k h. absurd (omega arith); same = refl };
+      named_structs = rw (c.empty.ensures, c.new-5.ensures.structs) refl;
+      counted_kinds = rw (c.new-4.ensures.items, c.new-5.ensures.structs) refl;
+      kinds = rw (c.new-4.ensures.items, c.new-5.ensures.structs) record { regions = λ n l. absurd (omega (arith, l)); types = λ n l. absurd (omega (arith, l)) };
+      few_structs = omega (arith, ap length c.new-5.ensures.structs);
+      few_variables = omega (arith, ap length c.new-6.ensures.items);
+      shapes = rw (c.new-7.ensures.items, c.new-6.ensures.items) record { below = λ k h. absurd (omega arith); same = refl };
       few_blocks = omega (arith, p.blocks);
       no_start = λ h. ap length p.starts;
       starts = omega (arith, ap length p.starts);
