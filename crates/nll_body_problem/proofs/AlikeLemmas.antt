@@ -1,22 +1,20 @@
 -- Statements that are alike ask the same.
-use Rattle.std.proofs.Common.{◌≡◌, ◌⊎◌, ◌↔◌, ℕ, zero, suc, ◌+◌, ◌<◌, ◌≤◌, Bool, List, [], ◌∷◌, ◌++◌, length, Contains, Option, Some, None, take, map, get_or, inl, inr, refl, sym, ap, ◌∙◌, subst, ⊎_elim, arith}
+use Rattle.std.proofs.Common.{◌≡◌, ℕ, Bool, List, [], ◌∷◌, Option, Some, None, take, map, inl, inr, refl, sym, ap, ◌∙◌, subst, ⊎_elim}
 use Rattle.std.specs.Prelude.{slice_get, option_map, option_and_then}
-use Rattle.std.proofs.lemmas.List.{map_more, take_all}
 use Rattle.std.proofs.lemmas.Option.{slice_get-map}
-use Rattle.nll_types.specs.Types.{TypeTree, reference}
+use Rattle.nll_types.specs.Types.{TypeTree}
 use Rattle.nll_types.specs.Structs.{Struct}
-use Rattle.nll_types.specs.Places.{PlacePath, path_of, type_of, behind, behind_all}
+use Rattle.nll_types.specs.Places.{PlacePath, path_of, type_of, behind_all}
 use Rattle.nll_types.specs.Operands.{Operand, operand_of, operand_type}
 use Rattle.nll_types.specs.Views.{tree}
 use Rattle.nll_types.specs.declared.operand.Operand.{Operand as Written}
 use Rattle.nll_types.specs.declared.ty.Ty.{Ty}
 use Rattle.nll_types.specs.declared.place.Projection.{Projection}
-use Rattle.nll_types.specs.declared.place.Projection.TheVariants.{Field}
-use Rattle.nll_statements.specs.Statements.{Statement, assign, borrow, make, call, map_statement}
+use Rattle.nll_statements.specs.Statements.{assign, borrow, make, call, map_statement}
 use Rattle.nll_statements.specs.Kept.{made_of, call_of}
 use Rattle.nll_statements.specs.declared.statement.Make.{Make}
 use Rattle.nll_statements.specs.declared.statement.Call.{Call}
-use Rattle.nll_rules.specs.Asking.{Asks, AsksSubtype, AsksPair}
+use Rattle.nll_rules.specs.Asking.{Asks}
 use Rattle.nll_rules.specs.Reborrows.{RestsOn, GoesThrough, prefix}
 use Rattle.nll_body_problem.specs.Known.{AreKinds, AreAlike, AreOfOneType, AreLikeOperands, AreLikeArguments, AskTheSame}
 

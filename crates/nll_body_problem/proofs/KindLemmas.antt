@@ -4,7 +4,7 @@ use Rattle.std.specs.Prelude.{option_map}
 use Rattle.std.specs.Global.{Vec, Box}
 use Rattle.std.proofs.lemmas.List.{map_more, take_all}
 use Rattle.std.proofs.lemmas.Option.{slice_get-map, slice_get_read}
-use Rattle.nll_types.specs.Types.{TypeTree, parameter, reference, tuple, named, function}
+use Rattle.nll_types.specs.Types.{TypeTree, reference, tuple, named, function}
 use Rattle.nll_types.specs.Views.{tree, trees, row_of}
 use Rattle.nll_types.specs.declared.ty.Ty.{Ty}
 use Rattle.nll_types.specs.declared.ty.Ty.TheVariants.{Reference, Tuple, Named, Function}

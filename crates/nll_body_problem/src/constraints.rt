@@ -67,11 +67,7 @@ fn add_one_everywhere(builder: &mut ProblemBuilder, pair: (u32, u32)) -> Result<
 }
 
 // Adds what stands at each point of a body asks.
-fn add_asked(
-    alloc: Global,
-    body: &Body,
-    builder: &mut ProblemBuilder,
-) -> Result<(), BuildError>
+fn add_asked(alloc: Global, body: &Body, builder: &mut ProblemBuilder) -> Result<(), BuildError>
     requires points { builder.old.graph.points ≡ length body.now.points }
     requires regions { builder.old.regions ≡ length body.now.names }
     ensures ok { OnOk result

@@ -21,10 +21,13 @@ loop-pair-preserved c =
     let n = c.loop-pair.pair-index in
     let x = slice_index_or c.args.pairs.now n (0, 0) in
     rw (take_more c.args.pairs.now n (0, 0) c.loop-pair-test.true)
-    (every_more (take n c.args.pairs.now) x c.args.builder.now c.loop-pair.builder c.add_one_everywhere.new.builder c.loop-pair.invariant c.in_ok-add_one_everywhere.ensures.ok)
+    (every_more (take n c.args.pairs.now) x c.args.builder.now c.loop-pair.builder c.add_one_everywhere.new.builder
+    c.loop-pair.invariant c.in_ok-add_one_everywhere.ensures.ok)
 
 pub returns-clause-ok : goal.returns-clause-ok
-returns-clause-ok c = subst (λ (xs : List (ℕ × ℕ)). AddsConstraints (IsOfPairsEverywhere xs) c.args.builder.now c.loop-pair.builder) (take_all c.loop-pair.pair-index c.args.pairs.now (omega arith)) c.loop-pair.invariant
+returns-clause-ok c =
+    subst (λ (xs : List (ℕ × ℕ)). AddsConstraints (IsOfPairsEverywhere xs) c.args.builder.now c.loop-pair.builder)
+    (take_all c.loop-pair.pair-index c.args.pairs.now (omega arith)) c.loop-pair.invariant
 
 pub returns-in_err-add_one_everywhere-clause-err : goal.returns-in_err-add_one_everywhere-clause-err
 returns-in_err-add_one_everywhere-clause-err c =
