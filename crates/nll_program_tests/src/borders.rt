@@ -145,7 +145,11 @@ const LONG: &[(&[Piece], &[Piece])] = &[
     ),
     (
         &[
-            ("nll-facts 2|points 1048576|region '1|constraint '1 '1 all|", 0, 1),
+            (
+                "nll-facts 2|points 1048576|region '1|constraint '1 '1 all|",
+                0,
+                1,
+            ),
             ("constraint '1 '1 #|", 0, 1_048_575),
             ("constraint '1 '1 all|constraint '1 '1 5|end|", 0, 1),
         ],

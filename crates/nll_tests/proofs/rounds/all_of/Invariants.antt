@@ -1,4 +1,4 @@
-use Rattle.std.proofs.Common.{◌≡◌, ◌<◌, ◌×◌, ◌↔◌, ℕ, true, Contains}
+use Rattle.std.proofs.Common.{◌≡◌, ◌<◌, ◌↔◌, ℕ, true, Contains}
 use Rattle.nll_sets.specs.ElementSet.{flag}
 use Rattle.nll_tests.proofs.rounds.all_of.Given as goal
 

@@ -27,7 +27,7 @@ found_is c x =
 pub insert_all-requires-clause-elements : goal.insert_all-requires-clause-elements
 insert_all-requires-clause-elements c = λ x h.
     let regions = c.graph-graph.ensures.sound.constraint_regions c.args.constraint c.requires.of_problem in
-    let inside = asked_inside _ _ _ x ((found_is c x).0 h) in
+    let inside = asked_inside c.args.problem.now.graph (IsHeld c.args.values.now c.args.constraint.sub) c.args.constraint.at x ((found_is c x).0 h) in
     let within = flag_within (set_of c.args.values.now c.args.constraint.sub) x inside in
     omega (arith, within, c.requires.shaped.elements c.args.constraint.sub regions.1, c.requires.shaped.elements c.args.constraint.sup regions.0)
 
