@@ -10,7 +10,7 @@ use Rattle.nll_core.specs.Search.{missing, IsIn}
 use Rattle.nll_sets.specs.Runs.{first_of, last_of, IsInRuns, IsInRunsFrom, IsWithin, IsRunFrom, Fills}
 use Rattle.nll_sets.proofs.GapLemmas.{front_of, last_there}
 use Rattle.nll_core.specs.Lines.{IsJump, IsLineEnd}
-use Rattle.nll_core.specs.Walking.{IsLineClosed, IsStretch, IsFreeTo, Grows, IsJumpedTo, IsFollowed, IsLedTo, IsSpread, FillsFrom, constraint_at, no_constraint, PointsAscend, IsLedFrom, AreLedFrom, NoneInside, point_of, AreAskedOf, AreAmong, AreAtPoints, IsPointOf}
+use Rattle.nll_core.specs.Walking.{IsLineClosed, IsStretch, IsFreeTo, Grows, IsJumpedTo, IsFollowed, IsLedTo, IsSpread, FillsFrom, constraint_at, no_constraint, PointsAscend, IsLedFrom, AreLedFrom, NoneInside, point_of, AreAskedOf, AreAtPoints, IsPointOf}
 use Rattle.nll_sets.specs.declared.run.Run.{Run}
 use Rattle.nll_problem.specs.declared.constraint.Constraint.{Constraint}
 use Rattle.nll_problem.specs.At.{IsAmong, at_rank}
@@ -498,7 +498,7 @@ point_below g All never = absurd never
 point_below g (Point p) within = omega (arith, within)
 
 -- where none holds at all points, the constraints are at points
-pub among_points : (g : Graph) (pair : List Constraint) → AreAmong g pair → ((c : Constraint) → Contains pair c → c.at ≡ All → ⊥) → AreAtPoints g pair
+pub among_points : (g : Graph) (pair : List Constraint) → ((c : Constraint) → Contains pair c → IsAmong g.points c.at) → ((c : Constraint) → Contains pair c → c.at ≡ All → ⊥) → AreAtPoints g pair
 among_points g pair among none c h = among_point g c.at (among c h) (none c h)
 
 -- at a point, what is asked for is what a walk leads to
@@ -516,10 +516,10 @@ led_asks g sub pair reached points led x = (
 )
 
 -- a constraint at all points asks for the whole set, and no other asks for more
-pub whole_asked : (g : Graph) (sub : List Bool) (pair : List Constraint) (old reached : List Bool) → (c : Constraint) × Contains pair c × (c.at ≡ All) → ((x : ℕ) → flag old x ≡ false) → FillsFrom 0 sub old reached → AreAskedOf g sub pair reached
-whole_asked g sub pair old reached every nothing f x = (
-  λ h. (every.0, every.1, subst (λ place. IsAskedIn g (IsIn sub) place x) (sym every.2) (⊎_elim (λ o. absurd (false≢true (sym (nothing x) ∙ o))) (λ own. own.1) (f.cause x h))),
-  λ w. f.filled x (omega arith) (asked_inside g (IsIn sub) w.0.at x w.2),
+pub whole_asked : (g : Graph) (sub : List Bool) (pair : List Constraint) → (c : Constraint) × Contains pair c × (c.at ≡ All) → AreAskedOf g sub pair sub
+whole_asked g sub pair every x = (
+  λ h. (every.0, every.1, subst (λ place. IsAskedIn g (IsIn sub) place x) (sym every.2) h),
+  λ w. asked_inside g (IsIn sub) w.0.at x w.2,
 )
 
 -- the first constraint holds at all points where any does

@@ -278,20 +278,20 @@ module _ (constraints : List Constraint) (place end : ℕ) (low : place < end) (
 
 -- ---- runs into a value
 
--- The first `count` runs of a set have been put into the value of a region.
-pub record FillingAll (region : ℕ) (runs : List Run) (found : List Bool) (old now : List (List Bool)) (changed : Bool) (count : ℕ) : Type 0 where
-  pub gains : Gains (λ r e. (r ≡ region) × (flag found e ≡ true)) old now
+-- The first `count` runs of a list have been put into the value of a region.
+pub record FillingAll (region : ℕ) (runs : List Run) (old now : List (List Bool)) (changed : Bool) (count : ℕ) : Type 0 where
+  pub gains : Gains (λ r e. (r ≡ region) × IsInRuns runs e) old now
   pub covers : (k e : ℕ) → k < count → first_of runs k ≤ e → e ≤ last_of runs k → IsHeld now region e
   pub tells : Tells changed old now
 
-pub filling_first : (region : ℕ) (runs : List Run) (found : List Bool) (old : List (List Bool)) → FillingAll region runs found old old false 0
-filling_first region runs found old = record { gains = gains_none _ old; covers = λ k e h. absurd (omega (arith, h)); tells = tells_none old }
+pub filling_first : (region : ℕ) (runs : List Run) (old : List (List Bool)) → FillingAll region runs old old false 0
+filling_first region runs old = record { gains = gains_none _ old; covers = λ k e h. absurd (omega (arith, h)); tells = tells_none old }
 
-pub filling_more : (region : ℕ) (runs : List Run) (found : List Bool) (old now next : List (List Bool)) (x y : Bool) (count : ℕ) (run : Run) → run.first ≡ first_of runs count → run.last ≡ last_of runs count → count < length runs
-    → ((z : ℕ) → IsInRuns runs z → flag found z ≡ true) → FillingAll region runs found old now x count → Gains (λ r e. (r ≡ region) × IsWithin run e) now next → ((e : ℕ) → IsWithin run e → IsHeld next region e) → Tells y now next
-    → FillingAll region runs found old next (x || y) (count + 1)
-filling_more region runs found old now next x y count run first last within inside f g covers tells = record {
-  gains = gains_append _ _ _ _ f.gains (gains_weaker _ _ (λ r e h. (h.0, inside e (count, within, omega (arith, h.1.0, first), omega (arith, h.1.1, last)))) _ _ g);
+pub filling_more : (region : ℕ) (runs : List Run) (old now next : List (List Bool)) (x y : Bool) (count : ℕ) (run : Run) → run.first ≡ first_of runs count → run.last ≡ last_of runs count → count < length runs
+    → FillingAll region runs old now x count → Gains (λ r e. (r ≡ region) × IsWithin run e) now next → ((e : ℕ) → IsWithin run e → IsHeld next region e) → Tells y now next
+    → FillingAll region runs old next (x || y) (count + 1)
+filling_more region runs old now next x y count run first last within f g covers tells = record {
+  gains = gains_append _ _ _ _ f.gains (gains_weaker _ _ (λ r e h. (h.0, (count, within, omega (arith, h.1.0, first), omega (arith, h.1.1, last)))) _ _ g);
   covers = λ k e h a b. ⊎_elim
       (λ here. covers e (omega (arith, a, first, ap (first_of runs) here), omega (arith, b, last, ap (last_of runs) here)))
       (λ other. g.kept region e (f.covers k e (omega (arith, h, other)) a b))

@@ -6,7 +6,7 @@ use Rattle.std.specs.Prelude.{List, length, Contains, slice_index_or}
 use Rattle.nll_sets.specs.ElementSet.{flag}
 use Rattle.nll_sets.specs.Runs.{first_of, last_of, IsInRuns, IsInRunsFrom, AreApartFrom, IsWithin}
 use Rattle.nll_sets.specs.declared.run.Run.{Run}
-use Rattle.nll_problem.specs.At.{IsAmong, at_rank}
+use Rattle.nll_problem.specs.At.{at_rank}
 use Rattle.nll_problem.specs.Graph.{Graph, IsNext}
 use Rattle.nll_problem.specs.Solution.{IsAskedIn}
 use Rattle.nll_problem.specs.Walks.{Reaches}
@@ -120,10 +120,6 @@ abbrev pub PointsAscend : List Constraint → Type 0
 PointsAscend pair =
     (j k : ℕ) → j ≤ k → k < length pair
     → at_rank (constraint_at pair j).at ≤ at_rank (constraint_at pair k).at
-
--- each constraint holds at all points or at one of the graph
-abbrev pub AreAmong : Graph → List Constraint → Type 0
-AreAmong g pair = (c : Constraint) → Contains pair c → IsAmong g.points c.at
 
 -- a constraint of the list asks for x inside `sub`
 abbrev pub IsAskedOf : Graph → List Bool → List Constraint → ℕ → Type 0

@@ -110,8 +110,9 @@ impl Frontier {
     /// Goes on from a run of elements of the set in which walks may go, which may have grown by
     /// other elements too: through those at which a walk begins, or to which a step leads from what
     /// is reached, and from there through the whole set. Where a constraint holds at all points,
-    /// the run itself is reached and nothing else. Clears a list, and puts the runs of what is newly
-    /// reached into it, each element once. The points from which walks go are those of the graph.
+    /// the run itself is reached and nothing else. Clears a list, and puts the runs of what is
+    /// newly reached into it, each element once. The points from which walks go are those of the
+    /// graph.
     ///
     /// # Errors
     /// - `Memory`: the list is of no use; each later call answers `Memory` too.

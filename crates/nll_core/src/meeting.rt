@@ -1,7 +1,7 @@
 //! How the constraints of a pair of regions are met.
 
-ghost use Rattle.std.specs.Prelude.{◌≡◌, ◌≢◌, ℕ, ◌≤◌, ◌<◌, true, Contains, length, IfOk, OnOk};
-ghost use Rattle.nll_sets.specs.ElementSet.{flag};
+ghost use Rattle.std.specs.Prelude.{◌≡◌, ℕ, ◌≤◌, ◌<◌, Contains, length, IfOk, OnOk};
+ghost use Rattle.nll_sets.specs.Runs.{first_of, last_of, IsInRuns};
 ghost use Rattle.nll_problem.specs.Graph.{element_count};
 ghost use Rattle.nll_problem.specs.declared.constraint.Constraint as spec;
 ghost use Rattle.nll_core.specs.Values.{set_of, IsHeld, IsShaped};
@@ -11,10 +11,11 @@ ghost use Rattle.nll_core.specs.Worklist.{AreOfPair, Visits};
 
 use crate::inclusion::is_seen_within;
 use crate::lines::Lines;
+use crate::pairs::is_everywhere;
 use crate::values::Values;
 use crate::walk::Walk;
 use nll_problem::{Constraint, Problem, RegionId};
-use nll_sets::{Memory, RunSet};
+use nll_sets::{Memory, Run};
 
 /// Meets the constraints of a pair of regions, and marks the one that they fill if it gets
 /// something. Answers whether it does.
@@ -51,7 +52,9 @@ pub fn meet(
     Ok(new)
 }
 
-// Puts in what the constraints of a pair of regions ask. Answers whether something was new.
+// Puts in what the constraints of a pair of regions ask: what walks from their points reach; or all
+// of the region that they read, without a walk, where one of them holds at all points. Answers
+// whether something was new.
 fn fill(
     problem: &Problem,
     lines: &Lines,
@@ -78,22 +81,27 @@ fn fill(
     ensures walk { OnOk result (length walk.new.reached ≡ element_count lines.now) }
 {
     let _regions = problem.regions();
+    if is_everywhere(pair) {
+        walk.list(values.set(sub))?;
+        return fill_all(values, sup, walk.todo.as_slice());
+    }
     walk.reach(lines, values.set(sub), pair)?;
-    fill_all(values, sup, &walk.reached)
+    fill_all(values, sup, walk.reached.as_runs())
 }
 
-// Puts the elements of a set into the value of a region. Answers whether one of them is new.
-fn fill_all(values: &mut Values, region: RegionId, found: &RunSet) -> Result<bool, Memory>
+// Puts the elements of runs into the value of a region. Answers whether one of them is new.
+fn fill_all(values: &mut Values, region: RegionId, runs: &[Run]) -> Result<bool, Memory>
     requires region { region < length values.old }
-    requires elements { length found.now ≤ length (set_of values.old region) }
+    requires fit { (k : ℕ) → k < length runs.now
+        → (first_of runs.now k ≤ last_of runs.now k)
+        × (last_of runs.now k < length (set_of values.old region)) }
     ensures gains { OnOk result
-        (Gains (λ r e. (r ≡ region) × (flag found.now e ≡ true)) values.old values.new) }
-    ensures covers { OnOk result
-        ((e : ℕ) → flag found.now e ≡ true → IsHeld values.new region e) }
+        (Gains (λ r e. (r ≡ region) × IsInRuns runs.now e) values.old values.new) }
+    ensures covers { OnOk result ((e : ℕ) → IsInRuns runs.now e → IsHeld values.new region e) }
     ensures tells { IfOk result (λ changed. Tells changed values.old values.new) }
 {
     let mut changed = false;
-    for run in found.as_runs() {
+    for run in runs {
         let new = values.insert_run(region, *run)?;
         changed |= new;
     }

@@ -1,10 +1,13 @@
-//! Which constraints of a list are of one pair of regions.
+//! Which constraints of a list are of one pair of regions, and whether one of these holds at all
+//! points.
 
-ghost use Rattle.std.specs.Prelude.{◌≡◌, ℕ, ◌≤◌, ◌<◌, length};
-ghost use Rattle.nll_core.specs.Walking.{constraint_at};
+ghost use Rattle.std.specs.Prelude.{◌≡◌, ◌≢◌, ℕ, ◌≤◌, ◌<◌, true, false, Contains, length};
+ghost use Rattle.nll_problem.specs.declared.at.At.TheVariants as ats;
+ghost use Rattle.nll_problem.specs.declared.constraint.Constraint as spec;
+ghost use Rattle.nll_core.specs.Walking.{constraint_at, PointsAscend};
 ghost use Rattle.nll_core.specs.Worklist.{AreOfOneSup, SupsAscend};
 
-use nll_problem::Constraint;
+use nll_problem::{At, Constraint};
 
 /// The place up to which, from one on, the constraints fill the same region.
 pub fn pair_end(constraints: &[Constraint], place: usize) -> usize
@@ -30,4 +33,19 @@ pub fn pair_end(constraints: &[Constraint], place: usize) -> usize
         }
     }
     low
+}
+
+/// Whether one of the constraints of a pair holds at all points. The first one does then.
+pub fn is_everywhere(pair: &[Constraint]) -> bool
+    requires ascending { PointsAscend pair.now }
+    ensures some { result ≡ true → (c : spec.Constraint) × Contains pair.now c × (c.at ≡ ats.All) }
+    ensures none { result ≡ false → (c : spec.Constraint) → Contains pair.now c → c.at ≢ ats.All }
+{
+    if pair.is_empty() {
+        return false;
+    }
+    match pair[0].at {
+        At::All => true,
+        At::Point(_) => false,
+    }
 }

@@ -1,17 +1,16 @@
-//! What the constraints of a pair of regions ask for: by walks from their points, or all of one.
+//! What constraints of a pair of regions that hold at points ask for, by walks from these.
 
-ghost use Rattle.std.specs.Prelude.{◌≡◌, ◌≢◌, ℕ, ◌≤◌, ◌<◌, true, false, Contains, length, []};
+ghost use Rattle.std.specs.Prelude.{◌≡◌, ℕ, ◌≤◌, ◌<◌, false, Contains, length, []};
 ghost use Rattle.std.specs.Prelude.{OnOk, IfOk};
 ghost use Rattle.std.specs.Prelude.{IfSome, IfNone};
 ghost use Rattle.nll_sets.specs.ElementSet.{flag};
 ghost use Rattle.nll_problem.specs.Graph.{element_count};
-ghost use Rattle.nll_problem.specs.declared.at.At.TheVariants as ats;
 ghost use Rattle.nll_problem.specs.declared.constraint.Constraint as spec;
 ghost use Rattle.nll_core.specs.Search.{IsIn};
-ghost use Rattle.nll_core.specs.Walking.{Grows, IsLineClosed, PointsAscend, AreAmong};
+ghost use Rattle.nll_core.specs.Walking.{Grows, IsLineClosed, PointsAscend};
 ghost use Rattle.nll_core.specs.Walking.{AreAskedOf, AreAtPoints, IsLedFrom, AreLedFrom};
 ghost use Rattle.nll_core.specs.Walking.{NoneInside, constraint_at, point_of};
-ghost use Rattle.nll_sets.specs.Runs.{IsRunFrom, IsWithin};
+ghost use Rattle.nll_sets.specs.Runs.{first_of, last_of, IsRunFrom, IsWithin, MakeUp};
 
 use crate::filling::fill_from;
 use crate::lines::Lines;
@@ -20,8 +19,9 @@ use nll_problem::{At, Constraint};
 use nll_sets::{ElementSet, Memory, Run, RunSet};
 use std::alloc::Global;
 
-/// What a walk has reached, and the stretches that it has still to follow. One serves all walks of
-/// a solver, so that its memory is taken once.
+/// What a walk has reached, and the stretches that it has still to follow. Where no walk is needed,
+/// the list has the runs of a region. One serves all walks of a solver, so that its memory is taken
+/// once.
 #[derive(Drop)]
 pub struct Walk {
     pub reached: RunSet,
@@ -40,40 +40,32 @@ impl Walk {
         })
     }
 
-    /// Reaches what constraints of a pair ask for inside the set of the region that they read, and
-    /// nothing else: what walks reach from their points; or all of the set, without a walk, where
-    /// one of them holds at all points.
+    /// Reaches what constraints of a pair that hold at points ask for inside the set of the region
+    /// that they read, and nothing else: what walks reach from their points.
     pub fn reach(&mut self, lines: &Lines, sub: &RunSet, pair: &[Constraint]) -> Result<(), Memory>
         requires sub_width { length sub.now ≡ element_count lines.now }
         requires width { length self.old.reached ≡ element_count lines.now }
-        requires among { AreAmong lines.now pair.now }
+        requires points { AreAtPoints lines.now pair.now }
         requires ascending { PointsAscend pair.now }
         ensures width { OnOk result (length self.new.reached ≡ element_count lines.now) }
         ensures reached { OnOk result (AreAskedOf lines.now sub.now pair.now self.new.reached) }
     {
         self.reached.clear();
         self.todo.clear();
-        if is_everywhere(pair) {
-            // The proof reads from this call that there are few elements.
-            let _points = lines.points();
-            return fill_from(sub, &mut self.reached, &mut self.todo, 0);
-        }
         reach_all(lines, sub, &mut self.reached, &mut self.todo, pair)
     }
-}
 
-// Whether one of the constraints holds at all points. The first one does then.
-fn is_everywhere(pair: &[Constraint]) -> bool
-    requires ascending { PointsAscend pair.now }
-    ensures some { result ≡ true → (c : spec.Constraint) × Contains pair.now c × (c.at ≡ ats.All) }
-    ensures none { result ≡ false → (c : spec.Constraint) → Contains pair.now c → c.at ≢ ats.All }
-{
-    if pair.is_empty() {
-        return false;
-    }
-    match pair[0].at {
-        At::All => true,
-        At::Point(_) => false,
+    /// Lists the runs of a set, in place of the stretches of a walk.
+    pub fn list(&mut self, set: &RunSet) -> Result<(), Memory>
+        ensures reached { self.new.reached ≡ self.old.reached }
+        ensures make_up { OnOk result (MakeUp self.new.todo.items set.now) }
+        ensures fit { OnOk result ((k : ℕ) → k < length self.new.todo.items
+            → (first_of self.new.todo.items k ≤ last_of self.new.todo.items k)
+            × (last_of self.new.todo.items k < length set.now)) }
+    {
+        self.todo.clear();
+        self.todo.extend_from_slice(set.as_runs())?;
+        Ok(())
     }
 }
 

@@ -43,7 +43,7 @@ pub(crate) fn is_sign(byte: u8) -> bool
 }
 
 // A space, a tab or a carriage return.
-pub(crate) fn is_blank(byte: u8) -> bool
+fn is_blank(byte: u8) -> bool
     ensures { result ≡ lines.is_blank byte }
 {
     matches!(byte, b' ' | b'\t' | b'\r')

@@ -8,7 +8,7 @@ ghost use Rattle.nll_text.specs.Tokens.{AreTokens, IsMadeOf, IsNotMade, IsNotMad
 ghost use Rattle.nll_text.specs.Tokens.{views, first_passes};
 ghost use Rattle.nll_text.specs.Lexing.{BeginsWith, HasNoToken};
 
-use crate::bytes::{is_blank, is_sign, is_word_byte, split_gap, split_word};
+use crate::bytes::{is_sign, split_gap, split_word};
 use crate::error::LexError;
 use crate::token::Token;
 
@@ -83,37 +83,6 @@ fn next_token(line: &[u8]) -> Result<Option<(Token<'_>, &[u8])>, LexError>
     }
 }
 
-// A line of more bytes is looked through before a list takes its tokens.
-const LONG: usize = 4_096;
-
-// How many bytes of a line can begin a token: those that are no blanks and go on with no word.
-fn beginnings(line: &[u8]) -> usize
-    ensures { result ≤ length line.now }
-{
-    let mut count = 0;
-    let mut goes_on = false;
-    for byte in line {
-        let is_word = is_word_byte(*byte);
-        if !is_blank(*byte) && !(goes_on && is_word) {
-            count += 1;
-        }
-        goes_on = is_word || *byte == b'\'';
-    }
-    count
-}
-
-// Asks for room for the tokens of a long line at once, since a list that grows is copied. How much it
-// asks for is a matter of cost, and no clause rests on it.
-fn make_room(line: &[u8], most: usize, tokens: &mut Vec<Token<'_>>) -> Result<(), LexError>
-    ensures items { tokens.new.items ≡ tokens.old.items }
-    ensures err { IfErr result (λ e. e ≡ LexError.Memory) }
-{
-    if line.len() > LONG {
-        tokens.reserve_exact(beginnings(line).min(most))?;
-    }
-    Ok(())
-}
-
 /// Puts the tokens of a line into a list, in place of what the list held, where there are at most
 /// `most` of them.
 ///
@@ -141,7 +110,6 @@ pub fn tokens_of<'a>(
     ensures fault { result ≡ Err LexError.NoTokens → IsNotMadeWithin most line.now }
 {
     tokens.clear();
-    make_room(line, most, tokens)?;
     let mut rest = line;
     while let Some((token, after)) = next_token(rest)? {
         if tokens.len() >= most {

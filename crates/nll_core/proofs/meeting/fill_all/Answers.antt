@@ -5,8 +5,8 @@ use Rattle.nll_core.proofs.meeting.fill_all.Goals as goal
 
 pub loop-run-preserved : goal.loop-run-preserved
 loop-run-preserved c =
-    filling_more c.args.region c.as_runs-run-items.result.now c.args.found.now _ _ _ _ _ c.loop-run.run-index (get_or c.as_runs-run-items.result.now c.loop-run.run-index no_run) refl refl c.loop-run-test.true
-    (λ z. (c.as_runs-run-items.ensures.make_up z).0) c.loop-run.invariant c.in_ok-new.ensures.gains c.in_ok-new.ensures.covers c.in_ok-new.ensures.tells
+    filling_more c.args.region c.args.runs.now _ _ _ _ _ c.loop-run.run-index (get_or c.args.runs.now c.loop-run.run-index no_run) refl refl c.loop-run-test.true
+    c.loop-run.invariant c.in_ok-new.ensures.gains c.in_ok-new.ensures.covers c.in_ok-new.ensures.tells
 
 pub returns-clause-covers : goal.returns-clause-covers
-returns-clause-covers c = λ e h. let i = (c.as_runs-run-items.ensures.make_up e).1 h in c.loop-run.invariant.covers i.0 e (omega (arith, i.1, c.loop-run-test.false)) i.2 i.3
+returns-clause-covers c = λ e i. c.loop-run.invariant.covers i.0 e (omega (arith, i.1, c.loop-run-test.false)) i.2 i.3

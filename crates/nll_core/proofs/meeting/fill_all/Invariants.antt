@@ -2,4 +2,4 @@ use Rattle.nll_core.proofs.WorklistLemmas.{FillingAll}
 use Rattle.nll_core.proofs.meeting.fill_all.Given as goal
 
 abbrev pub invariant-loop-run : goal.invariant-loop-run
-invariant-loop-run l = FillingAll l.region l.run-items l.found l.fn.values l.values l.changed l.run-index
+invariant-loop-run l = FillingAll l.region l.runs l.fn.values l.values l.changed l.run-index

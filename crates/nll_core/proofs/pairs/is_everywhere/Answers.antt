@@ -6,7 +6,7 @@ use Rattle.nll_problem.specs.declared.at.At.TheVariants.{All, Point}
 use Rattle.nll_problem.specs.declared.constraint.Constraint.{Constraint}
 use Rattle.nll_core.specs.Walking.{PointsAscend}
 use Rattle.nll_core.proofs.WalkingLemmas.{first_everywhere}
-use Rattle.nll_core.proofs.walk.is_everywhere.Goals as goal
+use Rattle.nll_core.proofs.pairs.is_everywhere.Goals as goal
 
 -- what is not 0 is above it
 positive : (n : ℕ) (is : Bool) → is ≡ (n == 0) → is ≡ false → 0 < n
