@@ -9,9 +9,10 @@ use Rattle.nll_mir_grammar.specs.declared.version.Version.TheVariants.{First, Se
 use Rattle.nll_body.specs.Bodies.{BodyText}
 use Rattle.nll_body.specs.Sound.{IsSound}
 use Rattle.nll_mir_text.specs.MirSaid.{said}
-use Rattle.nll_mir_text.specs.MirText.{mir, Means, IsMirFault, body_said}
+use Rattle.nll_mir_text.specs.MirText.{mir, Means, IsMirFault, IsWellTyped, body_said}
 use Rattle.nll_mir_text.proofs.NeitherLemmas.{text_not_neither}
 use Rattle.nll_mir_text.proofs.SoundLemmas.{sound_text}
+use Rattle.nll_mir_text.proofs.TypedLemmas.{typed_text}
 use Rattle.nll_mir_text.proofs.VersionLemmas.{one_form_in, one_version, of_headed}
 
 pub one_fault_lem : (text : List ℕ) (l m : ℕ) (j k : TextKind) → IsMirFault text l j → IsMirFault text m k → (l ≡ m) × (j ≡ k)
@@ -32,6 +33,9 @@ one_meaning_lem text body other m n =
 
 pub meanings_are_sound_lem : (text : List ℕ) (body : BodyText) → Means text body → IsSound body
 meanings_are_sound_lem text body m = subst IsSound (sym m.same) (sound_text m.version text m.forms m.fits)
+
+pub meanings_are_typed_lem : (text : List ℕ) (body : BodyText) → Means text body → IsWellTyped body
+meanings_are_typed_lem text body m = subst IsWellTyped (sym m.same) (typed_text m.version text m.forms m.fits)
 
 pub not_neither_lem : (text : List ℕ) → ((body : BodyText) → Means text body → ⊥) → ((l : ℕ) (k : TextKind) → IsMirFault text l k → ⊥) → ⊥
 not_neither_lem text none fine = text_not_neither First text (no_text First) (λ l k f. fine l k (First, not_second_here, f))

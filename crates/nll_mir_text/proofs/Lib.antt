@@ -5,6 +5,7 @@ pub mod FormLemmas
 pub mod GoodFieldLemmas
 pub mod GrownLemmas
 pub mod LawLemmas
+pub mod LineLemmas
 pub mod MarkLemmas
 pub mod NeitherLemmas
 pub mod OwnLemmas
@@ -15,5 +16,6 @@ pub mod SoundLemmas
 pub mod StatingLemmas
 pub mod StructLemmas
 pub mod TextLemmas
+pub mod TypedLemmas
 pub mod VariableLemmas
 pub mod VersionLemmas

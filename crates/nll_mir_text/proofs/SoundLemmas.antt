@@ -31,70 +31,10 @@ use Rattle.nll_mir_text.specs.MirReading.{AreKinds}
 use Rattle.nll_mir_grammar.specs.declared.version.Version.{Version}
 use Rattle.nll_mir_text.specs.MirText.{mir, body_said}
 use Rattle.nll_mir_text.proofs.FaultLemmas.{faultless}
+use Rattle.nll_mir_text.proofs.LineLemmas.{three, positive, below_all, numbers_below, nothing_at, pushed_at, all_at, rise_push, inserted, first_pushed, in_group}
 use Rattle.nll_mir_text.proofs.GoodFieldLemmas.{well_formed}
 use Rattle.nll_mir_text.proofs.SaidLemmas.{said_push, reached_at_end}
 use Rattle.nll_mir_text.proofs.StructLemmas.{order_push, kinds_pushed, regions_declared, types_declared, good_fields}
-
--- ---- tests
-
-three : (a b c : Bool) → a && b && c ≡ true → (a ≡ true) × (b ≡ true) × (c ≡ true)
-three true true c h = (refl, refl, h)
-three true false c h = absurd cc
-three false b c h = absurd cc
-
-positive : (n : ℕ) → n == 0 ≡ false → 0 < n
-positive n e = omega (arith, eqb-false n 0 e)
-
-below_all : (n : ℕ) (xs : List ℕ) → list_all (λ b. nat_lt b n) xs ≡ true → All (λ b. b < n) xs
-below_all n [] h = All-nil (λ b. b < n)
-below_all n (x ∷ xs) h =
-    let both = and_parts (nat_lt x n) (list_all (λ b. nat_lt b n) xs) h in
-    let first : x < n = ltb-true x n both.0 in
-    All-cons (λ b. b < n) x xs first (below_all n xs both.1)
-
--- names that are declared have numbers
-numbers_below : (names xs : List Name) → list_all (is_among names) xs ≡ true → All (λ q. q < length names) (map (number_of names) xs)
-numbers_below names [] h = All-nil (λ q. q < length names)
-numbers_below names (x ∷ xs) h =
-    let both = and_parts (is_among names x) (list_all (is_among names) xs) h in
-    let first : number_of names x < length names = ltb-true (number_of names x) (length names) both.0 in
-    All-cons (λ q. q < length names) (number_of names x) (map (number_of names) xs) first (numbers_below names xs both.1)
-
--- ---- lists
-
-nothing_at : {X : Type 0} (xs : List X) (p : ℕ) (x : X) → length xs ≡ 0 → slice_get xs p ≡ Some x → ⊥
-nothing_at xs p x none at = absurd (omega (arith, none, slice_get_within xs p x at))
-
--- what stands in a list with one more element
-pushed_at : {X : Type 0} (xs : List X) (y : X) (p : ℕ) (x : X) → slice_get (xs ++ y ∷ []) p ≡ Some x → (slice_get xs p ≡ Some x) ⊎ ((p ≡ length xs) × (x ≡ y))
-pushed_at xs y p x at =
-    let within = slice_get_within (xs ++ y ∷ []) p x at in
-    ⊎_elim
-    (λ low. inl (slice_get-get_or xs p x low ∙ ap Some (sym (get_or_append_left xs (y ∷ []) x p low) ∙ get_or_from_slice_get (xs ++ y ∷ []) p x x at)))
-    (λ high.
-    let same : p ≡ length xs = omega (arith, high, within, length-append xs (y ∷ [])) in
-    inr (same, sym (get_or_from_slice_get (xs ++ y ∷ []) p x x at) ∙ get_or_at xs y [] x p (sym same)))
-    (cases_lt p (length xs))
-
--- a fact on all elements, at one that stands there
-all_at : {X : Type 0} (P : X → Type 0) (xs : List X) (p : ℕ) (x : X) → All P xs → slice_get xs p ≡ Some x → P x
-all_at P xs p x all at = subst P (get_or_from_slice_get xs p x x at) (all p x (slice_get_within xs p x at))
-
-rise_push : (xs : List ℕ) (n : ℕ) → IsStrictlyIncreasing xs → All (λ q. q < n) xs → IsStrictlyIncreasing (xs ++ n ∷ [])
-rise_push xs n rise below k l = ⊎_elim
-    (λ low. rw (get_or_append_left xs (n ∷ []) 0 k (omega (arith, low)), get_or_append_left xs (n ∷ []) 0 (k + 1) low) (rise k low))
-    (λ high.
-    let last : length xs ≡ k + 1 = omega (arith, high, l, length-append xs (n ∷ [])) in
-    rw (get_or_append_left xs (n ∷ []) 0 k (omega (arith, last)), get_or_at xs n [] 0 (k + 1) last) (below k 0 (omega (arith, last))))
-    (cases_lt (k + 1) (length xs))
-
-inserted : {X : Type 0} (b : Bool) (ks : List X) (x y : X) → Contains (cond b ks (ks ++ x ∷ [])) y → Contains ks y ⊎ (x ≡ y)
-inserted true ks x y c = inl c
-inserted false ks x y c = Contains-push_cases ks x y c
-
-first_pushed : (xs : List ℕ) (n : ℕ) → (length xs ≡ 0 → n ≡ 0) → (0 < length xs → slice_get xs 0 ≡ Some 0) → slice_get (xs ++ n ∷ []) 0 ≡ Some 0
-first_pushed [] n z h = ap Some (z refl)
-first_pushed (x ∷ xs) n z h = h (omega arith)
 
 -- ---- what holds of what lines say
 
@@ -249,10 +189,6 @@ module _ (reached universals : ℕ) (names : List Name) (longer : List (ℕ × �
   -- names and structs are declared before variables
   keeps_none : reached < 6 → IsDeclared reached universals names longer struct_names kinds structs variables → (P : TypeTree → Type 0) → All P variables
   keeps_none early h P = subst (All P) (sym (h.none_yet early)) (All-nil P)
-
--- the line is of a group that isn't before that reached
-in_group : (s : Said) (n : ℕ) → not (nat_le s.reached n) ≡ false → s.reached ≤ n
-in_group s n e = leb-true s.reached n (not-false _ e)
 
 module _ (s : Said) (w : IsWell s) where
   well_universal : (a : Name) → first_fault s (universal a) ≡ None → IsWell (says s (universal a))

@@ -4,7 +4,7 @@ ghost use Rattle.std.specs.Prelude.{◌≡◌, ℕ, List};
 ghost use Rattle.nll_reading.specs.declared.error.TextKind.{TextKind};
 ghost use Rattle.nll_body.specs.Bodies.{BodyText};
 ghost use Rattle.nll_body.specs.Sound.{IsSound};
-ghost use Rattle.nll_mir_text.specs.MirText.{Means, IsMirFault};
+ghost use Rattle.nll_mir_text.specs.MirText.{Means, IsMirFault, IsWellTyped};
 
 /// States that a text has at most one fault.
 pub fn mir_one_fault()
@@ -34,4 +34,9 @@ pub fn mir_not_neither()
 /// States that the body that a text means is sound.
 pub fn mir_meaning_is_sound()
     ensures { (text : List ℕ) (body : BodyText) → Means text body → IsSound body }
+{}
+
+/// States that the body that a text means is well typed.
+pub fn mir_meaning_is_well_typed()
+    ensures { (text : List ℕ) (body : BodyText) → Means text body → IsWellTyped body }
 {}

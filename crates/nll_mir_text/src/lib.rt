@@ -24,7 +24,8 @@ mod text;
 
 pub use header::is_mir_header;
 pub use laws::{
-    mir_meaning_is_sound, mir_not_both, mir_not_neither, mir_one_fault, mir_one_meaning,
+    mir_meaning_is_sound, mir_meaning_is_well_typed, mir_not_both, mir_not_neither, mir_one_fault,
+    mir_one_meaning,
 };
 pub use limits::{MAX_STRUCTS, MAX_VARIABLES};
 pub use mir::{read_mir, read_mir_parts};

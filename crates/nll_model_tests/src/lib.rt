@@ -1,13 +1,11 @@
 //! Tests of the model of a run, by its public calls alone. Expected values are found by hand from
 //! the definitions.
 //!
-//! Reading order: `problems`, `failure`, `telling`, then `schedules` and `states`.
+//! Reading order: `failure`, `telling`, then `schedules` and `states`.
 #![tactic(auto)]
 
 #[cfg(test)]
 mod failure;
-#[cfg(test)]
-mod problems;
 #[cfg(test)]
 mod schedules;
 #[cfg(test)]

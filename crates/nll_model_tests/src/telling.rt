@@ -3,12 +3,12 @@ ghost use Rattle.std.specs.Prelude.{◌≡◌, ◌<◌, length};
 ghost use Rattle.nll_core.specs.Values.{IsShaped};
 
 use super::failure::Failure;
-use super::problems::{Written, problem_of};
 use nll_core::{Problem, RegionId, Values};
 use nll_cut::Cut;
 use nll_event::Event;
 use nll_mail::Growth;
 use nll_model::{Lane, ModelError, Replay, Seat, Step, World, replay};
+use nll_worked_problems::{Written, problem_of};
 use std::alloc::{AllocError, Global};
 use std::collections::VecDeque;
 use std::process::Abort;

@@ -2,12 +2,12 @@
 ghost use Rattle.std.specs.Prelude.{◌≡◌, length};
 
 use super::failure::Failure;
-use super::problems::{Written, problem_of};
 use nll_core::{Element, Problem, RegionId};
 use nll_cut::Cut;
 use nll_driver::{Network, Turn, drive_by_turns};
 use nll_mail::{Growth, Mail};
 use nll_owner::Owner;
+use nll_worked_problems::{Written, problem_of};
 use std::alloc::{AllocError, Global};
 
 // Writes what an owner has in a region.

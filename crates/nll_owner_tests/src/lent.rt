@@ -4,12 +4,12 @@ ghost use Rattle.nll_owner.specs.Tables.{AreTables};
 
 use super::driving::{write_counts, write_values};
 use super::failure::Failure;
-use super::problems::{Written, problem_of};
 use super::turns::{ROWS, compare};
 use nll_core::Problem;
 use nll_cut::Cut;
 use nll_mail::Growth;
 use nll_owner::{Owner, OwnerError, Tables};
+use nll_worked_problems::{Written, problem_of};
 use std::alloc::Global;
 
 // The owners of a cut, on lent tables.

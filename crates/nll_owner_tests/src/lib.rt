@@ -1,7 +1,7 @@
 //! Tests of owners, by their public calls alone. Expected values are found by hand from the
 //! definitions.
 //!
-//! Reading order: `problems`, `failure`, `driving`, then each module of tests.
+//! Reading order: `failure`, `driving`, then each module of tests.
 #![tactic(auto)]
 
 #[cfg(test)]
@@ -12,8 +12,6 @@ mod failure;
 mod lent;
 #[cfg(test)]
 mod memory;
-#[cfg(test)]
-mod problems;
 #[cfg(test)]
 mod random;
 #[cfg(test)]

@@ -4,11 +4,11 @@
 ghost use Rattle.std.specs.Prelude.{◌≡◌, false, length};
 ghost use Rattle.nll_owner.specs.Owner.{IsReady, Passes};
 
-use super::problems::{BY_TURNS, FILLED_HOLE, REACHED, Written, problem_of};
 use nll_core::{BuildError, Problem};
 use nll_cut::{Cut, CutError};
 use nll_mail::Growth;
 use nll_owner::{Owner, OwnerError};
+use nll_worked_problems::{BY_TURNS, FILLED_HOLE, REACHED, Written, problem_of};
 use std::alloc::Global;
 
 // How it ends: with so many growths of each owner; with memory refused, and each owner as it is

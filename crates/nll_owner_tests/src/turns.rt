@@ -1,10 +1,10 @@
 //! Owners that are driven by all orders of turns that are named here come to the same values.
 use super::driving::{answers_of, driven, logs_of};
 use super::failure::Failure;
-use super::problems::{BY_TURNS, EVERYWHERE, FILLED_HOLE, REACHED, TWO_SOURCES, Written};
 use nll_driver::Stop;
 use nll_driver::Turn::{self, Load, Post, Take};
 use nll_mail::QueueMail;
+use nll_worked_problems::{BY_TURNS, EVERYWHERE, FILLED_HOLE, REACHED, TWO_SOURCES, Written};
 use std::process::Abort;
 
 // Each owner of two is loaded, and then each tells the other.

@@ -1,20 +1,20 @@
 //! Tests of runs in threads, by their public calls alone. Expected values are found by hand from
 //! the definitions.
 //!
-//! Reading order: `problems`, `failure`, `telling`, `watching`, then each module of tests with what
+//! Reading order: `deals`, `failure`, `telling`, `watching`, then each module of tests with what
 //! it watches by.
 #![tactic(auto)]
 
 #[cfg(test)]
 mod answering;
 #[cfg(test)]
+mod deals;
+#[cfg(test)]
 mod failure;
 #[cfg(test)]
 mod meeting;
 #[cfg(test)]
 mod notes;
-#[cfg(test)]
-mod problems;
 #[cfg(test)]
 mod refusals;
 #[cfg(test)]

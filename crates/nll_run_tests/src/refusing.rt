@@ -1,8 +1,8 @@
 //! Runs of which some workers aren't started.
 ghost use Rattle.std.specs.Prelude.{◌≡◌, length};
 
+use super::deals::{Deal, cut_of};
 use super::failure::Failure;
-use super::problems::{BY_TURNS, Deal, MANY, REACHED, Written, cut_of, problem_of};
 use super::refusals::Refusals;
 use super::telling::{compare, filled, told_over};
 use super::watching::Watched;
@@ -11,6 +11,7 @@ use nll_cut::Cut;
 use nll_ledger::{Ledger, LockLedger, WordLedger};
 use nll_mail::{Mail, QueueMail, RingMail};
 use nll_run::run_with;
+use nll_worked_problems::{BY_TURNS, MANY, REACHED, Written, problem_of};
 use nll_worker::NoGate;
 use std::alloc::{AllocGlobal, Global};
 use std::process::Abort;

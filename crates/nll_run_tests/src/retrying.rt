@@ -2,8 +2,8 @@
 //! to a test, the test still passes.
 ghost use Rattle.std.specs.Prelude.{◌≡◌, length, IfOk};
 
+use super::deals::{Deal, cut_of};
 use super::failure::Failure;
-use super::problems::{BY_TURNS, Deal, FILLED_HOLE, MANY, REACHED, Written, cut_of, problem_of};
 use super::telling::{compare, filled, told_over};
 use nll_answer::meaning;
 use nll_core::Problem;
@@ -11,6 +11,7 @@ use nll_cut::Cut;
 use nll_ledger::{Ledger, LockLedger, WordLedger};
 use nll_mail::{Mail, QueueMail, RingMail};
 use nll_run::RunError;
+use nll_worked_problems::{BY_TURNS, FILLED_HOLE, MANY, REACHED, Written, problem_of};
 use nll_worked_texts::{TWO_BORROWS, text_of};
 use nll_worker::NoGate;
 use std::alloc::{AllocGlobal, Global};

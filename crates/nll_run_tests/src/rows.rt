@@ -1,10 +1,11 @@
 //! Runs of worked problems come to values and counts that were found by hand.
-use super::problems::{
-    BY_TURNS, Deal, EVERYWHERE, FILLED_HOLE, MANY, MANY_BOTH_WAYS, ONE_POINT, REACHED, Written,
-};
+use super::deals::Deal;
 use super::telling::{compare, filled, told};
 use nll_ledger::{Ledger, LockLedger, WordLedger};
 use nll_mail::{QueueMail, RingMail};
+use nll_worked_problems::{
+    BY_TURNS, EVERYWHERE, FILLED_HOLE, MANY, MANY_BOTH_WAYS, ONE_POINT, REACHED, Written,
+};
 use nll_worker::NoGate;
 use std::alloc::AllocGlobal;
 use std::process::Abort;

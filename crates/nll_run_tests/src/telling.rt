@@ -2,13 +2,14 @@
 ghost use Rattle.std.specs.Prelude.{◌≡◌, ◌<◌, length};
 ghost use Rattle.nll_core.specs.Values.{IsShaped};
 
+use super::deals::{Deal, cut_of};
 use super::failure::Failure;
-use super::problems::{Deal, Written, cut_of, problem_of};
 use nll_core::{Problem, RegionId, Values};
 use nll_cut::Cut;
 use nll_ledger::Ledger;
 use nll_mail::{Growth, Mail};
 use nll_run::{Outcome, run};
+use nll_worked_problems::{Written, problem_of};
 use nll_worker::Gate;
 use std::alloc::{AllocError, Global};
 use std::process::Abort;

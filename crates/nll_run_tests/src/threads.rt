@@ -1,12 +1,13 @@
 //! Runs whose owners are held up or watched.
+use super::deals::Deal;
 use super::failure::Failure;
 use super::meeting::Meeting;
 use super::notes::Notes;
-use super::problems::{BY_TURNS, Deal, MANY_BOTH_WAYS, REACHED, Written};
 use super::telling::{compare, told};
 use super::watching::Watched;
 use nll_ledger::WordLedger;
 use nll_mail::{Mail, QueueMail, RingMail};
+use nll_worked_problems::{BY_TURNS, MANY_BOTH_WAYS, REACHED, Written};
 use nll_worker::NoGate;
 use std::alloc::AllocGlobal;
 use std::process::Abort;

@@ -1,47 +1,40 @@
-//! Worked problems.
-use nll_core::At::{self, All, Point};
-use nll_core::{BuildError, Constraint, Problem, ProblemBuilder, RegionId};
+//! Problems as constants, and the problem that such a one is.
+
+use nll_problem::{At, BuildError, Constraint, Problem, ProblemBuilder, RegionId};
 use std::alloc::Global;
 
-/// A problem of two region variables: its points, of which the last returns, each next to the one
-/// before; its base facts, as a region and a point; and its constraints, as the larger region, the
-/// smaller one and where it holds.
+/// A problem: its points, of which the last returns, each next to the one before; its region
+/// variables; those of them that have all points; its other base facts, as a region and a point;
+/// and its constraints, as the larger region, the smaller one and where it holds.
 #[derive(Clone, Copy)]
 pub struct Written {
     pub points: u32,
+    pub variables: u32,
+    pub full: &'static [u32],
     pub bases: &'static [(u32, u32)],
     pub constraints: &'static [(u32, u32, At)],
 }
 
-/// A region gets what is reached from the point.
-pub const REACHED: Written = Written {
-    points: 3,
-    bases: &[(1, 1), (1, 2)],
-    constraints: &[(2, 1, Point(1))],
-};
-
-/// A region gets what another one holds, at all points.
-pub const EVERYWHERE: Written = Written {
-    points: 5,
-    bases: &[(1, 0), (1, 1), (1, 3), (1, 4)],
-    constraints: &[(2, 1, All)],
-};
-
-/// Two regions grow by turns.
-pub const BY_TURNS: Written = Written {
-    points: 2,
-    bases: &[(1, 0), (2, 1)],
-    constraints: &[(2, 1, Point(0)), (1, 2, Point(0))],
-};
+// Gives a region all points.
+fn fill(builder: &mut ProblemBuilder, region: u32, points: u32) -> Result<(), BuildError> {
+    for point in 0..points {
+        builder.base(RegionId(region), point)?;
+    }
+    Ok(())
+}
 
 // Puts the facts of a written problem into a builder.
 fn enter(builder: &mut ProblemBuilder, written: Written) -> Result<(), BuildError> {
-    builder.region()?;
-    builder.region()?;
+    for _ in 0..written.variables {
+        builder.region()?;
+    }
     for point in 1..written.points {
         builder.next(point - 1, point)?;
     }
     builder.ret(written.points.saturating_sub(1))?;
+    for region in written.full {
+        fill(builder, *region, written.points)?;
+    }
     for (region, point) in written.bases {
         builder.base(RegionId(*region), *point)?;
     }
