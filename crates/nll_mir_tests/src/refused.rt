@@ -2,6 +2,8 @@
 use super::comparing::compare;
 use super::reading::{Asked, read};
 use super::rows::{Table, compare_tables};
+use nll_mir_text::is_mir_header;
+use std::process::Abort;
 
 // Texts whose lines end with `|`, and their faults: of order, and of a text's ends.
 const ORDER: &str = "
@@ -331,10 +333,34 @@ const TABLES: &[Table<'static>] = &[
     ),
 ];
 
-// Each text has that fault, or none.
+// Lines, and whether each is the header of a MIR text of some version.
+const HEADERS: &[(&str, bool)] = &[
+    ("nll-mir 1", true),
+    ("nll-mir 2", true),
+    ("\tnll-mir  2 \r", true),
+    ("nll-mir 3", false),
+    ("nll-mir 0", false),
+    ("nll-mir 12", false),
+    ("nll-mir", false),
+    ("nll-mir1", false),
+    ("nll-mir 1 2", false),
+    ("nll-facts 1", false),
+    ("", false),
+];
+
+// Ends the test unless that is told of a line.
+fn compare_header(rt: &impl Abort, line: &str, is_header: bool) {
+    let right = is_mir_header(line.as_bytes()) == is_header;
+    assert!(rt; right, "header {line}");
+}
+
+// Each text has that fault, or none; and a line is a header or none.
 #[test]
 fn texts_are_refused(rt: HostRuntime) {
     compare_tables(&rt, rt.alloc(), TABLES);
+    for header in HEADERS {
+        compare_header(&rt, header.0, header.1);
+    }
 }
 
 // Bytes that are no text are told before the header, and in a skipped line.

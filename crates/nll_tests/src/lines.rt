@@ -21,10 +21,14 @@ pub enum OfLine {
     Capital,
     /// The type in front.
     Type,
+    /// Whether a function is written in the type in front.
+    Function,
     /// What the names in the type in front mean.
     Names,
     /// Its form.
     Form,
+    /// Whether its form is one of version 1.
+    First,
     /// What its statement does.
     Effects,
 }
@@ -59,7 +63,9 @@ fn write_read(out: &mut Transcript, line: &str, asked: OfLine) {
 fn write_told(out: &mut Transcript, asked: OfLine, tokens: &[Token<'_>]) {
     match asked {
         OfLine::Type => written_types::write_front(out, tokens),
+        OfLine::Function => written_types::write_function_flag(out, tokens),
         OfLine::Names => naming::write_names(out, tokens),
+        OfLine::First => mir_lines::write_version_flag(out, tokens),
         OfLine::Form => mir_lines::write_form(out, tokens, false),
         _ => mir_lines::write_form(out, tokens, true),
     }

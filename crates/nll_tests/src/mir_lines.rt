@@ -2,8 +2,8 @@
 use super::lines::OfLine;
 use super::rows::compare_text;
 use super::transcript::Transcript;
-use super::written_types::write_nodes;
-use nll_mir_grammar::{Line, ParameterText, StructText, line_of, one_form};
+use super::written_types::{write_flag, write_nodes};
+use nll_mir_grammar::{Line, ParameterText, StructText, Version, is_of_version, line_of, one_form};
 use nll_statements::{Call, Make, Statement};
 use nll_text::Token;
 use nll_type_grammar::TypeText;
@@ -193,6 +193,22 @@ pub fn write_form(out: &mut Transcript, tokens: &[Token<'_>], is_done: bool) {
     }
 }
 
+/// Writes whether the form of tokens is one of version 1. In version 2 each form is lawful.
+pub fn write_version_flag(out: &mut Transcript, tokens: &[Token<'_>]) {
+    match line_of(out.alloc, tokens) {
+        Ok(Some(line)) => {
+            let first = is_of_version(out.alloc, Version::First, &line);
+            let second = is_of_version(out.alloc, Version::Second, &line);
+            drop(line);
+            write_flag(out, first);
+            out.say(" ");
+            write_flag(out, second);
+        }
+        Ok(None) => out.say("none"),
+        Err(_) => out.say("refused"),
+    }
+}
+
 // Lines, and their forms.
 const LINES: &str = "
  ~ none
@@ -259,6 +275,25 @@ end ~ end
 end end ~ none
 ";
 
+// Lines, and whether they may stand in a text of version 1, and of version 2.
+const VERSIONS: &str = "
+universal 'a ~ true true
+assert 'x : 'y ~ false true
+struct W<'x + ?, T => drop (&'x int, T) ~ true true
+struct W<'x - >() ~ false true
+struct W<'x +, T -?>(int) ~ false true
+struct W<'x +>(int, fn() -> int) ~ false true
+let _3: &'p int ~ true true
+let _3: &'p fn(int) -> int ~ false true
+_3 = make (T, int) (const, move _2.0) ~ true true
+_3 = make (fn() -> int, int) (const, const) ~ false true
+_2 = call f(const: int): int -> bb1 ~ true true
+_2 = call f(const: int, const: fn() -> int): int -> bb1 ~ false true
+_2 = call f(const: int): fn() -> int -> bb1 ~ false true
+return ~ true true
+end ~ true true
+";
+
 // Statements and terminators; and the variables that each uses, that which it defines, that which
 // it drops, the blocks to which it goes on, and whether the block ends with it.
 const EFFECTS: &str = "
@@ -289,10 +324,12 @@ stop ~ [] None None [] true
 end ~ no statement
 ";
 
-// A line has one of the forms, or none. A statement does what the table of statements says.
+// A line has one of the forms, or none; which of them are forms of version 1. A statement does what
+// the table of statements says.
 #[test]
 fn lines_have_forms(rt: HostRuntime) {
     compare_text(&rt, rt.alloc(), OfLine::Form, LINES);
+    compare_text(&rt, rt.alloc(), OfLine::First, VERSIONS);
     compare_text(&rt, rt.alloc(), OfLine::Effects, EFFECTS);
     one_form();
 }

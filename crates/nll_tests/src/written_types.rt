@@ -2,6 +2,7 @@
 use super::lines::OfLine;
 use super::rows::{compare_lines, compare_text};
 use super::transcript::Transcript;
+use nll_sets::Memory;
 use nll_text::Token;
 use nll_type_grammar::{
     Argument, TypeNode, TypeText, a_type_has_tokens, one_type_at_most, type_at,
@@ -73,6 +74,27 @@ pub fn write_front(out: &mut Transcript, tokens: &[Token<'_>]) {
     }
 }
 
+/// Writes whether a function is written in the type in front.
+pub fn write_function_flag(out: &mut Transcript, tokens: &[Token<'_>]) {
+    match type_at(out.alloc, tokens) {
+        Ok(Some((text, _))) => {
+            let told = text.has_function(out.alloc);
+            drop(text);
+            write_flag(out, told);
+        }
+        Ok(None) => out.say("none"),
+        Err(_) => out.say("refused"),
+    }
+}
+
+/// Writes what was told, where no memory was refused.
+pub fn write_flag(out: &mut Transcript, told: Result<bool, Memory>) {
+    match told {
+        Ok(is_so) => out.flag("", is_so, ""),
+        Err(_) => out.say("refused"),
+    }
+}
+
 // Lines, and the types in front of them: how many tokens each has, and its nodes.
 const TYPES: &str = "
  ~ none
@@ -119,6 +141,22 @@ fn() -> -> int ~ none
 (&'a W<'b, &'c int>, int) ~ 14: int|& c| 0|W| 'b| 1|& a| 2|int|tuple 3 4|
 ";
 
+// Types, and whether a function is written in them.
+const FUNCTIONS: &str = "
+int ~ false
+() ~ false
+&'a mut T ~ false
+(int, W<'a, (T), int>) ~ false
+t ~ none
+fn() -> int ~ true
+fn(int) -> &'a int ~ true
+&'a fn() -> int ~ true
+(int, (T, fn(int) -> int)) ~ true
+(fn() -> int, int) ~ true
+W<'a, &'b fn() -> int> ~ true
+W<fn() -> int, 'a, int> ~ true
+";
+
 // Words, and whether they begin with a capital letter.
 const CAPITALS: &[(&str, &str)] = &[
     ("W", "true"),
@@ -128,11 +166,12 @@ const CAPITALS: &[(&str, &str)] = &[
     ("_A", "false"),
 ];
 
-// The type in front is read, with its nodes in order. A name of a struct begins with a capital
-// letter.
+// The type in front is read, with its nodes in order, and it's told whether a function is written
+// in it. A name of a struct begins with a capital letter.
 #[test]
 fn types_are_read(rt: HostRuntime) {
     compare_text(&rt, rt.alloc(), OfLine::Type, TYPES);
+    compare_text(&rt, rt.alloc(), OfLine::Function, FUNCTIONS);
     compare_lines(&rt, rt.alloc(), OfLine::Capital, CAPITALS);
     one_type_at_most();
     a_type_has_tokens();
