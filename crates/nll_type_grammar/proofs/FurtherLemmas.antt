@@ -2,7 +2,7 @@
 use Rattle.std.proofs.Common.{◌≡◌, ℕ, ◌+◌, ◌-◌, ◌*◌, ◌<◌, ◌≤◌, Bool, List, [], ◌∷◌, ◌++◌, length, drop, take, get_or, refl, sym, ap, ◌∙◌, subst, arith, inl, inr, ⊎_elim}
 use Rattle.std.specs.Borrow.{Bor}
 use Rattle.std.specs.Prelude.{Option, Some, None, MatchOption, slice_get}
-use Rattle.std.specs.Global.{Vec}
+use Rattle.std.specs.Global.{Vec, Box}
 use Rattle.std.proofs.lemmas.List.{length-append, length-drop, drop-drop, take_more}
 use Rattle.std.proofs.Math.Seq.{take-length}
 use Rattle.std.proofs.lemmas.Option.{slice_get_within, slice_get-get_or}
@@ -10,13 +10,14 @@ use Rattle.nll_text.specs.Tokens.{Token, region, arrow, sign, views}
 use Rattle.nll_text.specs.declared.token.Token.{Token as InLine}
 use Rattle.nll_type_grammar.specs.WrittenTypes.{Name, WrittenType, WrittenTypes, Arguments, int, reference, function, none, more, no_argument, region_argument, type_argument}
 use Rattle.nll_type_grammar.specs.TypeTexts.{at, all_at, arguments_at, type_over, types_from, written, types_among, parts_of}
-use Rattle.nll_type_grammar.specs.OpenTypes.{Frame, behind, parts, arguments, inputs, output, joined, joined_arguments, Steps, IsStuck, frame_over, frames_of, numbers_of, AreBelow, AreRead, GoesFurther, pending, Begins, BeginsWithin, IsBegun, IsCompleted, IsEnded, EndsWith, Becomes, IsClosed, IsAwaiting, HasEnded, HasMoreParts, HasMoreArguments, HasMoreInputs}
+use Rattle.nll_type_grammar.specs.OpenTypes.{Frame, behind, parts, arguments, inputs, output, joined, joined_arguments, Steps, IsStuck, frame_over, frames_of, numbers_of, AreBelow, AreRead, GoesFurther, pending, Begins, BeginsWithin, IsBegun, IsCompleted, IsEnded, EndsWith, Becomes, IsAwaiting, HasEnded, HasMoreParts, HasMoreArguments, HasMoreInputs}
 use Rattle.nll_type_grammar.specs.declared.opens.State.{State}
 use Rattle.nll_type_grammar.specs.declared.opens.State.TheVariants.{Want, WantArgument, Have, Inside, WantArrow}
 use Rattle.nll_type_grammar.specs.declared.fronts.Front.{Front}
 use Rattle.nll_type_grammar.specs.declared.fronts.Front.TheVariants as fronts
 use Rattle.nll_type_grammar.specs.declared.opens.Open.{Open}
 use Rattle.nll_type_grammar.specs.declared.opens.Open.TheVariants as opens
+use Rattle.nll_type_grammar.specs.declared.opens.OpenName.{OpenName}
 use Rattle.nll_type_grammar.specs.declared.type_text.TypeNode.{TypeNode}
 use Rattle.nll_type_grammar.specs.declared.type_text.TypeNode.TheVariants as nodes
 use Rattle.nll_type_grammar.specs.declared.type_text.Argument.{Argument}
@@ -83,10 +84,10 @@ last_is os o e =
     sym (take-length os) ∙ ap (λ (n : ℕ). take n os) (sym k) ∙ take_more os (length os - 1) o l ∙ ap (λ (z : Open). take (length os - 1) os ++ z ∷ []) same
 
 -- nothing is open, or a reference
-stuck_reference : (ns : List TypeNode) (os : List Open) (q : Bor (List ℕ)) (m : Bool) (t : WrittenType) (ts : List Token) → slice_get os (length os - 1) ≡ Some (opens.Behind q m) → IsStuck Inside (frames_of ns os) t ts
-stuck_reference ns os q m t ts e = stuck_frame Inside t ts ns (take (length os - 1) os) os (opens.Behind q m) (last_is os (opens.Behind q m) e) (λ whole rest f. f)
+stuck_reference : (ns : List TypeNode) (os : List Open) (m : Bool) (q : Bor (List ℕ)) (t : WrittenType) (ts : List Token) → slice_get os (length os - 1) ≡ Some (opens.Behind m q) → IsStuck Inside (frames_of ns os) t ts
+stuck_reference ns os m q t ts e = stuck_frame Inside t ts ns (take (length os - 1) os) os (opens.Behind m q) (last_is os (opens.Behind m q) e) (λ whole rest f. f)
 
-stuck_output : (ns : List TypeNode) (os : List Open) (v : Vec ℕ) (t : WrittenType) (ts : List Token) → slice_get os (length os - 1) ≡ Some (opens.Output v) → IsStuck Inside (frames_of ns os) t ts
+stuck_output : (ns : List TypeNode) (os : List Open) (v : Box (Vec ℕ)) (t : WrittenType) (ts : List Token) → slice_get os (length os - 1) ≡ Some (opens.Output v) → IsStuck Inside (frames_of ns os) t ts
 stuck_output ns os v t ts e = stuck_frame Inside t ts ns (take (length os - 1) os) os (opens.Output v) (last_is os (opens.Output v) e) (λ whole rest f. f)
 
 stuck_nothing : (ns : List TypeNode) (os : List Open) (t : WrittenType) (ts : List Token) → slice_get os (length os - 1) ≡ None → IsStuck Inside (frames_of ns os) t ts
@@ -97,19 +98,19 @@ stuck_nothing ns (o ∷ os) t ts e = absurd (let l : length (o ∷ os) - 1 < len
 last_in : (xs os : List Open) (p : Open) → Some p ≡ slice_get xs (length xs - 1) → xs ≡ os → slice_get os (length os - 1) ≡ Some p
 last_in xs os p e f = subst (λ (z : List Open). slice_get z (length z - 1) ≡ Some p) f (sym e)
 
-pub ends_tuple : (xs os : List Open) (p : Open) (v : Vec ℕ) → Some p ≡ slice_get xs (length xs - 1) → xs ≡ os → p ≡ opens.Tuple v → EndsWith os 41 Want
+pub ends_tuple : (xs os : List Open) (p : Open) (v : Box (Vec ℕ)) → Some p ≡ slice_get xs (length xs - 1) → xs ≡ os → p ≡ opens.Tuple v → EndsWith os 41 Want
 ends_tuple xs os p v e f is = (p, last_in xs os p e f, subst (λ (z : Open). IsEnded z 41 Want) (sym is) (refl, refl))
 
-pub ends_name : (xs os : List Open) (p : Open) (q : Bor (List ℕ)) (v : Vec Argument) → Some p ≡ slice_get xs (length xs - 1) → xs ≡ os → p ≡ opens.Arguments q v → EndsWith os 62 WantArgument
-ends_name xs os p q v e f is = (p, last_in xs os p e f, subst (λ (z : Open). IsEnded z 62 WantArgument) (sym is) (refl, refl))
+pub ends_name : (xs os : List Open) (p : Open) (n : Box OpenName) → Some p ≡ slice_get xs (length xs - 1) → xs ≡ os → p ≡ opens.Arguments n → EndsWith os 62 WantArgument
+ends_name xs os p n e f is = (p, last_in xs os p e f, subst (λ (z : Open). IsEnded z 62 WantArgument) (sym is) (refl, refl))
 
-pub ends_reference : (xs os : List Open) (p : Open) (q : Bor (List ℕ)) (m : Bool) → Some p ≡ slice_get xs (length xs - 1) → xs ≡ os → p ≡ opens.Behind q m → (ns : List TypeNode) (t : WrittenType) (ts : List Token) → IsStuck Inside (frames_of ns os) t ts
-ends_reference xs os p q m e f is ns t ts = stuck_reference ns os q m t ts (last_in xs os p e f ∙ ap Some is)
+pub ends_reference : (xs os : List Open) (p : Open) (m : Bool) (q : Bor (List ℕ)) → Some p ≡ slice_get xs (length xs - 1) → xs ≡ os → p ≡ opens.Behind m q → (ns : List TypeNode) (t : WrittenType) (ts : List Token) → IsStuck Inside (frames_of ns os) t ts
+ends_reference xs os p m q e f is ns t ts = stuck_reference ns os m q t ts (last_in xs os p e f ∙ ap Some is)
 
-pub ends_inputs : (xs os : List Open) (p : Open) (v : Vec ℕ) → Some p ≡ slice_get xs (length xs - 1) → xs ≡ os → p ≡ opens.Inputs v → EndsWith os 41 Want
+pub ends_inputs : (xs os : List Open) (p : Open) (v : Box (Vec ℕ)) → Some p ≡ slice_get xs (length xs - 1) → xs ≡ os → p ≡ opens.Inputs v → EndsWith os 41 Want
 ends_inputs xs os p v e f is = (p, last_in xs os p e f, subst (λ (z : Open). IsEnded z 41 Want) (sym is) (refl, refl))
 
-pub ends_output : (xs os : List Open) (p : Open) (v : Vec ℕ) → Some p ≡ slice_get xs (length xs - 1) → xs ≡ os → p ≡ opens.Output v → (ns : List TypeNode) (t : WrittenType) (ts : List Token) → IsStuck Inside (frames_of ns os) t ts
+pub ends_output : (xs os : List Open) (p : Open) (v : Box (Vec ℕ)) → Some p ≡ slice_get xs (length xs - 1) → xs ≡ os → p ≡ opens.Output v → (ns : List TypeNode) (t : WrittenType) (ts : List Token) → IsStuck Inside (frames_of ns os) t ts
 ends_output xs os p v e f is ns t ts = stuck_output ns os v t ts (last_in xs os p e f ∙ ap Some is)
 
 pub ends_nothing : (xs os : List Open) → None ≡ slice_get xs (length xs - 1) → xs ≡ os → (ns : List TypeNode) (t : WrittenType) (ts : List Token) → IsStuck Inside (frames_of ns os) t ts
@@ -120,13 +121,13 @@ pub further_comma : (tokens : List InLine) (ns : List TypeNode) (os : List Open)
 further_comma tokens ns os c s r h is = by h.0 (last_is os h.0 h.1) h.2
   where
     by : (o : Open) → os ≡ take (length os - 1) os ++ o ∷ [] → IsEnded o c s → GoesFurther Inside ns os tokens s ns os 1
-    by (opens.Behind q m) e ends = absurd ends
+    by (opens.Behind m q) e ends = absurd ends
     by (opens.Tuple v) e ends = subst (λ (z : State). GoesFurther Inside ns os tokens z ns os 1) (sym ends.1)
         (subst (λ (z : List Open). GoesFurther Inside ns z tokens Want ns os 1) (sym e)
         (further_again Want tokens (sign 44) ns (take (length os - 1) os) os (opens.Tuple v) (λ x. cc) (omega arith) (subst (AreRead ns) e r) e is (λ fs t u after. step_comma_part fs _ t u after)))
-    by (opens.Arguments q v) e ends = subst (λ (z : State). GoesFurther Inside ns os tokens z ns os 1) (sym ends.1)
+    by (opens.Arguments n) e ends = subst (λ (z : State). GoesFurther Inside ns os tokens z ns os 1) (sym ends.1)
         (subst (λ (z : List Open). GoesFurther Inside ns z tokens WantArgument ns os 1) (sym e)
-        (further_again WantArgument tokens (sign 44) ns (take (length os - 1) os) os (opens.Arguments q v) (λ x. cc) (omega arith) (subst (AreRead ns) e r) e is (λ fs t u after. step_comma_argument fs _ _ t u after)))
+        (further_again WantArgument tokens (sign 44) ns (take (length os - 1) os) os (opens.Arguments n) (λ x. cc) (omega arith) (subst (AreRead ns) e r) e is (λ fs t u after. step_comma_argument fs _ _ t u after)))
     by (opens.Inputs v) e ends = subst (λ (z : State). GoesFurther Inside ns os tokens z ns os 1) (sym ends.1)
         (subst (λ (z : List Open). GoesFurther Inside ns z tokens Want ns os 1) (sym e)
         (further_again Want tokens (sign 44) ns (take (length os - 1) os) os (opens.Inputs v) (λ x. cc) (omega arith) (subst (AreRead ns) e r) e is (λ fs t u after. step_comma_input fs _ t u after)))
@@ -137,10 +138,10 @@ pub stuck_inside : (ts : List Token) (ns : List TypeNode) (os : List Open) (c : 
 stuck_inside ts ns os c s t h comma close = by h.0 (last_is os h.0 h.1) h.2
   where
     by : (o : Open) → os ≡ take (length os - 1) os ++ o ∷ [] → IsEnded o c s → IsStuck Inside (frames_of ns os) t ts
-    by (opens.Behind q m) e ends = absurd ends
-    by (opens.Tuple v) e ends = stuck_frame Inside t ts ns (take (length os - 1) os) os (opens.Tuple v) e (stuck_part (frames_of ns (take (length os - 1) os)) (all_at (types_from [] ns) v.items) t ts comma (subst (λ (z : ℕ). (rest : List Token) → ts ≡ sign z ∷ rest → ⊥) ends.0 close))
-    by (opens.Arguments q v) e ends = stuck_frame Inside t ts ns (take (length os - 1) os) os (opens.Arguments q v) e (stuck_argument (frames_of ns (take (length os - 1) os)) q.now (arguments_at (types_from [] ns) v.items) t ts comma (subst (λ (z : ℕ). (rest : List Token) → ts ≡ sign z ∷ rest → ⊥) ends.0 close))
-    by (opens.Inputs v) e ends = stuck_frame Inside t ts ns (take (length os - 1) os) os (opens.Inputs v) e (stuck_input (frames_of ns (take (length os - 1) os)) (all_at (types_from [] ns) v.items) t ts comma (subst (λ (z : ℕ). (rest : List Token) → ts ≡ sign z ∷ rest → ⊥) ends.0 close))
+    by (opens.Behind m q) e ends = absurd ends
+    by (opens.Tuple v) e ends = stuck_frame Inside t ts ns (take (length os - 1) os) os (opens.Tuple v) e (stuck_part (frames_of ns (take (length os - 1) os)) (all_at (types_from [] ns) v.value.items) t ts comma (subst (λ (z : ℕ). (rest : List Token) → ts ≡ sign z ∷ rest → ⊥) ends.0 close))
+    by (opens.Arguments n) e ends = stuck_frame Inside t ts ns (take (length os - 1) os) os (opens.Arguments n) e (stuck_argument (frames_of ns (take (length os - 1) os)) n.value.name.now (arguments_at (types_from [] ns) n.value.arguments.items) t ts comma (subst (λ (z : ℕ). (rest : List Token) → ts ≡ sign z ∷ rest → ⊥) ends.0 close))
+    by (opens.Inputs v) e ends = stuck_frame Inside t ts ns (take (length os - 1) os) os (opens.Inputs v) e (stuck_input (frames_of ns (take (length os - 1) os)) (all_at (types_from [] ns) v.value.items) t ts comma (subst (λ (z : ℕ). (rest : List Token) → ts ≡ sign z ∷ rest → ⊥) ends.0 close))
     by (opens.Output v) e ends = absurd ends
 
 -- all arguments of a function are read
@@ -148,7 +149,7 @@ further_await : (tokens : List InLine) (c : ℕ) (s s' : State) (ns ns' : List T
 further_await tokens c s s' ns ns' os os' o r ends k is =
     let v = k.arguments in
     let outer = k.outer in
-    let done = all_at (types_from [] ns) v.items in
+    let done = all_at (types_from [] ns) v.value.items in
     let held : os ≡ outer ++ opens.Inputs v ∷ [] = k.inner ∙ ap (λ (z : Open). outer ++ z ∷ []) k.was in
     let p = read_pop ns outer os (opens.Inputs v) r held in
     let e : (c ≡ 41) × (s ≡ Want) = subst (λ (z : Open). IsEnded z c s) k.was ends in
@@ -176,13 +177,13 @@ further_end tokens ns ns' os os' c s s' r h closes is = ⊎_elim
     (closes h.0 c s h.1 h.2)
   where
     by : (o : Open) → IsEnded o c s → s' ≡ Have → os ≡ os' ++ o ∷ [] → (n : TypeNode) → ns' ≡ ns ++ n ∷ [] → Becomes o n → GoesFurther Inside ns os tokens s' ns' os' 1
-    by (opens.Behind q m) ends have e n put b = absurd ends
+    by (opens.Behind m q) ends have e n put b = absurd ends
     by (opens.Tuple v) ends have e n put b = subst (λ (z : State). GoesFurther Inside ns os tokens z ns' os' 1) (sym have)
         (subst (λ (z : List Open). GoesFurther Inside ns z tokens Have ns' os' 1) (sym e)
-        (further_close tokens (sign 41) ns ns' (nodes.Tuple v) os' (opens.Tuple v) (subst (AreRead ns) e r) (put ∙ ap (λ (z : TypeNode). ns ++ z ∷ []) b) refl (is ∙ ap (λ (z : ℕ). sign z ∷ views (drop 1 tokens)) ends.0) (λ fs t after. step_close_part fs _ t after)))
-    by (opens.Arguments q v) ends have e n put b = subst (λ (z : State). GoesFurther Inside ns os tokens z ns' os' 1) (sym have)
+        (further_close tokens (sign 41) ns ns' (nodes.Tuple v.value) os' (opens.Tuple v) (subst (AreRead ns) e r) (put ∙ ap (λ (z : TypeNode). ns ++ z ∷ []) b) refl (is ∙ ap (λ (z : ℕ). sign z ∷ views (drop 1 tokens)) ends.0) (λ fs t after. step_close_part fs _ t after)))
+    by (opens.Arguments q) ends have e n put b = subst (λ (z : State). GoesFurther Inside ns os tokens z ns' os' 1) (sym have)
         (subst (λ (z : List Open). GoesFurther Inside ns z tokens Have ns' os' 1) (sym e)
-        (further_close tokens (sign 62) ns ns' (nodes.Named q v) os' (opens.Arguments q v) (subst (AreRead ns) e r) (put ∙ ap (λ (z : TypeNode). ns ++ z ∷ []) b) refl (is ∙ ap (λ (z : ℕ). sign z ∷ views (drop 1 tokens)) ends.0) (λ fs t after. step_close_argument fs _ _ t after)))
+        (further_close tokens (sign 62) ns ns' (nodes.Named q.value.name q.value.arguments) os' (opens.Arguments q) (subst (AreRead ns) e r) (put ∙ ap (λ (z : TypeNode). ns ++ z ∷ []) b) refl (is ∙ ap (λ (z : ℕ). sign z ∷ views (drop 1 tokens)) ends.0) (λ fs t after. step_close_argument fs _ _ t after)))
     by (opens.Inputs v) ends have e n put b = absurd b
     by (opens.Output v) ends have e n put b = absurd b
 
@@ -193,26 +194,27 @@ closed os os' p n ns ns' s e get b h o c next f ends =
     let same : p ≡ o = cc in
     subst (λ (z : Open). HasEnded z ns os s ns' os') same (inl (record { have = h.0; inner = e; put = (n, h.1, b) }))
 
-pub closed_tuple : (os os' : List Open) (p : Open) (v : Vec ℕ) (ns ns' : List TypeNode) (s : State) → os ≡ os' ++ p ∷ [] → slice_get os (length os - 1) ≡ Some p → p ≡ opens.Tuple v → (s ≡ Have) × (ns' ≡ ns ++ nodes.Tuple v ∷ []) → (o : Open) (c : ℕ) (next : State) → slice_get os (length os - 1) ≡ Some o → IsEnded o c next → HasEnded o ns os s ns' os'
-closed_tuple os os' p v ns ns' s e get is h = closed os os' p (nodes.Tuple v) ns ns' s e get (subst (λ (z : Open). Becomes z (nodes.Tuple v)) (sym is) refl) h
+pub closed_tuple : (os os' : List Open) (p : Open) (v : Box (Vec ℕ)) (w : Vec ℕ) (ns ns' : List TypeNode) (s : State) → w ≡ v.value → os ≡ os' ++ p ∷ [] → slice_get os (length os - 1) ≡ Some p → p ≡ opens.Tuple v → (s ≡ Have) × (ns' ≡ ns ++ nodes.Tuple w ∷ []) → (o : Open) (c : ℕ) (next : State) → slice_get os (length os - 1) ≡ Some o → IsEnded o c next → HasEnded o ns os s ns' os'
+closed_tuple os os' p v w ns ns' s inner e get is h = closed os os' p (nodes.Tuple w) ns ns' s e get (subst (λ (z : Open). Becomes z (nodes.Tuple w)) (sym is) (ap nodes.Tuple inner)) h
 
-pub closed_name : (os os' : List Open) (p : Open) (q : Bor (List ℕ)) (v : Vec Argument) (ns ns' : List TypeNode) (s : State) → os ≡ os' ++ p ∷ [] → slice_get os (length os - 1) ≡ Some p → p ≡ opens.Arguments q v → (s ≡ Have) × (ns' ≡ ns ++ nodes.Named q v ∷ []) → (o : Open) (c : ℕ) (next : State) → slice_get os (length os - 1) ≡ Some o → IsEnded o c next → HasEnded o ns os s ns' os'
-closed_name os os' p q v ns ns' s e get is h = closed os os' p (nodes.Named q v) ns ns' s e get (subst (λ (z : Open). Becomes z (nodes.Named q v)) (sym is) refl) h
+pub closed_name : (os os' : List Open) (p : Open) (v : Box OpenName) (w : OpenName) (ns ns' : List TypeNode) (s : State) → w ≡ v.value → os ≡ os' ++ p ∷ [] → slice_get os (length os - 1) ≡ Some p → p ≡ opens.Arguments v → (s ≡ Have) × (ns' ≡ ns ++ nodes.Named w.name w.arguments ∷ []) → (o : Open) (c : ℕ) (next : State) → slice_get os (length os - 1) ≡ Some o → IsEnded o c next → HasEnded o ns os s ns' os'
+closed_name os os' p v w ns ns' s inner e get is h =
+    closed os os' p (nodes.Named w.name w.arguments) ns ns' s e get (subst (λ (z : Open). Becomes z (nodes.Named w.name w.arguments)) (sym is) (ap (λ (z : OpenName). nodes.Named z.name z.arguments) inner)) h
 
-pub no_parts : (os : List Open) (q : Bor (List ℕ)) (m : Bool) (p : Open) → slice_get os (length os - 1) ≡ Some p → p ≡ opens.Behind q m → (o : Open) (c : ℕ) (next : State) → slice_get os (length os - 1) ≡ Some o → IsEnded o c next → ⊥
-no_parts os q m p get is o c next f ends =
+pub no_parts : (os : List Open) (m : Bool) (q : Bor (List ℕ)) (p : Open) → slice_get os (length os - 1) ≡ Some p → p ≡ opens.Behind m q → (o : Open) (c : ℕ) (next : State) → slice_get os (length os - 1) ≡ Some o → IsEnded o c next → ⊥
+no_parts os m q p get is o c next f ends =
     let r : Some p ≡ Some o = sym get ∙ f in
     let same : p ≡ o = cc in
     subst (λ (z : Open). IsEnded z c next) (sym same ∙ is) ends
 
-pub no_parts_of_output : (os : List Open) (v : Vec ℕ) (p : Open) → slice_get os (length os - 1) ≡ Some p → p ≡ opens.Output v → (o : Open) (c : ℕ) (next : State) → slice_get os (length os - 1) ≡ Some o → IsEnded o c next → ⊥
+pub no_parts_of_output : (os : List Open) (v : Box (Vec ℕ)) (p : Open) → slice_get os (length os - 1) ≡ Some p → p ≡ opens.Output v → (o : Open) (c : ℕ) (next : State) → slice_get os (length os - 1) ≡ Some o → IsEnded o c next → ⊥
 no_parts_of_output os v p get is o c next f ends =
     let r : Some p ≡ Some o = sym get ∙ f in
     let same : p ≡ o = cc in
     subst (λ (z : Open). IsEnded z c next) (sym same ∙ is) ends
 
 -- the innermost thing was a function, whose result comes next
-pub awaited : (os outer os' : List Open) (p : Open) (v : Vec ℕ) (ns : List TypeNode) (s : State) → os ≡ outer ++ p ∷ [] → slice_get os (length os - 1) ≡ Some p → p ≡ opens.Inputs v → (s ≡ WantArrow) × (os' ≡ outer ++ opens.Output v ∷ []) → (o : Open) (c : ℕ) (next : State) → slice_get os (length os - 1) ≡ Some o → IsEnded o c next → HasEnded o ns os s ns os'
+pub awaited : (os outer os' : List Open) (p : Open) (v : Box (Vec ℕ)) (ns : List TypeNode) (s : State) → os ≡ outer ++ p ∷ [] → slice_get os (length os - 1) ≡ Some p → p ≡ opens.Inputs v → (s ≡ WantArrow) × (os' ≡ outer ++ opens.Output v ∷ []) → (o : Open) (c : ℕ) (next : State) → slice_get os (length os - 1) ≡ Some o → IsEnded o c next → HasEnded o ns os s ns os'
 awaited os outer os' p v ns s e get is h o c next f ends =
     let q : Some p ≡ Some o = sym get ∙ f in
     let same : p ≡ o = cc in
@@ -381,19 +383,19 @@ begun_unit front ns ns' os v s is e r h = begun_node front ns ns' (nodes.Tuple v
 pub begun_name : (front : Front) (ns ns' : List TypeNode) (os : List Open) (n : Bor (List ℕ)) (v : Vec Argument) (s : State) → front ≡ fronts.Name n → v.items ≡ [] → AreRead ns os → (s ≡ Have) × (ns' ≡ ns ++ nodes.Named n v ∷ []) → IsBegun front ns os s ns' os
 begun_name front ns ns' os n v s is e r h = begun_node front ns ns' (nodes.Named n v) os s r (rw e tt) (λ ts rest b. rw e (front_name n _ _ ts rest (subst (λ z. Begins z ts rest) is b))) h
 
-pub begun_tuple : (front : Front) (ns : List TypeNode) (os os' : List Open) (v : Vec ℕ) (s : State) → front ≡ fronts.Tuple → v.items ≡ [] → AreRead ns os → (s ≡ Want) × (os' ≡ os ++ opens.Tuple v ∷ []) → IsBegun front ns os s ns os'
+pub begun_tuple : (front : Front) (ns : List TypeNode) (os os' : List Open) (v : Box (Vec ℕ)) (s : State) → front ≡ fronts.Tuple → v.value.items ≡ [] → AreRead ns os → (s ≡ Want) × (os' ≡ os ++ opens.Tuple v ∷ []) → IsBegun front ns os s ns os'
 begun_tuple front ns os os' v s is e r h = begun_frame front ns os os' (opens.Tuple v) s Want r (rw e tt) (λ x. cc) (omega arith) (λ ts rest b. rw e (front_tuple _ _ _ ts rest (subst (λ z. Begins z ts rest) is b))) h
 
-pub begun_reference : (front : Front) (ns : List TypeNode) (os os' : List Open) (q : Bor (List ℕ)) (m : Bool) (s : State) → front ≡ fronts.Reference q m → AreRead ns os → (s ≡ Want) × (os' ≡ os ++ opens.Behind q m ∷ []) → IsBegun front ns os s ns os'
-begun_reference front ns os os' q m s is r h = begun_frame front ns os os' (opens.Behind q m) s Want r tt (λ x. cc) (omega arith) (λ ts rest b. front_reference q _ _ _ _ ts rest (subst (λ z. Begins z ts rest) is b)) h
+pub begun_reference : (front : Front) (ns : List TypeNode) (os os' : List Open) (q : Bor (List ℕ)) (m : Bool) (s : State) → front ≡ fronts.Reference q m → AreRead ns os → (s ≡ Want) × (os' ≡ os ++ opens.Behind m q ∷ []) → IsBegun front ns os s ns os'
+begun_reference front ns os os' q m s is r h = begun_frame front ns os os' (opens.Behind m q) s Want r tt (λ x. cc) (omega arith) (λ ts rest b. front_reference q _ _ _ _ ts rest (subst (λ z. Begins z ts rest) is b)) h
 
-pub begun_generic : (front : Front) (ns : List TypeNode) (os os' : List Open) (n : Bor (List ℕ)) (v : Vec Argument) (s : State) → front ≡ fronts.Generic n → v.items ≡ [] → AreRead ns os → (s ≡ WantArgument) × (os' ≡ os ++ opens.Arguments n v ∷ []) → IsBegun front ns os s ns os'
-begun_generic front ns os os' n v s is e r h = begun_frame front ns os os' (opens.Arguments n v) s WantArgument r (rw e tt) (λ x. cc) (omega arith) (λ ts rest b. rw e (front_generic n _ _ _ ts rest (subst (λ z. Begins z ts rest) is b))) h
+pub begun_generic : (front : Front) (ns : List TypeNode) (os os' : List Open) (n : Bor (List ℕ)) (v : Box OpenName) (s : State) → front ≡ fronts.Generic n → v.value.name ≡ n → v.value.arguments.items ≡ [] → AreRead ns os → (s ≡ WantArgument) × (os' ≡ os ++ opens.Arguments v ∷ []) → IsBegun front ns os s ns os'
+begun_generic front ns os os' n v s is same e r h = begun_frame front ns os os' (opens.Arguments v) s WantArgument r (rw e tt) (λ x. cc) (omega arith) (λ ts rest b. rw (same, e) (front_generic n _ _ _ ts rest (subst (λ z. Begins z ts rest) is b))) h
 
-pub begun_thunk : (front : Front) (ns : List TypeNode) (os os' : List Open) (v : Vec ℕ) (s : State) → front ≡ fronts.Thunk → v.items ≡ [] → AreRead ns os → (s ≡ WantArrow) × (os' ≡ os ++ opens.Output v ∷ []) → IsBegun front ns os s ns os'
+pub begun_thunk : (front : Front) (ns : List TypeNode) (os os' : List Open) (v : Box (Vec ℕ)) (s : State) → front ≡ fronts.Thunk → v.value.items ≡ [] → AreRead ns os → (s ≡ WantArrow) × (os' ≡ os ++ opens.Output v ∷ []) → IsBegun front ns os s ns os'
 begun_thunk front ns os os' v s is e r h = begun_frame front ns os os' (opens.Output v) s WantArrow r (rw e tt) (λ x. cc) (omega arith) (λ ts rest b. rw e (front_thunk _ _ _ ts rest (subst (λ z. Begins z ts rest) is b))) h
 
-pub begun_function : (front : Front) (ns : List TypeNode) (os os' : List Open) (v : Vec ℕ) (s : State) → front ≡ fronts.Function → v.items ≡ [] → AreRead ns os → (s ≡ Want) × (os' ≡ os ++ opens.Inputs v ∷ []) → IsBegun front ns os s ns os'
+pub begun_function : (front : Front) (ns : List TypeNode) (os os' : List Open) (v : Box (Vec ℕ)) (s : State) → front ≡ fronts.Function → v.value.items ≡ [] → AreRead ns os → (s ≡ Want) × (os' ≡ os ++ opens.Inputs v ∷ []) → IsBegun front ns os s ns os'
 begun_function front ns os os' v s is e r h = begun_frame front ns os os' (opens.Inputs v) s Want r (rw e tt) (λ x. cc) (omega arith) (λ ts rest b. rw e (front_function _ _ _ ts rest (subst (λ z. Begins z ts rest) is b))) h
 
 pub further_begin : (front : Front) (n : ℕ) (tokens : List InLine) (ns ns' : List TypeNode) (os os' : List Open) (s' : State) → BeginsWithin front n tokens → IsBegun front ns os s' ns' os' → GoesFurther Want ns os tokens s' ns' os' n
@@ -404,19 +406,19 @@ further_begin front n tokens ns ns' os os' s' b h =
 
 -- ---- what is open has one thing more
 
-pub more_parts : (os os' : List Open) (is : List ℕ) (i : ℕ) (v : Vec ℕ) (s : State) → v.items ≡ is ++ i ∷ [] → (s ≡ Inside) × (os' ≡ os ++ opens.Tuple v ∷ []) → HasMoreParts os is i s os'
+pub more_parts : (os os' : List Open) (is : List ℕ) (i : ℕ) (v : Box (Vec ℕ)) (s : State) → v.value.items ≡ is ++ i ∷ [] → (s ≡ Inside) × (os' ≡ os ++ opens.Tuple v ∷ []) → HasMoreParts os is i s os'
 more_parts os os' is i v s grown h = record { inside = h.0; held = (v, grown, h.1) }
 
-pub more_inputs : (os os' : List Open) (is : List ℕ) (i : ℕ) (v : Vec ℕ) (s : State) → v.items ≡ is ++ i ∷ [] → (s ≡ Inside) × (os' ≡ os ++ opens.Inputs v ∷ []) → HasMoreInputs os is i s os'
+pub more_inputs : (os os' : List Open) (is : List ℕ) (i : ℕ) (v : Box (Vec ℕ)) (s : State) → v.value.items ≡ is ++ i ∷ [] → (s ≡ Inside) × (os' ≡ os ++ opens.Inputs v ∷ []) → HasMoreInputs os is i s os'
 more_inputs os os' is i v s grown h = record { inside = h.0; held = (v, grown, h.1) }
 
-pub more_arguments : (os os' : List Open) (n : Bor (List ℕ)) (args : List Argument) (a : Argument) (v : Vec Argument) (s : State) → v.items ≡ args ++ a ∷ [] → (s ≡ Inside) × (os' ≡ os ++ opens.Arguments n v ∷ []) → HasMoreArguments os n args a s os'
-more_arguments os os' n args a v s grown h = record { inside = h.0; held = (v, grown, h.1) }
+pub more_arguments : (os os' : List Open) (n : Bor (List ℕ)) (args : List Argument) (a : Argument) (v : Box OpenName) (s : State) → v.value.name ≡ n → v.value.arguments.items ≡ args ++ a ∷ [] → (s ≡ Inside) × (os' ≡ os ++ opens.Arguments v ∷ []) → HasMoreArguments os n args a s os'
+more_arguments os os' n args a v s same grown h = record { inside = h.0; held = (v, same, grown, h.1) }
 
 -- ---- what a complete type completes
 
-pub completed_behind : (ns ns' : List TypeNode) (os old : List Open) (o : Open) (q : Bor (List ℕ)) (m : Bool) (last : ℕ) (s : State) → AreRead ns old → 0 < length ns → last ≡ length ns - 1 → old ≡ os ++ o ∷ [] → o ≡ opens.Behind q m → (s ≡ Have) × (ns' ≡ ns ++ nodes.Reference q m last ∷ []) → IsCompleted ns old s ns' os
-completed_behind ns ns' os old o q m last s r some is_last e is h =
+pub completed_behind : (ns ns' : List TypeNode) (os old : List Open) (o : Open) (m : Bool) (q : Bor (List ℕ)) (last : ℕ) (s : State) → AreRead ns old → 0 < length ns → last ≡ length ns - 1 → old ≡ os ++ o ∷ [] → o ≡ opens.Behind m q → (s ≡ Have) × (ns' ≡ ns ++ nodes.Reference q m last ∷ []) → IsCompleted ns old s ns' os
+completed_behind ns ns' os old o m q last s r some is_last e is h =
     let f = h.1 in
     subst (λ (z : State). IsCompleted ns old z ns' os) (sym h.0)
     (record {
@@ -426,64 +428,67 @@ completed_behind ns ns' os old o q m last s r some is_last e is h =
       some = (let l : length ns' ≡ length ns + 1 = ap length f ∙ length-append ns (nodes.Reference q m last ∷ []) in omega arith);
     })
 
-pub completed_tuple : (ns : List TypeNode) (os old new : List Open) (o : Open) (v : Vec ℕ) (last : ℕ) (s : State) → AreRead ns old → 0 < length ns → last ≡ length ns - 1 → old ≡ os ++ o ∷ [] → o ≡ opens.Tuple v → HasMoreParts os v.items last s new → IsCompleted ns old s ns new
+pub completed_tuple : (ns : List TypeNode) (os old new : List Open) (o : Open) (v : Box (Vec ℕ)) (last : ℕ) (s : State) → AreRead ns old → 0 < length ns → last ≡ length ns - 1 → old ≡ os ++ o ∷ [] → o ≡ opens.Tuple v → HasMoreParts os v.value.items last s new → IsCompleted ns old s ns new
 completed_tuple ns os old new o v last s r some is_last e is h =
     let w = h.held.0 in
     let grown = h.held.1 in
     let f = h.held.2 in
     subst (λ (z : State). IsCompleted ns old z ns new) (sym h.inside)
     (record {
-      same = λ ts. complete_tuple ts ns os old new o (opens.Tuple w) v.items w.items last e f (ap (frame_over (types_from [] ns)) is) refl grown is_last;
-      read = complete_tuple_read ns os old new o (opens.Tuple w) v.items w.items last r e f (ap numbers_of is) refl grown is_last some;
+      same = λ ts. complete_tuple ts ns os old new o (opens.Tuple w) v.value.items w.value.items last e f (ap (frame_over (types_from [] ns)) is) refl grown is_last;
+      read = complete_tuple_read ns os old new o (opens.Tuple w) v.value.items w.value.items last r e f (ap numbers_of is) refl grown is_last some;
       few = (let l : length old ≡ length os + 1 = ap length e ∙ length-append os (o ∷ []) in let k : length new ≡ length os + 1 = ap length f ∙ length-append os (opens.Tuple w ∷ []) in omega arith);
       some = some;
     })
 
-pub completed_input : (ns : List TypeNode) (os old new : List Open) (o : Open) (v : Vec ℕ) (last : ℕ) (s : State) → AreRead ns old → 0 < length ns → last ≡ length ns - 1 → old ≡ os ++ o ∷ [] → o ≡ opens.Inputs v → HasMoreInputs os v.items last s new → IsCompleted ns old s ns new
+pub completed_input : (ns : List TypeNode) (os old new : List Open) (o : Open) (v : Box (Vec ℕ)) (last : ℕ) (s : State) → AreRead ns old → 0 < length ns → last ≡ length ns - 1 → old ≡ os ++ o ∷ [] → o ≡ opens.Inputs v → HasMoreInputs os v.value.items last s new → IsCompleted ns old s ns new
 completed_input ns os old new o v last s r some is_last e is h =
     let w = h.held.0 in
     let grown = h.held.1 in
     let f = h.held.2 in
     subst (λ (z : State). IsCompleted ns old z ns new) (sym h.inside)
     (record {
-      same = λ ts. complete_input ts ns os old new o (opens.Inputs w) v.items w.items last e f (ap (frame_over (types_from [] ns)) is) refl grown is_last;
-      read = complete_tuple_read ns os old new o (opens.Inputs w) v.items w.items last r e f (ap numbers_of is) refl grown is_last some;
+      same = λ ts. complete_input ts ns os old new o (opens.Inputs w) v.value.items w.value.items last e f (ap (frame_over (types_from [] ns)) is) refl grown is_last;
+      read = complete_tuple_read ns os old new o (opens.Inputs w) v.value.items w.value.items last r e f (ap numbers_of is) refl grown is_last some;
       few = (let l : length old ≡ length os + 1 = ap length e ∙ length-append os (o ∷ []) in let k : length new ≡ length os + 1 = ap length f ∙ length-append os (opens.Inputs w ∷ []) in omega arith);
       some = some;
     })
 
-pub completed_output : (ns ns' : List TypeNode) (os old : List Open) (o : Open) (v : Vec ℕ) (last : ℕ) (s : State) → AreRead ns old → 0 < length ns → last ≡ length ns - 1 → old ≡ os ++ o ∷ [] → o ≡ opens.Output v → (s ≡ Have) × (ns' ≡ ns ++ nodes.Function v last ∷ []) → IsCompleted ns old s ns' os
-completed_output ns ns' os old o v last s r some is_last e is h =
+pub completed_output : (ns ns' : List TypeNode) (os old : List Open) (o : Open) (v : Box (Vec ℕ)) (w : Vec ℕ) (last : ℕ) (s : State) → w ≡ v.value → AreRead ns old → 0 < length ns → last ≡ length ns - 1 → old ≡ os ++ o ∷ [] → o ≡ opens.Output v → (s ≡ Have) × (ns' ≡ ns ++ nodes.Function w last ∷ []) → IsCompleted ns old s ns' os
+completed_output ns ns' os old o v w last s inner r some is_last e is h =
     let f = h.1 in
     let p = read_pop ns os old o r e in
-    let below : AreBelow (length ns) v.items = subst (λ (z : Open). AreBelow (length ns) (numbers_of z)) is p.1 in
+    let below : AreBelow (length ns) w.items = subst (λ (z : Vec ℕ). AreBelow (length ns) z.items) (sym inner) (subst (λ (z : Open). AreBelow (length ns) (numbers_of z)) is p.1) in
     let within : last < length ns = omega arith in
     subst (λ (z : State). IsCompleted ns old z ns' os) (sym h.0)
     (record {
-      same = λ ts. complete_function ts ns ns' (nodes.Function v last) os old o (all_at (types_from [] ns) v.items) last r e f (ap (frame_over (types_from [] ns)) is) refl is_last;
-      read = read_push_node ns ns' (nodes.Function v last) os p.0 (within, below) f;
+      same = λ ts. complete_function ts ns ns' (nodes.Function w last) os old o (all_at (types_from [] ns) w.items) last r e f (ap (frame_over (types_from [] ns)) is ∙ ap (λ (z : Vec ℕ). output (all_at (types_from [] ns) z.items)) (sym inner)) refl is_last;
+      read = read_push_node ns ns' (nodes.Function w last) os p.0 (within, below) f;
       few = (let l : length old ≡ length os + 1 = ap length e ∙ length-append os (o ∷ []) in omega arith);
-      some = (let l : length ns' ≡ length ns + 1 = ap length f ∙ length-append ns (nodes.Function v last ∷ []) in omega arith);
+      some = (let l : length ns' ≡ length ns + 1 = ap length f ∙ length-append ns (nodes.Function w last ∷ []) in omega arith);
     })
 
-pub completed_argument : (ns : List TypeNode) (os old new : List Open) (o : Open) (n : Bor (List ℕ)) (v : Vec Argument) (last : ℕ) (s : State) → AreRead ns old → 0 < length ns → last ≡ length ns - 1 → old ≡ os ++ o ∷ [] → o ≡ opens.Arguments n v → HasMoreArguments os n v.items (argument.Type last) s new → IsCompleted ns old s ns new
-completed_argument ns os old new o n v last s r some is_last e is h =
+pub completed_argument : (ns : List TypeNode) (os old new : List Open) (o : Open) (v : Box OpenName) (last : ℕ) (s : State) → AreRead ns old → 0 < length ns → last ≡ length ns - 1 → old ≡ os ++ o ∷ [] → o ≡ opens.Arguments v → HasMoreArguments os v.value.name v.value.arguments.items (argument.Type last) s new → IsCompleted ns old s ns new
+completed_argument ns os old new o v last s r some is_last e is h =
     let w = h.held.0 in
-    let grown = h.held.1 in
-    let f = h.held.2 in
+    let same = h.held.1 in
+    let grown = h.held.2 in
+    let f = h.held.3 in
+    let known = types_from [] ns in
     subst (λ (z : State). IsCompleted ns old z ns new) (sym h.inside)
     (record {
-      same = λ ts. complete_argument ts ns os old new o (opens.Arguments n w) n.now v.items w.items last e f (ap (frame_over (types_from [] ns)) is) refl grown is_last;
-      read = complete_argument_read ns os old new o (opens.Arguments n w) v.items w.items last r e f (ap numbers_of is) refl grown is_last some;
-      few = (let l : length old ≡ length os + 1 = ap length e ∙ length-append os (o ∷ []) in let k : length new ≡ length os + 1 = ap length f ∙ length-append os (opens.Arguments n w ∷ []) in omega arith);
+      same = λ ts. complete_argument ts ns os old new o (opens.Arguments w) v.value.name.now v.value.arguments.items w.value.arguments.items last e f (ap (frame_over known) is) (ap (λ (z : Bor (List ℕ)). arguments z.now (arguments_at known w.value.arguments.items)) same) grown is_last;
+      read = complete_argument_read ns os old new o (opens.Arguments w) v.value.arguments.items w.value.arguments.items last r e f (ap numbers_of is) refl grown is_last some;
+      few = (let l : length old ≡ length os + 1 = ap length e ∙ length-append os (o ∷ []) in let k : length new ≡ length os + 1 = ap length f ∙ length-append os (opens.Arguments w ∷ []) in omega arith);
       some = some;
     })
 
-pub further_region_of : (tokens : List InLine) (ns : List TypeNode) (os old new : List Open) (o : Open) (n : Bor (List ℕ)) (v : Vec Argument) (q : Bor (List ℕ)) (s : State) → AreRead ns old → views tokens ≡ region q.now ∷ views (drop 1 tokens) → old ≡ os ++ o ∷ [] → o ≡ opens.Arguments n v → HasMoreArguments os n v.items (argument.Region q) s new → GoesFurther WantArgument ns old tokens s ns new 1
-further_region_of tokens ns os old new o n v q s r front e is h =
+pub further_region_of : (tokens : List InLine) (ns : List TypeNode) (os old new : List Open) (o : Open) (v : Box OpenName) (q : Bor (List ℕ)) (s : State) → AreRead ns old → views tokens ≡ region q.now ∷ views (drop 1 tokens) → old ≡ os ++ o ∷ [] → o ≡ opens.Arguments v → HasMoreArguments os v.value.name v.value.arguments.items (argument.Region q) s new → GoesFurther WantArgument ns old tokens s ns new 1
+further_region_of tokens ns os old new o v q s r front e is h =
     let w = h.held.0 in
+    let known = types_from [] ns in
     subst (λ (z : State). GoesFurther WantArgument ns old tokens z ns new 1) (sym h.inside)
-    (further_region tokens ns os old new o (opens.Arguments n w) n.now v.items w.items q r front e h.held.2 (ap (frame_over (types_from [] ns)) is) refl (ap numbers_of is) refl h.held.1)
+    (further_region tokens ns os old new o (opens.Arguments w) v.value.name.now v.value.arguments.items w.value.arguments.items q r front e h.held.3 (ap (frame_over known) is) (ap (λ (z : Bor (List ℕ)). arguments z.now (arguments_at known w.value.arguments.items)) h.held.1) (ap numbers_of is) refl h.held.2)
 
 -- what is so for all lists of nodes is so for one
 pub at_nodes : (told : Option (State × ℕ)) (tokens : List InLine) (ns : List TypeNode) (old new : List Open) → AreRead ns old → MatchOption told ((ns : List TypeNode) → IsStuck WantArgument (frames_of ns old) (written ns) (views tokens)) (λ p. (ns : List TypeNode) → AreRead ns old → GoesFurther WantArgument ns old tokens p.0 ns new p.1) → MatchOption told (IsStuck WantArgument (frames_of ns old) (written ns) (views tokens)) (λ p. GoesFurther WantArgument ns old tokens p.0 ns new p.1)

@@ -53,11 +53,11 @@ arguments_kept known t (argument.Region r ∷ args) h = ap (region_argument r.no
 arguments_kept known t (argument.Type i ∷ args) h = (let here = at_kept known t i h.0 in let rest = arguments_kept known t args h.1 in cc)
 
 frame_kept : (known : List WrittenType) (t : WrittenType) (o : Open) → AreBelow (length known) (numbers_of o) → frame_over (known ++ t ∷ []) o ≡ frame_over known o
-frame_kept known t (opens.Behind r m) h = refl
-frame_kept known t (opens.Tuple is) h = ap parts (all_kept known t is.items h)
-frame_kept known t (opens.Arguments n args) h = ap (arguments n.now) (arguments_kept known t args.items h)
-frame_kept known t (opens.Inputs is) h = ap inputs (all_kept known t is.items h)
-frame_kept known t (opens.Output is) h = ap output (all_kept known t is.items h)
+frame_kept known t (opens.Behind m r) h = refl
+frame_kept known t (opens.Tuple is) h = ap parts (all_kept known t is.value.items h)
+frame_kept known t (opens.Arguments n) h = ap (arguments n.value.name.now) (arguments_kept known t n.value.arguments.items h)
+frame_kept known t (opens.Inputs is) h = ap inputs (all_kept known t is.value.items h)
+frame_kept known t (opens.Output is) h = ap output (all_kept known t is.value.items h)
 
 map_kept : (known : List WrittenType) (t : WrittenType) (os : List Open) → AreOpen (length known) os → map (frame_over (known ++ t ∷ [])) os ≡ map (frame_over known) os
 map_kept known t [] h = refl

@@ -2,7 +2,7 @@
 -- Source: project's choice.
 use Rattle.std.specs.Prelude.{◌≡◌, ◌⊎◌, ℕ, Bool, true, false, List, [], ◌∷◌, ◌++◌, ◌<◌, ◌≤◌, ◌+◌}
 use Rattle.std.specs.Prelude.{◌*◌, ◌-◌, Some, slice_get, length, drop, reverse, map, codes, slice_index_or, All}
-use Rattle.std.specs.Global.{Vec}
+use Rattle.std.specs.Global.{Vec, Box}
 use Rattle.std.specs.List.{AllByRecursion}
 use Rattle.std.specs.Borrow.{Bor}
 use Rattle.nll_text.specs.Tokens.{Token, word, region, arrow, sign, views}
@@ -25,6 +25,7 @@ use Rattle.nll_type_grammar.specs.declared.opens.State.TheVariants.{Want, WantAr
 use Rattle.nll_type_grammar.specs.declared.opens.State.TheVariants.{Inside, WantArrow}
 use Rattle.nll_type_grammar.specs.declared.opens.Open.{Open}
 use Rattle.nll_type_grammar.specs.declared.opens.Open.TheVariants as opens
+use Rattle.nll_type_grammar.specs.declared.opens.OpenName.{OpenName}
 
 -- ---- the tokens at the beginning of a type
 
@@ -173,11 +174,12 @@ IsStuck s frames t ts =
 
 -- a frame, where the types before it are known
 abbrev pub frame_over : List WrittenType → Open → Frame
-frame_over known (opens.Behind r m) = behind r.now m
-frame_over known (opens.Tuple is) = parts (all_at known is.items)
-frame_over known (opens.Arguments n args) = arguments n.now (arguments_at known args.items)
-frame_over known (opens.Inputs is) = inputs (all_at known is.items)
-frame_over known (opens.Output is) = output (all_at known is.items)
+frame_over known (opens.Behind m r) = behind r.now m
+frame_over known (opens.Tuple is) = parts (all_at known is.value.items)
+frame_over known (opens.Arguments n) =
+    arguments n.value.name.now (arguments_at known n.value.arguments.items)
+frame_over known (opens.Inputs is) = inputs (all_at known is.value.items)
+frame_over known (opens.Output is) = output (all_at known is.value.items)
 
 -- the frames, the innermost first; it is the last of the list
 abbrev pub frames_of : List TypeNode → List Open → List Frame
@@ -185,11 +187,11 @@ frames_of ns opened = reverse (map (frame_over (types_from [] ns)) opened)
 
 -- the numbers of nodes in a frame
 abbrev pub numbers_of : Open → List ℕ
-numbers_of (opens.Behind r m) = []
-numbers_of (opens.Tuple is) = is.items
-numbers_of (opens.Arguments n args) = types_among args.items
-numbers_of (opens.Inputs is) = is.items
-numbers_of (opens.Output is) = is.items
+numbers_of (opens.Behind m r) = []
+numbers_of (opens.Tuple is) = is.value.items
+numbers_of (opens.Arguments n) = types_among n.value.arguments.items
+numbers_of (opens.Inputs is) = is.value.items
+numbers_of (opens.Output is) = is.value.items
 
 -- Each of these numbers is below n.
 abbrev pub AreBelow : ℕ → List ℕ → Type 0
@@ -248,9 +250,9 @@ pub record IsCompleted (ns : List TypeNode) (opened : List Open)
 
 -- it has parts, this sign closes it, and this may come behind a comma
 abbrev pub IsEnded : Open → ℕ → State → Type 0
-IsEnded (opens.Behind r m) c s = ⊥
+IsEnded (opens.Behind m r) c s = ⊥
 IsEnded (opens.Tuple is) c s = (c ≡ 41) × (s ≡ Want)
-IsEnded (opens.Arguments n args) c s = (c ≡ 62) × (s ≡ WantArgument)
+IsEnded (opens.Arguments n) c s = (c ≡ 62) × (s ≡ WantArgument)
 IsEnded (opens.Inputs is) c s = (c ≡ 41) × (s ≡ Want)
 IsEnded (opens.Output is) c s = ⊥
 
@@ -261,9 +263,9 @@ EndsWith opened c s =
 
 -- the node that it becomes
 abbrev pub Becomes : Open → TypeNode → Type 0
-Becomes (opens.Behind r m) n = ⊥
-Becomes (opens.Tuple is) n = n ≡ nodes.Tuple is
-Becomes (opens.Arguments q args) n = n ≡ nodes.Named q args
+Becomes (opens.Behind m r) n = ⊥
+Becomes (opens.Tuple is) n = n ≡ nodes.Tuple is.value
+Becomes (opens.Arguments q) n = n ≡ nodes.Named q.value.name q.value.arguments
 Becomes (opens.Inputs is) n = ⊥
 Becomes (opens.Output is) n = ⊥
 
@@ -280,7 +282,7 @@ pub record IsAwaiting (o : Open) (ns : List TypeNode) (opened : List Open)
   pub awaits : s' ≡ WantArrow
   pub same : ns' ≡ ns
   pub outer : List Open
-  pub arguments : Vec ℕ
+  pub arguments : Box (Vec ℕ)
   pub was : o ≡ opens.Inputs arguments
   pub inner : opened ≡ outer ++ o ∷ []
   pub held : opened' ≡ outer ++ opens.Output arguments ∷ []
@@ -295,19 +297,21 @@ pub record HasMoreInputs (opened : List Open) (inputs : List ℕ) (input : ℕ)
     (s' : State) (opened' : List Open) : Type 0 where
   pub inside : s' ≡ Inside
   pub held :
-      (v : Vec ℕ) × (v.items ≡ inputs ++ input ∷ []) × (opened' ≡ opened ++ opens.Inputs v ∷ [])
+      (v : Box (Vec ℕ)) × (v.value.items ≡ inputs ++ input ∷ [])
+      × (opened' ≡ opened ++ opens.Inputs v ∷ [])
 
 -- A tuple is open, and has one part more than these.
 pub record HasMoreParts (opened : List Open) (parts : List ℕ) (part : ℕ)
     (s' : State) (opened' : List Open) : Type 0 where
   pub inside : s' ≡ Inside
   pub held :
-      (v : Vec ℕ) × (v.items ≡ parts ++ part ∷ []) × (opened' ≡ opened ++ opens.Tuple v ∷ [])
+      (v : Box (Vec ℕ)) × (v.value.items ≡ parts ++ part ∷ [])
+      × (opened' ≡ opened ++ opens.Tuple v ∷ [])
 
 -- A name is open, and has one argument more than these.
 pub record HasMoreArguments (opened : List Open) (name : Bor (List ℕ)) (args : List Argument)
     (arg : Argument) (s' : State) (opened' : List Open) : Type 0 where
   pub inside : s' ≡ Inside
   pub held :
-      (v : Vec Argument) × (v.items ≡ args ++ arg ∷ [])
-      × (opened' ≡ opened ++ opens.Arguments name v ∷ [])
+      (v : Box OpenName) × (v.value.name ≡ name) × (v.value.arguments.items ≡ args ++ arg ∷ [])
+      × (opened' ≡ opened ++ opens.Arguments v ∷ [])

@@ -53,16 +53,28 @@ pub fn region_at<'a>(tokens: &[Token<'a>]) -> Option<&'a [u8]>
     }
 }
 
-// Whether `int` stands in front.
-fn is_int(tokens: &[Token<'_>]) -> bool
-    ensures yes { result ≡ true
-        → views tokens.now ≡ lex.word (codes "int") ∷ views (drop 1 tokens.now) }
-    ensures other { result ≡ false →
-        (rest : List lex.Token) → views tokens.now ≡ lex.word (codes "int") ∷ rest → ⊥ }
+// The word in front.
+fn word_at<'a>(tokens: &[Token<'a>]) -> Option<&'a [u8]>
+    ensures { MatchOption result
+        ((s : List ℕ) (rest : List lex.Token) → views tokens.now ≡ lex.word s ∷ rest → ⊥)
+        (λ s. views tokens.now ≡ lex.word s.now ∷ views (drop 1 tokens.now)) }
 {
     match tokens {
-        [Token::Word(b"int"), ..] => true,
-        _ => false,
+        [Token::Word(word), ..] => Some(word),
+        _ => None,
+    }
+}
+
+// Whether the word stands in front.
+fn is_word(tokens: &[Token<'_>], word: &[u8]) -> bool
+    ensures yes { result ≡ true
+        → views tokens.now ≡ lex.word word.now ∷ views (drop 1 tokens.now) }
+    ensures other { result ≡ false →
+        (rest : List lex.Token) → views tokens.now ≡ lex.word word.now ∷ rest → ⊥ }
+{
+    match word_at(tokens) {
+        Some(name) => name == word,
+        None => false,
     }
 }
 
@@ -154,19 +166,6 @@ fn generic_at<'a>(tokens: &[Token<'a>]) -> Option<&'a [u8]>
     }
 }
 
-// Whether `fn ()` stands in front.
-fn is_thunk(tokens: &[Token<'_>]) -> bool
-    ensures yes { result ≡ true → views tokens.now
-        ≡ lex.word (codes "fn") ∷ lex.sign 40 ∷ lex.sign 41 ∷ views (drop 3 tokens.now) }
-    ensures other { result ≡ false → (rest : List lex.Token) → views tokens.now
-        ≡ lex.word (codes "fn") ∷ lex.sign 40 ∷ lex.sign 41 ∷ rest → ⊥ }
-{
-    match tokens {
-        [Token::Word(b"fn"), Token::Sign(b'('), Token::Sign(b')'), ..] => true,
-        _ => false,
-    }
-}
-
 // Whether `fn (` stands in front.
 fn is_function(tokens: &[Token<'_>]) -> bool
     ensures yes { result ≡ true →
@@ -174,10 +173,17 @@ fn is_function(tokens: &[Token<'_>]) -> bool
     ensures other { result ≡ false → (rest : List lex.Token) → views tokens.now
         ≡ lex.word (codes "fn") ∷ lex.sign 40 ∷ rest → ⊥ }
 {
-    match tokens {
-        [Token::Word(b"fn"), Token::Sign(b'('), ..] => true,
-        _ => false,
-    }
+    is_word(tokens, b"fn") && is_sign(&tokens[1..], b'(')
+}
+
+// Whether `fn ()` stands in front.
+fn is_thunk(tokens: &[Token<'_>]) -> bool
+    ensures yes { result ≡ true → views tokens.now
+        ≡ lex.word (codes "fn") ∷ lex.sign 40 ∷ lex.sign 41 ∷ views (drop 3 tokens.now) }
+    ensures other { result ≡ false → (rest : List lex.Token) → views tokens.now
+        ≡ lex.word (codes "fn") ∷ lex.sign 40 ∷ lex.sign 41 ∷ rest → ⊥ }
+{
+    is_function(tokens) && is_sign(&tokens[2..], b')')
 }
 
 /// How a type begins here, and how many tokens that takes.
@@ -185,7 +191,7 @@ pub fn front_at<'a>(tokens: &[Token<'a>]) -> Option<(Front<'a>, usize)>
     ensures { MatchOption result (IsNoFront (views tokens.now))
         (λ p. BeginsWithin p.0 p.1 tokens.now) }
 {
-    if is_int(tokens) {
+    if is_word(tokens, b"int") {
         return Some((Front::Int, 1));
     }
     if is_unit(tokens) {

@@ -20,21 +20,36 @@ use nll_sets::Memory;
 use nll_text::Token;
 use smallvec::SmallVec;
 use std::alloc::Global;
+use std::mem::size_of;
+
+/// A name, and the arguments read so far.
+#[derive(Drop)]
+pub struct OpenName<'a> {
+    name: &'a [u8],
+    arguments: Vec<Argument<'a>>,
+}
 
 /// What is begun and not complete; parts go by the numbers of their nodes.
+///
+/// # Size
+/// It has the size that a reference needs: a text may have millions of them in one another. What
+/// else may be open is behind one pointer, and the `bool` stands in front of the name, beside the
+/// tag.
 #[derive(Drop)]
 pub enum Open<'a> {
-    /// A reference: its region's name and whether it is `mut`.
-    Behind(&'a [u8], bool),
+    /// A reference: whether it is `mut`, and its region's name.
+    Behind(bool, &'a [u8]),
     /// A tuple, with the parts read so far.
-    Tuple(Vec<usize>),
+    Tuple(Box<Vec<usize>>),
     /// A name, and the arguments read so far.
-    Arguments(&'a [u8], Vec<Argument<'a>>),
+    Arguments(Box<OpenName<'a>>),
     /// A function, with the arguments read so far.
-    Inputs(Vec<usize>),
+    Inputs(Box<Vec<usize>>),
     /// A function with these arguments, whose result comes next.
-    Output(Vec<usize>),
+    Output(Box<Vec<usize>>),
 }
+
+const _: () = prove!(size_of::<Open<'_>>() == 24);
 
 /// What may come next in a type.
 #[derive(Clone, Copy, PartialEq, Eq)]
@@ -53,7 +68,7 @@ pub enum State {
 
 impl<'a> Default for Open<'a> {
     fn default() -> Open<'a> {
-        Open::Behind(&[], false)
+        Open::Behind(false, &[])
     }
 }
 
@@ -78,6 +93,22 @@ fn put_open<'a>(opened: &mut Opened<'a>, inner: Open<'a>, state: State) -> Resul
     Ok(state)
 }
 
+// No parts so far.
+fn no_parts(alloc: Global) -> Result<Box<Vec<usize>>, Memory>
+    ensures { IfOk result (λ b. b.value.items ≡ []) }
+{
+    Ok(Box::new(alloc, Vec::new(alloc))?)
+}
+
+// A name without arguments so far.
+fn no_arguments<'a>(alloc: Global, name: &'a [u8]) -> Result<Box<OpenName<'a>>, Memory>
+    ensures name { IfOk result (λ b. b.value.name ≡ name.entry) }
+    ensures arguments { IfOk result (λ b. b.value.arguments.items ≡ []) }
+{
+    let arguments = Vec::new(alloc);
+    Ok(Box::new(alloc, OpenName { name, arguments })?)
+}
+
 /// Goes on behind the beginning of a type.
 pub fn begin<'a>(
     alloc: Global,
@@ -92,20 +123,20 @@ pub fn begin<'a>(
     match front {
         Front::Int => put(nodes, TypeNode::Int),
         Front::Unit => put(nodes, TypeNode::Tuple(Vec::new(alloc))),
-        Front::Tuple => put_open(opened, Open::Tuple(Vec::new(alloc)), State::Want),
+        Front::Tuple => put_open(opened, Open::Tuple(no_parts(alloc)?), State::Want),
         Front::Reference(region, is_mut) => put_open(
             opened,
-            Open::Behind(region, is_mut),
+            Open::Behind(is_mut, region),
             State::Want,
         ),
         Front::Generic(name) => put_open(
             opened,
-            Open::Arguments(name, Vec::new(alloc)),
+            Open::Arguments(no_arguments(alloc, name)?),
             State::WantArgument,
         ),
         Front::Name(name) => put(nodes, TypeNode::Named(name, Vec::new(alloc))),
-        Front::Thunk => put_open(opened, Open::Output(Vec::new(alloc)), State::WantArrow),
-        Front::Function => put_open(opened, Open::Inputs(Vec::new(alloc)), State::Want),
+        Front::Thunk => put_open(opened, Open::Output(no_parts(alloc)?), State::WantArrow),
+        Front::Function => put_open(opened, Open::Inputs(no_parts(alloc)?), State::Want),
     }
 }
 
@@ -135,10 +166,10 @@ fn want<'a>(
 // Opens a tuple again, which has one more part.
 fn open_tuple<'a>(
     opened: &mut Opened<'a>,
-    mut parts: Vec<usize>,
+    mut parts: Box<Vec<usize>>,
     part: usize,
 ) -> Result<State, Memory>
-    ensures { IfOk result (λ s. HasMoreParts opened.old.items parts.items part
+    ensures { IfOk result (λ s. HasMoreParts opened.old.items parts.value.items part
         s opened.new.items) }
 {
     parts.push(part)?;
@@ -148,10 +179,10 @@ fn open_tuple<'a>(
 // Opens a function again, which has one more argument.
 fn open_function<'a>(
     opened: &mut Opened<'a>,
-    mut inputs: Vec<usize>,
+    mut inputs: Box<Vec<usize>>,
     input: usize,
 ) -> Result<State, Memory>
-    ensures { IfOk result (λ s. HasMoreInputs opened.old.items inputs.items input
+    ensures { IfOk result (λ s. HasMoreInputs opened.old.items inputs.value.items input
         s opened.new.items) }
 {
     inputs.push(input)?;
@@ -161,15 +192,14 @@ fn open_function<'a>(
 // Opens a name again, which has one more argument.
 fn open_name<'a>(
     opened: &mut Opened<'a>,
-    name: &'a [u8],
-    mut arguments: Vec<Argument<'a>>,
+    mut name: Box<OpenName<'a>>,
     argument: Argument<'a>,
 ) -> Result<State, Memory>
-    ensures { IfOk result (λ s. HasMoreArguments opened.old.items name.entry
-        arguments.entry.items argument.entry s opened.new.items) }
+    ensures { IfOk result (λ s. HasMoreArguments opened.old.items name.entry.value.name
+        name.entry.value.arguments.items argument.entry s opened.new.items) }
 {
-    arguments.push(argument)?;
-    put_open(opened, Open::Arguments(name, arguments), State::Inside)
+    name.arguments.push(argument)?;
+    put_open(opened, Open::Arguments(name), State::Inside)
 }
 
 // One step where a type or a region comes next.
@@ -188,8 +218,8 @@ fn want_argument<'a>(
         return Ok(Some((State::Want, 0)));
     };
     match opened.pop() {
-        Some(Open::Arguments(name, arguments)) => {
-            let state = open_name(opened, name, arguments, Argument::Region(region))?;
+        Some(Open::Arguments(name)) => {
+            let state = open_name(opened, name, Argument::Region(region))?;
             Ok(Some((state, 1)))
         }
         Some(Open::Behind(..)) => Ok(None),
@@ -210,16 +240,11 @@ fn complete<'a>(nodes: &mut Vec<TypeNode<'a>>, opened: &mut Opened<'a>) -> Resul
 {
     let last = nodes.len() - 1;
     match opened.pop() {
-        Some(Open::Behind(region, is_mut)) => put(nodes, TypeNode::Reference(region, is_mut, last)),
+        Some(Open::Behind(is_mut, region)) => put(nodes, TypeNode::Reference(region, is_mut, last)),
         Some(Open::Tuple(parts)) => open_tuple(opened, parts, last),
-        Some(Open::Arguments(name, arguments)) => open_name(
-            opened,
-            name,
-            arguments,
-            Argument::Type(last),
-        ),
+        Some(Open::Arguments(name)) => open_name(opened, name, Argument::Type(last)),
         Some(Open::Inputs(inputs)) => open_function(opened, inputs, last),
-        Some(Open::Output(inputs)) => put(nodes, TypeNode::Function(inputs, last)),
+        Some(Open::Output(inputs)) => put(nodes, TypeNode::Function(Box::into_inner(inputs), last)),
         None => Ok(State::Have),
     }
 }
@@ -234,7 +259,7 @@ fn ends_at(opened: &Opened<'_>) -> Option<(u8, State)>
 {
     match opened.as_slice().last() {
         Some(Open::Tuple(_)) => Some((b')', State::Want)),
-        Some(Open::Arguments(..)) => Some((b'>', State::WantArgument)),
+        Some(Open::Arguments(_)) => Some((b'>', State::WantArgument)),
         Some(Open::Inputs(_)) => Some((b')', State::Want)),
         Some(Open::Output(_)) => None,
         Some(Open::Behind(..)) => None,
@@ -249,8 +274,11 @@ fn close<'a>(nodes: &mut Vec<TypeNode<'a>>, opened: &mut Opened<'a>) -> Result<S
         HasEnded o nodes.old.items opened.old.items s nodes.new.items opened.new.items) }
 {
     match opened.pop() {
-        Some(Open::Tuple(parts)) => put(nodes, TypeNode::Tuple(parts)),
-        Some(Open::Arguments(name, arguments)) => put(nodes, TypeNode::Named(name, arguments)),
+        Some(Open::Tuple(parts)) => put(nodes, TypeNode::Tuple(Box::into_inner(parts))),
+        Some(Open::Arguments(open)) => {
+            let OpenName { name, arguments } = Box::into_inner(open);
+            put(nodes, TypeNode::Named(name, arguments))
+        }
         Some(Open::Inputs(inputs)) => put_open(opened, Open::Output(inputs), State::WantArrow),
         Some(Open::Output(_)) => Ok(State::Have),
         Some(Open::Behind(..)) => Ok(State::Have),

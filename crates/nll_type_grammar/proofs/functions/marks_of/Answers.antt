@@ -1,4 +1,4 @@
-use Rattle.std.proofs.Common.{◌≤◌, ◌∙◌, [], length, take, arith}
+use Rattle.std.proofs.Common.{◌≤◌, ◌∙◌, [], length, take}
 use Rattle.std.proofs.lemmas.List.{take_all}
 use Rattle.nll_type_grammar.specs.TypeTexts.{types_from}
 use Rattle.nll_type_grammar.proofs.FunctionLemmas.{marks_more}

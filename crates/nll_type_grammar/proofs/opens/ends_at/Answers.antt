@@ -5,7 +5,7 @@ pub returns-in-Some-Tuple : goal.returns-in-Some-Tuple
 returns-in-Some-Tuple c = ends_tuple c.as_slice.result.now c.args.opened.now.items c.in-Some-Tuple.field-0.now c.in-Some-Tuple.field-0-0 c.in-Some-Tuple.ensures.value c.as_slice.ensures c.in-Some-Tuple.field-0-is
 
 pub returns-in-Some-Arguments : goal.returns-in-Some-Arguments
-returns-in-Some-Arguments c = ends_name c.as_slice.result.now c.args.opened.now.items c.in-Some-Arguments.field-0.now c.in-Some-Arguments.field-0-0 c.in-Some-Arguments.field-0-1 c.in-Some-Arguments.ensures.value c.as_slice.ensures c.in-Some-Arguments.field-0-is
+returns-in-Some-Arguments c = ends_name c.as_slice.result.now c.args.opened.now.items c.in-Some-Arguments.field-0.now c.in-Some-Arguments.field-0-0 c.in-Some-Arguments.ensures.value c.as_slice.ensures c.in-Some-Arguments.field-0-is
 
 pub returns-in-Some-Behind : goal.returns-in-Some-Behind
 returns-in-Some-Behind c = ends_reference c.as_slice.result.now c.args.opened.now.items c.in-Some-Behind.field-0.now c.in-Some-Behind.field-0-0 c.in-Some-Behind.field-0-1 c.in-Some-Behind.ensures.value c.as_slice.ensures c.in-Some-Behind.field-0-is

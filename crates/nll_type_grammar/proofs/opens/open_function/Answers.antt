@@ -1,6 +1,10 @@
+use Rattle.std.proofs.Common.{ap, ◌∙◌, ◌++◌, ◌∷◌, [], ℕ}
 use Rattle.std.proofs.lemmas.Result.{IfOk-weaker}
+use Rattle.std.specs.Global.{Vec}
 use Rattle.nll_type_grammar.proofs.FurtherLemmas.{more_inputs}
 use Rattle.nll_type_grammar.proofs.opens.open_function.Goals as goal
 
 pub returns : goal.returns
-returns c = IfOk-weaker _ _ _ (λ s h. more_inputs _ _ _ _ _ s c.in_ok-push.ensures.items h) c.put_open.ensures
+returns c =
+    let grown = c.in_ok-push.ensures.items ∙ ap (λ (v : Vec ℕ). v.items ++ c.args.input ∷ []) c.deref_mut.ensures.value in
+    IfOk-weaker _ _ _ (λ s h. more_inputs _ _ _ _ _ s grown h) c.put_open.ensures

@@ -7,7 +7,7 @@ use Rattle.nll_type_grammar.proofs.FurtherLemmas.{further_region_of, stuck_argum
 use Rattle.nll_type_grammar.proofs.opens.want_argument.Goals as goal
 
 pub returns-in-Some-Arguments : goal.returns-in-Some-Arguments
-returns-in-Some-Arguments c = λ ns r. further_region_of c.args.tokens.now ns c.pop.new.self.items _ _ _ _ _ c.in-Some.region _ r c.in-Some.ensures c.in-Some-Arguments.ensures.items c.in-Some-Arguments.field-0-is c.in_ok-state-in-Some-Arguments.ensures
+returns-in-Some-Arguments c = λ ns r. further_region_of c.args.tokens.now ns c.pop.new.self.items _ _ _ _ c.in-Some.region _ r c.in-Some.ensures c.in-Some-Arguments.ensures.items c.in-Some-Arguments.field-0-is c.in_ok-state-in-Some-Arguments.ensures
 
 pub returns-in-Some-Behind : goal.returns-in-Some-Behind
 returns-in-Some-Behind c = λ ns. stuck_argument_frame c.args.tokens.now _ ns c.pop.new.self.items _ _ c.in-Some.region.now (λ n args h. let f = ap (frame_over (types_from [] ns)) c.in-Some-Behind.field-0-is in cc) c.in-Some.ensures c.in-Some-Behind.ensures.items
