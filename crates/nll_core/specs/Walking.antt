@@ -144,6 +144,10 @@ IsPointOf g (Point p) = p < g.points
 abbrev pub AreAtPoints : Graph → List Constraint → Type 0
 AreAtPoints g pair = (c : Constraint) → Contains pair c → IsPointOf g c.at
 
+-- none of the constraints holds at all points
+abbrev pub NoneEverywhere : List Constraint → Type 0
+NoneEverywhere pair = (c : Constraint) → Contains pair c → c.at ≡ All → ⊥
+
 -- the points of the constraints at the places from one up to another aren't in `sub`
 abbrev pub NoneInside : List Bool → List Constraint → ℕ → ℕ → Type 0
 NoneInside sub pair from to =

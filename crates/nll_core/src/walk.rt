@@ -9,7 +9,7 @@ ghost use Rattle.nll_problem.specs.declared.constraint.Constraint as spec;
 ghost use Rattle.nll_core.specs.Search.{IsIn};
 ghost use Rattle.nll_core.specs.Walking.{Grows, IsLineClosed, PointsAscend};
 ghost use Rattle.nll_core.specs.Walking.{AreAskedOf, AreAtPoints, IsLedFrom, AreLedFrom};
-ghost use Rattle.nll_core.specs.Walking.{NoneInside, constraint_at, point_of};
+ghost use Rattle.nll_core.specs.Walking.{NoneEverywhere, NoneInside, constraint_at, point_of};
 ghost use Rattle.nll_sets.specs.Runs.{first_of, last_of, IsRunFrom, IsWithin, MakeUp};
 
 use crate::filling::fill_from;
@@ -69,13 +69,15 @@ impl Walk {
     }
 }
 
-// The point of the constraint at a place, and 0 where it holds at all points.
+// The point of the constraint at a place. It's asked for so often that another kind of place isn't
+// even looked for.
 fn point_at(pair: &[Constraint], place: usize) -> u32
-    requires { place < length pair.now }
+    requires place { place < length pair.now }
+    requires points { NoneEverywhere pair.now }
     ensures { result ≡ point_of (constraint_at pair.now place) }
 {
     match pair[place].at {
-        At::All => 0,
+        At::All => unreachable!(),
         At::Point(point) => point,
     }
 }
@@ -145,6 +147,7 @@ struct Found {
 
 // The first constraint, from a place on, whose point is in `sub`.
 fn next_inside(sub: &RunSet, near: usize, pair: &[Constraint], from: usize) -> Option<Found>
+    requires points { NoneEverywhere pair.now }
     requires ascending { PointsAscend pair.now }
     requires from { from ≤ length pair.now }
     ensures found { IfSome result (λ f. (from ≤ f.place) × (f.place < length pair.now)) }
@@ -173,6 +176,7 @@ fn next_inside(sub: &RunSet, near: usize, pair: &[Constraint], from: usize) -> O
 
 // The first place, from one on, of a constraint whose point isn't below `least`.
 fn place_from(pair: &[Constraint], from: usize, least: u32) -> usize
+    requires points { NoneEverywhere pair.now }
     requires ascending { PointsAscend pair.now }
     requires from { from ≤ length pair.now }
     ensures low { from ≤ result }

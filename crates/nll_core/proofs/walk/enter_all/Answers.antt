@@ -1,11 +1,25 @@
-use Rattle.std.proofs.Common.{subst, sym, ◌∙◌, ⊎_elim, arith}
+use Rattle.std.proofs.Common.{List, subst, sym, ◌∙◌, ⊎_elim, arith}
 use Rattle.std.proofs.lemmas.Bool.{cases_lt, false≢true}
 use Rattle.nll_sets.specs.Runs.{IsRunFrom}
 use Rattle.nll_core.specs.Search.{IsIn}
-use Rattle.nll_core.specs.Walking.{point_of}
+use Rattle.nll_problem.specs.Graph.{Graph}
+use Rattle.nll_core.specs.Walking.{AreAtPoints, IsPointOf, NoneEverywhere, point_of}
 use Rattle.nll_problem.specs.declared.constraint.Constraint.{Constraint}
 use Rattle.nll_core.proofs.WalkingLemmas.{contained_at, each_contained, entering_more, entering_skip, point_below}
 use Rattle.nll_core.proofs.walk.enter_all.Goals as goal
+
+-- none of them holds at all points, since each is at a point
+none_everywhere : (g : Graph) (pair : List Constraint) → AreAtPoints g pair → NoneEverywhere pair
+none_everywhere g pair points c there all = subst (IsPointOf g) all (points c there)
+
+pub next_inside-requires-clause-points : goal.next_inside-requires-clause-points
+next_inside-requires-clause-points c = none_everywhere c.args.lines.now c.args.pair.now c.requires.points
+
+pub point_at-point-requires-clause-points : goal.point_at-point-requires-clause-points
+point_at-point-requires-clause-points c = none_everywhere c.args.lines.now c.args.pair.now c.requires.points
+
+pub place_from-place-requires-clause-points : goal.place_from-place-requires-clause-points
+place_from-place-requires-clause-points c = none_everywhere c.args.lines.now c.args.pair.now c.requires.points
 
 pub enter-requires-clause-point : goal.enter-requires-clause-point
 enter-requires-clause-point c =
