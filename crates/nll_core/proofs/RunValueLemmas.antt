@@ -1,14 +1,15 @@
--- A run in the value of a region.
-use Rattle.std.proofs.Common.{◌≡◌, ℕ, ◌+◌, ◌-◌, ◌<◌, ◌≤◌, Bool, true, false, List, [], length, get_or, set, subst, ap, ◌∙◌, arith, Result, Ok, Err, OnOk, IfOk}
-use Rattle.std.proofs.lemmas.Bool.{false_from_ne_true}
-use Rattle.std.proofs.lemmas.List.{set-get_or}
+-- A run in the value of a region, and a copy of another region's value.
+use Rattle.std.proofs.Common.{◌≡◌, ◌≢◌, ℕ, ◌+◌, ◌-◌, ◌<◌, ◌≤◌, Bool, true, false, List, [], length, get_or, set, sym, subst, ap, ◌∙◌, inl, inr, ⊎_elim, arith, Result, Ok, Err, OnOk, IfOk}
+use Rattle.std.proofs.lemmas.Bool.{cases_eq, false_from_ne_true}
+use Rattle.std.proofs.lemmas.List.{get_or-set_other, get_or-set_same, length-set, set-get_or}
 use Rattle.std.proofs.lemmas.List.Sums.{sum_by-set}
 use Rattle.nll_sets.specs.ElementSet.{flag}
 use Rattle.nll_sets.specs.Runs.{Fills, IsWithin}
 use Rattle.nll_sets.specs.declared.run.Run.{Run}
-use Rattle.nll_core.specs.Growing.{Tells, missing_pairs}
-use Rattle.nll_core.specs.Values.{IsHeld}
-use Rattle.nll_core.specs.Search.{missing}
+use Rattle.nll_sets.proofs.RunSetLemmas.{same_flags}
+use Rattle.nll_core.specs.Growing.{Gains, Tells, missing_pairs}
+use Rattle.nll_core.specs.Values.{set_of, IsHeld}
+use Rattle.nll_core.specs.Search.{missing, IsIn}
 use Rattle.nll_core.proofs.WalkingLemmas.{missing_less, missing_run}
 
 tells_row : (values : List (List Bool)) (region : ℕ) (old row : List Bool) (run : Run) (changed : Bool) → region < length values → old ≡ get_or values region [] → Fills old row run
@@ -32,3 +33,42 @@ fewer_filled values region old row run (Ok changed) within proper is f = λ lack
     let there : (x : ℕ) → run.first ≤ x → x < run.first + (run.last + 1 - run.first) → flag row x ≡ true = λ x a b. f.filled x a (omega (arith, b, proper)) in
     omega (arith, missing_run old row run.first (run.last + 1 - run.first) f.width f.kept lacked there, sum_by-set missing values region row [] within, ap missing is)
 fewer_filled values region old row run (Err e) within proper is f = f
+
+-- ---- a region that held nothing gets the value of another one
+
+module _ (values : List (List Bool)) (sub sup : ℕ) (within : sup < length values) (widths : length (set_of values sub) ≡ length (set_of values sup)) (nothing : (e : ℕ) → IsHeld values sup e → ⊥) where
+  abbrev copied : List (List Bool)
+  copied = set values sup (set_of values sub)
+
+  copied_here : set_of copied sup ≡ set_of values sub
+  copied_here = get_or-set_same values sup (set_of values sub) [] within
+
+  copied_other : (r : ℕ) → r ≢ sup → set_of copied r ≡ set_of values r
+  copied_other r other = get_or-set_other values sup r (set_of values sub) [] other
+
+  pub covers_copied : (e : ℕ) → IsHeld values sub e → IsHeld copied sup e
+  covers_copied e h = ap (λ x. flag x e) copied_here ∙ h
+
+  pub gains_copied : Gains (λ r e. (r ≡ sup) × IsHeld values sub e) values copied
+  gains_copied = record {
+    width = length-set values sup (set_of values sub);
+    widths = λ r. ⊎_elim
+        (λ same. subst (λ x. length (set_of copied x) ≡ length (set_of values x)) (sym same) (ap length copied_here ∙ widths))
+        (λ other. ap length (copied_other r other))
+        (cases_eq r sup);
+    kept = λ r e h. ⊎_elim
+        (λ same. absurd (nothing e (subst (λ x. IsHeld values x e) same h)))
+        (λ other. ap (λ x. flag x e) (copied_other r other) ∙ h)
+        (cases_eq r sup);
+    cause = λ r e h. ⊎_elim
+        (λ same. inr (same, sym (ap (λ x. flag x e) copied_here) ∙ subst (λ x. IsHeld copied x e) same h))
+        (λ other. inl (sym (ap (λ x. flag x e) (copied_other r other)) ∙ h))
+        (cases_eq r sup);
+  }
+
+  pub tells_copied : (new : Bool) → (new ≡ false → (e : ℕ) → IsHeld values sub e → ⊥) → (new ≡ true → (e : ℕ) × IsHeld values sub e) → Tells new values copied
+  tells_copied new none some = record {
+    same = λ h. ap (set values sup) (same_flags (set_of values sub) (set_of values sup) widths (λ x. false_from_ne_true _ (none h x) ∙ sym (false_from_ne_true _ (nothing x)))) ∙ set-get_or values sup [];
+    fewer = λ h. let w = some h in
+        omega (arith, missing_less (set_of values sup) (set_of values sub) w.0 widths (λ x e. absurd (nothing x e)) (false_from_ne_true _ (nothing w.0)) w.1, sum_by-set missing values sup (set_of values sub) [] within);
+  }

@@ -1,11 +1,13 @@
 //! How the constraints of a pair of regions are met.
 
-ghost use Rattle.std.specs.Prelude.{◌≡◌, ℕ, ◌≤◌, ◌<◌, Contains, length, IfOk, OnOk};
+ghost use Rattle.std.specs.Prelude.{◌≡◌, ℕ, ◌≤◌, ◌<◌, true, false, Contains, length};
+ghost use Rattle.std.specs.Prelude.{IfOk, OnOk};
 ghost use Rattle.nll_sets.specs.Runs.{first_of, last_of, IsInRuns};
 ghost use Rattle.nll_problem.specs.Graph.{element_count};
 ghost use Rattle.nll_problem.specs.declared.constraint.Constraint as spec;
 ghost use Rattle.nll_core.specs.Values.{set_of, IsHeld, IsShaped};
 ghost use Rattle.nll_core.specs.Growing.{Gains, Tells, IsMet};
+ghost use Rattle.nll_core.specs.Search.{IsIn};
 ghost use Rattle.nll_core.specs.Walking.{PointsAscend, IsAskedOf};
 ghost use Rattle.nll_core.specs.Worklist.{AreOfPair, Visits};
 
@@ -15,7 +17,7 @@ use crate::pairs::is_everywhere;
 use crate::values::Values;
 use crate::walk::Walk;
 use nll_problem::{Constraint, Problem, RegionId};
-use nll_sets::{Memory, Run};
+use nll_sets::{Memory, Run, RunSet};
 
 /// Meets the constraints of a pair of regions, and marks the one that they fill if it gets
 /// something. Answers whether it does.
@@ -82,11 +84,58 @@ fn fill(
 {
     let _regions = problem.regions();
     if is_everywhere(pair) {
-        walk.list(values.set(sub))?;
-        return fill_all(values, sup, walk.todo.as_slice());
+        return fill_whole(values, walk, sub, sup);
     }
     walk.reach(lines, values.set(sub), pair)?;
     fill_all(values, sup, walk.reached.as_runs())
+}
+
+// Puts all that a region holds into another one; a region that holds nothing gets a copy. Answers
+// whether something was new.
+fn fill_whole(
+    values: &mut Values,
+    walk: &mut Walk,
+    sub: RegionId,
+    sup: RegionId,
+) -> Result<bool, Memory>
+    requires sub { sub < length values.old }
+    requires sup { sup < length values.old }
+    requires widths { length (set_of values.old sub) ≡ length (set_of values.old sup) }
+    ensures gains { OnOk result
+        (Gains (λ r e. (r ≡ sup) × IsHeld values.old sub e) values.old values.new) }
+    ensures covers { OnOk result ((e : ℕ) → IsHeld values.old sub e → IsHeld values.new sup e) }
+    ensures tells { IfOk result (λ new. Tells new values.old values.new) }
+    ensures walk { walk.new.reached ≡ walk.old.reached }
+{
+    if is_empty(values.set(sup)) {
+        return copy_whole(values, sub, sup);
+    }
+    walk.list(values.set(sub))?;
+    fill_all(values, sup, walk.todo.as_slice())
+}
+
+// Gives a region that holds nothing all that another one holds. Answers whether that is something.
+fn copy_whole(values: &mut Values, sub: RegionId, sup: RegionId) -> Result<bool, Memory>
+    requires sub { sub < length values.old }
+    requires sup { sup < length values.old }
+    requires widths { length (set_of values.old sub) ≡ length (set_of values.old sup) }
+    requires nothing { (e : ℕ) → IsHeld values.old sup e → ⊥ }
+    ensures gains { OnOk result
+        (Gains (λ r e. (r ≡ sup) × IsHeld values.old sub e) values.old values.new) }
+    ensures covers { OnOk result ((e : ℕ) → IsHeld values.old sub e → IsHeld values.new sup e) }
+    ensures tells { IfOk result (λ new. Tells new values.old values.new) }
+{
+    let new = !is_empty(values.set(sub));
+    values.copy(sub, sup)?;
+    Ok(new)
+}
+
+// Whether a set holds nothing.
+fn is_empty(set: &RunSet) -> bool
+    ensures yes { result ≡ true → (e : ℕ) → IsIn set.now e → ⊥ }
+    ensures no { result ≡ false → (e : ℕ) × IsIn set.now e }
+{
+    set.as_runs().is_empty()
 }
 
 // Puts the elements of runs into the value of a region. Answers whether one of them is new.

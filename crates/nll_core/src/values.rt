@@ -1,7 +1,7 @@
 //! The values of regions: a set of elements for each.
 
 ghost use Rattle.std.specs.Prelude.{◌≡◌, ℕ, ◌+◌, ◌-◌, ◌≤◌, ◌<◌, not, length, IfOk, OnOk};
-ghost use Rattle.std.specs.Prelude.{OnErr, false, replicate};
+ghost use Rattle.std.specs.Prelude.{OnErr, false, replicate, slice_set};
 ghost use Rattle.nll_sets.specs.ElementSet.{elements};
 ghost use Rattle.nll_sets.specs.Runs.{first_of, last_of, numbers, IsWithin};
 ghost use Rattle.nll_core.specs.Growing.{Gains, Tells, missing_pairs};
@@ -87,6 +87,21 @@ impl Values {
             → missing_pairs self.new + (run.last + 1 - run.first) ≤ missing_pairs self.old) }
     {
         self.sets[region.0 as usize].insert_run(run)
+    }
+
+    /// Gives a region the value of another one.
+    ///
+    /// # Errors
+    /// - `Memory`: the values are as before.
+    pub(crate) fn copy(&mut self, from: RegionId, to: RegionId) -> Result<(), Memory>
+        requires from { from < length self.old }
+        requires to { to < length self.old }
+        ensures ok { OnOk result (self.new ≡ slice_set self.old to (set_of self.old from)) }
+        ensures err { OnErr result (self.new ≡ self.old) }
+    {
+        let set = self.sets[from.0 as usize].copy()?;
+        self.sets[to.0 as usize] = set;
+        Ok(())
     }
 
     /// The elements of the value of a region, ascending: its points, and then its ends.

@@ -24,7 +24,8 @@ use std::marker::Model;
 ///
 /// # Cost
 /// `has`, `next_from`, `run_from` and the search of `insert` are logarithmic in the number of runs;
-/// `insert` and `insert_run` move the runs behind the place where the list changes (not proved).
+/// `insert` and `insert_run` move the runs behind the place where the list changes; `copy` takes
+/// memory at most once, and just for the runs (not proved).
 pub struct RunSet {
     runs: SmallVec<Run, 2>,
     len: u32,
@@ -97,6 +98,16 @@ impl RunSet {
             runs: SmallVec::new(alloc),
             len: 0,
         }
+    }
+
+    /// A set of the same elements.
+    pub fn copy(&self) -> Result<RunSet, Memory>
+        ensures { IfOk result (λ set. set ≡ self.now) }
+    {
+        let alloc = *self.runs.allocator();
+        let runs = SmallVec::from_slice(alloc, self.runs.as_slice())?;
+        let len = self.len;
+        Ok(RunSet { runs, len })
     }
 
     /// Makes room for the elements below a length. Takes no memory.
