@@ -136,7 +136,7 @@ fn write_inserted(out: &mut Transcript, set: &mut RunSet, elements: &[u32])
 }
 
 // Writes what a set of runs tells where the elements from 2 to 5 are put in, and where all are
-// taken out.
+// taken out, and then what a copy has that was made between.
 fn write_filled(out: &mut Transcript, set: &mut RunSet)
     requires { length set.old ≡ 10 }
 {
@@ -146,12 +146,18 @@ fn write_filled(out: &mut Transcript, set: &mut RunSet)
     out.show("", &set.as_runs());
     out.show(" ", &set.run_from(1));
     out.show(" ", &set.run_near(0, 8).1);
+    let copied = set.copy();
     set.clear();
     out.size("|", set.runs());
+    if let Ok(kept) = copied {
+        write_elements(out, kept.iter());
+        drop(kept);
+    }
 }
 
 /// Writes what a set of runs of elements below ten tells where elements are put in, then where the
-/// elements from 2 to 5 are put in, and where all are taken out.
+/// elements from 2 to 5 are put in, and where all are taken out, and then what a copy has that was
+/// made between.
 pub fn write_runs(out: &mut Transcript, elements: &[u32]) {
     if let Ok(mut set) = RunSet::empty(out.alloc, 10) {
         write_inserted(out, &mut set, elements);
@@ -171,7 +177,7 @@ const OWN: &[Row] = &[
         Asked::Runs(&[5, 7, 6, 6, 9, 0]),
         "true 1|true 2|true 1|false 1|true 2|true 3| 0 5 6 7 9|true [Run { first: 0, \
          last: 0 }, Run { first: 2, last: 7 }, Run { first: 9, last: 9 }] Some(Run { first: 2, \
-         last: 7 }) Some(Run { first: 9, last: 9 })|0",
+         last: 7 }) Some(Run { first: 9, last: 9 })|0 0 2 3 4 5 6 7 9",
     ),
 ];
 
