@@ -2,7 +2,7 @@
 
 ghost use Rattle.std.specs.Prelude.{◌≡◌, ◌⊎◌, ◌↔◌, ◌+◌, ◌<◌, ◌≤◌, ◌^◌, true, false, max, Some, Err};
 ghost use Rattle.std.specs.Prelude.{length, slice_get, slice_set, Contains, IsTrue, IfOk, OnOk, OnErr};
-ghost use Rattle.std.specs.Prelude.{IfSome, IfNone, min, ◌-◌};
+ghost use Rattle.std.specs.Prelude.{IfSome, IfNone, ℕ, min, ◌-◌};
 ghost use Rattle.std.specs.List.{sum, sum_by};
 ghost use Rattle.nll_problem.specs.Graph.{element_count};
 ghost use Rattle.nll_problem.specs.Limits.{most_rank};
