@@ -213,9 +213,8 @@ impl<'q> Owner<'q> {
         self.receive_all(from, &[growth])
     }
 
-    /// Enters growths of another owner, in the order in which it told them, into the copies of
-    /// their regions, and grows until nothing is left to do. The owner is loaded, or a call of it
-    /// was refused.
+    /// Receives growths of another owner, in the order in which it told them, and follows up all of
+    /// them together. Nothing is left to do then. The owner is loaded, or a call of it was refused.
     ///
     /// # Errors
     /// - `Broken`: an earlier call was refused; nothing has changed.
@@ -223,8 +222,8 @@ impl<'q> Owner<'q> {
     ///   grown.
     ///
     /// # Cost
-    /// That of the growths apart, but for this: growths of one region that follow each other, with
-    /// elements that do so too, are followed up as one run (not proved).
+    /// Growths of one region that follow each other are followed up once where their elements follow
+    /// each other by number; else it's that of as many calls of `receive` (not proved).
     pub fn receive_all(&mut self, from: u16, growths: &[Growth]) -> Result<(), OwnerError>
         requires ready { IsReady self.old }
         requires passes { let o = self.old in (g : Growth) → Contains growths.now g

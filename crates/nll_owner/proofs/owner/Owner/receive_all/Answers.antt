@@ -9,7 +9,8 @@ use Rattle.nll_owner.proofs.OutboxLemmas.{queued_marked}
 use Rattle.nll_owner.proofs.owner.Owner.receive_all.Goals as goal
 
 pub receive_and_queue-result-requires-clause-passes : goal.receive_and_queue-result-requires-clause-passes
-receive_and_queue-result-requires-clause-passes c g at = subst (λ (o : Owner). Passes o.problem o.cut o.me c.args.from g) (sym c.self.view_is) (c.requires.passes g at)
+receive_and_queue-result-requires-clause-passes c g at =
+    subst (λ (o : Owner). Passes o.problem o.cut o.me c.args.from g) (sym c.self.view_is) (c.requires.passes g at)
 
 pub mark-requires : goal.mark-requires
 mark-requires c is = c.receive_and_queue-result.ensures.sound.based (ap (λ (o : Owner). o.loaded) c.receive_and_queue-result.ensures.others ∙ (sym (ap (λ (o : Inside). o.knowledge.loaded) c.self-inside.view_is) ∙ is))
