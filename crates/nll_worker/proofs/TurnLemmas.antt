@@ -54,7 +54,7 @@ module _ (old : Owner) (taken : List (List Growth)) (owed cleared : ℕ) (t : Ta
     taken_here : (h : Growth) (some : List Growth) → IsPrefix some gs → from < old.cut.owners → Contains (received_from old from ++ some) h → Contains (log_of after from) h
     taken_here h some begins l at =
         let all : log_of after from ≡ (received_from old from ++ some) ++ begins.0 = more
-            ∙ (ap (λ xs. xs ++ gs) (r.taking.heard from l) ∙ (ap (λ xs. received_from old from ++ xs) begins.1 ∙ sym (append_assoc (received_from old from) some begins.0))) in
+        ∙ (ap (λ xs. xs ++ gs) (r.taking.heard from l) ∙ (ap (λ xs. received_from old from ++ xs) begins.1 ∙ sym (append_assoc (received_from old from) some begins.0))) in
         subst (λ xs. Contains xs h) (sym all) (Contains-append_left (received_from old from ++ some) begins.0 h at)
 
     taken_still : (j : ℕ) (h : Growth) → Contains (log_of taken j) h → Contains (log_of after j) h
@@ -74,7 +74,7 @@ module _ (old : Owner) (taken : List (List Growth)) (owed cleared : ℕ) (t : Ta
         ⊎_elim
         (λ (here : j ≡ from).
         let lists : received_from new from ≡ received_from old from ++ got.0 = ap (λ xs. slice_index_or xs from []) got.2
-            ∙ set_log old.received from (received_from old from ++ got.0) [] (omega (arith, from_in, r.working.sound.senders)) in
+        ∙ set_log old.received from (received_from old from ++ got.0) [] (omega (arith, from_in, r.working.sound.senders)) in
         subst (λ k. Contains (log_of after k) h) (sym here)
         (taken_here h got.0 got.1 from_in (subst (λ xs. Contains xs h) lists (subst (λ k. Contains (received_from new k) h) here at))))
         (λ (other : j ≢ from).
@@ -124,7 +124,7 @@ module _ (old : Owner) (taken : List (List Growth)) (owed cleared : ℕ) (t : Ta
             (λ k differs l. subst (λ xs. length xs ≤ 2 ^ 37) (sym (apart k differs)) (r.taking.few k (omega (arith, l, owners_same))));
         clears =
             let s = sum_more old.cut.owners (λ k. length (log_of taken k)) (λ k. length (log_of after k)) from (length gs) from_in
-                (ap length more ∙ length-append (log_of taken from) gs) (λ k differs. ap length (apart k differs)) in
+            (ap length more ∙ length-append (log_of taken from) gs) (λ k differs. ap length (apart k differs)) in
             let same = ap (λ n. sum_to n (λ k. length (log_of after k))) owners_same in
             omega (arith, is, s, same, r.taking.clears);
       }

@@ -142,5 +142,13 @@ pub fn hear_from<M: Mail, G: Gate>(
         (log_of (map M.received receivers.new.items) from) }
     ensures keeps { Alike (Keeps M.Mail) receivers.old.items receivers.new.items }
 {
-    hear::<M, G>(gate, turn, owner, me, &mut receivers[from as usize], from, batch)
+    hear::<M, G>(
+        gate,
+        turn,
+        owner,
+        me,
+        &mut receivers[from as usize],
+        from,
+        batch,
+    )
 }

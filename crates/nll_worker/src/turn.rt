@@ -207,8 +207,8 @@ pub fn rounds<M: Mail, L: Ledger, G: Gate>(
     ensures keeps { Alike (Keeps M.Mail) receivers.old.items receivers.new.items }
 {
     let mut heard = round::<M, L, G>(
-            gate, book, share, owner, owners, tally, receivers, me, batch,
-        );
+        gate, book, share, owner, owners, tally, receivers, me, batch,
+    );
     for _ in 1..MOST_ROUNDS {
         match heard {
             Heard::Growths => {}

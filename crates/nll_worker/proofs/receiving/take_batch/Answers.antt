@@ -1,25 +1,70 @@
-use Rattle.std.proofs.Common.{◌≡◌, ◌≤◌, ◌++◌, [], ◌∷◌, length, length-append, append-nil, append_assoc, Contains, refl, sym, ap, ◌∙◌, subst, ⊎_elim, arith}
-use Rattle.std.proofs.lemmas.List.Elements.{Contains-push, Contains-push_cases}
+use Rattle.std.proofs.Common.{◌≡◌, ◌≤◌, ◌^◌, List, ◌++◌, [], ◌∷◌, length, length-append, append-nil, append_assoc, Contains, refl, sym, ap, ◌∙◌, subst, ⊎_elim, arith, rules}
+use Rattle.std.proofs.lemmas.List.Elements.{Contains-push_cases}
 use Rattle.nll_mail.specs.declared.growth.Growth.{Growth}
 use Rattle.nll_owner.specs.Owner.{Passes}
 use Rattle.nll_worker.proofs.receiving.take_batch.Goals as goal
 
 pub loop-receiver-init : goal.loop-receiver-init
-loop-receiver-init g c = record {
-  room = c.requires.room;
-  taken = sym (ap (λ xs. g.M.Mail.received c.args.receiver.now ++ xs) c.requires.empty ∙ append-nil (g.M.Mail.received c.args.receiver.now));
-  passes = λ h at. absurd (omega (arith, (subst (λ xs. Contains xs h) c.requires.empty at).1));
-  few = λ small. small;
-  pair = λ s p. p;
-  closed = λ s p. p;
-  ends = refl;
-}
+loop-receiver-init g c =
+    let before = g.M.Mail.received c.args.receiver.now in
+    record {
+      room = c.requires.room;
+      taken = sym (ap (λ xs. before ++ xs) c.requires.empty ∙ append-nil before);
+      passes = λ h at. absurd (omega (arith, (subst (λ (xs : List Growth). Contains xs h) c.requires.empty at).1));
+      few = λ small. small;
+      pair = λ s p. p;
+      closed = λ s p. p;
+      ends = refl;
+    }
 
 pub returns-in-None-clause-taken : goal.returns-in-None-clause-taken
 returns-in-None-clause-taken g c = c.in-None.ensures.none ∙ c.loop-receiver.invariant.taken
 
 pub returns-in-None-clause-few : goal.returns-in-None-clause-few
-returns-in-None-clause-few g c = λ small. subst (λ xs. length xs ≤ 2 ^ 37) (sym c.in-None.ensures.none) (c.loop-receiver.invariant.few small)
+returns-in-None-clause-few g c = λ small.
+    subst (λ (xs : List Growth). length xs ≤ 2 ^ 37) (sym c.in-None.ensures.none) (c.loop-receiver.invariant.few small)
+
+pub returns-in-None-clause-pair : goal.returns-in-None-clause-pair
+returns-in-None-clause-pair g c = λ s p. c.take.ensures.pair s (c.loop-receiver.invariant.pair s p)
+
+pub returns-in-None-clause-closed : goal.returns-in-None-clause-closed
+returns-in-None-clause-closed g c = λ s p. c.take.ensures.closed s (c.loop-receiver.invariant.closed s p)
+
+-- what was taken in all, with the growth that was taken last
+more : (g : _) (c : goal.After-push_reserved g)
+    → g.M.Mail.received c.take.new.receiver ≡ g.M.Mail.received c.args.receiver.now ++ c.push_reserved.new.batch.items
+more g c =
+    let before = g.M.Mail.received c.args.receiver.now in
+    c.in-Some.ensures.some
+    ∙ (ap (λ xs. xs ++ c.in-Some.growth ∷ []) c.loop-receiver.invariant.taken
+    ∙ (append_assoc before c.loop-receiver.batch.items (c.in-Some.growth ∷ [])
+    ∙ ap (λ xs. before ++ xs) (sym c.push_reserved.ensures.items)))
+
+pub returns-then-not-passes-clause-taken : goal.returns-then-not-passes-clause-taken
+returns-then-not-passes-clause-taken g c = more g c
+
+pub returns-then-not-passes-clause-pair : goal.returns-then-not-passes-clause-pair
+returns-then-not-passes-clause-pair g c = λ s p. c.take.ensures.pair s (c.loop-receiver.invariant.pair s p)
+
+pub returns-then-not-passes-clause-closed : goal.returns-then-not-passes-clause-closed
+returns-then-not-passes-clause-closed g c = λ s p. c.take.ensures.closed s (c.loop-receiver.invariant.closed s p)
 
 pub loop-receiver-preserved : goal.loop-receiver-preserved
-loop-receiver-preserved g c = let h = c.push_reserved in ?
+loop-receiver-preserved g c =
+    let o = c.args.owner.now in
+    let was = c.loop-receiver.invariant in
+    let passes : Passes o.problem o.cut o.me c.args.from c.in-Some.growth = search rules in
+    record {
+      room = omega (arith, was.room, c.push_reserved.ensures.capacity);
+      taken = more g c;
+      passes = λ h at. ⊎_elim
+          (λ before. was.passes h before)
+          (λ is. subst (λ (x : Growth). Passes o.problem o.cut o.me c.args.from x) is passes)
+          (Contains-push_cases c.loop-receiver.batch.items c.in-Some.growth h
+          (subst (λ (xs : List Growth). Contains xs h) c.push_reserved.ensures.items at));
+      few = λ small.
+          omega (arith, c.in-Some.ensures.few, ap length c.in-Some.ensures.some, length-append (g.M.Mail.received c.loop-receiver.receiver) (c.in-Some.growth ∷ []));
+      pair = λ s p. c.take.ensures.pair s (was.pair s p);
+      closed = λ s p. c.take.ensures.closed s (was.closed s p);
+      ends = c.take.ensures.ends ∙ was.ends;
+    }
