@@ -13,7 +13,7 @@ returns-in-Err-clause-hears g c =
     let o = c.args.owner.now in
     let none = c.reserve.ensures.items ∙ c.clear.ensures.items in (
       sym (ap (λ xs. before ++ xs) none ∙ append-nil before),
-      (([], sym (append-nil o.log)), c.requires.sound, refl, ([], (c.reserve.new.batch.items, refl), sym (with_none o.received c.args.from))),
+      (([], sym (append-nil o.log)), c.requires.sound, refl, ([], (c.reserve.new.self.items, refl), sym (with_none o.received c.args.from))),
     )
 
 pub returns-then-not-take_batch-clause-hears : goal.returns-then-not-take_batch-clause-hears

@@ -30,18 +30,16 @@ returns-in-None-clause-pair g c = λ s p. c.take.ensures.pair s (c.loop-receiver
 pub returns-in-None-clause-closed : goal.returns-in-None-clause-closed
 returns-in-None-clause-closed g c = λ s p. c.take.ensures.closed s (c.loop-receiver.invariant.closed s p)
 
--- what was taken in all, with the growth that was taken last
-more : (g : _) (c : goal.After-push_reserved g)
-    → g.M.Mail.received c.take.new.receiver ≡ g.M.Mail.received c.args.receiver.now ++ c.push_reserved.new.batch.items
-more g c =
-    let before = g.M.Mail.received c.args.receiver.now in
-    c.in-Some.ensures.some
-    ∙ (ap (λ xs. xs ++ c.in-Some.growth ∷ []) c.loop-receiver.invariant.taken
-    ∙ (append_assoc before c.loop-receiver.batch.items (c.in-Some.growth ∷ [])
-    ∙ ap (λ xs. before ++ xs) (sym c.push_reserved.ensures.items)))
+-- what was taken in all, with a growth that was taken last
+taken_more : (before was now batch next : List Growth) (g : Growth) → was ≡ before ++ batch → now ≡ was ++ g ∷ [] → next ≡ batch ++ g ∷ []
+    → now ≡ before ++ next
+taken_more before was now batch next g first then both =
+    then ∙ (ap (λ xs. xs ++ g ∷ []) first ∙ (append_assoc before batch (g ∷ []) ∙ ap (λ xs. before ++ xs) (sym both)))
 
 pub returns-then-not-passes-clause-taken : goal.returns-then-not-passes-clause-taken
-returns-then-not-passes-clause-taken g c = more g c
+returns-then-not-passes-clause-taken g c =
+    taken_more (g.M.Mail.received c.args.receiver.now) _ _ c.loop-receiver.batch.items _ c.in-Some.growth
+    c.loop-receiver.invariant.taken c.in-Some.ensures.some c.push_reserved.ensures.items
 
 pub returns-then-not-passes-clause-pair : goal.returns-then-not-passes-clause-pair
 returns-then-not-passes-clause-pair g c = λ s p. c.take.ensures.pair s (c.loop-receiver.invariant.pair s p)
@@ -56,7 +54,8 @@ loop-receiver-preserved g c =
     let passes : Passes o.problem o.cut o.me c.args.from c.in-Some.growth = search rules in
     record {
       room = omega (arith, was.room, c.push_reserved.ensures.capacity);
-      taken = more g c;
+      taken = taken_more (g.M.Mail.received c.args.receiver.now) _ _ c.loop-receiver.batch.items _ c.in-Some.growth
+          c.loop-receiver.invariant.taken c.in-Some.ensures.some c.push_reserved.ensures.items;
       passes = λ h at. ⊎_elim
           (λ before. was.passes h before)
           (λ is. subst (λ (x : Growth). Passes o.problem o.cut o.me c.args.from x) is passes)
