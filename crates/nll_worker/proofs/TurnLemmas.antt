@@ -3,7 +3,7 @@ use Rattle.std.proofs.Common.{◌≡◌, ◌≢◌, ℕ, zero, suc, ◌+◌, ◌
 use Rattle.std.proofs.lemmas.Bool.{cases_eq}
 use Rattle.std.proofs.lemmas.List.Elements.{Contains-append_left}
 use Rattle.nll_owner.specs.Logs.{IsPrefix, log_of}
-use Rattle.nll_owner.specs.Owner.{Owner, IsSound, IsDone, received_from, with_growths, GotBeginning, first_owner}
+use Rattle.nll_owner.specs.Owner.{Owner, IsSound, IsDone, received_from, with_growths, first_owner}
 use Rattle.nll_cut.specs.Partition.{Cut}
 use Rattle.nll_problem.specs.Problem.{Problem}
 use Rattle.nll_mail.specs.declared.growth.Growth.{Growth}
@@ -51,7 +51,8 @@ grown_lost old new j gs lost =
 module _ (old : Owner) (taken : List (List Growth)) (owed cleared : ℕ) (t : Tally) (r : IsAtRest old taken owed cleared t) where
   -- more growths were taken, and received or not
   module _ (after : List (List Growth)) (from : ℕ) (gs : List Growth) (more : log_of after from ≡ log_of taken from ++ gs) (rest : after ≡ slice_set taken from (log_of after from)) where
-    taken_here : (h : Growth) (some : List Growth) → IsPrefix some gs → from < old.cut.owners → Contains (received_from old from ++ some) h → Contains (log_of after from) h
+    taken_here : (h : Growth) (some : List Growth) → IsPrefix some gs → from < old.cut.owners
+        → Contains (received_from old from ++ some) h → Contains (log_of after from) h
     taken_here h some begins l at =
         let all : log_of after from ≡ (received_from old from ++ some) ++ begins.0 = more
         ∙ (ap (λ xs. xs ++ gs) (r.taking.heard from l) ∙ (ap (λ xs. received_from old from ++ xs) begins.1 ∙ sym (append_assoc (received_from old from) some begins.0))) in

@@ -18,7 +18,8 @@ returns-clause-few g c =
     let f = g.M.Mail.received in
     λ small.
     subst (λ (l : List Growth). length l ≤ 2 ^ 37) (sym (read_set f xs c.args.from c.hear.new.receiver [] lt))
-    (c.hear.ensures.few (subst (λ (l : List Growth). length l ≤ 2 ^ 37) (map_read f xs c.args.from c.index_mut.result.now [] lt c.index_mut.ensures.value) small))
+    (c.hear.ensures.few (subst (λ (l : List Growth). length l ≤ 2 ^ 37)
+    (map_read f xs c.args.from c.index_mut.result.now [] lt c.index_mut.ensures.value) small))
 
 pub returns-clause-others : goal.returns-clause-others
 returns-clause-others g c =

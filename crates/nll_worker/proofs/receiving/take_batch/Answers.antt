@@ -1,4 +1,5 @@
-use Rattle.std.proofs.Common.{◌≡◌, ◌≤◌, ◌^◌, List, ◌++◌, [], ◌∷◌, length, length-append, append-nil, append_assoc, Contains, refl, sym, ap, ◌∙◌, subst, ⊎_elim, arith, rules}
+use Rattle.std.proofs.Common.{◌≡◌, ◌≤◌, ◌^◌, List, ◌++◌, [], ◌∷◌, length, length-append, append-nil, append_assoc}
+use Rattle.std.proofs.Common.{Contains, refl, sym, ap, ◌∙◌, subst, ⊎_elim, arith, rules}
 use Rattle.std.proofs.lemmas.List.Elements.{Contains-push_cases}
 use Rattle.nll_mail.specs.declared.growth.Growth.{Growth}
 use Rattle.nll_owner.specs.Owner.{Passes}
@@ -10,7 +11,9 @@ loop-receiver-init g c =
     record {
       room = c.requires.room;
       taken = sym (ap (λ xs. before ++ xs) c.requires.empty ∙ append-nil before);
-      passes = λ h at. absurd (omega (arith, (subst (λ (xs : List Growth). Contains xs h) c.requires.empty at).1));
+      passes = λ h at.
+          absurd {A = Passes c.args.owner.now.problem c.args.owner.now.cut c.args.owner.now.me c.args.from h}
+          (omega (arith, (subst (λ (xs : List Growth). Contains xs h) c.requires.empty at).1));
       few = λ small. small;
       pair = λ s p. p;
       closed = λ s p. p;
@@ -31,8 +34,8 @@ pub returns-in-None-clause-closed : goal.returns-in-None-clause-closed
 returns-in-None-clause-closed g c = λ s p. c.take.ensures.closed s (c.loop-receiver.invariant.closed s p)
 
 -- what was taken in all, with a growth that was taken last
-taken_more : (before was now batch next : List Growth) (g : Growth) → was ≡ before ++ batch → now ≡ was ++ g ∷ [] → next ≡ batch ++ g ∷ []
-    → now ≡ before ++ next
+taken_more : (before was now batch next : List Growth) (g : Growth) → was ≡ before ++ batch → now ≡ was ++ g ∷ []
+    → next ≡ batch ++ g ∷ [] → now ≡ before ++ next
 taken_more before was now batch next g first then both =
     then ∙ (ap (λ xs. xs ++ g ∷ []) first ∙ (append_assoc before batch (g ∷ []) ∙ ap (λ xs. before ++ xs) (sym both)))
 
@@ -62,7 +65,9 @@ loop-receiver-preserved g c =
           (Contains-push_cases c.loop-receiver.batch.items c.in-Some.growth h
           (subst (λ (xs : List Growth). Contains xs h) c.push_reserved.ensures.items at));
       few = λ small.
-          omega (arith, c.in-Some.ensures.few, ap length c.in-Some.ensures.some, length-append (g.M.Mail.received c.loop-receiver.receiver) (c.in-Some.growth ∷ []));
+          let was = g.M.Mail.received c.loop-receiver.receiver in
+          let one = length-append was (c.in-Some.growth ∷ []) in
+          omega (arith, c.in-Some.ensures.few, ap length c.in-Some.ensures.some, one);
       pair = λ s p. c.take.ensures.pair s (was.pair s p);
       closed = λ s p. c.take.ensures.closed s (was.closed s p);
       ends = c.take.ensures.ends ∙ was.ends;

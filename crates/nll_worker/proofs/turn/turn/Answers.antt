@@ -3,7 +3,8 @@ use Rattle.std.proofs.lemmas.List.Elements.{Contains-append_right}
 use Rattle.nll_owner.specs.Logs.{log_of}
 use Rattle.nll_owner.specs.Owner.{Owner}
 use Rattle.nll_worker.proofs.TallyLemmas.{grown_self}
-use Rattle.nll_worker.proofs.TurnLemmas.{cleared_small, taken_same, taken_lost, grown_some, grown_lost, some_works, some_take, rests_same, stray_same}
+use Rattle.nll_worker.proofs.TurnLemmas.{cleared_small, taken_same, taken_lost, grown_some, grown_lost}
+use Rattle.nll_worker.proofs.TurnLemmas.{some_works, some_take, rests_same, stray_same}
 use Rattle.nll_worker.proofs.turn.turn.Goals as goal
 
 pub overflow_add-turn : goal.overflow_add-turn
@@ -29,7 +30,8 @@ keep_book-requires-clause-small g c κs within =
     let from_in : c.args.from < c.args.owner.now.cut.owners = subst (λ n. c.args.from < n) c.requires.owners c.requires.from in
     let cleared = cleared_small c.args.owner.now _ _ 0 rests.working.sound.cut.cut.owner_limit rests.taking in
     let few = c.hear_from.ensures.few (rests.taking.few c.args.from from_in) in
-    let more = ap length h.0 ∙ length-append (log_of (map g.M.Mail.received c.args.receivers.now.items) c.args.from) c.hear_from.new.batch.items in
+    let before = log_of (map g.M.Mail.received c.args.receivers.now.items) c.args.from in
+    let more = ap length h.0 ∙ length-append before c.hear_from.new.batch.items in
     (omega (arith, cleared), omega (arith, few, more, c.len.ensures, c.hear_from.new.batch.ok.0))
 
 pub returns-in-Nothing-clause-grows : goal.returns-in-Nothing-clause-grows
@@ -48,10 +50,18 @@ returns-in-Stray-clause-comes g c =
     let h = c.in-Stray.ensures.hears in
     let gs = c.hear_from.new.batch.items in
     let stray = h.1.0 in
+    let before = log_of (map g.M.Mail.received c.args.receivers.now.items) c.args.from in
     let from_in : c.args.from < c.args.owner.now.cut.owners = subst (λ n. c.args.from < n) c.requires.owners c.requires.from in (
-      stray_same c.args.owner.now c.hear_from.new.owner _ h.1.1
-          (c.args.from, stray.0, from_in, subst (λ xs. Contains xs stray.0) (sym h.0) (Contains-append_right (log_of (map g.M.Mail.received c.args.receivers.now.items) c.args.from) gs stray.0 stray.1), stray.2),
-      taken_same c.args.owner.now _ _ _ _ c.requires.rests _ c.args.from gs h.0 c.hear_from.ensures.others c.hear_from.new.owner h.1.1,
+      stray_same c.args.owner.now c.hear_from.new.owner _ h.1.1 (
+        c.args.from,
+        stray.0,
+        from_in,
+        subst (λ xs. Contains xs stray.0) (sym h.0)
+            (Contains-append_right before gs stray.0 stray.1),
+        stray.2,
+      ),
+      taken_same c.args.owner.now _ _ _ _ c.requires.rests _ c.args.from gs h.0 c.hear_from.ensures.others
+          c.hear_from.new.owner h.1.1,
     )
 
 pub returns-in-Memory-clause-grows : goal.returns-in-Memory-clause-grows
@@ -61,7 +71,8 @@ pub returns-in-Memory-clause-comes : goal.returns-in-Memory-clause-comes
 returns-in-Memory-clause-comes g c =
     let h = c.in-Memory.ensures.hears in
     let from_in : c.args.from < c.args.owner.now.cut.owners = subst (λ n. c.args.from < n) c.requires.owners c.requires.from in
-    taken_lost c.args.owner.now _ _ _ _ c.requires.rests _ c.args.from c.hear_from.new.batch.items h.0 c.hear_from.ensures.others c.hear_from.new.owner from_in h.1
+    taken_lost c.args.owner.now _ _ _ _ c.requires.rests _ c.args.from c.hear_from.new.batch.items h.0
+    c.hear_from.ensures.others c.hear_from.new.owner from_in h.1
 
 pub returns-in-Growths-clause-grows : goal.returns-in-Growths-clause-grows
 returns-in-Growths-clause-grows g c = let h = c.in-Growths.ensures.hears in grown_some c.args.owner.now c.hear_from.new.owner h.1.1 h.1.4
@@ -73,9 +84,12 @@ returns-in-Growths-clause-comes g c =
     let from_in : c.args.from < c.args.owner.now.cut.owners = subst (λ n. c.args.from < n) c.requires.owners c.requires.from in
     record {
       working = some_works c.args.owner.now _ _ _ _ c.requires.rests c.hear_from.new.owner h.1.4 _ h.1.2 h.1.3 k.owes;
-      taking = some_take c.args.owner.now _ _ _ _ c.requires.rests c.hear_from.new.owner h.1.4 c.args.from c.hear_from.new.batch.items _ from_in h.1.0 h.0
-          c.hear_from.ensures.others (c.hear_from.ensures.few (c.requires.rests.taking.few c.args.from from_in)) _ (omega (arith, k.clears, c.len.ensures, c.hear_from.new.batch.ok.0));
+      taking = some_take c.args.owner.now _ _ _ _ c.requires.rests c.hear_from.new.owner h.1.4 c.args.from
+          c.hear_from.new.batch.items _ from_in h.1.0 h.0 c.hear_from.ensures.others
+          (c.hear_from.ensures.few (c.requires.rests.taking.few c.args.from from_in)) _
+          (omega (arith, k.clears, c.len.ensures, c.hear_from.new.batch.ok.0));
       counted = k.counted;
       cleared_is = k.cleared;
-      turns = omega (arith, k.turns, k.clears, c.requires.rests.turns, h.1.5, c.len.ensures, c.hear_from.new.batch.ok.0);
+      turns =
+          omega (arith, k.turns, k.clears, c.requires.rests.turns, h.1.5, c.len.ensures, c.hear_from.new.batch.ok.0);
     }
