@@ -48,6 +48,15 @@ jump_return g sound x (inr back) = back.0
 -- ---- what walks reach inside a set
 
 module _ (g : Graph) (set : List Bool) (starts : List ℕ) where
+  -- where nothing is reached and no walk begins in a run, none goes on from it
+  pub walks_idle : (run : Run) (old : List Bool) → ((x : ℕ) → IsIn old x → ⊥) → ((p : ℕ) → Contains starts p → IsWithin run p → ⊥) → WalksOn g set run starts old old
+  walks_idle run old none apart = record {
+    kept = λ x h. h;
+    sound = λ x h. absurd (none x h);
+    begun = λ p there own. absurd (apart p there own);
+    closed = λ x y h step inside. absurd (none x h);
+  }
+
   -- what is led to from what is reached is reached
   pub led_from : (reached : List Bool) → ((x : ℕ) → IsIn reached x → ReachesFrom g (IsIn set) starts x) → (x : ℕ) → IsLedTo g set reached x → ReachesFrom g (IsIn set) starts x
   led_from reached sound x w = let from = sound w.0 w.1 in (from.0, from.1, reaches_append g set from.0 w.0 x from.2 w.2)

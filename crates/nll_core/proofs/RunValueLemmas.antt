@@ -9,7 +9,7 @@ use Rattle.nll_sets.specs.declared.run.Run.{Run}
 use Rattle.nll_sets.proofs.RunSetLemmas.{same_flags}
 use Rattle.nll_core.specs.Growing.{Gains, Tells, missing_pairs}
 use Rattle.nll_core.specs.Values.{set_of, IsHeld}
-use Rattle.nll_core.specs.Search.{missing, IsIn}
+use Rattle.nll_core.specs.Search.{missing}
 use Rattle.nll_core.proofs.WalkingLemmas.{missing_less, missing_run}
 
 tells_row : (values : List (List Bool)) (region : ℕ) (old row : List Bool) (run : Run) (changed : Bool) → region < length values → old ≡ get_or values region [] → Fills old row run

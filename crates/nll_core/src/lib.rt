@@ -37,6 +37,7 @@ mod walk;
 pub use bases::base_values;
 pub use fault_check::faults;
 pub use frontier::Frontier;
+pub use inclusion::is_seen_within;
 pub use nll_problem::{
     At, BuildError, Constraint, Graph, Kind, MAX_CONSTRAINTS, MAX_EDGES, MAX_POINTS, MAX_REGIONS,
     MAX_UNIVERSALS, Problem, ProblemBuilder, RegionId,

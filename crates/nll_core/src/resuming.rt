@@ -94,6 +94,9 @@ fn resume_walks(
         (WalksOn lines.now seen.now run starts.now reached.old reached.new) }
     ensures found { OnOk result (ListsNew reached.old reached.new [] found.new.items) }
 {
+    if is_idle(starts, run, reached) {
+        return Ok(());
+    }
     let points = lines.points();
     let ended = resume_points(lines, landings, seen, starts, run, reached, found)?;
     if !is_ended(lines, landings, run, reached, ended) {
@@ -101,6 +104,17 @@ fn resume_walks(
     }
     fill_from(seen, reached, found, points)?;
     Ok(())
+}
+
+// Whether nothing is reached yet, and no walk begins in a run.
+fn is_idle(starts: &Starts, run: Run, reached: &RunSet) -> bool
+    ensures none { result ≡ true → (x : ℕ) → IsIn reached.now x → ⊥ }
+    ensures apart { result ≡ true → (p : ℕ) → Contains starts.now p → IsWithin run p → ⊥ }
+{
+    match (reached.run_from(0), starts.next_in(run.first, run.last)) {
+        (None, None) => true,
+        _ => false,
+    }
 }
 
 // Goes on to points alone. Answers whether a return point is newly reached.

@@ -1,8 +1,6 @@
 -- What an owner gives out to another, one growth after the other.
-use Rattle.std.proofs.Common.{◌≡◌, ◌≢◌, ℕ, zero, suc, ◌+◌, ◌-◌, ◌^◌, ◌<◌, ◌≤◌, List, [], ◌∷◌, ◌++◌, length, take, set, get_or, slice_get, Some, refl, sym, ap, ◌∙◌, subst, arith, append-nil, length-append}
-use Rattle.std.proofs.lemmas.Option.{slice_get_within}
+use Rattle.std.proofs.Common.{◌≡◌, ◌≢◌, ℕ, ◌+◌, ◌-◌, ◌<◌, List, [], ◌∷◌, ◌++◌, length, take, get_or, sym, ap, ◌∙◌, subst, arith, append-nil, length-append}
 use Rattle.std.proofs.lemmas.List.{get_or-set_same, get_or-set_other}
-use Rattle.nll_cut.specs.Partition.{reads}
 use Rattle.nll_cut.proofs.ReadLemmas.{reads_tells}
 use Rattle.nll_mail.specs.declared.growth.Growth.{Growth}
 use Rattle.nll_owner.specs.Logs.{IsPrefix}

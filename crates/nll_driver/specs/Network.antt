@@ -8,10 +8,9 @@ use Rattle.std.specs.Prelude.{if◌then◌else◌}
 use Rattle.std.specs.List.{sum_by}
 use Rattle.nll_problem.specs.Limits.{most_posts}
 use Rattle.nll_problem.specs.Problem.{Problem, IsSound as IsSoundProblem}
-use Rattle.nll_problem.specs.Solution.{Least}
-use Rattle.nll_cut.specs.Partition.{Cut, owner_of}
+use Rattle.nll_cut.specs.Partition.{Cut}
 use Rattle.nll_mail.specs.declared.growth.Growth.{Growth}
-use Rattle.nll_owner.specs.Logs.{IsCutOf, IsTold, IsPrefix, log_of, part}
+use Rattle.nll_owner.specs.Logs.{IsCutOf, IsPrefix}
 use Rattle.nll_owner.specs.Owner.{Owner, IsDone, IsSound, given_to, part_for, received_from}
 use Rattle.nll_owner.specs.Owner.{first_owner}
 use Rattle.nll_owner.specs.Delivery.{IsPair}

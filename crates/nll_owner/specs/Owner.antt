@@ -8,7 +8,7 @@ use Rattle.nll_problem.specs.Problem.{Problem, IsBase, IsSound as IsSoundProblem
 use Rattle.nll_cut.specs.Partition.{Cut, owner_of, reads}
 use Rattle.nll_mail.specs.declared.growth.Growth.{Growth}
 use Rattle.nll_owner.specs.Logs.{IsWellFormed, IsWellSupported, IsSaturated, IsCutOf, IsTold}
-use Rattle.nll_owner.specs.Logs.{IsCalledFor, list_of, part}
+use Rattle.nll_owner.specs.Logs.{IsCalledFor, IsPrefix, list_of, part}
 
 -- The owner `me` of a cut of the problem: its log; what it received from each owner; to each owner,
 -- how many growths of that owner's part it gave out; its clock, which is the highest rank so far;
@@ -113,6 +113,16 @@ IsReady o = o.broken ≡ false → o.loaded ≡ true
 -- the lists with one more growth from owner j
 abbrev pub with_growth : List (List Growth) → ℕ → Growth → List (List Growth)
 with_growth received j g = slice_set received j (slice_index_or received j [] ++ g ∷ [])
+
+-- the lists with these growths behind the others from owner j
+abbrev pub with_growths : List (List Growth) → ℕ → List Growth → List (List Growth)
+with_growths received j gs = slice_set received j (slice_index_or received j [] ++ gs)
+
+-- the new lists are the old ones with a beginning of these growths from owner j: none of them, some
+-- or all
+abbrev pub GotBeginning : List (List Growth) → ℕ → List Growth → List (List Growth) → Type 0
+GotBeginning old j gs new =
+    (some : List Growth) × IsPrefix some gs × (new ≡ with_growths old j some)
 
 -- an owner that has done nothing yet
 abbrev pub first_owner : Problem → Cut → ℕ → Owner

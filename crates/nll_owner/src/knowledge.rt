@@ -14,8 +14,8 @@ ghost use Rattle.nll_mail.specs.declared.growth.Growth.{Growth};
 ghost use Rattle.nll_owner.specs.Logs.{part};
 ghost use Rattle.nll_owner.specs.Owner.{IsSound, IsCalled, Has, HasBases, Passes};
 ghost use Rattle.nll_owner.specs.Owner.{part_for, given_to, received_from, with_growth};
-ghost use Rattle.nll_owner.specs.Owner.{first_owner};
-ghost use Rattle.nll_owner.specs.Keeping.{Grows, HasBeside, growths, IsSlot};
+ghost use Rattle.nll_owner.specs.Owner.{first_owner, with_growths, GotBeginning};
+ghost use Rattle.nll_owner.specs.Keeping.{Grows, HasBeside, HasAllBeside, growths, IsSlot};
 ghost use Rattle.nll_owner.specs.Keeping.{held_regions, holds_region};
 ghost use Rattle.nll_owner.specs.Outboxes.{AreQueued, AreAllQueued, TellsAs};
 
@@ -164,8 +164,8 @@ impl<'q> Knowledge<'q> {
         Ok(())
     }
 
-    /// Puts a growth into the copy of its region and at the end of what was received.
-    pub fn enter_received(&mut self, from: u16, growth: Growth) -> Result<(), Memory>
+    // Puts a growth into the copy of its region and at the end of what was received.
+    fn enter_received(&mut self, from: u16, growth: Growth) -> Result<(), Memory>
         requires { Passes self.old.problem self.old.cut self.old.me from growth }
         ensures ok { OnOk result (self.new ≡ record self.old {
           received = with_growth self.old.received from growth;
@@ -182,6 +182,28 @@ impl<'q> Knowledge<'q> {
         self.values.insert(slot, growth.element)?;
         list.push_reserved(growth);
         self.clock = clock;
+        Ok(())
+    }
+
+    /// Puts growths of one owner into the copies of their regions and at the end of what was
+    /// received.
+    pub fn enter_all_received(&mut self, from: u16, growths: &[Growth]) -> Result<(), Memory>
+        requires sound { IsSound self.old }
+        requires passes { let o = self.old in (g : Growth) → Contains growths.now g
+            → Passes o.problem o.cut o.me from g }
+        ensures others { self.new ≡ record self.old {
+          received = self.new.received;
+          clock = self.new.clock;
+        } }
+        ensures received { OnOk result
+            (self.new.received ≡ with_growths self.old.received from growths.now) }
+        ensures perhaps { GotBeginning self.old.received from growths.now self.new.received }
+        ensures has { OnOk result (HasAllBeside growths.now self.old self.new) }
+        ensures sound { IsSound self.new }
+    {
+        for growth in growths {
+            self.enter_received(from, *growth)?;
+        }
         Ok(())
     }
 

@@ -2,23 +2,24 @@
 
 ghost use Rattle.std.specs.Prelude.{◌≡◌, ◌⊎◌, ◌↔◌, ◌+◌, ◌<◌, ◌≤◌, ◌^◌, true, false, max, Some, Err};
 ghost use Rattle.std.specs.Prelude.{length, slice_get, slice_set, Contains, IsTrue, IfOk, OnOk, OnErr};
-ghost use Rattle.std.specs.Prelude.{IfSome, IfNone, min, ◌-◌};
+ghost use Rattle.std.specs.Prelude.{IfSome, IfNone, ℕ, min, ◌-◌};
 ghost use Rattle.std.specs.List.{sum, sum_by};
 ghost use Rattle.nll_problem.specs.Graph.{element_count};
 ghost use Rattle.nll_problem.specs.Limits.{most_rank};
 ghost use Rattle.nll_mail.specs.declared.growth.Growth.{Growth};
-ghost use Rattle.nll_owner.specs.Logs.{IsPrefix};
+ghost use Rattle.nll_owner.specs.Logs.{IsPrefix, IsTold};
 ghost use Rattle.nll_owner.specs.Owner.{IsSound, IsDone, IsReady, Has, Passes, part_for, given_to};
-ghost use Rattle.nll_owner.specs.Owner.{received_from, with_growth, first_owner};
+ghost use Rattle.nll_owner.specs.Owner.{received_from, with_growth, with_growths, GotBeginning};
+ghost use Rattle.nll_owner.specs.Owner.{first_owner};
 ghost use Rattle.std.specs.Cow.{cow_value};
 ghost use Rattle.nll_owner.specs.Tables.{AreTables};
 ghost use Rattle.nll_owner.specs.Keeping.{Grows, IsClosed};
-ghost use Rattle.nll_owner.specs.Following.{IsFollowing, Nothing, OfRun};
+ghost use Rattle.nll_owner.specs.Following.{IsFollowing, Nothing};
 ghost use Rattle.nll_owner.specs.Outboxes.{AreQueued, AreAllQueued};
 ghost use Rattle.nll_owner.specs.declared.error.OwnerError.TheVariants.{Broken};
 
 use crate::error::OwnerError;
-use crate::following::{Following, run_of};
+use crate::following::Following;
 use crate::knowledge::Knowledge;
 use crate::outboxes::Outboxes;
 use crate::slots::Slots;
@@ -209,17 +210,52 @@ impl<'q> Owner<'q> {
         ensures unchanged { self.old.broken ≡ true → self.new ≡ self.old }
         ensures sound { IsSound self.new }
     {
+        self.receive_all(from, &[growth])
+    }
+
+    /// Receives growths of another owner, in the order in which it told them, and follows up all of
+    /// them together. Nothing is left to do then. The owner is loaded, or a call of it was refused.
+    ///
+    /// # Errors
+    /// - `Broken`: an earlier call was refused; nothing has changed.
+    /// - `Memory`: a beginning of the growths has perhaps been received, and the log has perhaps
+    ///   grown.
+    ///
+    /// # Cost
+    /// Growths of one region that follow each other are followed up once where their elements follow
+    /// each other by number; else it's that of as many calls of `receive` (not proved).
+    pub fn receive_all(&mut self, from: u16, growths: &[Growth]) -> Result<(), OwnerError>
+        requires ready { IsReady self.old }
+        requires passes { let o = self.old in (g : Growth) → Contains growths.now g
+            → Passes o.problem o.cut o.me from g }
+        ensures begins { IsPrefix self.old.log self.new.log }
+        ensures others { self.new ≡ record self.old {
+          log = self.new.log;
+          received = self.new.received;
+          clock = self.new.clock;
+          broken = self.new.broken;
+        } }
+        ensures received { OnOk result
+            (self.new.received ≡ with_growths self.old.received from growths.now) }
+        ensures perhaps { GotBeginning self.old.received from growths.now self.new.received }
+        ensures done { OnOk result (IsDone self.new) }
+        ensures ok { OnOk result ((self.old.broken ≡ false) × (self.new.broken ≡ false)) }
+        ensures err { OnErr result (self.new.broken ≡ true) }
+        ensures broken { (result ≡ Err Broken) ↔ (self.old.broken ≡ true) }
+        ensures unchanged { self.old.broken ≡ true → self.new ≡ self.old }
+        ensures sound { IsSound self.new }
+    {
         if self.knowledge.broken {
             return Err(OwnerError::Broken);
         }
         let loaded = self.knowledge.loaded;
-        let result = receive_all(
+        let result = receive_and_queue(
             &mut self.knowledge,
             &mut self.following,
             &mut self.outboxes,
             self.tables.as_ref(),
             from,
-            growth,
+            growths,
         );
         self.knowledge.mark(loaded, result.is_err());
         result
@@ -233,6 +269,19 @@ impl<'q> Owner<'q> {
     {
         self.knowledge
             .passes(&self.tables.as_ref().readers, from, growth)
+    }
+
+    /// Whether the owner may be told all of these growths by another one.
+    pub fn passes_all(&self, from: u16, growths: &[Growth]) -> bool
+        ensures { let o = self.now in IsTrue result
+            ↔ ((g : Growth) → Contains growths.now g → Passes o.problem o.cut o.me from g) }
+    {
+        for growth in growths {
+            if !self.passes(from, growth) {
+                return false;
+            }
+        }
+        true
     }
 
     /// The problem whose regions are dealt to owners.
@@ -424,21 +473,22 @@ fn load_and_settle(
     Ok(())
 }
 
-// Enters a growth into the copy of its region, settles, and queues what the log got.
-fn receive_all(
+// Enters growths into the copies of their regions, settles, and queues what the log got.
+fn receive_and_queue(
     knowledge: &mut Knowledge,
     following: &mut Following,
     outboxes: &mut Outboxes,
     tables: &Tables,
     from: u16,
-    growth: Growth,
+    growths: &[Growth],
 ) -> Result<(), OwnerError>
     requires sound { IsSound knowledge.old }
     requires tables { AreTables knowledge.old.problem knowledge.old.cut tables.now }
     requires loaded { knowledge.old.loaded ≡ true }
     requires following { IsFollowing Nothing knowledge.old following.old }
     requires queued { AreQueued knowledge.old outboxes.old }
-    requires passes { Passes knowledge.old.problem knowledge.old.cut knowledge.old.me from growth }
+    requires passes { let o = knowledge.old in (g : Growth) → Contains growths.now g
+        → Passes o.problem o.cut o.me from g }
     ensures begins { IsPrefix knowledge.old.log knowledge.new.log }
     ensures others { knowledge.new ≡ record knowledge.old {
       log = knowledge.new.log;
@@ -446,33 +496,34 @@ fn receive_all(
       clock = knowledge.new.clock;
     } }
     ensures received { OnOk result
-        (knowledge.new.received ≡ with_growth knowledge.old.received from growth) }
-    ensures perhaps { (knowledge.new.received ≡ knowledge.old.received)
-        ⊎ (knowledge.new.received ≡ with_growth knowledge.old.received from growth) }
+        (knowledge.new.received ≡ with_growths knowledge.old.received from growths.now) }
+    ensures perhaps { GotBeginning knowledge.old.received from growths.now
+        knowledge.new.received }
     ensures following { OnOk result (IsFollowing Nothing knowledge.new following.new) }
     ensures queued { OnOk result (AreAllQueued knowledge.new outboxes.new) }
     ensures done { OnOk result (IsDone knowledge.new) }
     ensures whole { result ≡ Err Broken → ⊥ }
     ensures sound { IsSound knowledge.new }
 {
-    receive_and_settle(knowledge, following, &tables.steps, from, growth)?;
+    receive_and_settle(knowledge, following, &tables.steps, from, growths)?;
     knowledge.queue(&tables.readers, outboxes)?;
     Ok(())
 }
 
-// Enters a growth into the copy of its region, and settles.
+// Enters growths into the copies of their regions, and settles.
 fn receive_and_settle(
     knowledge: &mut Knowledge,
     following: &mut Following,
     steps: &Steps,
     from: u16,
-    growth: Growth,
+    growths: &[Growth],
 ) -> Result<(), Memory>
     requires sound { IsSound knowledge.old }
     requires steps { steps.now ≡ knowledge.old.problem.graph }
     requires loaded { knowledge.old.loaded ≡ true }
     requires following { IsFollowing Nothing knowledge.old following.old }
-    requires passes { Passes knowledge.old.problem knowledge.old.cut knowledge.old.me from growth }
+    requires passes { let o = knowledge.old in (g : Growth) → Contains growths.now g
+        → Passes o.problem o.cut o.me from g }
     ensures begins { IsPrefix knowledge.old.log knowledge.new.log }
     ensures others { knowledge.new ≡ record knowledge.old {
       log = knowledge.new.log;
@@ -480,41 +531,35 @@ fn receive_and_settle(
       clock = knowledge.new.clock;
     } }
     ensures received { OnOk result
-        (knowledge.new.received ≡ with_growth knowledge.old.received from growth) }
-    ensures perhaps { (knowledge.new.received ≡ knowledge.old.received)
-        ⊎ (knowledge.new.received ≡ with_growth knowledge.old.received from growth) }
+        (knowledge.new.received ≡ with_growths knowledge.old.received from growths.now) }
+    ensures perhaps { GotBeginning knowledge.old.received from growths.now
+        knowledge.new.received }
     ensures following { OnOk result (IsFollowing Nothing knowledge.new following.new) }
     ensures done { OnOk result (IsDone knowledge.new) }
     ensures sound { IsSound knowledge.new }
 {
-    let Growth {
-        region,
-        element,
-        ..
-    } = growth;
-    knowledge.enter_received(from, growth)?;
-    pursue(knowledge, following, steps, region, element)
+    knowledge.enter_all_received(from, growths)?;
+    pursue(knowledge, following, steps, growths)
 }
 
-// Follows up an element that the owner has got, and settles.
+// Follows up growths that the owner has received, and settles.
 fn pursue(
     knowledge: &mut Knowledge,
     following: &mut Following,
     steps: &Steps,
-    region: RegionId,
-    element: Element,
+    growths: &[Growth],
 ) -> Result<(), Memory>
     requires sound { IsSound knowledge.old }
     requires steps { steps.now ≡ knowledge.old.problem.graph }
-    requires region { region < knowledge.old.problem.regions }
-    requires element { element < element_count knowledge.old.problem.graph }
-    requires has { Has knowledge.old region element }
-    requires following { IsFollowing (OfRun region element element) knowledge.old following.old }
+    requires regions { (g : Growth) → Contains growths.now g
+        → g.region < knowledge.old.problem.regions }
+    requires has { (r e : ℕ) → IsTold growths.now r e → Has knowledge.old r e }
+    requires following { IsFollowing (IsTold growths.now) knowledge.old following.old }
     ensures grows { Grows knowledge.old knowledge.new }
     ensures following { OnOk result (IsFollowing Nothing knowledge.new following.new) }
     ensures closed { OnOk result (IsClosed knowledge.new) }
 {
-    following.follow(knowledge, steps, region, run_of(element))?;
+    following.follow_all(knowledge, steps, growths)?;
     following.settle(knowledge, steps)?;
     Ok(())
 }

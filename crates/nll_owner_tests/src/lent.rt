@@ -1,4 +1,5 @@
-//! Owners on lent tables come to what owners with tables of their own come to.
+//! Owners on lent tables, which are told growths together, come to what owners with tables of their
+//! own come to, which are told one growth at a time.
 ghost use Rattle.std.specs.Prelude.{◌≡◌, length};
 ghost use Rattle.nll_owner.specs.Tables.{AreTables};
 
@@ -37,43 +38,71 @@ fn load(owners: &mut Vec<Owner<'_>>, number: u16) -> Result<(), OwnerError> {
     }
 }
 
-// Hands a growth to the owner of a number. One that can't take it counts as broken.
-fn give(owners: &mut Vec<Owner<'_>>, from: u16, to: u16, growth: Growth) -> Result<(), OwnerError> {
+// Hands growths to the owner of a number. One that can't take them counts as broken.
+fn give(
+    owners: &mut Vec<Owner<'_>>,
+    from: u16,
+    to: u16,
+    growths: &[Growth],
+) -> Result<(), OwnerError> {
     match owners.get_mut(to as usize) {
-        Some(owner) if owner.is_loaded() && owner.passes(from, &growth) => {
-            owner.receive(from, growth)
+        Some(owner) if owner.is_loaded() && owner.passes_all(from, growths) => {
+            owner.receive_all(from, growths)
         }
         _ => Err(OwnerError::Broken),
     }
 }
 
-// Hands one growth of an owner to another. Answers whether there was one.
-fn hand(owners: &mut Vec<Owner<'_>>, from: u16, to: u16) -> Result<bool, OwnerError> {
+// What an owner has to tell another one, which it gives out.
+fn told_to(alloc: Global, owner: &mut Owner<'_>, to: u16) -> Result<Vec<Growth>, OwnerError> {
+    let mut growths = Vec::new(alloc);
+    for _ in 0..owner.unsent(to) {
+        if let Some(growth) = owner.outgoing(to) {
+            growths.push(growth)?;
+        }
+    }
+    Ok(growths)
+}
+
+// Hands what an owner has to tell another one to it, all together. Answers whether there was
+// anything.
+fn hand(
+    alloc: Global,
+    owners: &mut Vec<Owner<'_>>,
+    from: u16,
+    to: u16,
+) -> Result<bool, OwnerError> {
     let Some(owner) = owners.get_mut(from as usize) else {
         return Err(OwnerError::Broken);
     };
-    let Some(growth) = owner.outgoing(to) else {
+    let growths = told_to(alloc, owner, to)?;
+    if growths.is_empty() {
         return Ok(false);
-    };
-    give(owners, from, to, growth)?;
+    }
+    give(owners, from, to, growths.as_slice())?;
     Ok(true)
 }
 
-// Hands one growth of an owner to each other. Answers whether there was one.
-fn hand_each(owners: &mut Vec<Owner<'_>>, from: u16, count: u16) -> Result<bool, OwnerError> {
+// Hands what an owner has to tell each other one. Answers whether there was anything.
+fn hand_each(
+    alloc: Global,
+    owners: &mut Vec<Owner<'_>>,
+    from: u16,
+    count: u16,
+) -> Result<bool, OwnerError> {
     let mut moved = false;
     for to in 0..count {
-        let came = hand(owners, from, to)?;
+        let came = hand(alloc, owners, from, to)?;
         moved |= came;
     }
     Ok(moved)
 }
 
-// Hands one growth of each owner to each other. Answers whether there was one.
-fn round(owners: &mut Vec<Owner<'_>>, count: u16) -> Result<bool, OwnerError> {
+// Hands what each owner has to tell each other one. Answers whether there was anything.
+fn round(alloc: Global, owners: &mut Vec<Owner<'_>>, count: u16) -> Result<bool, OwnerError> {
     let mut moved = false;
     for from in 0..count {
-        let came = hand_each(owners, from, count)?;
+        let came = hand_each(alloc, owners, from, count)?;
         moved |= came;
     }
     Ok(moved)
@@ -88,10 +117,10 @@ fn load_all(owners: &mut Vec<Owner<'_>>, count: u16) -> Result<(), OwnerError> {
 }
 
 // Loads the owners, and hands over growths until none is left.
-fn exchange(owners: &mut Vec<Owner<'_>>, count: u16) -> Result<(), OwnerError> {
+fn exchange(alloc: Global, owners: &mut Vec<Owner<'_>>, count: u16) -> Result<(), OwnerError> {
     load_all(owners, count)?;
     for _ in 0..100 {
-        if !round(owners, count)? {
+        if !round(alloc, owners, count)? {
             return Ok(());
         }
     }
@@ -105,7 +134,7 @@ fn told_on(alloc: Global, problem: &Problem, cut: &Cut, tables: &Tables) -> Resu
 {
     let mut out = String::new(alloc);
     let mut owners = owners_on(alloc, problem, cut, tables)?;
-    let ended = exchange(&mut owners, cut.owners());
+    let ended = exchange(alloc, &mut owners, cut.owners());
     let values = write_values(&mut out, &owners, cut, problem.regions());
     let counts = write_counts(&mut out, &owners);
     drop(owners);

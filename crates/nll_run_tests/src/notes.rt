@@ -11,11 +11,14 @@ struct Page {
     owed: AtomicU64,
     posts: AtomicU64,
     cleared: AtomicU64,
+    // How often it cleared.
+    clears: AtomicU64,
     // Whether it owed, and whether it posted or cleared, in the turn that it's in.
     has_owed: AtomicBool,
     has_acted: AtomicBool,
-    // How often a turn began that hadn't the next number, it posted or cleared in a turn in which
-    // it hadn't owed, or owed where it had posted or cleared.
+    // How often a turn began that hadn't the next number or came after one in which it hadn't
+    // cleared once, it posted or cleared in a turn in which it hadn't owed, or owed where it had
+    // posted or cleared.
     wrong: AtomicU64,
 }
 
@@ -27,6 +30,7 @@ impl Page {
             owed: AtomicU64::new(0),
             posts: AtomicU64::new(0),
             cleared: AtomicU64::new(0),
+            clears: AtomicU64::new(0),
             has_owed: AtomicBool::new(false),
             has_acted: AtomicBool::new(false),
             wrong: AtomicU64::new(0),
@@ -37,6 +41,7 @@ impl Page {
     fn begin(&self, turn: u64) {
         let before = self.turns.fetch_add(1, Ordering::SeqCst);
         self.judge(turn == before.wrapping_add(1));
+        self.judge(self.clears.load(Ordering::SeqCst) == before);
         self.has_owed.store(false, Ordering::SeqCst);
         self.has_acted.store(false, Ordering::SeqCst);
     }
@@ -64,20 +69,22 @@ impl Page {
             Step::Close => {}
             Step::Clear(amount) => {
                 self.cleared.fetch_add(amount, Ordering::SeqCst);
+                self.clears.fetch_add(1, Ordering::SeqCst);
                 self.has_acted.store(true, Ordering::SeqCst);
                 self.judge(self.has_owed.load(Ordering::SeqCst));
             }
         }
     }
 
-    // Writes what was noted.
+    // Writes what was noted, once the last turn has ended.
     fn write(&self, out: &mut String) -> Result<(), AllocError> {
         let turns = self.turns.load(Ordering::SeqCst);
+        self.judge(self.clears.load(Ordering::SeqCst) == turns);
         let owed = self.owed.load(Ordering::SeqCst);
         let posts = self.posts.load(Ordering::SeqCst);
         let cleared = self.cleared.load(Ordering::SeqCst);
         let wrong = self.wrong.load(Ordering::SeqCst);
-        write!(out, "{turns} {owed} {posts} {cleared} {wrong}|")
+        write!(out, "{owed} {posts} {cleared} {wrong}|")
     }
 }
 
@@ -97,9 +104,10 @@ impl Notes {
         }
     }
 
-    /// For each of the two: its turns, what it owed beside its load, its posts, what it cleared,
-    /// and how often it was wrong: began a turn by a number that wasn't the next, posted or cleared
-    /// in a turn in which it hadn't owed, or owed where it had posted or cleared.
+    /// For each of the two, whose last turn has ended: what it owed beside its load, its posts, what
+    /// it cleared, and how often it was wrong: began a turn by a number that wasn't the next, didn't
+    /// clear once in a turn, posted or cleared in a turn in which it hadn't owed, or owed where it
+    /// had posted or cleared.
     pub fn written(&self, alloc: Global) -> Result<String, AllocError> {
         let mut out = String::new(alloc);
         let first = self.first.write(&mut out);

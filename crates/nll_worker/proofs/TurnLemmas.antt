@@ -1,14 +1,14 @@
 -- What a turn comes to.
-use Rattle.std.proofs.Common.{◌≡◌, ◌≢◌, ℕ, zero, suc, ◌+◌, ◌*◌, ◌^◌, ◌<◌, ◌≤◌, List, [], ◌∷◌, ◌++◌, length, length-append, slice_set, slice_index_or, Contains, sym, ap, ◌∙◌, subst, ◌⊎◌, ⊎_elim, arith}
+use Rattle.std.proofs.Common.{◌≡◌, ◌≢◌, ℕ, zero, suc, ◌+◌, ◌*◌, ◌^◌, ◌<◌, ◌≤◌, List, [], ◌++◌, length, length-append, append_assoc, slice_set, slice_index_or, Contains, sym, ap, ◌∙◌, subst, ◌⊎◌, ⊎_elim, arith}
 use Rattle.std.proofs.lemmas.Bool.{cases_eq}
 use Rattle.std.proofs.lemmas.List.Elements.{Contains-append_left}
 use Rattle.nll_owner.specs.Logs.{IsPrefix, log_of}
-use Rattle.nll_owner.specs.Owner.{Owner, IsSound, IsDone, received_from, with_growth, first_owner}
+use Rattle.nll_owner.specs.Owner.{Owner, IsSound, IsDone, received_from, with_growths, first_owner}
 use Rattle.nll_cut.specs.Partition.{Cut}
 use Rattle.nll_problem.specs.Problem.{Problem}
 use Rattle.nll_mail.specs.declared.growth.Growth.{Growth}
 use Rattle.nll_worker.specs.declared.receiving.Heard.{Heard}
-use Rattle.nll_worker.specs.declared.receiving.Heard.TheVariants.{Nothing, One, Stray, Memory}
+use Rattle.nll_worker.specs.declared.receiving.Heard.TheVariants.{Nothing, Growths, Stray, Memory}
 use Rattle.nll_worker.specs.declared.tally.Tally.{Tally}
 use Rattle.nll_worker.specs.Sums.{sum_to}
 use Rattle.nll_worker.specs.Hearing.{IsGivenUp}
@@ -21,11 +21,15 @@ use Rattle.nll_worker.proofs.ListLemmas.{set_length, set_log, set_own}
 use Rattle.nll_worker.proofs.TallyLemmas.{sum_bound}
 use Rattle.nll_worker.proofs.PostLemmas.{other_read, read_replicate}
 
-pub sum_one : (n : ℕ) (f f' : ℕ → ℕ) (j : ℕ) → j < n → f' j ≡ f j + 1 → ((k : ℕ) → k ≢ j → f' k ≡ f k) → sum_to n f' ≡ sum_to n f + 1
-sum_one zero f f' j l e other = absurd (omega (arith, l))
-sum_one (suc n) f f' j l e other = ⊎_elim
-    (λ (h : j < n). let r = sum_one n f f' j h e other in let x = other n (λ q. absurd (omega (arith, h, q))) in omega (arith, r, x))
-    (λ (h : j ≡ n). let r = sum_same n f' f (λ k m. other k (λ q. absurd (omega (arith, m, h, q)))) in let x : f' n ≡ f n + 1 = subst (λ k. f' k ≡ f k + 1) h e in omega (arith, r, x))
+pub sum_more : (n : ℕ) (f f' : ℕ → ℕ) (j more : ℕ) → j < n → f' j ≡ f j + more → ((k : ℕ) → k ≢ j → f' k ≡ f k)
+    → sum_to n f' ≡ sum_to n f + more
+sum_more zero f f' j more l e other = absurd (omega (arith, l))
+sum_more (suc n) f f' j more l e other = ⊎_elim
+    (λ (h : j < n). let r = sum_more n f f' j more h e other in let x = other n (λ q. absurd (omega (arith, h, q))) in omega (arith, r, x))
+    (λ (h : j ≡ n).
+    let r = sum_same n f' f (λ k m. other k (λ q. absurd (omega (arith, m, h, q)))) in
+    let x : f' n ≡ f n + more = subst (λ k. f' k ≡ f k + more) h e in
+    omega (arith, r, x))
     (cases_last j n l)
   where
     cases_last : (k n : ℕ) → k < suc n → (k < n) ⊎ (k ≡ n)
@@ -35,40 +39,49 @@ sum_one (suc n) f f' j l e other = ⊎_elim
 pub taken_all : (o : Owner) (taken : List (List Growth)) (cleared items : ℕ) → HasTaken o taken cleared items → HasTakenAll o taken
 taken_all o taken cleared items t j g l h = subst (λ xs. Contains xs g) (sym (t.heard j l)) h
 
--- how an owner is before and after it received a growth, or was refused to
-pub grown_one : (old new : Owner) → IsPrefix old.log new.log → new ≡ record old { log = new.log; received = new.received; clock = new.clock } → HasGrown old new
-grown_one old new b others = record { problem = ap (λ (o : Owner). o.problem) others; cut = ap (λ (o : Owner). o.cut) others; me = ap (λ (o : Owner). o.me) others; begins = b; given = ap (λ (o : Owner). o.given) others }
+-- how an owner is before and after it received growths, or was refused to
+pub grown_some : (old new : Owner) → IsPrefix old.log new.log → new ≡ record old { log = new.log; received = new.received; clock = new.clock } → HasGrown old new
+grown_some old new b others = record { problem = ap (λ (o : Owner). o.problem) others; cut = ap (λ (o : Owner). o.cut) others; me = ap (λ (o : Owner). o.me) others; begins = b; given = ap (λ (o : Owner). o.given) others }
 
-pub grown_lost : (old new : Owner) (j : ℕ) (g : Growth) → IsGivenUp j g old new → HasGrown old new
-grown_lost old new j g lost =
+pub grown_lost : (old new : Owner) (j : ℕ) (gs : List Growth) → IsGivenUp j gs old new → HasGrown old new
+grown_lost old new j gs lost =
     let others = lost.2 in
     record { problem = ap (λ (o : Owner). o.problem) others; cut = ap (λ (o : Owner). o.cut) others; me = ap (λ (o : Owner). o.me) others; begins = lost.0; given = ap (λ (o : Owner). o.given) others }
 
 module _ (old : Owner) (taken : List (List Growth)) (owed cleared : ℕ) (t : Tally) (r : IsAtRest old taken owed cleared t) where
-  -- a growth more was taken, and received or not
-  module _ (after : List (List Growth)) (from : ℕ) (g : Growth) (more : log_of after from ≡ log_of taken from ++ g ∷ []) (rest : after ≡ slice_set taken from (log_of after from)) where
+  -- more growths were taken, and received or not
+  module _ (after : List (List Growth)) (from : ℕ) (gs : List Growth) (more : log_of after from ≡ log_of taken from ++ gs) (rest : after ≡ slice_set taken from (log_of after from)) where
+    taken_here : (h : Growth) (some : List Growth) → IsPrefix some gs → from < old.cut.owners
+        → Contains (received_from old from ++ some) h → Contains (log_of after from) h
+    taken_here h some begins l at =
+        let all : log_of after from ≡ (received_from old from ++ some) ++ begins.0 = more
+        ∙ (ap (λ xs. xs ++ gs) (r.taking.heard from l) ∙ (ap (λ xs. received_from old from ++ xs) begins.1 ∙ sym (append_assoc (received_from old from) some begins.0))) in
+        subst (λ xs. Contains xs h) (sym all) (Contains-append_left (received_from old from ++ some) begins.0 h at)
+
     taken_still : (j : ℕ) (h : Growth) → Contains (log_of taken j) h → Contains (log_of after j) h
     taken_still j h at = ⊎_elim
-        (λ (here : j ≡ from). subst (λ k. Contains (log_of after k) h) (sym here) (subst (λ xs. Contains xs h) (sym more) (Contains-append_left (log_of taken from) (g ∷ []) h (subst (λ k. Contains (log_of taken k) h) here at))))
+        (λ (here : j ≡ from). subst (λ k. Contains (log_of after k) h) (sym here) (subst (λ xs. Contains xs h) (sym more) (Contains-append_left (log_of taken from) gs h (subst (λ k. Contains (log_of taken k) h) here at))))
         (λ (other : j ≢ from). subst (λ xs. Contains xs h) (sym (ap (λ xs. log_of xs j) rest ∙ other_read taken from j (log_of after from) [] other)) at)
         (cases_eq j from)
 
     pub taken_same : (new : Owner) → new ≡ old → HasTakenAll new after
     taken_same new same = subst (λ (o : Owner). HasTakenAll o after) (sym same) (λ j h l at. taken_still j h (taken_all old taken cleared 0 r.taking j h l at))
 
-    pub taken_lost : (new : Owner) → from < old.cut.owners → IsGivenUp from g old new → HasTakenAll new after
+    pub taken_lost : (new : Owner) → from < old.cut.owners → IsGivenUp from gs old new → HasTakenAll new after
     taken_lost new from_in lost j h l at =
         let was : j < old.cut.owners = subst (λ (o : Owner). j < o.cut.owners) lost.2 l in
         let before = taken_all old taken cleared 0 r.taking in
+        let got = lost.3 in
         ⊎_elim
-        (λ (none : new.received ≡ old.received). taken_still j h (before j h was (subst (λ (lists : List (List Growth)). Contains (slice_index_or lists j []) h) none at)))
-        (λ (one : new.received ≡ with_growth old.received from g). ⊎_elim
         (λ (here : j ≡ from).
-        let lists : received_from new from ≡ received_from old from ++ g ∷ [] = ap (λ xs. slice_index_or xs from []) one ∙ set_log old.received from (received_from old from ++ g ∷ []) [] (omega (arith, from_in, r.working.sound.senders)) in
-        subst (λ k. Contains (log_of after k) h) (sym here) (subst (λ xs. Contains xs h) (sym (more ∙ ap (λ xs. xs ++ g ∷ []) (r.taking.heard from from_in))) (subst (λ xs. Contains xs h) lists (subst (λ k. Contains (received_from new k) h) here at))))
-        (λ (other : j ≢ from). taken_still j h (before j h was (subst (λ xs. Contains xs h) (ap (λ xs. slice_index_or xs j []) one ∙ other_read old.received from j (received_from old from ++ g ∷ []) [] other) at)))
-        (cases_eq j from))
-        lost.3
+        let lists : received_from new from ≡ received_from old from ++ got.0 = ap (λ xs. slice_index_or xs from []) got.2
+        ∙ set_log old.received from (received_from old from ++ got.0) [] (omega (arith, from_in, r.working.sound.senders)) in
+        subst (λ k. Contains (log_of after k) h) (sym here)
+        (taken_here h got.0 got.1 from_in (subst (λ xs. Contains xs h) lists (subst (λ k. Contains (received_from new k) h) here at))))
+        (λ (other : j ≢ from).
+        taken_still j h
+        (before j h was (subst (λ xs. Contains xs h) (ap (λ xs. slice_index_or xs j []) got.2 ∙ other_read old.received from j (received_from old from ++ got.0) [] other) at)))
+        (cases_eq j from)
 
   pub rests_same : (new : Owner) (after : List (List Growth)) (from : ℕ) → new ≡ old → log_of after from ≡ log_of taken from → after ≡ slice_set taken from (log_of after from) → IsAtRest new after owed cleared t
   rests_same new after from same none others =
@@ -79,8 +92,8 @@ module _ (old : Owner) (taken : List (List Growth)) (owed cleared : ℕ) (t : Ta
     owners_same : new.cut.owners ≡ old.cut.owners
     owners_same = ap (λ (o : Owner). o.cut.owners) others
 
-    pub one_works : (owed' : ℕ) → IsSound new → IsDone new → owed' ≡ 1 + due_of new → IsWorking new owed'
-    one_works owed' sound done owes = record {
+    pub some_works : (owed' : ℕ) → IsSound new → IsDone new → owed' ≡ 1 + due_of new → IsWorking new owed'
+    some_works owed' sound done owes = record {
       sound = sound;
       whole = ap (λ (o : Owner). o.broken) others ∙ r.working.whole;
       loaded = ap (λ (o : Owner). o.loaded) others ∙ r.working.loaded;
@@ -88,40 +101,40 @@ module _ (old : Owner) (taken : List (List Growth)) (owed cleared : ℕ) (t : Ta
       owes = owes;
     }
 
-    module _ (from : ℕ) (g : Growth) (after : List (List Growth)) (from_in : from < old.cut.owners) (received : new.received ≡ with_growth old.received from g)
-        (more : log_of after from ≡ log_of taken from ++ g ∷ []) (rest : after ≡ slice_set taken from (log_of after from)) (few : length (log_of taken from) < 2 ^ 37) where
+    module _ (from : ℕ) (gs : List Growth) (after : List (List Growth)) (from_in : from < old.cut.owners) (received : new.received ≡ with_growths old.received from gs)
+        (more : log_of after from ≡ log_of taken from ++ gs) (rest : after ≡ slice_set taken from (log_of after from)) (few : length (log_of after from) ≤ 2 ^ 37) where
       apart : (k : ℕ) → k ≢ from → log_of after k ≡ log_of taken k
       apart k differs = ap (λ xs. log_of xs k) rest ∙ other_read taken from k (log_of after from) [] differs
 
       heard_at : log_of after from ≡ received_from new from
-      heard_at = more ∙ (ap (λ xs. xs ++ g ∷ []) (r.taking.heard from from_in) ∙ sym (ap (λ xs. slice_index_or xs from []) received ∙ set_log old.received from (received_from old from ++ g ∷ []) [] (omega (arith, from_in, r.working.sound.senders))))
+      heard_at = more ∙ (ap (λ xs. xs ++ gs) (r.taking.heard from from_in)
+          ∙ sym (ap (λ xs. slice_index_or xs from []) received ∙ set_log old.received from (received_from old from ++ gs) [] (omega (arith, from_in, r.working.sound.senders))))
 
       heard_other : (k : ℕ) → k < old.cut.owners → k ≢ from → log_of after k ≡ received_from new k
-      heard_other k l differs = apart k differs ∙ (r.taking.heard k l ∙ sym (ap (λ xs. slice_index_or xs k []) received ∙ other_read old.received from k (received_from old from ++ g ∷ []) [] differs))
+      heard_other k l differs = apart k differs
+          ∙ (r.taking.heard k l ∙ sym (ap (λ xs. slice_index_or xs k []) received ∙ other_read old.received from k (received_from old from ++ gs) [] differs))
 
       by_place : (P : ℕ → Type 0) → P from → ((k : ℕ) → k ≢ from → P k) → (k : ℕ) → P k
       by_place P here there k = ⊎_elim (λ (e : k ≡ from). subst P (sym e) here) (λ (e : k ≢ from). there k e) (cases_eq k from)
 
-      pub one_takes : (cleared' : ℕ) → cleared' ≡ cleared + 1 → HasTaken new after cleared' 0
-      one_takes cleared' is = record {
+      pub some_take : (cleared' : ℕ) → cleared' ≡ cleared + length gs → HasTaken new after cleared' 0
+      some_take cleared' is = record {
         count = ap length rest ∙ (set_length taken from (log_of after from) ∙ (r.taking.count ∙ sym owners_same));
         heard = by_place (λ k. k < new.cut.owners → log_of after k ≡ received_from new k) (λ l. heard_at) (λ k differs l. heard_other k (omega (arith, l, owners_same)) differs);
-        few = by_place (λ k. k < new.cut.owners → length (log_of after k) ≤ 2 ^ 37) (λ l. omega (arith, few, ap length more, length-append (log_of taken from) (g ∷ [])))
+        few = by_place (λ k. k < new.cut.owners → length (log_of after k) ≤ 2 ^ 37) (λ l. few)
             (λ k differs l. subst (λ xs. length xs ≤ 2 ^ 37) (sym (apart k differs)) (r.taking.few k (omega (arith, l, owners_same))));
         clears =
-            let s = sum_one old.cut.owners (λ k. length (log_of taken k)) (λ k. length (log_of after k)) from from_in (ap length more ∙ length-append (log_of taken from) (g ∷ [])) (λ k differs. ap length (apart k differs)) in
+            let s = sum_more old.cut.owners (λ k. length (log_of taken k)) (λ k. length (log_of after k)) from (length gs) from_in
+            (ap length more ∙ length-append (log_of taken from) gs) (λ k differs. ap length (apart k differs)) in
             let same = ap (λ n. sum_to n (λ k. length (log_of after k))) owners_same in
             omega (arith, is, s, same, r.taking.clears);
       }
 
--- fewer turns than fit a number
-pub turns_small : (o : Owner) (taken : List (List Growth)) (cleared items : ℕ) → o.cut.owners ≤ 64 → HasTaken o taken cleared items → cleared ≤ 1 + 64 * 2 ^ 37
-turns_small o taken cleared items few t =
+-- few items are cleared
+pub cleared_small : (o : Owner) (taken : List (List Growth)) (cleared items : ℕ) → o.cut.owners ≤ 64 → HasTaken o taken cleared items → cleared ≤ 1 + 64 * 2 ^ 37
+cleared_small o taken cleared items few t =
     let s = sum_bound o.cut.owners (λ j. length (log_of taken j)) (2 ^ 37) t.few in
     omega (arith, s, few, t.clears)
-
-pub nothing_is_not_one : Nothing ≡ One → ⊥
-nothing_is_not_one e = cc
 
 -- a growth that can't be its sender's
 pub stray_same : (old new : Owner) (got : ℕ → List Growth) → new ≡ old → HasStray old.problem old.cut old.me got → HasStray new.problem new.cut new.me got
@@ -133,8 +146,8 @@ module _ (old new : Owner) (others : new ≡ record old { given = new.given }) (
   pub taken_given : HasTakenAll old taken → HasTakenAll new taken
   taken_given h = subst (λ (o : Owner). HasTakenAll o taken) (sym others) h
 
-  pub rests_given : (owed cleared : ℕ) (t t' : Tally) → IsSound new → IsCounted new t' → t'.turns ≡ t.turns → IsAtRest old taken owed cleared t → IsAtRest new taken owed cleared t'
-  rests_given owed cleared t t' sound counted turns r = record {
+  pub rests_given : (owed cleared : ℕ) (t t' : Tally) → IsSound new → IsCounted new t' → (t'.turns ≡ t.turns) × (t'.cleared ≡ t.cleared) → IsAtRest old taken owed cleared t → IsAtRest new taken owed cleared t'
+  rests_given owed cleared t t' sound counted same r = record {
     working = subst (λ (o : Owner). IsWorking o owed) (sym others) (record {
       sound = subst IsSound others sound;
       whole = r.working.whole;
@@ -149,14 +162,15 @@ module _ (old new : Owner) (others : new ≡ record old { given = new.given }) (
       clears = r.taking.clears;
     });
     counted = counted;
-    turns = turns ∙ r.turns;
+    cleared_is = same.1 ∙ r.cleared_is;
+    turns = omega (arith, same.0, r.turns);
   }
 
-  pub comes_given : (owed cleared : ℕ) (t t' : Tally) → IsSound new → IsCounted new t' → t'.turns ≡ t.turns → (heard : Heard) → ComesTo old taken owed cleared t heard → ComesTo new taken owed cleared t' heard
-  comes_given owed cleared t t' sound counted turns Nothing came = rests_given owed cleared t t' sound counted turns came
-  comes_given owed cleared t t' sound counted turns One came = rests_given owed cleared t t' sound counted turns came
-  comes_given owed cleared t t' sound counted turns Stray came = (subst (λ (o : Owner). HasStray o.problem o.cut o.me (log_of taken)) (sym others) came.0, taken_given came.1)
-  comes_given owed cleared t t' sound counted turns Memory came = taken_given came
+  pub comes_given : (owed cleared : ℕ) (t t' : Tally) → IsSound new → IsCounted new t' → (t'.turns ≡ t.turns) × (t'.cleared ≡ t.cleared) → (heard : Heard) → ComesTo old taken owed cleared t heard → ComesTo new taken owed cleared t' heard
+  comes_given owed cleared t t' sound counted same Nothing came = rests_given owed cleared t t' sound counted same came
+  comes_given owed cleared t t' sound counted same Growths came = rests_given owed cleared t t' sound counted same came
+  comes_given owed cleared t t' sound counted same Stray came = (subst (λ (o : Owner). HasStray o.problem o.cut o.me (log_of taken)) (sym others) came.0, taken_given came.1)
+  comes_given owed cleared t t' sound counted same Memory came = taken_given came
 
 pub rests_open : (o : Owner) (taken : List (List Growth)) (owed cleared owed' cleared' : ℕ) (t : Tally) → owed' ≡ owed → cleared' ≡ cleared → IsAtRest o taken owed cleared t → IsAtRest o taken owed' cleared' t
 rests_open o taken owed cleared owed' cleared' t a b r = subst (λ (y : ℕ × ℕ). IsAtRest o taken y.0 y.1 t) (λ i. (sym a i, sym b i)) r

@@ -9,7 +9,7 @@ use Rattle.nll_worker.specs.Sums.{sum_to}
 use Rattle.nll_worker.specs.Tallies.{IsCounted, due_of}
 use Rattle.nll_worker.specs.declared.tally.Tally.{Tally}
 use Rattle.nll_worker.specs.declared.receiving.Heard.{Heard}
-use Rattle.nll_worker.specs.declared.receiving.Heard.TheVariants.{Nothing, One, Stray, Memory}
+use Rattle.nll_worker.specs.declared.receiving.Heard.TheVariants.{Nothing, Growths, Stray, Memory}
 
 -- Just that was posted to each owner which was given out to it.
 pub record HasPosted (o : Owner) (posts : List (List Growth)) : Type 0 where
@@ -36,13 +36,15 @@ pub record HasTaken (o : Owner) (taken : List (List Growth)) (cleared items : �
   pub few : (j : ℕ) → j < o.cut.owners → length (log_of taken j) ≤ 2 ^ 37
   pub clears : cleared + items ≡ 1 + sum_to o.cut.owners (λ j. length (log_of taken j))
 
--- Between two turns all that grew is owed for and counted, and all that was taken is cleared.
+-- Between two turns all that grew is owed for and counted, and all that was taken is cleared. There
+-- were no more turns than that.
 pub record IsAtRest (o : Owner) (taken : List (List Growth)) (owed cleared : ℕ) (t : Tally)
     : Type 0 where
   pub working : IsWorking o owed
   pub taking : HasTaken o taken cleared 0
   pub counted : IsCounted o t
-  pub turns : t.turns ≡ cleared
+  pub cleared_is : t.cleared ≡ cleared
+  pub turns : t.turns ≤ cleared
 
 -- all that the owner received was taken
 abbrev pub HasTakenAll : Owner → List (List Growth) → Type 0
@@ -53,14 +55,14 @@ HasTakenAll o taken =
 -- the worker hasn't to end now
 abbrev pub GoesOn : Heard → Type 0
 GoesOn Nothing = Unit {0}
-GoesOn One = Unit {0}
+GoesOn Growths = Unit {0}
 GoesOn Stray = ⊥
 GoesOn Memory = ⊥
 
 -- what a turn comes to
 abbrev pub ComesTo : Owner → List (List Growth) → ℕ → ℕ → Tally → Heard → Type 0
 ComesTo o taken owed cleared t Nothing = IsAtRest o taken owed cleared t
-ComesTo o taken owed cleared t One = IsAtRest o taken owed cleared t
+ComesTo o taken owed cleared t Growths = IsAtRest o taken owed cleared t
 ComesTo o taken owed cleared t Stray =
     HasStray o.problem o.cut o.me (log_of taken) × HasTakenAll o taken
 ComesTo o taken owed cleared t Memory = HasTakenAll o taken

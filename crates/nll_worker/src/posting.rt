@@ -98,7 +98,8 @@ fn post_waiting<M: Mail>(
     requires counted { IsCounted owner.old tally.old }
     ensures posts { HasPosted owner.new (map M.sent senders.new.items) }
     ensures counted { IsCounted owner.new tally.new }
-    ensures turns { tally.new.turns ≡ tally.old.turns }
+    ensures same { (tally.new.turns ≡ tally.old.turns)
+        × (tally.new.cleared ≡ tally.old.cleared) }
     ensures all { M.is_bounded ≡ false → OnOk result (tally.new.waiting ≡ 0) }
     ensures others { owner.new ≡ record owner.old { given = owner.new.given } }
     ensures pairs { Alike (Stays M.Mail) senders.old.items senders.new.items }
@@ -138,7 +139,7 @@ pub fn share_out<M: Mail>(
     match heard {
         Heard::Stray => return heard,
         Heard::Memory => return heard,
-        Heard::One => {}
+        Heard::Growths => {}
         Heard::Nothing => {}
     }
     match post_waiting::<M>(owner, senders, owners, tally) {

@@ -1,31 +1,87 @@
 //! What a worker takes out of its mailboxes and hands to its owner.
 
-ghost use Rattle.std.specs.Prelude.{◌≡◌, ◌≢◌, ◌<◌, false, true, length, map, slice_set, vec_len};
+ghost use Rattle.std.specs.Prelude.{◌≡◌, ◌<◌, ◌≤◌, ◌++◌, [], false, true, length, map};
+ghost use Rattle.std.specs.Prelude.{Contains, slice_set, vec_len, vec_capacity};
 ghost use Rattle.nll_problem.specs.Limits.{most_posts};
+ghost use Rattle.nll_mail.specs.declared.growth.Growth.{Growth as TheGrowth};
 ghost use Rattle.nll_owner.specs.Logs.{log_of};
-ghost use Rattle.nll_owner.specs.Owner.{IsSound};
+ghost use Rattle.nll_owner.specs.Owner.{IsSound, Passes};
 ghost use Rattle.nll_worker.specs.Mailboxes.{Alike, Keeps};
 ghost use Rattle.nll_worker.specs.Hearing.{HandsIn, LooksInto};
-ghost use Rattle.nll_worker.specs.declared.receiving.Heard.TheVariants.{Nothing};
 
 use crate::gate::Gate;
 use nll_mail::{Growth, Mail};
 use nll_owner::Owner;
+
+// How many growths are taken out of a mailbox at once, at most.
+const MOST_TAKEN: usize = 256;
 
 /// What a look into a mailbox came to.
 #[derive(Clone, Copy, Debug, PartialEq, Eq)]
 pub enum Heard {
     /// Nothing was found there.
     Nothing,
-    /// The owner received a growth.
-    One,
+    /// The owner received growths.
+    Growths,
     /// A growth was taken that can't be its sender's.
     Stray,
     /// A growth of memory was refused.
     Memory,
 }
 
-// Takes a growth out of a mailbox, enters the gate, and hands the growth to the owner.
+// Takes growths out of a mailbox into an empty list that has room for them, until none is found
+// there, one can't be its sender's, or there are many: whether all can be their sender's.
+fn take_batch<M: Mail>(
+    owner: &Owner<'_>,
+    receiver: &mut M::R,
+    from: u16,
+    batch: &mut Vec<Growth>,
+) -> bool
+    requires empty { batch.old.items ≡ [] }
+    requires room { MOST_TAKEN ≤ vec_capacity batch.old }
+    ensures taken { M.received receiver.new ≡ M.received receiver.old ++ batch.new.items }
+    ensures passes { let o = owner.now in result ≡ true → (g : TheGrowth)
+        → Contains batch.new.items g → Passes o.problem o.cut o.me from g }
+    ensures stray { let o = owner.now in result ≡ false → (g : TheGrowth)
+        × Contains batch.new.items g × (Passes o.problem o.cut o.me from g → ⊥) }
+    ensures few { length (M.received receiver.old) ≤ most_posts
+        → length (M.received receiver.new) ≤ most_posts }
+    ensures pair { (s : M.S) → M.pairs s receiver.old → M.pairs s receiver.new }
+    ensures closed { (c : M.Closed) → M.closes c receiver.old → M.closes c receiver.new }
+    ensures ends { M.ends receiver.new ≡ M.ends receiver.old }
+{
+    while batch.len() < MOST_TAKEN {
+        match M::take(receiver) {
+            None => return true,
+            Some(growth) => {
+                batch.push_reserved(growth);
+                if !owner.passes(from, &growth) {
+                    return false;
+                }
+            }
+        }
+    }
+    true
+}
+
+// Hands growths that can be their sender's to the owner.
+fn hand_in(owner: &mut Owner<'_>, from: u16, growths: &[Growth]) -> Heard
+    requires sound { IsSound owner.old }
+    requires whole { owner.old.broken ≡ false }
+    requires loaded { owner.old.loaded ≡ true }
+    requires some { 0 < length growths.now }
+    requires passes { let o = owner.old in (g : TheGrowth)
+        → Contains growths.now g → Passes o.problem o.cut o.me from g }
+    ensures { HandsIn from owner.old owner.new growths.now result }
+{
+    match owner.receive_all(from, growths) {
+        Ok(()) => Heard::Growths,
+        Err(_) => Heard::Memory,
+    }
+}
+
+// Takes growths out of a mailbox, enters the gate, and hands the growths to the owner. The list has
+// what was taken then. Its room is made before, so that none is lost where memory is refused.
 fn hear<M: Mail, G: Gate>(
     gate: &G,
     turn: u64,
@@ -33,43 +89,36 @@ fn hear<M: Mail, G: Gate>(
     me: u16,
     receiver: &mut M::R,
     from: u16,
+    batch: &mut Vec<Growth>,
 ) -> Heard
     requires sound { IsSound owner.old }
     requires whole { owner.old.broken ≡ false }
     requires loaded { owner.old.loaded ≡ true }
     ensures hears { LooksInto from owner.old owner.new
-        (M.received receiver.old) (M.received receiver.new) result }
-    ensures few { result ≢ Nothing → length (M.received receiver.old) < most_posts }
+        (M.received receiver.old) (M.received receiver.new) batch.new.items result }
+    ensures few { length (M.received receiver.old) ≤ most_posts
+        → length (M.received receiver.new) ≤ most_posts }
     ensures pair { (s : M.S) → M.pairs s receiver.old → M.pairs s receiver.new }
     ensures closed { (c : M.Closed) → M.closes c receiver.old → M.closes c receiver.new }
     ensures ends { M.ends receiver.new ≡ M.ends receiver.old }
 {
-    match M::take(receiver) {
-        None => Heard::Nothing,
-        Some(growth) => {
-            gate.enter(me as usize, turn);
-            hand_in(owner, from, growth)
-        }
+    batch.clear();
+    match batch.reserve(MOST_TAKEN) {
+        Ok(()) => {}
+        Err(_) => return Heard::Memory,
     }
-}
-
-// Hands a growth to the owner, where it can be its sender's.
-fn hand_in(owner: &mut Owner<'_>, from: u16, growth: Growth) -> Heard
-    requires sound { IsSound owner.old }
-    requires whole { owner.old.broken ≡ false }
-    requires loaded { owner.old.loaded ≡ true }
-    ensures { HandsIn from owner.old owner.new growth result }
-{
-    if !owner.passes(from, &growth) {
+    if !take_batch::<M>(owner, receiver, from, batch) {
         return Heard::Stray;
     }
-    match owner.receive(from, growth) {
-        Ok(()) => Heard::One,
-        Err(_) => Heard::Memory,
+    if batch.is_empty() {
+        return Heard::Nothing;
     }
+    gate.enter(me as usize, turn);
+    hand_in(owner, from, batch)
 }
 
-/// Takes a growth out of one of the mailboxes, enters the gate, and hands the growth to the owner.
+/// Takes growths out of one of the mailboxes, enters the gate, and hands the growths to the owner.
+/// The list has what was taken then.
 pub fn hear_from<M: Mail, G: Gate>(
     gate: &G,
     turn: u64,
@@ -77,6 +126,7 @@ pub fn hear_from<M: Mail, G: Gate>(
     me: u16,
     receivers: &mut Vec<M::R>,
     from: u16,
+    batch: &mut Vec<Growth>,
 ) -> Heard
     requires sound { IsSound owner.old }
     requires whole { owner.old.broken ≡ false }
@@ -84,13 +134,21 @@ pub fn hear_from<M: Mail, G: Gate>(
     requires from { from < vec_len receivers.old }
     ensures hears { LooksInto from owner.old owner.new
         (log_of (map M.received receivers.old.items) from)
-        (log_of (map M.received receivers.new.items) from) result }
-    ensures few { result ≢ Nothing
-        → length (log_of (map M.received receivers.old.items) from) < most_posts }
+        (log_of (map M.received receivers.new.items) from) batch.new.items result }
+    ensures few { length (log_of (map M.received receivers.old.items) from) ≤ most_posts
+        → length (log_of (map M.received receivers.new.items) from) ≤ most_posts }
     ensures others { map M.received receivers.new.items ≡ slice_set
         (map M.received receivers.old.items) from
         (log_of (map M.received receivers.new.items) from) }
     ensures keeps { Alike (Keeps M.Mail) receivers.old.items receivers.new.items }
 {
-    hear::<M, G>(gate, turn, owner, me, &mut receivers[from as usize], from)
+    hear::<M, G>(
+        gate,
+        turn,
+        owner,
+        me,
+        &mut receivers[from as usize],
+        from,
+        batch,
+    )
 }

@@ -17,6 +17,8 @@ pub struct Tally {
     pub waiting: u64,
     /// How many turns there were.
     pub turns: u64,
+    /// How many items were cleared in them: the load, and each growth that was received.
+    pub cleared: u64,
 }
 
 /// How many growths of the log aren't given out yet, over all owners that read them.
@@ -42,7 +44,8 @@ pub fn count_new(owner: &Owner<'_>, owners: u16, tally: &mut Tally) -> u64
     ensures counted { IsCounted owner.now tally.new }
     ensures more { (before : Owner) → HasGrown before owner.now → IsCounted before tally.old
         → due_of before + result ≡ due_of owner.now }
-    ensures turns { tally.new.turns ≡ tally.old.turns }
+    ensures same { (tally.new.turns ≡ tally.old.turns)
+        × (tally.new.cleared ≡ tally.old.cleared) }
 {
     let grown = owner.log().len() as u64;
     if grown == tally.grown {

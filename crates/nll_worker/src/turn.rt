@@ -4,7 +4,7 @@ ghost use Rattle.std.specs.Prelude.{◌≡◌, ◌+◌, ◌^◌, ◌<◌, ◌≤
 ghost use Rattle.nll_problem.specs.Limits.{most_owners};
 ghost use Rattle.nll_problem.specs.Problem.{Problem};
 ghost use Rattle.nll_cut.specs.Partition.{Cut};
-ghost use Rattle.nll_mail.specs.declared.growth.Growth.{Growth};
+ghost use Rattle.nll_mail.specs.declared.growth.Growth.{Growth as TheGrowth};
 ghost use Rattle.nll_owner.specs.Owner.{Owner, IsSound, first_owner};
 ghost use Rattle.nll_worker.specs.Mailboxes.{Alike, AreAllEmpty, Keeps};
 ghost use Rattle.nll_worker.specs.Finishing.{IsFresh};
@@ -16,19 +16,20 @@ use crate::gate::Gate;
 use crate::receiving::{Heard, hear_from};
 use crate::tally::{Tally, count_new};
 use nll_ledger::Ledger;
-use nll_mail::Mail;
+use nll_mail::{Growth, Mail};
 use nll_owner::Owner;
 
 // How many rounds follow each other at most.
 const MOST_ROUNDS: u64 = 32;
 
-// Owes for what the log got in this turn, and then clears the turn's item.
+// Owes for what the log got in this turn, and then clears the turn's items, so many.
 fn keep_book<L: Ledger>(
     book: &L::Book,
     share: &mut L::Share,
     owner: &Owner<'_>,
     owners: u16,
     tally: &mut Tally,
+    items: u64,
 )
     requires owners { owners ≡ owner.now.cut.owners }
     requires few { owners ≤ most_owners }
@@ -37,19 +38,22 @@ fn keep_book<L: Ledger>(
     requires book { L.belongs book.now share.old }
     requires grew { (before : Owner) × HasGrown before owner.now × IsCounted before tally.old
         × (L.owed share.old ≡ 1 + due_of before) }
-    requires turns { tally.old.turns ≡ L.cleared share.old }
-    requires small { L.cleared share.old < 2 ^ 52 }
+    requires cleared { tally.old.cleared ≡ L.cleared share.old }
+    requires turns { tally.old.turns ≤ L.cleared share.old }
+    requires small { (L.cleared share.old < 2 ^ 52) × (items ≤ 2 ^ 37) }
     ensures book { L.belongs book.now share.new × (L.number share.new ≡ L.number share.old)
         × (L.called share.new ≡ L.called share.old) }
     ensures owes { L.owed share.new ≡ 1 + due_of owner.now }
-    ensures clears { L.cleared share.new ≡ L.cleared share.old + 1 }
+    ensures clears { L.cleared share.new ≡ L.cleared share.old + items }
     ensures counted { IsCounted owner.now tally.new }
-    ensures turns { tally.new.turns ≡ L.cleared share.new }
+    ensures cleared { tally.new.cleared ≡ L.cleared share.new }
+    ensures turns { tally.new.turns ≡ tally.old.turns + 1 }
 {
     let count = count_new(owner, owners, tally);
     L::owe(book, share, count);
-    L::clear(book, share, 1);
+    L::clear(book, share, items);
     tally.turns += 1;
+    tally.cleared += items;
 }
 
 /// The first turn: the owner is loaded, and the book is kept of it.
@@ -67,12 +71,12 @@ pub fn first_turn<L: Ledger, G: Gate>(
     requires first { (q : Problem) × (c : Cut) × (owner.old ≡ first_owner q c me) }
     requires fresh { IsFresh L.Ledger book.now me share.old }
     requires counted { IsCounted owner.old tally.old }
-    requires turns { tally.old.turns ≡ 0 }
+    requires none { (tally.old.turns ≡ 0) × (tally.old.cleared ≡ 0) }
     ensures grows { HasGrown owner.old owner.new }
     ensures sound { IsSound owner.new }
     ensures book { L.belongs book.now share.new × (L.number share.new ≡ L.number share.old)
         × (L.called share.new ≡ L.called share.old) }
-    ensures comes { (taken : List (List Growth)) → AreAllEmpty owners taken
+    ensures comes { (taken : List (List TheGrowth)) → AreAllEmpty owners taken
         → ComesTo owner.new taken (L.owed share.new) (L.cleared share.new) tally.new result }
 {
     gate.enter(me as usize, 1);
@@ -80,12 +84,12 @@ pub fn first_turn<L: Ledger, G: Gate>(
         Ok(()) => {}
         Err(_) => return Heard::Memory,
     }
-    keep_book::<L>(book, share, owner, owners, tally);
-    Heard::One
+    keep_book::<L>(book, share, owner, owners, tally, 1);
+    Heard::Growths
 }
 
-// A turn, where one of the mailboxes has a growth: the owner receives it, and the book is kept of
-// it.
+// A turn, where one of the mailboxes has growths: the owner receives them, and the book is kept of
+// them.
 fn turn<M: Mail, L: Ledger, G: Gate>(
     gate: &G,
     book: &L::Book,
@@ -96,6 +100,7 @@ fn turn<M: Mail, L: Ledger, G: Gate>(
     receivers: &mut Vec<M::R>,
     me: u16,
     from: u16,
+    batch: &mut Vec<Growth>,
 ) -> Heard
     requires owners { owners ≡ owner.old.cut.owners }
     requires few { owners ≤ most_owners }
@@ -111,18 +116,19 @@ fn turn<M: Mail, L: Ledger, G: Gate>(
         (L.owed share.new) (L.cleared share.new) tally.new result }
     ensures keeps { Alike (Keeps M.Mail) receivers.old.items receivers.new.items }
 {
-    match hear_from::<M, G>(gate, tally.turns + 1, owner, me, receivers, from) {
+    let turn = tally.turns + 1;
+    match hear_from::<M, G>(gate, turn, owner, me, receivers, from, batch) {
         Heard::Nothing => Heard::Nothing,
         Heard::Stray => Heard::Stray,
         Heard::Memory => Heard::Memory,
-        Heard::One => {
-            keep_book::<L>(book, share, owner, owners, tally);
-            Heard::One
+        Heard::Growths => {
+            keep_book::<L>(book, share, owner, owners, tally, batch.len() as u64);
+            Heard::Growths
         }
     }
 }
 
-/// One look into each mailbox: whether the owner received a growth, or why the worker has to end.
+/// One look into each mailbox: whether the owner received growths, or why the worker has to end.
 pub fn round<M: Mail, L: Ledger, G: Gate>(
     gate: &G,
     book: &L::Book,
@@ -132,6 +138,7 @@ pub fn round<M: Mail, L: Ledger, G: Gate>(
     tally: &mut Tally,
     receivers: &mut Vec<M::R>,
     me: u16,
+    batch: &mut Vec<Growth>,
 ) -> Heard
     requires owners { owners ≡ owner.old.cut.owners }
     requires few { owners ≤ most_owners }
@@ -148,29 +155,32 @@ pub fn round<M: Mail, L: Ledger, G: Gate>(
 {
     let mut any = false;
     for from in 0..owners {
-        match turn::<M, L, G>(gate, book, share, owner, owners, tally, receivers, me, from) {
+        let heard = turn::<M, L, G>(
+            gate, book, share, owner, owners, tally, receivers, me, from, batch,
+        );
+        match heard {
             Heard::Nothing => {}
-            Heard::One => any = true,
+            Heard::Growths => any = true,
             Heard::Stray => return Heard::Stray,
             Heard::Memory => return Heard::Memory,
         }
     }
-    if any { Heard::One } else { Heard::Nothing }
+    if any { Heard::Growths } else { Heard::Nothing }
 }
 
 // What rounds come to where the last one heard this, and those before it growths.
 fn behind_a_growth(heard: Heard) -> Heard
-    ensures { (o : Owner) (taken : List (List Growth)) (owed cleared : ℕ) (t : TheTally)
+    ensures { (o : Owner) (taken : List (List TheGrowth)) (owed cleared : ℕ) (t : TheTally)
         → ComesTo o taken owed cleared t heard → ComesTo o taken owed cleared t result }
 {
     match heard {
-        Heard::Nothing => Heard::One,
+        Heard::Nothing => Heard::Growths,
         _ => heard,
     }
 }
 
-/// Looks into each mailbox, and again as long as growths are heard and there were fewer turns than
-/// `until`: whether the owner received a growth, or why the worker has to end.
+/// Looks into each mailbox, and again as long as growths are heard and fewer items were cleared
+/// than `until`: whether the owner received growths, or why the worker has to end.
 pub fn rounds<M: Mail, L: Ledger, G: Gate>(
     gate: &G,
     book: &L::Book,
@@ -180,6 +190,7 @@ pub fn rounds<M: Mail, L: Ledger, G: Gate>(
     tally: &mut Tally,
     receivers: &mut Vec<M::R>,
     me: u16,
+    batch: &mut Vec<Growth>,
     until: u64,
 ) -> Heard
     requires owners { owners ≡ owner.old.cut.owners }
@@ -195,16 +206,20 @@ pub fn rounds<M: Mail, L: Ledger, G: Gate>(
         (L.owed share.new) (L.cleared share.new) tally.new result }
     ensures keeps { Alike (Keeps M.Mail) receivers.old.items receivers.new.items }
 {
-    let mut heard = round::<M, L, G>(gate, book, share, owner, owners, tally, receivers, me);
+    let mut heard = round::<M, L, G>(
+        gate, book, share, owner, owners, tally, receivers, me, batch,
+    );
     for _ in 1..MOST_ROUNDS {
         match heard {
-            Heard::One => {}
+            Heard::Growths => {}
             _ => return heard,
         }
-        if tally.turns >= until {
+        if tally.cleared >= until {
             return heard;
         }
-        let next = round::<M, L, G>(gate, book, share, owner, owners, tally, receivers, me);
+        let next = round::<M, L, G>(
+            gate, book, share, owner, owners, tally, receivers, me, batch,
+        );
         heard = behind_a_growth(next);
     }
     heard

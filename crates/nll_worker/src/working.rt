@@ -26,7 +26,8 @@ use nll_problem::Problem;
 use std::alloc::Global;
 use std::sync::Wait;
 
-/// How many turns a worker takes, where it can, before it tries again to post into a full mailbox.
+/// How many growths a worker receives, where it can, before it tries again to post into a full
+/// mailbox.
 const PATIENCE: u64 = 16;
 
 /// Sets the stop flag, and leaves.
@@ -107,6 +108,7 @@ fn go_on<M: Mail, L: Ledger, G: Gate, R: Wait>(
     senders: &mut Vec<M::S>,
     receivers: &mut Vec<M::R>,
     me: u16,
+    batch: &mut Vec<Growth>,
     heard: Heard,
 ) -> (L::Left, Ending)
     requires owners { owners ≡ owner.old.cut.owners }
@@ -133,7 +135,7 @@ fn go_on<M: Mail, L: Ledger, G: Gate, R: Wait>(
         match heard {
             Heard::Stray => return (halt::<L>(book, share), Ending::Stray),
             Heard::Memory => return (halt::<L>(book, share), Ending::Memory),
-            Heard::One => backoff.reset(),
+            Heard::Growths => backoff.reset(),
             Heard::Nothing => backoff.snooze(),
         }
         match ask_to_leave::<L>(book, share, tally.waiting, &backoff) {
@@ -142,12 +144,12 @@ fn go_on<M: Mail, L: Ledger, G: Gate, R: Wait>(
             Leave::Open(back) => share = back,
         }
         let until = if tally.waiting > 0 {
-            tally.turns.saturating_add(PATIENCE)
+            tally.cleared.saturating_add(PATIENCE)
         } else {
             0
         };
         heard = rounds::<M, L, G>(
-            gate, book, &mut share, owner, owners, tally, receivers, me, until,
+            gate, book, &mut share, owner, owners, tally, receivers, me, batch, until,
         );
     }
     unreachable!()
@@ -156,6 +158,7 @@ fn go_on<M: Mail, L: Ledger, G: Gate, R: Wait>(
 // Loads the owner and works until the share has left: what is left of it, and how this ended.
 fn work_on<M: Mail, L: Ledger, G: Gate, R: Wait>(
     rt: &R,
+    alloc: Global,
     problem: &Problem,
     cut: &Cut,
     gate: &G,
@@ -185,10 +188,12 @@ fn work_on<M: Mail, L: Ledger, G: Gate, R: Wait>(
         grown: 0,
         waiting: 0,
         turns: 0,
+        cleared: 0,
     };
     let heard = first_turn::<L, G>(gate, book, &mut share, owner, owners, &mut tally, me);
+    let mut batch = Vec::new(alloc);
     go_on::<M, L, G, R>(
-        rt, gate, book, share, owner, owners, &mut tally, senders, receivers, me, heard,
+        rt, gate, book, share, owner, owners, &mut tally, senders, receivers, me, &mut batch, heard,
     )
 }
 
@@ -223,7 +228,7 @@ pub fn begin<M: Mail, L: Ledger, G: Gate, R: Wait>(
 {
     match Owner::on(alloc, problem, cut, tables, me) {
         Ok(owner) => with_owner::<M, L, G, R>(
-            rt, problem, cut, gate, book, share, owner, senders, receivers, me,
+            rt, alloc, problem, cut, gate, book, share, owner, senders, receivers, me,
         ),
         Err(_) => (halt::<L>(book, share), Ending::NoOwner, Vec::new(alloc)),
     }
@@ -232,6 +237,7 @@ pub fn begin<M: Mail, L: Ledger, G: Gate, R: Wait>(
 // Works, and hands out the log.
 fn with_owner<M: Mail, L: Ledger, G: Gate, R: Wait>(
     rt: &R,
+    alloc: Global,
     problem: &Problem,
     cut: &Cut,
     gate: &G,
@@ -257,7 +263,7 @@ fn with_owner<M: Mail, L: Ledger, G: Gate, R: Wait>(
 {
     let mut owner = owner;
     let (left, ending) = work_on::<M, L, G, R>(
-        rt, problem, cut, gate, book, share, &mut owner, senders, receivers, me,
+        rt, alloc, problem, cut, gate, book, share, &mut owner, senders, receivers, me,
     );
     (left, ending, owner.into_log())
 }

@@ -1,9 +1,9 @@
-use Rattle.std.proofs.Common.{◌↔◌, ℕ, List, Bool, sym, subst}
+use Rattle.std.proofs.Common.{ℕ, List, Bool, sym, subst}
 use Rattle.std.proofs.lemmas.Result.{on_ok_weaker}
-use Rattle.nll_sets.specs.Runs.{IsInRuns, MakeUp}
+use Rattle.nll_sets.specs.Runs.{MakeUp}
 use Rattle.nll_sets.specs.declared.run.Run.{Run}
 use Rattle.nll_core.specs.Search.{IsIn}
-use Rattle.nll_core.specs.Values.{set_of, IsHeld}
+use Rattle.nll_core.specs.Values.{set_of}
 use Rattle.nll_core.proofs.GrowingLemmas.{gains_weaker}
 use Rattle.nll_core.proofs.meeting.fill_whole.Goals as goal
 use Rattle.nll_core.proofs.meeting.fill_whole.Goals.{After-fill_all}

@@ -3,7 +3,7 @@ use Rattle.std.proofs.lemmas.Result.{IfOk-weaker}
 use Rattle.nll_sets.specs.declared.run.Run.{Run}
 use Rattle.nll_core.proofs.FrontierLemmas.{old_inside, resumes_none, two_inside, three_inside, three_listed, three_fit, resumes_points}
 use Rattle.nll_core.proofs.resuming.resume_points.Goals as goal
-use Rattle.nll_core.proofs.resuming.resume_points.Goals.{In_ok-enter_next, In_ok-enter_starts, In_ok-enter_landings}
+use Rattle.nll_core.proofs.resuming.resume_points.Goals.{In_ok-enter_starts}
 
 pub returns-then-run-points : goal.returns-then-run-points
 returns-then-run-points c = resumes_none c.args.lines.now c.args.seen.now c.args.starts.now c.args.run c.args.reached.now c.requires.before c.points-points.ensures.sound c.requires.starts c.args.found.now.items

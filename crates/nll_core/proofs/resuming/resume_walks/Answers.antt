@@ -1,5 +1,14 @@
-use Rattle.nll_core.proofs.FrontierLemmas.{resumed, resumed_ends, lists_resumed, lists_resumed_ends}
+use Rattle.std.proofs.Common.{[]}
+use Rattle.nll_core.proofs.FrontierLemmas.{walks_idle, resumed, resumed_ends, lists_resumed, lists_resumed_ends}
+use Rattle.nll_core.proofs.ListingLemmas.{lists_none}
 use Rattle.nll_core.proofs.resuming.resume_walks.Goals as goal
+
+pub returns-then-is_idle-clause-after : goal.returns-then-is_idle-clause-after
+returns-then-is_idle-clause-after c = walks_idle c.args.lines.now c.args.seen.now c.args.starts.now c.args.run c.args.reached.now
+    (c.is_idle.ensures.none c.if-is_idle.true) (c.is_idle.ensures.apart c.if-is_idle.true)
+
+pub returns-then-is_idle-clause-found : goal.returns-then-is_idle-clause-found
+returns-then-is_idle-clause-found c = rw c.requires.none (lists_none c.args.reached.now [])
 
 pub returns-then-not-is_ended-clause-after : goal.returns-then-not-is_ended-clause-after
 returns-then-not-is_ended-clause-after c =

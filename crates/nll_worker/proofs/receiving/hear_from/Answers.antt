@@ -1,4 +1,5 @@
-use Rattle.std.proofs.Common.{◌<◌, [], length, map, slice_set, subst, refl, sym, ap, ◌∙◌, rules}
+use Rattle.std.proofs.Common.{◌<◌, ◌≤◌, ◌^◌, List, [], length, map, slice_set, subst, refl, sym, ap, ◌∙◌, rules}
+use Rattle.nll_mail.specs.declared.growth.Growth.{Growth}
 use Rattle.nll_worker.specs.Hearing.{LooksInto}
 use Rattle.nll_worker.specs.Mailboxes.{Keeps}
 use Rattle.nll_worker.proofs.ListLemmas.{map_set, map_read, read_set, alike_set}
@@ -8,13 +9,17 @@ pub returns-clause-hears : goal.returns-clause-hears
 returns-clause-hears g c =
     let xs = c.args.receivers.now.items in let lt : c.args.from < length xs = search rules in
     let f = g.M.Mail.received in
-    subst (λ (y : _ × _). LooksInto c.args.from c.args.owner.now c.hear.new.owner y.0 y.1 c.hear.result)
+    subst (λ (y : _ × _). LooksInto c.args.from c.args.owner.now c.hear.new.owner y.0 y.1 c.hear.new.batch.items c.hear.result)
     (λ i. (sym (map_read f xs c.args.from c.index_mut.result.now [] lt c.index_mut.ensures.value) i, sym (read_set f xs c.args.from c.hear.new.receiver [] lt) i)) c.hear.ensures.hears
 
 pub returns-clause-few : goal.returns-clause-few
 returns-clause-few g c =
     let xs = c.args.receivers.now.items in let lt : c.args.from < length xs = search rules in
-    λ h. subst (λ l. length l < 137438953472) (sym (map_read g.M.Mail.received xs c.args.from c.index_mut.result.now [] lt c.index_mut.ensures.value)) (c.hear.ensures.few h)
+    let f = g.M.Mail.received in
+    λ small.
+    subst (λ (l : List Growth). length l ≤ 2 ^ 37) (sym (read_set f xs c.args.from c.hear.new.receiver [] lt))
+    (c.hear.ensures.few (subst (λ (l : List Growth). length l ≤ 2 ^ 37)
+    (map_read f xs c.args.from c.index_mut.result.now [] lt c.index_mut.ensures.value) small))
 
 pub returns-clause-others : goal.returns-clause-others
 returns-clause-others g c =

@@ -35,5 +35,6 @@ returns-clause-comes g c = λ taken none. record {
       (none.0 ∙ (c.requires.owners ∙ ap (λ (o : Owner). o.cut.owners) c.requires.first.2), none.1)
       (omega (arith, c.keep_book.ensures.clears, c.requires.fresh.cleared_is));
   counted = c.keep_book.ensures.counted;
-  turns = c.keep_book.ensures.turns;
+  cleared_is = c.keep_book.ensures.cleared;
+  turns = omega (arith, c.keep_book.ensures.turns, c.keep_book.ensures.clears, c.requires.none.0);
 }

@@ -5,7 +5,7 @@ use Rattle.nll_worker.specs.Turning.{IsAtRest}
 use Rattle.nll_worker.proofs.ListLemmas.{alike_refl, keeps_on}
 use Rattle.nll_worker.proofs.TallyLemmas.{grown_self, grown_on}
 use Rattle.nll_worker.proofs.turn.round.Goals as goal
-use Rattle.nll_worker.proofs.turn.round.Goals.{in-Nothing, in-One}
+use Rattle.nll_worker.proofs.turn.round.Goals.{in-Nothing, in-Growths}
 
 pub loop-from-init : goal.loop-from-init
 loop-from-init g c = record {
@@ -17,32 +17,32 @@ loop-from-init g c = record {
   keeps = alike_refl (Keeps g.M.Mail) (λ r. ((λ s p. p), (λ s p. p), refl)) c.args.receivers.now.items;
 }
 
-pub turn-requires-clause-owners : goal.turn-requires-clause-owners
-turn-requires-clause-owners g c κs within = c.requires.owners ∙ sym (ap (λ (k : Cut). k.owners) c.loop-from.invariant.grows.cut)
+pub turn-heard-requires-clause-owners : goal.turn-heard-requires-clause-owners
+turn-heard-requires-clause-owners g c κs within = c.requires.owners ∙ sym (ap (λ (k : Cut). k.owners) c.loop-from.invariant.grows.cut)
 
 pub returns-in-Stray-clause-grows : goal.returns-in-Stray-clause-grows
-returns-in-Stray-clause-grows g c = grown_on _ _ _ c.loop-from.invariant.grows c.turn.ensures.grows
+returns-in-Stray-clause-grows g c = grown_on _ _ _ c.loop-from.invariant.grows c.turn-heard.ensures.grows
 
 pub returns-in-Memory-clause-grows : goal.returns-in-Memory-clause-grows
-returns-in-Memory-clause-grows g c = grown_on _ _ _ c.loop-from.invariant.grows c.turn.ensures.grows
+returns-in-Memory-clause-grows g c = grown_on _ _ _ c.loop-from.invariant.grows c.turn-heard.ensures.grows
 
 pub returns-in-Stray-clause-keeps : goal.returns-in-Stray-clause-keeps
-returns-in-Stray-clause-keeps g c = keeps_on g.M.Mail _ _ _ c.loop-from.invariant.keeps c.turn.ensures.keeps
+returns-in-Stray-clause-keeps g c = keeps_on g.M.Mail _ _ _ c.loop-from.invariant.keeps c.turn-heard.ensures.keeps
 
 pub returns-in-Memory-clause-keeps : goal.returns-in-Memory-clause-keeps
-returns-in-Memory-clause-keeps g c = keeps_on g.M.Mail _ _ _ c.loop-from.invariant.keeps c.turn.ensures.keeps
+returns-in-Memory-clause-keeps g c = keeps_on g.M.Mail _ _ _ c.loop-from.invariant.keeps c.turn-heard.ensures.keeps
 
 pub loop-from-preserved : goal.loop-from-preserved
 loop-from-preserved g c =
-    let rests : IsAtRest c.turn.new.owner (map g.M.Mail.received c.turn.new.receivers.items) (g.L.Ledger.owed c.turn.new.share) (g.L.Ledger.cleared c.turn.new.share) c.turn.new.tally = elim c.match-turn.branch [
+    let rests : IsAtRest c.turn-heard.new.owner (map g.M.Mail.received c.turn-heard.new.receivers.items) (g.L.Ledger.owed c.turn-heard.new.share) (g.L.Ledger.cleared c.turn-heard.new.share) c.turn-heard.new.tally = elim c.match-heard.branch [
       | in-Nothing w ↦ w.in-Nothing.ensures.comes
-      | in-One w ↦ w.in-One.ensures.comes
+      | in-Growths w ↦ w.in-Growths.ensures.comes
     ] in
     record {
-      grows = grown_on _ _ _ c.loop-from.invariant.grows c.turn.ensures.grows;
-      book = c.turn.ensures.book.0;
-      number = c.turn.ensures.book.1 ∙ c.loop-from.invariant.number;
-      called = c.turn.ensures.book.2 ∙ c.loop-from.invariant.called;
+      grows = grown_on _ _ _ c.loop-from.invariant.grows c.turn-heard.ensures.grows;
+      book = c.turn-heard.ensures.book.0;
+      number = c.turn-heard.ensures.book.1 ∙ c.loop-from.invariant.number;
+      called = c.turn-heard.ensures.book.2 ∙ c.loop-from.invariant.called;
       rests = rests;
-      keeps = keeps_on g.M.Mail _ _ _ c.loop-from.invariant.keeps c.turn.ensures.keeps;
+      keeps = keeps_on g.M.Mail _ _ _ c.loop-from.invariant.keeps c.turn-heard.ensures.keeps;
     }

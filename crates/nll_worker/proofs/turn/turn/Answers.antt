@@ -1,31 +1,38 @@
-use Rattle.std.proofs.Common.{◌<◌, Contains, map, subst, sym, ap, ◌∙◌, arith}
-use Rattle.std.proofs.lemmas.List.Elements.{Contains-push}
+use Rattle.std.proofs.Common.{◌<◌, Contains, length, length-append, map, subst, sym, ap, ◌∙◌, arith}
+use Rattle.std.proofs.lemmas.List.Elements.{Contains-append_right}
 use Rattle.nll_owner.specs.Logs.{log_of}
 use Rattle.nll_owner.specs.Owner.{Owner}
 use Rattle.nll_worker.proofs.TallyLemmas.{grown_self}
-use Rattle.nll_worker.proofs.TurnLemmas.{turns_small, taken_same, taken_lost, grown_one, grown_lost, one_works, one_takes, rests_same, stray_same, nothing_is_not_one}
+use Rattle.nll_worker.proofs.TurnLemmas.{cleared_small, taken_same, taken_lost, grown_some, grown_lost}
+use Rattle.nll_worker.proofs.TurnLemmas.{some_works, some_take, rests_same, stray_same}
 use Rattle.nll_worker.proofs.turn.turn.Goals as goal
 
-pub overflow_add-tally : goal.overflow_add-tally
-overflow_add-tally g c =
-    let few = turns_small c.args.owner.now _ _ 0 c.requires.rests.working.sound.cut.cut.owner_limit c.requires.rests.taking in
+pub overflow_add-turn : goal.overflow_add-turn
+overflow_add-turn g c =
+    let few = cleared_small c.args.owner.now _ _ 0 c.requires.rests.working.sound.cut.cut.owner_limit c.requires.rests.taking in
     omega (arith, few, c.requires.rests.turns)
 
 pub keep_book-requires-clause-owners : goal.keep_book-requires-clause-owners
-keep_book-requires-clause-owners g c κs within = c.requires.owners ∙ sym (ap (λ (o : Owner). o.cut.owners) c.in-One.ensures.hears.2.4)
+keep_book-requires-clause-owners g c κs within = c.requires.owners ∙ sym (ap (λ (o : Owner). o.cut.owners) c.in-Growths.ensures.hears.1.4)
 
 pub keep_book-requires-clause-whole : goal.keep_book-requires-clause-whole
-keep_book-requires-clause-whole g c κs within = ap (λ (o : Owner). o.broken) c.in-One.ensures.hears.2.4 ∙ c.requires.rests.working.whole
+keep_book-requires-clause-whole g c κs within = ap (λ (o : Owner). o.broken) c.in-Growths.ensures.hears.1.4 ∙ c.requires.rests.working.whole
 
 pub keep_book-requires-clause-grew : goal.keep_book-requires-clause-grew
 keep_book-requires-clause-grew g c κs within =
-    let h = c.in-One.ensures.hears in
-    (c.args.owner.now, grown_one c.args.owner.now c.hear_from.new.owner h.2.1 h.2.4, c.requires.rests.counted, c.requires.rests.working.owes)
+    let h = c.in-Growths.ensures.hears in
+    (c.args.owner.now, grown_some c.args.owner.now c.hear_from.new.owner h.1.1 h.1.4, c.requires.rests.counted, c.requires.rests.working.owes)
 
 pub keep_book-requires-clause-small : goal.keep_book-requires-clause-small
 keep_book-requires-clause-small g c κs within =
-    let few = turns_small c.args.owner.now _ _ 0 c.requires.rests.working.sound.cut.cut.owner_limit c.requires.rests.taking in
-    omega (arith, few)
+    let rests = c.requires.rests in
+    let h = c.in-Growths.ensures.hears in
+    let from_in : c.args.from < c.args.owner.now.cut.owners = subst (λ n. c.args.from < n) c.requires.owners c.requires.from in
+    let cleared = cleared_small c.args.owner.now _ _ 0 rests.working.sound.cut.cut.owner_limit rests.taking in
+    let few = c.hear_from.ensures.few (rests.taking.few c.args.from from_in) in
+    let before = log_of (map g.M.Mail.received c.args.receivers.now.items) c.args.from in
+    let more = ap length h.0 ∙ length-append before c.hear_from.new.batch.items in
+    (omega (arith, cleared), omega (arith, few, more, c.len.ensures, c.hear_from.new.batch.ok.0))
 
 pub returns-in-Nothing-clause-grows : goal.returns-in-Nothing-clause-grows
 returns-in-Nothing-clause-grows g c = grown_self c.args.owner.now c.hear_from.new.owner c.in-Nothing.ensures.hears.0
@@ -36,36 +43,53 @@ returns-in-Nothing-clause-comes g c =
     rests_same c.args.owner.now _ _ _ _ c.requires.rests c.hear_from.new.owner _ c.args.from h.0 h.1 c.hear_from.ensures.others
 
 pub returns-in-Stray-clause-grows : goal.returns-in-Stray-clause-grows
-returns-in-Stray-clause-grows g c = grown_self c.args.owner.now c.hear_from.new.owner c.in-Stray.ensures.hears.2.1
+returns-in-Stray-clause-grows g c = grown_self c.args.owner.now c.hear_from.new.owner c.in-Stray.ensures.hears.1.1
 
 pub returns-in-Stray-clause-comes : goal.returns-in-Stray-clause-comes
 returns-in-Stray-clause-comes g c =
     let h = c.in-Stray.ensures.hears in
+    let gs = c.hear_from.new.batch.items in
+    let stray = h.1.0 in
+    let before = log_of (map g.M.Mail.received c.args.receivers.now.items) c.args.from in
     let from_in : c.args.from < c.args.owner.now.cut.owners = subst (λ n. c.args.from < n) c.requires.owners c.requires.from in (
-      stray_same c.args.owner.now c.hear_from.new.owner _ h.2.1 (c.args.from, h.0, from_in, subst (λ xs. Contains xs h.0) (sym h.1) (Contains-push (log_of (map g.M.Mail.received c.args.receivers.now.items) c.args.from) h.0), h.2.0),
-      taken_same c.args.owner.now _ _ _ _ c.requires.rests _ c.args.from h.0 h.1 c.hear_from.ensures.others c.hear_from.new.owner h.2.1,
+      stray_same c.args.owner.now c.hear_from.new.owner _ h.1.1 (
+        c.args.from,
+        stray.0,
+        from_in,
+        subst (λ xs. Contains xs stray.0) (sym h.0)
+            (Contains-append_right before gs stray.0 stray.1),
+        stray.2,
+      ),
+      taken_same c.args.owner.now _ _ _ _ c.requires.rests _ c.args.from gs h.0 c.hear_from.ensures.others
+          c.hear_from.new.owner h.1.1,
     )
 
 pub returns-in-Memory-clause-grows : goal.returns-in-Memory-clause-grows
-returns-in-Memory-clause-grows g c = let h = c.in-Memory.ensures.hears in grown_lost c.args.owner.now c.hear_from.new.owner c.args.from h.0 h.2
+returns-in-Memory-clause-grows g c = grown_lost c.args.owner.now c.hear_from.new.owner c.args.from _ c.in-Memory.ensures.hears.1
 
 pub returns-in-Memory-clause-comes : goal.returns-in-Memory-clause-comes
 returns-in-Memory-clause-comes g c =
     let h = c.in-Memory.ensures.hears in
     let from_in : c.args.from < c.args.owner.now.cut.owners = subst (λ n. c.args.from < n) c.requires.owners c.requires.from in
-    taken_lost c.args.owner.now _ _ _ _ c.requires.rests _ c.args.from h.0 h.1 c.hear_from.ensures.others c.hear_from.new.owner from_in h.2
+    taken_lost c.args.owner.now _ _ _ _ c.requires.rests _ c.args.from c.hear_from.new.batch.items h.0
+    c.hear_from.ensures.others c.hear_from.new.owner from_in h.1
 
-pub returns-in-One-clause-grows : goal.returns-in-One-clause-grows
-returns-in-One-clause-grows g c = let h = c.in-One.ensures.hears in grown_one c.args.owner.now c.hear_from.new.owner h.2.1 h.2.4
+pub returns-in-Growths-clause-grows : goal.returns-in-Growths-clause-grows
+returns-in-Growths-clause-grows g c = let h = c.in-Growths.ensures.hears in grown_some c.args.owner.now c.hear_from.new.owner h.1.1 h.1.4
 
-pub returns-in-One-clause-comes : goal.returns-in-One-clause-comes
-returns-in-One-clause-comes g c =
-    let h = c.in-One.ensures.hears in
+pub returns-in-Growths-clause-comes : goal.returns-in-Growths-clause-comes
+returns-in-Growths-clause-comes g c =
+    let h = c.in-Growths.ensures.hears in
     let k = c.keep_book.ensures in
     let from_in : c.args.from < c.args.owner.now.cut.owners = subst (λ n. c.args.from < n) c.requires.owners c.requires.from in
     record {
-      working = one_works c.args.owner.now _ _ _ _ c.requires.rests c.hear_from.new.owner h.2.4 _ h.2.2 h.2.3 k.owes;
-      taking = one_takes c.args.owner.now _ _ _ _ c.requires.rests c.hear_from.new.owner h.2.4 c.args.from h.0 _ from_in h.2.0 h.1 c.hear_from.ensures.others (c.hear_from.ensures.few (λ e. nothing_is_not_one (sym e ∙ c.in-One.is))) _ k.clears;
+      working = some_works c.args.owner.now _ _ _ _ c.requires.rests c.hear_from.new.owner h.1.4 _ h.1.2 h.1.3 k.owes;
+      taking = some_take c.args.owner.now _ _ _ _ c.requires.rests c.hear_from.new.owner h.1.4 c.args.from
+          c.hear_from.new.batch.items _ from_in h.1.0 h.0 c.hear_from.ensures.others
+          (c.hear_from.ensures.few (c.requires.rests.taking.few c.args.from from_in)) _
+          (omega (arith, k.clears, c.len.ensures, c.hear_from.new.batch.ok.0));
       counted = k.counted;
-      turns = k.turns;
+      cleared_is = k.cleared;
+      turns =
+          omega (arith, k.turns, k.clears, c.requires.rests.turns, h.1.5, c.len.ensures, c.hear_from.new.batch.ok.0);
     }

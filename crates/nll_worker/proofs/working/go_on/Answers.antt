@@ -6,7 +6,7 @@ use Rattle.nll_worker.proofs.PostLemmas.{posts_grown}
 use Rattle.nll_worker.proofs.TurnLemmas.{taken_all, rests_open}
 use Rattle.nll_worker.proofs.FinishLemmas.{is_given, is_grown, finishes_fail, finishes_stray, finishes_quiet, finishes_left}
 use Rattle.nll_worker.proofs.working.go_on.Goals as goal
-use Rattle.nll_worker.proofs.working.go_on.Goals.{in-One, in-Nothing}
+use Rattle.nll_worker.proofs.working.go_on.Goals.{in-Growths, in-Nothing}
 
 pub loop-init : goal.loop-init
 loop-init g c =
@@ -31,7 +31,7 @@ returns-in-Quiet-clause-finishes g c =
     let l = c.loop.invariant in
     let s = c.share_out-heard in
     let rest : IsAtRest s.new.owner (map g.M.Mail.received c.loop.receivers.items) (g.L.Ledger.owed c.loop.share) (g.L.Ledger.cleared c.loop.share) s.new.tally = elim c.match-heard.branch [
-      | in-One w ↦ w.in-One.ensures.comes _ _ _ l.5
+      | in-Growths w ↦ w.in-Growths.ensures.comes _ _ _ l.5
       | in-Nothing w ↦ w.in-Nothing.ensures.comes _ _ _ l.5
     ] in
     finishes_left _ _ _ s.new.owner _ _ _ _ _ _ _ c.in-Quiet.ensures.left.2 c.in-Quiet.ensures.left.3
@@ -42,7 +42,7 @@ returns-in-Stopped-clause-finishes g c =
     let l = c.loop.invariant in
     let s = c.share_out-heard in
     let rest : IsAtRest s.new.owner (map g.M.Mail.received c.loop.receivers.items) (g.L.Ledger.owed c.loop.share) (g.L.Ledger.cleared c.loop.share) s.new.tally = elim c.match-heard.branch [
-      | in-One w ↦ w.in-One.ensures.comes _ _ _ l.5
+      | in-Growths w ↦ w.in-Growths.ensures.comes _ _ _ l.5
       | in-Nothing w ↦ w.in-Nothing.ensures.comes _ _ _ l.5
     ] in
     finishes_fail _ _ _ s.new.owner _ _ _ _ (is_given _ _ _ c.loop.owner s.new.owner s.ensures.others l.2) s.ensures.posts _ s.ensures.sound (taken_all s.new.owner _ _ 0 rest.taking) (λ e. cc) (λ e. cc)
@@ -64,7 +64,7 @@ rounds-heard-requires-clause-rests g c κs within =
     let l = c.loop.invariant in
     let s = c.share_out-heard in
     let rest : IsAtRest s.new.owner (map g.M.Mail.received c.loop.receivers.items) (g.L.Ledger.owed c.loop.share) (g.L.Ledger.cleared c.loop.share) s.new.tally = elim c.match-heard.branch [
-      | in-One w ↦ w.in-One.ensures.comes _ _ _ l.5
+      | in-Growths w ↦ w.in-Growths.ensures.comes _ _ _ l.5
       | in-Nothing w ↦ w.in-Nothing.ensures.comes _ _ _ l.5
     ] in
     rests_open s.new.owner _ _ _ _ _ s.new.tally c.in-Open.ensures.back.2 c.in-Open.ensures.back.3 rest

@@ -1,0 +1,72 @@
+use Rattle.std.proofs.Common.{refl, sym, ap, subst, ◌∙◌, arith}
+use Rattle.nll_core.proofs.SearchLemmas.{flag_within}
+use Rattle.nll_owner.specs.Owner.{Owner}
+use Rattle.nll_owner.specs.Following.{IsLinkOf}
+use Rattle.nll_owner.proofs.OwnerLemmas.{grows_le, grows_none, grows_append, slot_still}
+use Rattle.nll_owner.proofs.FollowingLemmas.{awoken, due_from, none_due_from, same_link}
+use Rattle.nll_owner.proofs.following.catch_up.Goals as goal
+
+pub loop-part-init : goal.loop-part-init
+loop-part-init c = record {
+  grows = grows_none _ c.requires.sound;
+  same = refl;
+  awake = refl;
+  followed = awoken c.args.knowledge.now c.args.region c.args.place c.args.rest.now c.args.link.now _ 4294967295
+      (λ x h.
+      let graph = c.requires.sound.problem.graph in
+      omega (arith, flag_within c.set-inside.result.now x ((c.set-inside.ensures.has c.args.region c.requires.slot x).1 h), c.set-inside.ensures.width, graph.point_limit, graph.universal_limit))
+      c.requires.followed;
+}
+
+pub set-requires : goal.set-requires
+set-requires c = (slot_still _ _ c.loop-part.invariant.grows c.args.slot c.args.region c.requires.slot).0
+
+pub hand_run-requires-clause-steps : goal.hand_run-requires-clause-steps
+hand_run-requires-clause-steps c = c.requires.steps ∙ sym (ap (λ (o : Owner). o.problem.graph) c.loop-part.invariant.grows.others)
+
+pub hand_run-requires-clause-slot : goal.hand_run-requires-clause-slot
+hand_run-requires-clause-slot c = slot_still _ _ c.loop-part.invariant.grows _ _ c.requires.slot
+
+pub hand_run-requires-clause-has : goal.hand_run-requires-clause-has
+hand_run-requires-clause-has c x own = (c.set.ensures.has c.args.region (slot_still _ _ c.loop-part.invariant.grows _ _ c.requires.slot) x).0 (c.in-Some.ensures.some.all x own.0 own.1)
+
+pub hand_run-requires-clause-place : goal.hand_run-requires-clause-place
+hand_run-requires-clause-place c = omega (arith, c.requires.place, grows_le _ _ c.loop-part.invariant.grows)
+
+pub hand_run-requires-clause-link : goal.hand_run-requires-clause-link
+hand_run-requires-clause-link c = subst (λ (o : Owner). IsLinkOf o.cut o.me c.args.region o.problem.constraints c.loop-part.link) (sym c.loop-part.invariant.grows.others)
+    (same_link c.args.knowledge.now.cut c.args.knowledge.now.me c.args.region c.args.knowledge.now.problem.constraints c.args.link.now c.loop-part.link (sym c.loop-part.invariant.same) c.requires.link)
+
+pub hand_run-requires-clause-followed : goal.hand_run-requires-clause-followed
+hand_run-requires-clause-followed c = due_from c.loop-part.knowledge c.args.region c.args.place c.args.rest.now c.loop-part.link c.set.result.now
+    (c.set.ensures.has c.args.region (slot_still _ _ c.loop-part.invariant.grows _ _ c.requires.slot)) c.loop-part.next 4294967295 c.loop-part.invariant.followed c.in-Some.part c.in-Some.ensures.some
+
+pub overflow_add-next : goal.overflow_add-next
+overflow_add-next c =
+    let graph = c.loop-part.invariant.grows.sound.problem.graph in
+    let from = c.in-Some.ensures.some in
+    omega (arith, flag_within c.set.result.now c.in-Some.part.last (from.all c.in-Some.part.last from.proper (omega arith)), c.set.ensures.width, graph.point_limit, graph.universal_limit)
+
+pub loop-part-preserved : goal.loop-part-preserved
+loop-part-preserved c = record {
+  grows = grows_append _ _ _ c.loop-part.invariant.grows c.hand_run.ensures.grows;
+  same = c.hand_run.ensures.same ∙ c.loop-part.invariant.same;
+  awake = c.hand_run.ensures.awake;
+  followed = c.in_ok-hand_run.ensures.followed;
+}
+
+pub returns-in_err-hand_run-clause-grows : goal.returns-in_err-hand_run-clause-grows
+returns-in_err-hand_run-clause-grows c = grows_append _ _ _ c.loop-part.invariant.grows c.hand_run.ensures.grows
+
+pub returns-in_err-hand_run-clause-same : goal.returns-in_err-hand_run-clause-same
+returns-in_err-hand_run-clause-same c = c.hand_run.ensures.same ∙ c.loop-part.invariant.same
+
+pub returns-clause-grows : goal.returns-clause-grows
+returns-clause-grows c = c.loop-part.invariant.grows
+
+pub returns-clause-same : goal.returns-clause-same
+returns-clause-same c = c.loop-part.invariant.same
+
+pub returns-clause-followed : goal.returns-clause-followed
+returns-clause-followed c = none_due_from c.loop-part.knowledge c.args.region c.args.place c.args.rest.now c.loop-part.link c.set.result.now
+    (c.set.ensures.has c.args.region (slot_still _ _ c.loop-part.invariant.grows _ _ c.requires.slot)) c.loop-part.next 4294967295 c.loop-part.invariant.followed c.in_default.ensures.none

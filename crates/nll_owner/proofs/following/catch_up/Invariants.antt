@@ -1,0 +1,16 @@
+use Rattle.std.proofs.Common.{◌≡◌, ◌-◌, false}
+use Rattle.nll_owner.specs.Keeping.{Grows}
+use Rattle.nll_owner.specs.Following.{IsFollowed, IsLeft, OfRunOr, link_shape}
+use Rattle.nll_owner.proofs.following.catch_up.Given as goal
+
+-- Of the region, what stands at `next` or behind it is due.
+abbrev pub invariant-loop-part : goal.invariant-loop-part
+invariant-loop-part l = record {
+  grows : Grows l.fn.knowledge l.knowledge;
+  same : link_shape l.link ≡ link_shape l.fn.link;
+  awake : l.link.rests ≡ false;
+  followed : IsFollowed l.knowledge l.region (IsLeft l.knowledge l.place (OfRunOr l.rest l.region l.next 4294967295) l.region) l.link;
+}
+
+abbrev pub decreases-loop-part : goal.decreases-loop-part
+decreases-loop-part l = 4294967296 - l.next
