@@ -222,8 +222,8 @@ impl<'q> Owner<'q> {
     ///   grown.
     ///
     /// # Cost
-    /// Growths of one region that follow each other are followed up once where their elements follow
-    /// each other by number; else it's that of as many calls of `receive` (not proved).
+    /// Growths of one region that follow each other are followed up once where their elements
+    /// follow each other by number; else it's that of as many calls of `receive` (not proved).
     pub fn receive_all(&mut self, from: u16, growths: &[Growth]) -> Result<(), OwnerError>
         requires ready { IsReady self.old }
         requires passes { let o = self.old in (g : Growth) → Contains growths.now g

@@ -104,10 +104,10 @@ impl Notes {
         }
     }
 
-    /// For each of the two, whose last turn has ended: what it owed beside its load, its posts, what
-    /// it cleared, and how often it was wrong: began a turn by a number that wasn't the next, didn't
-    /// clear once in a turn, posted or cleared in a turn in which it hadn't owed, or owed where it
-    /// had posted or cleared.
+    /// For each of the two, whose last turn has ended: what it owed beside its load, its posts,
+    /// what it cleared, and how often it was wrong: began a turn by a number that wasn't the next,
+    /// didn't clear once in a turn, posted or cleared in a turn in which it hadn't owed, or owed
+    /// where it had posted or cleared.
     pub fn written(&self, alloc: Global) -> Result<String, AllocError> {
         let mut out = String::new(alloc);
         let first = self.first.write(&mut out);
