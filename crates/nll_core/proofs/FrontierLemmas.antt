@@ -57,6 +57,21 @@ module _ (g : Graph) (set : List Bool) (starts : List ℕ) where
     closed = λ x y h step inside. absurd (none x h);
   }
 
+  -- nor where the run is reached
+  pub walks_had : (run : Run) (old : List Bool) → ((x : ℕ) → IsIn old x → ReachesFrom g (IsIn set) starts x) → ((x : ℕ) → IsWithin run x → IsIn old x) → WalksOn g set run starts old old
+  walks_had run old sound had = record {
+    kept = λ x h. h;
+    sound = sound;
+    begun = λ p there own. had p own;
+    closed = λ x y h step inside. ⊎_elim
+        (λ before. inr (h, λ own. (let low = own.0 in omega (arith, before, low))))
+        (λ from. ⊎_elim
+        (λ past. inr (h, λ own. (let high = own.1 in omega (arith, past, high))))
+        (λ to. inl (had y (from, to)))
+        (cases_lt run.last y))
+        (cases_lt y run.first);
+  }
+
   -- what is led to from what is reached is reached
   pub led_from : (reached : List Bool) → ((x : ℕ) → IsIn reached x → ReachesFrom g (IsIn set) starts x) → (x : ℕ) → IsLedTo g set reached x → ReachesFrom g (IsIn set) starts x
   led_from reached sound x w = let from = sound w.0 w.1 in (from.0, from.1, reaches_append g set from.0 w.0 x from.2 w.2)

@@ -1,17 +1,17 @@
 //! What constraints ask for, kept while runs are added to the set inside which they ask.
 
-ghost use Rattle.std.specs.Prelude.{◌≡◌, ℕ, ◌≤◌, ◌<◌, true, false, [], ◌∷◌, ◌++◌, Contains};
+ghost use Rattle.std.specs.Prelude.{◌≡◌, ◌↔◌, ℕ, ◌≤◌, ◌<◌, true, false, [], ◌∷◌, ◌++◌, Contains};
 ghost use Rattle.std.specs.Prelude.{length, OnOk, OnErr};
 ghost use Rattle.nll_problem.specs.Graph.{element_count};
 ghost use Rattle.nll_core.specs.Search.{IsIn};
 ghost use Rattle.nll_core.specs.Walking.{AreIn};
 ghost use Rattle.nll_core.specs.Frontiers.{IsFrontierIn, IsBeside, GoesOn, IsAskedFrom, ListsNew};
-ghost use Rattle.nll_core.specs.Frontiers.{first_frontier};
+ghost use Rattle.nll_core.specs.Frontiers.{IsIdle, first_frontier};
 ghost use Rattle.nll_problem.specs.At.{IsAmong, at_rank};
 ghost use Rattle.nll_problem.specs.declared.at.At.{At as places};
 
 use crate::places::Places;
-use crate::resuming::resume;
+use crate::resuming::{is_idle, resume};
 use crate::steps::Steps;
 use nll_problem::At;
 use nll_sets::{Memory, Run, RunSet};
@@ -70,6 +70,17 @@ impl Frontier {
         ensures err { OnErr result (self.new ≡ self.old) }
     {
         self.starts.push(alloc, at)
+    }
+
+    /// Whether going on from a run of elements reaches nothing, since nothing is reached yet, no
+    /// constraint holds at all points, and no walk begins in the run.
+    ///
+    /// # Cost
+    /// A search among the points, by halves (not proved).
+    pub fn is_idle(&self, run: Run) -> bool
+        ensures { (result ≡ true) ↔ IsIdle self.now.starts run self.now.reached }
+    {
+        is_idle(&self.starts, run, &self.reached)
     }
 
     /// Reaches what can be reached once a run of elements is in the set: walks go on through those

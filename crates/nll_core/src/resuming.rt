@@ -11,7 +11,7 @@ ghost use Rattle.nll_core.specs.Lines.{IsJump};
 ghost use Rattle.nll_core.specs.Search.{IsIn};
 ghost use Rattle.nll_core.specs.Walking.{AreIn, Grows, IsLedTo};
 ghost use Rattle.nll_core.specs.Frontiers.{GoesOn, IsAskedFrom, ListsNew, ReachesFrom};
-ghost use Rattle.nll_core.specs.Frontiers.{ResumesPoints, WalksOn};
+ghost use Rattle.nll_core.specs.Frontiers.{IsIdle, ResumesPoints, WalksOn};
 
 use crate::filling::fill_from;
 use crate::landings::Landings;
@@ -56,6 +56,20 @@ pub fn resume(
     }
 }
 
+/// Whether going on from a run reaches nothing, since nothing is reached yet and no constraint asks
+/// for anything from a place in the run.
+pub fn is_idle(starts: &Places, run: Run, reached: &RunSet) -> bool
+    ensures { (result ≡ true) ↔ IsIdle starts.now run reached.now }
+{
+    if starts.has_all() {
+        return false;
+    }
+    match starts.points() {
+        Some(points) => begins_nothing(points, run, reached),
+        None => reached.run_from(0).is_none(),
+    }
+}
+
 // Puts a run into a set, and the runs of what of it is new into an empty list.
 fn take(run: Run, reached: &mut RunSet, found: &mut Vec<Run>) -> Result<(), Memory>
     requires proper { run.first ≤ run.last }
@@ -94,7 +108,7 @@ fn resume_walks(
         (WalksOn lines.now seen.now run starts.now reached.old reached.new) }
     ensures found { OnOk result (ListsNew reached.old reached.new [] found.new.items) }
 {
-    if is_idle(starts, run, reached) {
+    if begins_nothing(starts, run, reached) || has_whole(reached, run) {
         return Ok(());
     }
     let points = lines.points();
@@ -107,14 +121,24 @@ fn resume_walks(
 }
 
 // Whether nothing is reached yet, and no walk begins in a run.
-fn is_idle(starts: &Starts, run: Run, reached: &RunSet) -> bool
+fn begins_nothing(starts: &Starts, run: Run, reached: &RunSet) -> bool
     ensures none { result ≡ true → (x : ℕ) → IsIn reached.now x → ⊥ }
     ensures apart { result ≡ true → (p : ℕ) → Contains starts.now p → IsWithin run p → ⊥ }
+    ensures all { ((x : ℕ) → IsIn reached.now x → ⊥)
+        → ((p : ℕ) → Contains starts.now p → IsWithin run p → ⊥) → result ≡ true }
 {
     match (reached.run_from(0), starts.next_in(run.first, run.last)) {
         (None, None) => true,
         _ => false,
     }
+}
+
+// Whether a set has a run; so walks that reached the set went on from there already.
+fn has_whole(reached: &RunSet, run: Run) -> bool
+    requires { run.last < length reached.now }
+    ensures { result ≡ true → (x : ℕ) → IsWithin run x → IsIn reached.now x }
+{
+    reached.gap_from(run.first, run.last).is_none()
 }
 
 // Goes on to points alone. Answers whether a return point is newly reached.

@@ -222,8 +222,9 @@ impl<'q> Owner<'q> {
     ///   grown.
     ///
     /// # Cost
-    /// Growths of one region that follow each other are followed up once where their elements
-    /// follow each other by number; else it's that of as many calls of `receive` (not proved).
+    /// A sort of the runs that the growths tell; for each region of theirs a look at each link, and
+    /// for each run what it newly reaches; the same for what the own regions get, again and again
+    /// (not proved).
     pub fn receive_all(&mut self, from: u16, growths: &[Growth]) -> Result<(), OwnerError>
         requires ready { IsReady self.old }
         requires passes { let o = self.old in (g : Growth) → Contains growths.now g

@@ -14,7 +14,7 @@ use nll_mail::{Growth, Mail};
 use nll_owner::Owner;
 
 // How many growths are taken out of a mailbox at once, at most.
-const MOST_TAKEN: usize = 256;
+const MOST_TAKEN: usize = 4096;
 
 /// What a look into a mailbox came to.
 #[derive(Clone, Copy, Debug, PartialEq, Eq)]

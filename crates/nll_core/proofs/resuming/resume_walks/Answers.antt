@@ -1,14 +1,23 @@
-use Rattle.std.proofs.Common.{[]}
-use Rattle.nll_core.proofs.FrontierLemmas.{walks_idle, resumed, resumed_ends, lists_resumed, lists_resumed_ends}
+use Rattle.std.proofs.Common.{[], arith}
+use Rattle.nll_core.proofs.SearchLemmas.{flag_within}
+use Rattle.nll_core.proofs.FrontierLemmas.{walks_had, walks_idle, resumed, resumed_ends, lists_resumed, lists_resumed_ends}
 use Rattle.nll_core.proofs.ListingLemmas.{lists_none}
 use Rattle.nll_core.proofs.resuming.resume_walks.Goals as goal
+use Rattle.nll_core.proofs.resuming.resume_walks.Goals.{then-begins_nothing-via-then-begins_nothing, then-begins_nothing-via-else-begins_nothing+then-has_whole}
 
-pub returns-then-is_idle-clause-after : goal.returns-then-is_idle-clause-after
-returns-then-is_idle-clause-after c = walks_idle c.args.lines.now c.args.seen.now c.args.starts.now c.args.run c.args.reached.now
-    (c.is_idle.ensures.none c.if-is_idle.true) (c.is_idle.ensures.apart c.if-is_idle.true)
+pub has_whole-requires : goal.has_whole-requires
+has_whole-requires c = omega (arith, flag_within c.args.seen.now c.args.run.last (c.requires.run c.args.run.last (c.requires.proper, omega arith)), c.requires.seen_width, c.requires.width)
 
-pub returns-then-is_idle-clause-found : goal.returns-then-is_idle-clause-found
-returns-then-is_idle-clause-found c = rw c.requires.none (lists_none c.args.reached.now [])
+pub returns-then-begins_nothing-clause-after : goal.returns-then-begins_nothing-clause-after
+returns-then-begins_nothing-clause-after c = elim c.then-begins_nothing.branch [
+  | then-begins_nothing-via-then-begins_nothing w ↦ walks_idle c.args.lines.now c.args.seen.now c.args.starts.now c.args.run c.args.reached.now
+      (c.begins_nothing.ensures.none w.if-begins_nothing.true) (c.begins_nothing.ensures.apart w.if-begins_nothing.true)
+  | then-begins_nothing-via-else-begins_nothing+then-has_whole w ↦ walks_had c.args.lines.now c.args.seen.now c.args.starts.now c.args.run c.args.reached.now
+      c.requires.before (w.has_whole.ensures w.if-has_whole.true)
+]
+
+pub returns-then-begins_nothing-clause-found : goal.returns-then-begins_nothing-clause-found
+returns-then-begins_nothing-clause-found c = rw c.requires.none (lists_none c.args.reached.now [])
 
 pub returns-then-not-is_ended-clause-after : goal.returns-then-not-is_ended-clause-after
 returns-then-not-is_ended-clause-after c =

@@ -1,7 +1,6 @@
 use Rattle.std.proofs.Common.{◌≡◌, ⊎_elim, get_or, refl, sym, ap, ◌∙◌, subst, arith}
 use Rattle.std.proofs.lemmas.Bool.{cases_eq, false≢true}
 use Rattle.std.proofs.lemmas.List.{get_or_default}
-use Rattle.nll_mail.specs.declared.growth.Growth.{Growth}
 use Rattle.nll_owner.specs.Owner.{Passes}
 use Rattle.nll_owner.proofs.owner.Owner.passes_all.Goals as goal
 

@@ -1,7 +1,7 @@
 use Rattle.std.proofs.Common.{◌≡◌, ◌-◌, false}
 use Rattle.nll_owner.specs.Keeping.{Grows}
 use Rattle.nll_owner.specs.Following.{IsFollowed, IsLeft, OfRunOr, link_shape}
-use Rattle.nll_owner.proofs.following.catch_up.Given as goal
+use Rattle.nll_owner.proofs.link.catch_up.Given as goal
 
 -- Of the region, what stands at `next` or behind it is due.
 abbrev pub invariant-loop-part : goal.invariant-loop-part
@@ -9,7 +9,7 @@ invariant-loop-part l = record {
   grows : Grows l.fn.knowledge l.knowledge;
   same : link_shape l.link ≡ link_shape l.fn.link;
   awake : l.link.rests ≡ false;
-  followed : IsFollowed l.knowledge l.region (IsLeft l.knowledge l.place (OfRunOr l.rest l.region l.next 4294967295) l.region) l.link;
+  followed : IsFollowed l.knowledge l.due.region (IsLeft l.knowledge l.due.place (OfRunOr l.rest l.due.region l.next 4294967295) l.due.region) l.link;
 }
 
 abbrev pub decreases-loop-part : goal.decreases-loop-part

@@ -1,45 +1,47 @@
 use Rattle.std.proofs.Common.{refl, sym, ap, subst, ◌∙◌, arith}
+use Rattle.std.proofs.lemmas.List.{take_rest}
 use Rattle.nll_core.proofs.SearchLemmas.{flag_within}
 use Rattle.nll_owner.specs.Owner.{Owner}
-use Rattle.nll_owner.specs.Following.{IsLinkOf}
+use Rattle.nll_owner.specs.Following.{IsFollowed, IsLeft, IsLinkOf}
+use Rattle.nll_owner.specs.RegionRuns.{IsToldByRuns}
 use Rattle.nll_owner.proofs.OwnerLemmas.{grows_le, grows_none, grows_append, slot_still}
 use Rattle.nll_owner.proofs.FollowingLemmas.{awoken, due_from, none_due_from, same_link}
-use Rattle.nll_owner.proofs.following.catch_up.Goals as goal
+use Rattle.nll_owner.proofs.link.catch_up.Goals as goal
 
 pub loop-part-init : goal.loop-part-init
 loop-part-init c = record {
   grows = grows_none _ c.requires.sound;
   same = refl;
   awake = refl;
-  followed = awoken c.args.knowledge.now c.args.region c.args.place c.args.rest.now c.args.link.now _ 4294967295
+  followed = awoken c.args.knowledge.now c.args.due.now.region c.args.due.now.place _ c.args.link.now _ 4294967295
       (λ x h.
       let graph = c.requires.sound.problem.graph in
-      omega (arith, flag_within c.set-inside.result.now x ((c.set-inside.ensures.has c.args.region c.requires.slot x).1 h), c.set-inside.ensures.width, graph.point_limit, graph.universal_limit))
+      omega (arith, flag_within c.set-inside.result.now x ((c.set-inside.ensures.has c.args.due.now.region c.requires.due.slot x).1 h), c.set-inside.ensures.width, graph.point_limit, graph.universal_limit))
       c.requires.followed;
 }
 
 pub set-requires : goal.set-requires
-set-requires c = (slot_still _ _ c.loop-part.invariant.grows c.args.slot c.args.region c.requires.slot).0
+set-requires c = (slot_still _ _ c.loop-part.invariant.grows c.args.due.now.slot c.args.due.now.region c.requires.due.slot).0
 
 pub hand_run-requires-clause-steps : goal.hand_run-requires-clause-steps
 hand_run-requires-clause-steps c = c.requires.steps ∙ sym (ap (λ (o : Owner). o.problem.graph) c.loop-part.invariant.grows.others)
 
 pub hand_run-requires-clause-slot : goal.hand_run-requires-clause-slot
-hand_run-requires-clause-slot c = slot_still _ _ c.loop-part.invariant.grows _ _ c.requires.slot
+hand_run-requires-clause-slot c = slot_still _ _ c.loop-part.invariant.grows _ _ c.requires.due.slot
 
 pub hand_run-requires-clause-has : goal.hand_run-requires-clause-has
-hand_run-requires-clause-has c x own = (c.set.ensures.has c.args.region (slot_still _ _ c.loop-part.invariant.grows _ _ c.requires.slot) x).0 (c.in-Some.ensures.some.all x own.0 own.1)
+hand_run-requires-clause-has c x own = (c.set.ensures.has c.args.due.now.region (slot_still _ _ c.loop-part.invariant.grows _ _ c.requires.due.slot) x).0 (c.in-Some.ensures.some.all x own.0 own.1)
 
 pub hand_run-requires-clause-place : goal.hand_run-requires-clause-place
-hand_run-requires-clause-place c = omega (arith, c.requires.place, grows_le _ _ c.loop-part.invariant.grows)
+hand_run-requires-clause-place c = omega (arith, c.requires.due.place, grows_le _ _ c.loop-part.invariant.grows)
 
 pub hand_run-requires-clause-link : goal.hand_run-requires-clause-link
-hand_run-requires-clause-link c = subst (λ (o : Owner). IsLinkOf o.cut o.me c.args.region o.problem.constraints c.loop-part.link) (sym c.loop-part.invariant.grows.others)
-    (same_link c.args.knowledge.now.cut c.args.knowledge.now.me c.args.region c.args.knowledge.now.problem.constraints c.args.link.now c.loop-part.link (sym c.loop-part.invariant.same) c.requires.link)
+hand_run-requires-clause-link c = subst (λ (o : Owner). IsLinkOf o.cut o.me c.args.due.now.region o.problem.constraints c.loop-part.link) (sym c.loop-part.invariant.grows.others)
+    (same_link c.args.knowledge.now.cut c.args.knowledge.now.me c.args.due.now.region c.args.knowledge.now.problem.constraints c.args.link.now c.loop-part.link (sym c.loop-part.invariant.same) c.requires.link)
 
 pub hand_run-requires-clause-followed : goal.hand_run-requires-clause-followed
-hand_run-requires-clause-followed c = due_from c.loop-part.knowledge c.args.region c.args.place c.args.rest.now c.loop-part.link c.set.result.now
-    (c.set.ensures.has c.args.region (slot_still _ _ c.loop-part.invariant.grows _ _ c.requires.slot)) c.loop-part.next 4294967295 c.loop-part.invariant.followed c.in-Some.part c.in-Some.ensures.some
+hand_run-requires-clause-followed c = due_from c.loop-part.knowledge c.args.due.now.region c.args.due.now.place _ c.loop-part.link c.set.result.now
+    (c.set.ensures.has c.args.due.now.region (slot_still _ _ c.loop-part.invariant.grows _ _ c.requires.due.slot)) c.loop-part.next 4294967295 c.loop-part.invariant.followed c.in-Some.part c.in-Some.ensures.some
 
 pub overflow_add-next : goal.overflow_add-next
 overflow_add-next c =
@@ -68,5 +70,6 @@ pub returns-clause-same : goal.returns-clause-same
 returns-clause-same c = c.loop-part.invariant.same
 
 pub returns-clause-followed : goal.returns-clause-followed
-returns-clause-followed c = none_due_from c.loop-part.knowledge c.args.region c.args.place c.args.rest.now c.loop-part.link c.set.result.now
-    (c.set.ensures.has c.args.region (slot_still _ _ c.loop-part.invariant.grows _ _ c.requires.slot)) c.loop-part.next 4294967295 c.loop-part.invariant.followed c.in_default.ensures.none
+returns-clause-followed c = subst (λ xs. IsFollowed c.loop-part.knowledge c.args.due.now.region (IsLeft c.loop-part.knowledge c.args.due.now.place (IsToldByRuns xs) c.args.due.now.region) c.loop-part.link) (take_rest c.args.runs.now c.args.due.now.count)
+    (none_due_from c.loop-part.knowledge c.args.due.now.region c.args.due.now.place _ c.loop-part.link c.set.result.now
+    (c.set.ensures.has c.args.due.now.region (slot_still _ _ c.loop-part.invariant.grows _ _ c.requires.due.slot)) c.loop-part.next 4294967295 c.loop-part.invariant.followed c.in_default.ensures.none)
