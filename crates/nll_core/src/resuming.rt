@@ -135,10 +135,12 @@ fn begins_nothing(starts: &Starts, run: Run, reached: &RunSet) -> bool
 
 // Whether a set has a run; so walks that reached the set went on from there already.
 fn has_whole(reached: &RunSet, run: Run) -> bool
-    requires { run.last < length reached.now }
     ensures { result ≡ true → (x : ℕ) → IsWithin run x → IsIn reached.now x }
 {
-    reached.gap_from(run.first, run.last).is_none()
+    match reached.run_from(run.first) {
+        Some(other) => other.first <= run.first && run.last <= other.last,
+        None => false,
+    }
 }
 
 // Goes on to points alone. Answers whether a return point is newly reached.

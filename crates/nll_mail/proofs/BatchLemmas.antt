@@ -1,5 +1,5 @@
 -- What a receiver has received, and what it still holds of a batch.
-use Rattle.std.proofs.Common.{◌≡◌, ℕ, zero, suc, min, ◌+◌, ◌-◌, ◌<◌, ◌≤◌, List, [], ◌∷◌, ◌++◌, length, take, drop, sym, refl, ap, ◌∙◌, subst, length-append, append_assoc, arith, take-append-drop}
+use Rattle.std.proofs.Common.{◌≡◌, ℕ, zero, suc, min, ◌+◌, ◌-◌, ◌<◌, ◌≤◌, List, [], ◌∷◌, ◌++◌, length, take, drop, sym, ap, ◌∙◌, subst, length-append, append_assoc, arith, take-append-drop}
 use Rattle.std.proofs.lemmas.List.{append-nil, length-take, length-take-le, length-drop, drop_all, drop_at}
 use Rattle.rtrb.specs.Fifo.{Allowed}
 

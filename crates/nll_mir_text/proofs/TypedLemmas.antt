@@ -1,8 +1,8 @@
 -- What the lines of a text that fits say is a well-typed body.
-use Rattle.std.proofs.Common.{◌≡◌, ℕ, ◌<◌, ◌≤◌, true, false, Bool, List, [], ◌∷◌, ◌++◌, Some, None, length, refl, sym, subst, ⊎_elim, arith, append-nil, length-append, slice_get}
-use Rattle.std.specs.Prelude.{◌==◌, nat_le, not, All}
+use Rattle.std.proofs.Common.{◌≡◌, ℕ, ◌<◌, ◌≤◌, true, Bool, List, [], ◌∷◌, ◌++◌, Some, None, length, refl, sym, subst, ⊎_elim, arith, append-nil, length-append, slice_get}
+use Rattle.std.specs.Prelude.{All}
 use Rattle.std.specs.List.{list_all}
-use Rattle.std.proofs.lemmas.Bool.{and_parts, not-false, leb-true, leb-false, eqb-true}
+use Rattle.std.proofs.lemmas.Bool.{and_parts, not-false, leb-false, eqb-true}
 use Rattle.std.proofs.lemmas.List.Elements.{All-push}
 use Rattle.nll_problem.specs.Limits.{most_structs}
 use Rattle.nll_types.specs.Types.{TypeTree}
@@ -19,7 +19,7 @@ use Rattle.nll_mir_text.specs.MirSaid.{Said, said, says, nothing_said, statement
 use Rattle.nll_mir_text.specs.MirFaults.{first_fault, shapes_fit}
 use Rattle.nll_mir_text.specs.MirText.{mir, body_said, IsWellTyped}
 use Rattle.nll_mir_text.proofs.FaultLemmas.{faultless}
-use Rattle.nll_mir_text.proofs.LineLemmas.{three, nothing_at, pushed_at, in_group}
+use Rattle.nll_mir_text.proofs.LineLemmas.{nothing_at, pushed_at, in_group}
 use Rattle.nll_mir_text.proofs.SaidLemmas.{said_push}
 
 abbrev IsSmall : TypeTree → Type 0

@@ -178,7 +178,7 @@ impl<'q> Knowledge<'q> {
         let clock = self.clock.max(growth.rank);
         let slot = self.slot(growth.region);
         let list = &mut self.received[from as usize];
-        list.reserve(1)?;
+        make_room(list)?;
         self.values.insert(slot, growth.element)?;
         list.push_reserved(growth);
         self.clock = clock;
@@ -360,6 +360,20 @@ fn push_growths(log: &mut Vec<Growth>, region: RegionId, first: u32, count: u32,
             rank: clock + number as u64 + 1,
         });
     }
+}
+
+// Makes room for a growth more at the end of a list, of which there are many and which only grow: for
+// a quarter of the list at once.
+fn make_room(list: &mut Vec<Growth>) -> Result<(), Memory>
+    ensures items { list.new.items ≡ list.old.items }
+    ensures room { OnOk result (vec_len list.new + 1 ≤ vec_capacity list.new) }
+{
+    if list.len() < list.capacity() {
+        return Ok(());
+    }
+    let quarter = list.len() / 4;
+    list.reserve_exact(quarter.max(4))?;
+    Ok(())
 }
 
 // This many empty lists.

@@ -1,9 +1,9 @@
 -- The numbers of a run that a set lacks, gap by gap.
-use Rattle.std.proofs.Common.{◌≡◌, ◌⊎◌, ◌↔◌, ℕ, ◌+◌, ◌<◌, ◌≤◌, Bool, true, false, List, [], ◌∷◌, ◌++◌, length, refl, sym, ap, ◌∙◌, ⊎_elim, length-append, arith}
+use Rattle.std.proofs.Common.{◌≡◌, ◌↔◌, ℕ, ◌+◌, ◌<◌, ◌≤◌, Bool, true, false, List, [], ◌∷◌, ◌++◌, length, refl, sym, ap, ◌∙◌, ⊎_elim, length-append, arith}
 use Rattle.std.proofs.lemmas.Bool.{cases_lt, false≢true}
 use Rattle.std.proofs.lemmas.List.{get_or_append_left, get_or_at}
 use Rattle.nll_sets.specs.ElementSet.{flag}
-use Rattle.nll_sets.specs.Runs.{no_run, first_of, last_of, IsWithin, IsInRunsFrom, AreApartFrom, IsGapFrom, ListsGaps}
+use Rattle.nll_sets.specs.Runs.{no_run, first_of, last_of, IsInRunsFrom, AreApartFrom, IsGapFrom, ListsGaps}
 use Rattle.nll_sets.specs.declared.run.Run.{Run}
 
 -- ---- one run more in a list

@@ -124,6 +124,10 @@ fn remove_between(runs: &mut SmallVec<Run, 2>, from: usize, to: usize)
     requires to { to ≤ length runs.old.items }
     ensures { Removes runs.old.items runs.new.items from to }
 {
+    // A run that grows takes no other one away most of the time.
+    if from == to {
+        return;
+    }
     let len = runs.len();
     runs.as_mut_slice().copy_within(to..len, from);
     runs.truncate(len - (to - from));

@@ -62,7 +62,7 @@ fn write_found(out: &mut Transcript, found: &mut Vec<Run>) {
 }
 
 // Lets a frontier go on where runs come into the set, up to one past the last element, and writes
-// what it newly reaches.
+// what it newly reaches; a minus sign where it told beforehand that this is nothing.
 fn write_grown(
     out: &mut Transcript,
     steps: &Steps,
@@ -84,7 +84,11 @@ fn write_grown(
         if last >= elements {
             return Ok(());
         }
+        let idle = frontier.is_idle(Run { first, last });
         grow(steps, seen, frontier, Run { first, last }, found)?;
+        if idle {
+            out.say("-");
+        }
         write_found(out, found);
     }
     Ok(())
@@ -209,7 +213,8 @@ pub fn write_frontier_everywhere(out: &mut Transcript, runs: &[(u32, u32)]) {
     write_to_end(out, From::All, runs);
 }
 
-// Runs that come into the set, and what is newly reached with each.
+// Runs that come into the set, and what is newly reached with each; a minus sign where the frontier
+// tells that it has nothing to go on from.
 const GROWN: &[Row] = &[
     (
         "each point in turn",
@@ -220,7 +225,7 @@ const GROWN: &[Row] = &[
     (
         "the points behind them first",
         Asked(&[(1, 1), (3, 3), (2, 2), (0, 0)]),
-        "|| 2 3| 0 1|",
+        "-|-| 2 3| 0 1|",
     ),
     ("all at once", Asked(&[(0, 4)]), " 0 1 2 3|"),
     (
@@ -243,7 +248,7 @@ const GROWN: &[Row] = &[
     (
         "from the end to the start",
         FrontierToEnd(&[(4, 4), (2, 2), (1, 1), (0, 0)]),
-        "||| 0 1 2 4|",
+        "-|-|-| 0 1 2 4|",
     ),
     (
         "all and the end at once",
@@ -253,7 +258,7 @@ const GROWN: &[Row] = &[
     (
         "points and ends in one run, then what leads to them",
         FrontierToEnd(&[(2, 4), (0, 0), (1, 1)]),
-        "| 0| 1 2 3 4|",
+        "-| 0| 1 2 3 4|",
     ),
     (
         "a jump into a later run",

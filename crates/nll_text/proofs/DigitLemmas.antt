@@ -1,5 +1,5 @@
 -- The digits at the front of bytes, and the number that they spell.
-use Rattle.std.proofs.Common.{◌≡◌, ⊎_elim, ℕ, zero, suc, ◌^◌, ◌<◌, ◌≤◌, Bool, true, false, List, [], ◌∷◌, ◌++◌, length, take, drop, get_or, refl, sym, ap, ◌∙◌, subst, arith}
+use Rattle.std.proofs.Common.{◌≡◌, ⊎_elim, ℕ, zero, suc, ◌^◌, ◌<◌, ◌≤◌, true, false, List, [], ◌∷◌, ◌++◌, length, take, drop, get_or, refl, sym, ap, ◌∙◌, subst, arith}
 use Rattle.std.specs.Char.{is_ascii_digit}
 use Rattle.std.specs.Fmt.{decimal}
 use Rattle.std.specs.Str.Parse.{AllDigits, digits_value}
@@ -14,7 +14,7 @@ use Rattle.nll_text.specs.Tokens.{word, is_word_byte, first_passes, IsMadeOf}
 use Rattle.nll_text.specs.Lexing.{BeginsWith, BeginsNotWith, SplitsWhile}
 use Rattle.nll_text.proofs.ByteLemmas.{Passes}
 use Rattle.nll_text.proofs.FrontLemmas.{first_token, this_number}
-use Rattle.nll_text.proofs.NumberLemmas.{no_digits, lone_by_cases, number_form, number_from_form, HasNumberForm}
+use Rattle.nll_text.proofs.NumberLemmas.{no_digits, number_form, number_from_form, HasNumberForm}
 
 digit_passes : (b : ℕ) → 48 ≤ b → b ≤ 57 → is_word_byte b ≡ true
 digit_passes b low high = grind (arith, nat_tests)

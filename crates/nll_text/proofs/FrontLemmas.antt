@@ -1,18 +1,17 @@
 -- The first token of a line, where it is what is looked for.
-use Rattle.std.proofs.Common.{◌≡◌, ℕ, ◌^◌, ◌<◌, ◌↔◌, Bool, true, false, not, eqb, List, [], ◌∷◌, ◌++◌, length, take, drop, refl, sym, ap, ◌∙◌, subst, arith}
-use Rattle.std.specs.Prelude.{IsTrue}
+use Rattle.std.proofs.Common.{◌≡◌, ℕ, ◌^◌, ◌<◌, Bool, true, false, not, eqb, List, [], ◌∷◌, ◌++◌, length, take, drop, refl, sym, ap, ◌∙◌, subst, arith}
 use Rattle.std.specs.List.{IsSplitAt}
 use Rattle.std.specs.Str.{bytes_eq}
 use Rattle.std.specs.Fmt.{decimal}
 use Rattle.std.proofs.Math.Seq.{take-append_seam, drop-append_seam}
-use Rattle.std.proofs.lemmas.List.{length-append, take-append-drop, append-nil}
-use Rattle.std.proofs.lemmas.Bool.{false≢true, eqb-true, eqb-false}
+use Rattle.std.proofs.lemmas.List.{length-append, take-append-drop}
+use Rattle.std.proofs.lemmas.Bool.{false≢true, eqb-true}
 use Rattle.std.proofs.lemmas.Slice.Eq.{bytes_eq-Decides}
 use Rattle.nll_text.specs.Lines.{is_blank}
 use Rattle.nll_text.specs.Number.{IsNumber}
 use Rattle.nll_text.specs.Tokens.{Token, word, region, spelling, is_word_byte, IsWord, IsGap, first_passes, IsMadeOf}
 use Rattle.nll_text.specs.Lexing.{BeginsWith, BeginsNotWith, SplitsWhile}
-use Rattle.nll_text.proofs.ByteLemmas.{same_split, first_fails, positive}
+use Rattle.nll_text.proofs.ByteLemmas.{same_split}
 use Rattle.nll_text.proofs.NumberLemmas.{number_form}
 use Rattle.nll_text.proofs.TokenLemmas.{token_solid, token_after, begins_with, word_begins, region_begins, nothing_left, past_gap}
 

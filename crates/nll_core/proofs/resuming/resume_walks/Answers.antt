@@ -1,12 +1,8 @@
-use Rattle.std.proofs.Common.{[], arith}
-use Rattle.nll_core.proofs.SearchLemmas.{flag_within}
+use Rattle.std.proofs.Common.{[]}
 use Rattle.nll_core.proofs.FrontierLemmas.{walks_had, walks_idle, resumed, resumed_ends, lists_resumed, lists_resumed_ends}
 use Rattle.nll_core.proofs.ListingLemmas.{lists_none}
 use Rattle.nll_core.proofs.resuming.resume_walks.Goals as goal
 use Rattle.nll_core.proofs.resuming.resume_walks.Goals.{then-begins_nothing-via-then-begins_nothing, then-begins_nothing-via-else-begins_nothing+then-has_whole}
-
-pub has_whole-requires : goal.has_whole-requires
-has_whole-requires c = omega (arith, flag_within c.args.seen.now c.args.run.last (c.requires.run c.args.run.last (c.requires.proper, omega arith)), c.requires.seen_width, c.requires.width)
 
 pub returns-then-begins_nothing-clause-after : goal.returns-then-begins_nothing-clause-after
 returns-then-begins_nothing-clause-after c = elim c.then-begins_nothing.branch [

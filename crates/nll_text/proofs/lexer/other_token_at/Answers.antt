@@ -1,6 +1,5 @@
-use Rattle.std.proofs.Common.{arith, sym, false, ◌≡◌}
+use Rattle.std.proofs.Common.{arith, sym}
 use Rattle.std.proofs.lemmas.Bool.{eqb-true}
-use Rattle.std.proofs.lemmas.Bool.Decides.{nat_tests}
 use Rattle.nll_text.proofs.ByteLemmas.{positive}
 use Rattle.nll_text.proofs.TokenLemmas.{region_none, other_none, region_begins, sign_begins}
 use Rattle.nll_text.proofs.lexer.other_token_at.Goals as goal

@@ -1,4 +1,4 @@
-use Rattle.std.proofs.Common.{rules, arith}
+use Rattle.std.proofs.Common.{rules}
 use Rattle.nll_mail.proofs.BatchLemmas.{none_left, all_given}
 use Rattle.nll_mail.proofs.batch.Batch.is_empty.Goals as goal
 

@@ -1,4 +1,4 @@
-use Rattle.std.proofs.Common.{◌≡◌, ◌∷◌, ◌∙◌, rules, ap, sym}
+use Rattle.std.proofs.Common.{◌≡◌, ◌∷◌, ◌∙◌}
 use Rattle.rtrb.specs.Ring.{received}
 use Rattle.nll_mail.proofs.BatchLemmas.{take_next, drop_next, counted_next}
 use Rattle.nll_mail.proofs.ring_mail.RingMailMail.take.Goals as goal

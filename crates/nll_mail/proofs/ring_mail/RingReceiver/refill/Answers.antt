@@ -1,4 +1,4 @@
-use Rattle.std.proofs.Common.{◌≡◌, ◌≤◌, [], length, rules, sym, subst}
+use Rattle.std.proofs.Common.{◌≡◌, [], rules}
 use Rattle.nll_problem.specs.Limits.{most_posts}
 use Rattle.rtrb.specs.Ring.{received}
 use Rattle.nll_mail.proofs.BatchLemmas.{refilled, counted_again, few_allowed}
