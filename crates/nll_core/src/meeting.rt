@@ -130,8 +130,8 @@ fn copy_whole(values: &mut Values, sub: RegionId, sup: RegionId) -> Result<bool,
     Ok(new)
 }
 
-// Whether a set holds nothing.
-fn is_empty(set: &RunSet) -> bool
+/// Whether a set holds nothing.
+pub fn is_empty(set: &RunSet) -> bool
     ensures yes { result ≡ true → (e : ℕ) → IsIn set.now e → ⊥ }
     ensures no { result ≡ false → (e : ℕ) × IsIn set.now e }
 {

@@ -16,6 +16,7 @@ ghost use Rattle.nll_core.specs.Frontiers.{IsIdle, ResumesPoints, WalksOn};
 use crate::filling::fill_from;
 use crate::landings::Landings;
 use crate::lines::Lines;
+use crate::meeting::is_empty;
 use crate::places::Places;
 use crate::starts::Starts;
 use crate::stretches::{enter, spread};
@@ -66,7 +67,7 @@ pub fn is_idle(starts: &Places, run: Run, reached: &RunSet) -> bool
     }
     match starts.points() {
         Some(points) => begins_nothing(points, run, reached),
-        None => reached.run_from(0).is_none(),
+        None => is_empty(reached),
     }
 }
 
@@ -127,9 +128,9 @@ fn begins_nothing(starts: &Starts, run: Run, reached: &RunSet) -> bool
     ensures all { ((x : ℕ) → IsIn reached.now x → ⊥)
         → ((p : ℕ) → Contains starts.now p → IsWithin run p → ⊥) → result ≡ true }
 {
-    match (reached.run_from(0), starts.next_in(run.first, run.last)) {
-        (None, None) => true,
-        _ => false,
+    match starts.next_in(run.first, run.last) {
+        Some(_) => false,
+        None => is_empty(reached),
     }
 }
 
