@@ -61,8 +61,8 @@ pub record GoesOn (g : Graph) (set : List Bool) (run : Run) (starts : List At) (
   pub closed : (x y : ℕ) → IsIn new x → IsStep g x y → IsIn set y
       → IsIn new y ⊎ ((IsIn old x ⊎ Contains starts All) × (IsWithin run y → ⊥))
 
--- Nothing is reached, and a run leaves it so, from these places on: all points aren't among them, and
--- no walk begins in the run.
+-- Nothing is reached, and a run leaves it so, from these places on: all points aren't among them,
+-- and no walk begins in the run.
 pub record IsIdle (starts : List At) (run : Run) (reached : List Bool) : Type 0 where
   pub none : (x : ℕ) → IsIn reached x → ⊥
   pub nowhere : Contains starts All → ⊥

@@ -362,8 +362,8 @@ fn push_growths(log: &mut Vec<Growth>, region: RegionId, first: u32, count: u32,
     }
 }
 
-// Makes room for a growth more at the end of a list, of which there are many and which only grow: for
-// a quarter of the list at once.
+// Makes room for a growth more at the end of a list, of which there are many and which only grow:
+// for a quarter of the list at once.
 fn make_room(list: &mut Vec<Growth>) -> Result<(), Memory>
     ensures items { list.new.items ≡ list.old.items }
     ensures room { OnOk result (vec_len list.new + 1 ≤ vec_capacity list.new) }
