@@ -128,9 +128,12 @@ fn begins_nothing(starts: &Starts, run: Run, reached: &RunSet) -> bool
     ensures all { ((x : ℕ) → IsIn reached.now x → ⊥)
         → ((p : ℕ) → Contains starts.now p → IsWithin run p → ⊥) → result ≡ true }
 {
+    if !is_empty(reached) {
+        return false;
+    }
     match starts.next_in(run.first, run.last) {
         Some(_) => false,
-        None => is_empty(reached),
+        None => true,
     }
 }
 

@@ -56,6 +56,9 @@ impl Starts {
         ensures least { IfSome result (λ s. (x : ℕ) → Contains self.now x → from ≤ x → s ≤ x) }
         ensures none { IfNone result ((x : ℕ) → Contains self.now x → from ≤ x → last < x) }
     {
+        if from > last {
+            return None;
+        }
         let Some(start) = self.next_from(from) else {
             return None;
         };

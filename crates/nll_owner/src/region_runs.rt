@@ -31,7 +31,9 @@ impl Model for RegionRuns {
 
 impl RegionRuns {
     /// No runs. Takes no memory.
-    pub fn new(alloc: Global) -> RegionRuns {
+    pub fn new(alloc: Global) -> RegionRuns
+        ensures { result ≡ [] }
+    {
         RegionRuns {
             told: Vec::new(alloc),
             list: Vec::new(alloc),

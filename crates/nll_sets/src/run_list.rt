@@ -11,8 +11,9 @@ use crate::error::Memory;
 use crate::run::Run;
 use smallvec::SmallVec;
 
-/// The place of the first run that ends at `least` or later.
-pub fn ends_from(runs: &[Run], least: u32) -> usize
+/// The place of the first run that ends at `least` or later. A call says where it may stand, if not
+/// at the end: only time hangs on it.
+pub fn ends_from(runs: &[Run], near: usize, least: u32) -> usize
     requires { AreRuns runs.now }
     ensures bound { result ≤ length runs.now }
     ensures before { (k : ℕ) → k < result → last_of runs.now k < least }
@@ -26,10 +27,13 @@ pub fn ends_from(runs: &[Run], least: u32) -> usize
     if len == 1 || runs[len - 2].last < least {
         return len - 1;
     }
+    if is_first(runs, near, least) {
+        return near;
+    }
     search(runs, least)
 }
 
-/// The same. A call says where it may stand: only time hangs on it.
+/// The same. A call says at or behind which place it may stand: only time hangs on it.
 pub fn ends_near(runs: &[Run], near: usize, least: u32) -> usize
     requires { AreRuns runs.now }
     ensures bound { result ≤ length runs.now }
@@ -43,7 +47,7 @@ pub fn ends_near(runs: &[Run], near: usize, least: u32) -> usize
     if is_first(runs, next, least) {
         return next;
     }
-    ends_from(runs, least)
+    ends_from(runs, next.saturating_add(1), least)
 }
 
 // Whether the run at a place is the first one that ends at `least` or later.
@@ -110,7 +114,7 @@ fn begins_past(runs: &[Run], from: usize, most: u32) -> usize
         return from + 1;
     }
     // Those before the first run that ends there or later begin before it, those behind it past it.
-    let at = ends_from(runs, most);
+    let at = ends_from(runs, from + 1, most);
     if begins_by(runs, at, most) {
         at + 1
     } else {
@@ -118,19 +122,32 @@ fn begins_past(runs: &[Run], from: usize, most: u32) -> usize
     }
 }
 
-// Takes the runs from one place up to another away.
+// Takes the run at a place away.
+fn remove_at(runs: &mut SmallVec<Run, 2>, at: usize)
+    requires { at < length runs.old.items }
+    ensures { Removes runs.old.items runs.new.items at (at + 1) }
+{
+    runs.remove(at);
+}
+
+// Takes the runs from one place up to another away. A run that grows takes no other one away most
+// of the time, and else one.
 fn remove_between(runs: &mut SmallVec<Run, 2>, from: usize, to: usize)
     requires from { from ≤ to }
     requires to { to ≤ length runs.old.items }
     ensures { Removes runs.old.items runs.new.items from to }
 {
-    // A run that grows takes no other one away most of the time.
-    if from == to {
+    let count = to - from;
+    if count == 0 {
+        return;
+    }
+    if count == 1 {
+        remove_at(runs, from);
         return;
     }
     let len = runs.len();
     runs.as_mut_slice().copy_within(to..len, from);
-    runs.truncate(len - (to - from));
+    runs.truncate(len - count);
 }
 
 // Puts one run in the place of those from one place up to another, of which there is one at least.
@@ -144,15 +161,15 @@ fn replace(runs: &mut SmallVec<Run, 2>, from: usize, to: usize, run: Run)
 }
 
 // The places from which and up to which a run touches the runs; None where one of them has all of
-// it.
-fn touching(runs: &[Run], run: Run) -> Option<(usize, usize)>
+// it. A call says where the first of them may stand: only time hangs on it.
+fn touching(runs: &[Run], near: usize, run: Run) -> Option<(usize, usize)>
     requires runs { AreRuns runs.now }
     requires proper { run.first ≤ run.last }
     requires room { run.last + 1 < 4294967296 }
     ensures some { IfSome result (λ found. IsTouching runs.now run found.0 found.1) }
     ensures none { IfNone result ((x : ℕ) → run.first ≤ x → x ≤ run.last → IsInRuns runs.now x) }
 {
-    let from = ends_from(runs, run.first.saturating_sub(1));
+    let from = ends_from(runs, near, run.first.saturating_sub(1));
     if from < runs.len() && runs[from].first <= run.first && run.last <= runs[from].last {
         return None;
     }
@@ -172,8 +189,9 @@ fn hull(runs: &[Run], run: Run, from: usize, to: usize) -> Run
     }
 }
 
-/// Puts the numbers of a run into the list, and answers whether one of them is new.
-pub fn join(runs: &mut SmallVec<Run, 2>, run: Run) -> Result<bool, Memory>
+/// Puts the numbers of a run into the list, and answers whether one of them is new. It is told
+/// where the list may change, and tells where it changed: only time hangs on it.
+pub fn join(runs: &mut SmallVec<Run, 2>, near: &mut u32, run: Run) -> Result<bool, Memory>
     requires runs { AreRuns runs.old.items }
     requires proper { run.first ≤ run.last }
     requires room { run.last + 1 < 4294967296 }
@@ -184,9 +202,10 @@ pub fn join(runs: &mut SmallVec<Run, 2>, run: Run) -> Result<bool, Memory>
     ensures touching { TouchesRuns runs.old.items run → IsOk result }
     ensures err { OnErr result (runs.new.items ≡ runs.old.items) }
 {
-    let Some((from, to)) = touching(runs.as_slice(), run) else {
+    let Some((from, to)) = touching(runs.as_slice(), *near as usize, run) else {
         return Ok(false);
     };
+    *near = u32::try_from(from).unwrap_or(0);
     if from == to {
         runs.insert(from, run)?;
     } else {

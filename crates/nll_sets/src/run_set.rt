@@ -23,18 +23,25 @@ use std::marker::Model;
 /// The runs ascend, and no two of them touch; up to two of them stand in the value itself.
 ///
 /// # Cost
-/// `has`, `next_from`, `run_from` and the search of `insert` are logarithmic in the number of runs;
-/// `insert` and `insert_run` move the runs behind the place where the list changes; `copy` takes
-/// memory at most once, and just for the runs (not proved).
+/// `has`, `next_from`, `run_from` and the search of `insert` are logarithmic in the number of runs,
+/// and constant at the end of the list and where it changed last; `insert` and `insert_run` move
+/// the runs behind the place where the list changes; `copy` takes memory at most once, and just for
+/// the runs (not proved).
 pub struct RunSet {
     runs: SmallVec<Run, 2>,
     len: u32,
+    // Where the list changed last, and so where a search begins. Only time hangs on it.
+    near: u32,
 }
 
 // A derived drop would be proved anew in each crate that drops one.
 impl Drop for RunSet {
     fn drop(self) {
-        let RunSet { runs: _, len: _ } = self;
+        let RunSet {
+            runs: _,
+            len: _,
+            near: _,
+        } = self;
     }
 }
 
@@ -59,6 +66,7 @@ impl ElementSet for RunSet {
         Ok(RunSet {
             runs: SmallVec::new(alloc),
             len,
+            near: 0,
         })
     }
 
@@ -97,6 +105,7 @@ impl RunSet {
         RunSet {
             runs: SmallVec::new(alloc),
             len: 0,
+            near: 0,
         }
     }
 
@@ -106,8 +115,8 @@ impl RunSet {
     {
         let alloc = *self.runs.allocator();
         let runs = SmallVec::from_slice(alloc, self.runs.as_slice())?;
-        let len = self.len;
-        Ok(RunSet { runs, len })
+        let (len, near) = (self.len, self.near);
+        Ok(RunSet { runs, len, near })
     }
 
     /// Makes room for the elements below a length. Takes no memory.
@@ -153,7 +162,7 @@ impl RunSet {
         ensures none { IfNone result ((x : ℕ) → element ≤ x → flag self.now x ≡ false) }
     {
         let runs = self.runs.as_slice();
-        let at = ends_from(runs, element);
+        let at = ends_from(runs, self.near as usize, element);
         if at < runs.len() {
             Some(runs[at])
         } else {
@@ -191,7 +200,7 @@ impl RunSet {
         ensures touching { Touches self.old run → IsOk result }
         ensures err { OnErr result (self.new ≡ self.old) }
     {
-        join(&mut self.runs, run)
+        join(&mut self.runs, &mut self.near, run)
     }
 
     /// Puts the runs of those elements of a run that the set lacks at the end of a list, ascending.
@@ -224,27 +233,28 @@ impl RunSet {
         }
         // `free_from` asks for a length of 32 bits.
         prove!(self.len <= u32::MAX);
-        let first = self.free_from(from);
+        let (near, first) = self.free_from(from);
         if first > last {
             return None;
         }
-        let last = match self.run_from(first) {
+        let last = match self.run_near(near, first).1 {
             Some(next) => last.min(next.first - 1),
             None => last,
         };
         Some(Run { first, last })
     }
 
-    // The first element, from one on, that the set lacks.
-    fn free_from(&self, from: u32) -> u32
+    // The first element, from one on, that the set lacks, and a place at or behind which the run
+    // behind it stands.
+    fn free_from(&self, from: u32) -> (usize, u32)
         requires short { length self.now < 4294967296 }
-        ensures low { from ≤ result }
-        ensures has { (x : ℕ) → from ≤ x → x < result → flag self.now x ≡ true }
-        ensures free { flag self.now result ≡ false }
+        ensures low { from ≤ result.1 }
+        ensures has { (x : ℕ) → from ≤ x → x < result.1 → flag self.now x ≡ true }
+        ensures free { flag self.now result.1 ≡ false }
     {
-        match self.run_from(from) {
-            Some(run) if run.first <= from => run.last + 1,
-            _ => from,
+        match self.run_near(self.near as usize, from) {
+            (near, Some(run)) if run.first <= from => (near, run.last + 1),
+            (near, _) => (near, from),
         }
     }
 

@@ -8,7 +8,7 @@ use super::graphs::{Then, write_graph_then};
 use super::lines::{OfLine, write_line};
 use super::messages::{write_memory, write_messages};
 use super::schedules::write_schedule;
-use super::sets::{write_last_bit, write_runs, write_sets};
+use super::sets::{write_last_bit, write_runs, write_sets, write_within};
 use super::telling::OfProblem;
 use super::tokens::write_scanned;
 use super::transcript::Transcript;
@@ -55,6 +55,8 @@ pub enum Asked {
     LastBit,
     /// Of elements that are put into a set of runs: how many runs there are.
     Runs(&'static [u32]),
+    /// Of the elements of two sets of runs: whether the first set is seen to be within the second.
+    Within(&'static [u32], &'static [u32]),
     /// Of types, structs and shapes.
     Type(OfType),
     /// What errors print.
@@ -87,6 +89,7 @@ fn write_told(out: &mut Transcript, says: &str, asked: Asked) {
         Asked::Sets(len, inserted, from) => write_sets(out, len, inserted, from),
         Asked::LastBit => write_last_bit(out),
         Asked::Runs(elements) => write_runs(out, elements),
+        Asked::Within(inner, outer) => write_within(out, inner, outer),
         Asked::Type(of_type) => write_typed(out, of_type),
         Asked::Messages => write_messages(out),
         Asked::Memory => write_memory(out),

@@ -4,7 +4,7 @@ ghost use Rattle.std.specs.Prelude.{◌≡◌, length};
 use super::rows::{Asked, Row, compare_rows};
 use super::telling::write_elements;
 use super::transcript::Transcript;
-use nll_core::{BitSet, Element, ElementSet, Elements, Run, RunSet};
+use nll_core::{BitSet, Element, ElementSet, Elements, Run, RunSet, is_seen_within};
 
 // Puts elements in, those below the length, and writes of each whether it is new.
 fn insert_all<S: ElementSet>(out: &mut Transcript, set: &mut S, len: u32, elements: &[u32])
@@ -167,6 +167,26 @@ pub fn write_runs(out: &mut Transcript, elements: &[u32]) {
     }
 }
 
+// Writes what is told of a set of runs of elements below ten where elements are put in, and whether
+// it is seen to be within another set.
+fn write_inner(out: &mut Transcript, elements: &[u32], outer: &RunSet) {
+    if let Ok(mut inner) = RunSet::empty(out.alloc, 10) {
+        write_inserted(out, &mut inner, elements);
+        out.flag(" ", is_seen_within(&inner, outer), "");
+        drop(inner);
+    }
+}
+
+/// Writes what two sets of runs of elements below ten tell where elements are put in, the outer one
+/// first, and whether the inner one is seen to be within it.
+pub fn write_within(out: &mut Transcript, inner: &[u32], outer: &[u32]) {
+    if let Ok(mut set) = RunSet::empty(out.alloc, 10) {
+        write_inserted(out, &mut set, outer);
+        write_inner(out, inner, &set);
+        drop(set);
+    }
+}
+
 // What sets tell by methods of their own.
 const OWN: &[Row] = &[
     // A set of bits gives its elements by a method of its own.
@@ -179,6 +199,27 @@ const OWN: &[Row] = &[
          last: 0 }, Run { first: 2, last: 7 }, Run { first: 9, last: 9 }] Some(Run { first: 2, \
          last: 7 }) Some(Run { first: 9, last: 9 })|0 0 2 3 4 5 6 7 9",
     ),
+    // Elements come behind the run that changed last, before it and at it, and join two runs.
+    (
+        "more runs",
+        Asked::Runs(&[1, 3, 5, 7, 9, 3, 2, 8, 0]),
+        "true 1|true 2|true 3|true 4|true 5|false 5|true 4|true 3|true 3| 0 1 2 3 5 7 8 9|true \
+         [Run { first: 0, last: 5 }, Run { first: 7, last: 9 }] Some(Run { first: 0, last: 5 }) \
+         Some(Run { first: 7, last: 9 })|0 0 1 2 3 4 5 7 8 9",
+    ),
+    // A set is within another one where each of its runs is within a run of that one.
+    (
+        "within",
+        Asked::Within(&[1, 5, 6], &[0, 1, 4, 5, 6]),
+        "true 1|true 1|true 2|true 2|true 2|true 1|true 2|true 2| true",
+    ),
+    (
+        "an element more",
+        Asked::Within(&[1, 5, 7], &[0, 1, 4, 5, 6]),
+        "true 1|true 1|true 2|true 2|true 2|true 1|true 2|true 3| false",
+    ),
+    ("no element", Asked::Within(&[], &[3]), "true 1| true"),
+    ("in no set", Asked::Within(&[3], &[]), "true 1| false"),
 ];
 
 // A set has what was put in, and gives it ascending and each once.
