@@ -277,14 +277,15 @@ module _ (g : Graph) (set : List Bool) (starts : List ℕ) (first : ℕ) where
   pub beginning_first : (old : List Bool) (before : List Run) → Beginning g set starts first old old before before first
   beginning_first old before = record { grows = grows_none g set (ReachesFrom g (IsIn set) starts) old before; low = omega arith; covers = λ p at a b. absurd (omega (arith, a, b)) }
 
-  pub beginning_more : (old now new : List Bool) (before then after : List Run) (next start : ℕ) → Contains starts start → next ≤ start → ((x : ℕ) → Contains starts x → next ≤ x → start ≤ x)
-      → Beginning g set starts first old now before then next → Grows g set (Reaches g (IsIn set) start) now new then after → IsIn new start → Beginning g set starts first old new before after (start + 1)
-  beginning_more old now new before then after next start at past least b p here = record {
+  pub beginning_more : (old now new : List Bool) (before then after : List Run) (next start end : ℕ) → Contains starts start → next ≤ start → ((x : ℕ) → Contains starts x → next ≤ x → start ≤ x)
+      → Beginning g set starts first old now before then next → Grows g set (Reaches g (IsIn set) start) now new then after → start ≤ end → ((x : ℕ) → start ≤ x → x ≤ end → IsIn new x)
+      → Beginning g set starts first old new before after (end + 1)
+  beginning_more old now new before then after next start end at past least b p order here = record {
     grows = grows_append g set (ReachesFrom g (IsIn set) starts) _ _ _ _ _ _ b.grows (grows_weaker g set (Reaches g (IsIn set) start) (ReachesFrom g (IsIn set) starts) (λ x way. (start, at, way)) _ _ _ _ p);
-    low = omega (arith, b.low, past);
+    low = omega (arith, b.low, past, order);
     covers = λ q listed low high. ⊎_elim
         (λ front. p.kept q (b.covers q listed low front))
-        (λ back. let same : q ≡ start = omega (arith, high, least q listed (omega (arith, back))) in subst (IsIn new) (sym same) here)
+        (λ back. here q (least q listed (omega (arith, back))) (omega (arith, high)))
         (cases_lt q next);
   }
 

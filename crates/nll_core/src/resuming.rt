@@ -275,9 +275,24 @@ fn enter_starts(
     let mut next = part.first;
     while let Some(start) = starts.next_in(next, part.last) {
         enter_point(lines, seen, reached, found, start)?;
-        next = start + 1;
+        // No start up to there enters anything.
+        next = reached_to(reached, start, part.last) + 1;
     }
     Ok(())
+}
+
+// A number up to which, from a reached point on, all numbers are reached. It is no greater than a
+// limit.
+fn reached_to(reached: &RunSet, point: u32, limit: u32) -> u32
+    requires reached { IsIn reached.now point }
+    requires limit { point ≤ limit }
+    ensures bounds { (point ≤ result) × (result ≤ limit) }
+    ensures all { (x : ℕ) → point ≤ x → x ≤ result → IsIn reached.now x }
+{
+    match reached.run_from(point) {
+        Some(run) => run.last.min(limit),
+        None => unreachable!(),
+    }
 }
 
 // Enters the points of a run to which jumps lead from what is reached.
