@@ -1,7 +1,8 @@
 //! Sets of the elements of a problem: points of a graph, and ends of universal regions.
 //! It knows no graph and no problem.
 //!
-//! Reading order: `element`, `element_set`, `bit_set`, `run`, `run_list`, `run_set`, `elements`.
+//! Reading order: `element`, `element_set`, `bit_set`, `run`, `run_moves`, `run_list`, `run_set`,
+//! `elements`.
 //! The definitions are in specs/.
 #![tactic(auto)]
 
@@ -12,6 +13,7 @@ mod elements;
 mod error;
 mod run;
 mod run_list;
+mod run_moves;
 mod run_set;
 
 pub use bit_set::BitSet;
