@@ -15,7 +15,7 @@ use Rattle.nll_problem.proofs.WalkLemmas.{reaches_first, reaches_starts, reaches
 use Rattle.nll_core.specs.Search.{IsIn}
 use Rattle.nll_core.specs.Lines.{IsJump}
 use Rattle.nll_core.specs.Walking.{Grows, IsLedTo, IsSpread, AreOfPoints, FillsFrom}
-use Rattle.nll_core.specs.Frontiers.{Frontier, ReachesFrom, WalksOn, IsAskedFrom, IsFrontierIn, IsBeside, GoesOn, ResumesPoints, ListsNew, places_of}
+use Rattle.nll_core.specs.Frontiers.{Frontier, ReachesFrom, WalksOn, IsAskedFrom, IsFrontierIn, IsBeside, GoesOn, ResumesPoints, ListsNew, as_places}
 use Rattle.nll_core.specs.declared.landing.Landing.{Landing}
 use Rattle.nll_core.proofs.SearchLemmas.{none_in_empty, flag_within}
 use Rattle.nll_core.proofs.WalkingLemmas.{grows_none, grows_append, grows_weaker, reaches_append}
@@ -349,41 +349,27 @@ module _ (g : Graph) (set : List Bool) (list : List Landing) (old : List Bool) (
 
 module _ (g : Graph) (set : List Bool) (points : List ℕ) where
   -- where none holds at all points, what is asked for from places is what walks reach from their points
-  pub asked_walks : (x : ℕ) → IsAskedFrom g (IsIn set) (places_of false points) x → ReachesFrom g (IsIn set) points x
+  pub asked_walks : (x : ℕ) → IsAskedFrom g (IsIn set) (as_places points) x → ReachesFrom g (IsIn set) points x
   asked_walks x (All, there, here) = absurd (no_all points there)
-  asked_walks x (Point p, there, way) = (p, (point_in false points p).0 there, way)
+  asked_walks x (Point p, there, way) = (p, (point_in points p).0 there, way)
 
-  pub walks_asked : (x : ℕ) → ReachesFrom g (IsIn set) points x → IsAskedFrom g (IsIn set) (places_of false points) x
-  walks_asked x (p, there, way) = (Point p, (point_in false points p).1 there, way)
+  pub walks_asked : (x : ℕ) → ReachesFrom g (IsIn set) points x → IsAskedFrom g (IsIn set) (as_places points) x
+  walks_asked x (p, there, way) = (Point p, (point_in points p).1 there, way)
 
 -- walks went on from the points
-pub goes_by_walks : (g : Graph) (set : List Bool) (run : Run) (points : List ℕ) (old new : List Bool) → WalksOn g set run points old new → GoesOn g set run (places_of false points) old new
+pub goes_by_walks : (g : Graph) (set : List Bool) (run : Run) (points : List ℕ) (old new : List Bool) → WalksOn g set run points old new → GoesOn g set run (as_places points) old new
 goes_by_walks g set run points old new w = record {
   kept = w.kept;
   sound = λ x h. walks_asked g set points x (w.sound x h);
   whole = λ every. absurd (no_all points every);
   alone = λ every. absurd (no_all points every);
-  begun = λ p there own. w.begun p ((point_in false points p).0 there) own;
+  begun = λ p there own. w.begun p ((point_in points p).0 there) own;
   closed = λ x y h step inside. ⊎_elim inl (λ o. inr (inl o.0, o.1)) (w.closed x y h step inside);
 }
 
--- where no constraint is, nothing is asked for
-pub goes_nowhere : (g : Graph) (set : List Bool) (run : Run) (starts : List At) (old : List Bool) → starts ≡ [] → ((x : ℕ) → IsIn old x → IsAskedFrom g (IsIn set) starts x) → GoesOn g set run starts old old
-goes_nowhere g set run starts old none sound = record {
-  kept = λ x h. h;
-  sound = sound;
-  whole = λ every. absurd (nothing All every);
-  alone = λ every. absurd (nothing All every);
-  begun = λ p there. absurd (nothing (Point p) there);
-  closed = λ x y h step inside. absurd (let w = sound x h in nothing w.0 w.1);
-}
-  where
-    nothing : (place : At) → Contains starts place → ⊥
-    nothing place there = absurd (let h = subst (λ (xs : List At). Contains xs place) none there in omega (arith, h.1))
-
 -- points among places of a graph are points of the graph
-pub points_among : (n : ℕ) (points : List ℕ) → ((place : At) → Contains (places_of false points) place → IsAmong n place) → (p : ℕ) → Contains points p → p < n
-points_among n points among p h = among (Point p) ((point_in false points p).1 h)
+pub points_among : (n : ℕ) (points : List ℕ) → ((place : At) → Contains (as_places points) place → IsAmong n place) → (p : ℕ) → Contains points p → p < n
+points_among n points among p h = among (Point p) ((point_in points p).1 h)
 
 module _ (g : Graph) (set : List Bool) (run : Run) (starts : List At) where
   -- the run came as it is

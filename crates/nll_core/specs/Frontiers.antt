@@ -5,7 +5,7 @@
 -- all points, is project's choice. The code looks at the points of one new run at a time; this
 -- speaks of whole walks.
 use Rattle.std.specs.Prelude.{◌≡◌, ◌⊎◌, ◌↔◌, ℕ, ◌<◌, ◌≤◌, Bool, true, false, List, [], length}
-use Rattle.std.specs.Prelude.{Contains, AllPairs, Option, Some, None, ◌∷◌, map}
+use Rattle.std.specs.Prelude.{Contains, AllPairs, ◌∷◌, map}
 use Rattle.nll_sets.specs.ElementSet.{flag}
 use Rattle.nll_sets.specs.Runs.{first_of, last_of, IsInRunsFrom, AreApartFrom, IsWithin}
 use Rattle.nll_sets.specs.declared.run.Run.{Run}
@@ -74,15 +74,17 @@ pub record IsIdle (starts : List At) (run : Run) (reached : List Bool) : Type 0 
 abbrev pub IsAscending : List ℕ → Type 0
 IsAscending xs = AllPairs (λ x y. x < y) xs
 
--- the points of a list that may be missing
-abbrev pub listed : Option (List ℕ) → List ℕ
-listed None = []
-listed (Some points) = points
+-- these points as places
+abbrev pub as_places : List ℕ → List At
+as_places points = map (λ p. Point p) points
 
--- all points, where they are among the places, and then these points
-abbrev pub places_of : Bool → List ℕ → List At
-places_of true points = All ∷ map (λ p. Point p) points
-places_of false points = map (λ p. Point p) points
+-- a place, and then these points
+abbrev pub behind : At → List ℕ → List At
+behind place points = place ∷ as_places points
+
+-- where the place is a point, the points behind it ascend with it
+abbrev pub Ascend : At → List ℕ → Type 0
+Ascend place points = (p : ℕ) → place ≡ Point p → IsAscending (p ∷ points)
 
 -- some walk of the graph inside the set leads to x from a point of the list
 abbrev pub ReachesFrom : Graph → (ℕ → Type 0) → List ℕ → ℕ → Type 0

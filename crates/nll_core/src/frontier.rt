@@ -63,13 +63,13 @@ impl Frontier {
     ///
     /// # Errors
     /// - `Memory`: the frontier is as before.
-    pub fn add(&mut self, alloc: Global, at: At) -> Result<(), Memory>
+    pub fn add(&mut self, _alloc: Global, at: At) -> Result<(), Memory>
         requires { (x : places) → Contains self.old.starts x → at_rank x < at_rank at }
         ensures ok { OnOk result
             (self.new ≡ record self.old { starts = self.old.starts ++ at ∷ [] }) }
         ensures err { OnErr result (self.new ≡ self.old) }
     {
-        self.starts.push(alloc, at)
+        self.starts.push(at)
     }
 
     /// Whether going on from a run of elements reaches nothing, since nothing is reached yet, no

@@ -2,8 +2,8 @@
 //! The problem is that of `nll_problem`, the sets are those of `nll_sets`; both are found here too.
 //!
 //! Reading order: `values`, `bases`, `lines` (with `line_ends`, `jumps`), `stretches`, `filling`,
-//! `walk`, `pairs`, `inclusion`, `meeting`, `order`, `solver`; `returns`, `landings`, `steps`,
-//! `starts`, `places`, `resuming`, `frontier`; `search`, `reachability`, `outliving`,
+//! `walk`, `pairs`, `inclusion`, `meeting`, `order`, `solver`; `points`, `starts`, `returns`,
+//! `landings`, `steps`, `places`, `resuming`, `frontier`; `search`, `reachability`, `outliving`,
 //! `fault_check`. The definitions are in specs/.
 #![tactic(auto)]
 
@@ -22,6 +22,7 @@ mod order;
 mod outliving;
 mod pairs;
 mod places;
+mod points;
 mod reachability;
 mod region_elements;
 mod resuming;

@@ -18,7 +18,7 @@ use crate::landings::Landings;
 use crate::lines::Lines;
 use crate::meeting::is_empty;
 use crate::places::Places;
-use crate::starts::Starts;
+use crate::points::Points;
 use crate::stretches::{enter, spread};
 use nll_sets::{Element, ElementSet, Memory, Run, RunSet};
 
@@ -51,10 +51,8 @@ pub fn resume(
     if starts.has_all() {
         return take(run, reached, found);
     }
-    match starts.points() {
-        Some(points) => resume_walks(lines, landings, seen, points, run, reached, found),
-        None => Ok(()),
-    }
+    let points = starts.points();
+    resume_walks(lines, landings, seen, &points, run, reached, found)
 }
 
 /// Whether going on from a run reaches nothing, since nothing is reached yet and no constraint asks
@@ -65,10 +63,8 @@ pub fn is_idle(starts: &Places, run: Run, reached: &RunSet) -> bool
     if starts.has_all() {
         return false;
     }
-    match starts.points() {
-        Some(points) => begins_nothing(points, run, reached),
-        None => is_empty(reached),
-    }
+    let points = starts.points();
+    begins_nothing(&points, run, reached)
 }
 
 // Puts a run into a set, and the runs of what of it is new into an empty list.
@@ -90,7 +86,7 @@ fn resume_walks(
     lines: &Lines,
     landings: &Landings,
     seen: &RunSet,
-    starts: &Starts,
+    starts: &Points<'_>,
     run: Run,
     reached: &mut RunSet,
     found: &mut Vec<Run>,
@@ -122,7 +118,7 @@ fn resume_walks(
 }
 
 // Whether nothing is reached yet, and no walk begins in a run.
-fn begins_nothing(starts: &Starts, run: Run, reached: &RunSet) -> bool
+fn begins_nothing(starts: &Points<'_>, run: Run, reached: &RunSet) -> bool
     ensures none { result ≡ true → (x : ℕ) → IsIn reached.now x → ⊥ }
     ensures apart { result ≡ true → (p : ℕ) → Contains starts.now p → IsWithin run p → ⊥ }
     ensures all { ((x : ℕ) → IsIn reached.now x → ⊥)
@@ -152,7 +148,7 @@ fn resume_points(
     lines: &Lines,
     landings: &Landings,
     seen: &RunSet,
-    starts: &Starts,
+    starts: &Points<'_>,
     run: Run,
     reached: &mut RunSet,
     found: &mut Vec<Run>,
@@ -257,7 +253,7 @@ fn enter_behind(
 fn enter_starts(
     lines: &Lines,
     seen: &RunSet,
-    starts: &Starts,
+    starts: &Points<'_>,
     part: Run,
     reached: &mut RunSet,
     found: &mut Vec<Run>,

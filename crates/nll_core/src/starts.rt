@@ -1,8 +1,9 @@
-//! The points from which the walks of a frontier go.
+//! Lists of points that hold at least one.
 
 ghost use Rattle.std.specs.Prelude.{◌≡◌, ℕ, ◌≤◌, ◌<◌, [], ◌∷◌, ◌++◌, Contains};
 ghost use Rattle.std.specs.Prelude.{IfSome, IfNone, OnOk, OnErr};
 
+use crate::points::Points;
 use nll_sets::Memory;
 use std::alloc::Global;
 use std::marker::Model;
@@ -56,32 +57,6 @@ impl Starts {
         ensures least { IfSome result (λ s. (x : ℕ) → Contains self.now x → from ≤ x → s ≤ x) }
         ensures none { IfNone result ((x : ℕ) → Contains self.now x → from ≤ x → last < x) }
     {
-        if from > last {
-            return None;
-        }
-        let Some(start) = self.next_from(from) else {
-            return None;
-        };
-        if start > last {
-            return None;
-        }
-        Some(start)
-    }
-
-    // The least point that isn't below a number.
-    fn next_from(&self, from: u32) -> Option<u32>
-        ensures some { IfSome result (λ s. Contains self.now s × (from ≤ s)) }
-        ensures least { IfSome result (λ s. (x : ℕ) → Contains self.now x → from ≤ x → s ≤ x) }
-        ensures none { IfNone result ((x : ℕ) → Contains self.now x → x < from) }
-    {
-        if from <= self.first {
-            return Some(self.first);
-        }
-        let at = self.others.partition_point(|point| *point < from);
-        if at < self.others.len() {
-            Some(self.others[at])
-        } else {
-            None
-        }
+        Points::of(self.first, &self.others).next_in(from, last)
     }
 }

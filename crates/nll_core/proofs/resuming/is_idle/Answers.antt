@@ -3,17 +3,17 @@ use Rattle.std.proofs.lemmas.Bool.{false≢true}
 use Rattle.nll_problem.specs.declared.at.At.TheVariants.{Point}
 use Rattle.nll_core.proofs.PlaceLemmas.{point_in}
 use Rattle.nll_core.proofs.resuming.is_idle.Goals as goal
-use Rattle.nll_core.proofs.resuming.is_idle.Goals.{In-Some}
+use Rattle.nll_core.proofs.resuming.is_idle.Goals.{After-points-points}
 
-begun : (c : In-Some) (p : ℕ) → Contains c.args.starts.now (Point p) → Contains c.in-Some.points.now p
-begun c p h = (point_in false c.in-Some.points.now p).0 (subst (λ ps. Contains ps (Point p)) c.in-Some.ensures h)
+begun : (c : After-points-points) (p : ℕ) → Contains c.args.starts.now (Point p) → Contains c.points-points.result p
+begun c p h = (point_in c.points-points.result p).0 (subst (λ ps. Contains ps (Point p)) c.points-points.ensures h)
 
-starts : (c : In-Some) (p : ℕ) → Contains c.in-Some.points.now p → Contains c.args.starts.now (Point p)
-starts c p h = subst (λ ps. Contains ps (Point p)) (sym c.in-Some.ensures) ((point_in false c.in-Some.points.now p).1 h)
+starts : (c : After-points-points) (p : ℕ) → Contains c.points-points.result p → Contains c.args.starts.now (Point p)
+starts c p h = subst (λ ps. Contains ps (Point p)) (sym c.points-points.ensures) ((point_in c.points-points.result p).1 h)
 
-pub returns-in-Some : goal.returns-in-Some
-returns-in-Some c =
-    let d = (goal.at.returns-in-Some c).In-Some in (
+pub returns : goal.returns
+returns c =
+    let d = (goal.at.returns c).After-points-points in (
       λ told. record {
         none = c.begins_nothing.ensures.none told;
         nowhere = λ every. false≢true (sym c.if-has_all.false ∙ c.has_all.ensures.1 every);

@@ -1,6 +1,13 @@
-use Rattle.nll_core.proofs.PlaceLemmas.{none_before_all}
-use Rattle.nll_core.specs.Frontiers.{listed}
+use Rattle.std.proofs.Common.{ℕ, ◌<◌, Contains, subst, sym}
+use Rattle.nll_problem.specs.At.{at_rank}
+use Rattle.nll_problem.specs.declared.at.At.{At as places}
+use Rattle.nll_core.specs.Frontiers.{behind}
+use Rattle.nll_core.proofs.PlaceLemmas.{none_before_all, ascend_pushed}
 use Rattle.nll_core.proofs.places.Places.push.Goals as goal
 
-pub returns-in-All-clause-ok : goal.returns-in-All-clause-ok
-returns-in-All-clause-ok c = rw (← c.self.view_is, c.in-All.is) (none_before_all c.self.inside.all (listed c.self.inside.points) (rw (← c.self.view_is, c.in-All.is) at c.requires))
+pub unreachable-requires : goal.unreachable-requires
+unreachable-requires c = none_before_all c.self.inside.first c.self.inside.others.items (rw (← c.self.view_is, c.in-All.is) at c.requires)
+
+pub invariant_of-self-in-Point : goal.invariant_of-self-in-Point
+invariant_of-self-in-Point c = ascend_pushed c.self.inside.first c.self.inside.others.items c.push.new.self.items c.in-Point.point c.in_ok-push-in-Point.ensures.items c.self.invariant
+    (rw (← c.self.view_is, c.in-Point.is) at c.requires)
