@@ -1,8 +1,9 @@
 -- Lines and their parts.
-use Rattle.std.proofs.Common.{◌≡◌, ℕ, Bool, List, [], ◌∷◌, map, refl, sym, ap, ◌∙◌, subst, Option, Some, None}
+use Rattle.std.proofs.Common.{◌≡◌, ℕ, Bool, true, false, List, [], ◌∷◌, map, refl, sym, ap, ◌∙◌, subst, Option, Some, None}
 use Rattle.std.specs.List.{AllByRecursion}
 use Rattle.std.specs.Prelude.{codes}
 use Rattle.std.specs.Prelude.{Result, Ok, Err, IfOk, MatchOption}
+use Rattle.std.proofs.lemmas.Bool.{false≢true}
 use Rattle.nll_text.specs.Tokens.{Token, word, sign}
 use Rattle.nll_types.specs.Places.{PlacePath}
 use Rattle.nll_types.specs.Operands.{Operand, constant, copied, moved}
@@ -11,9 +12,12 @@ use Rattle.nll_types.specs.Operands.{operand_of}
 use Rattle.nll_types.specs.declared.operand.Operand.{Operand as Written}
 use Rattle.nll_type_grammar.specs.TypeTexts.{written}
 use Rattle.nll_type_grammar.specs.declared.type_text.TypeNode.{TypeNode}
-use Rattle.nll_mir_grammar.specs.Lines.{argument_of}
+use Rattle.nll_mir_grammar.specs.Lines.{argument_of, form_of}
+use Rattle.nll_mir_grammar.specs.declared.line.Line.{Line}
 use Rattle.nll_statements.specs.Statements.{assign, borrow, make, read, live, dead, nop, goto, switch, drop, call, return, stop}
 use Rattle.nll_mir_grammar.specs.MirForms.{Form, universal, outlives, further, assert_line, struct_line, variable, blocks, block, at_point, end, spelled_form, IsWritable, IsWritableOperand, IsSpelled}
+use Rattle.nll_mir_grammar.specs.Versions.{is_of_version, IsSpelledIn}
+use Rattle.nll_mir_grammar.specs.declared.version.Version.{Version}
 use Rattle.nll_mir_grammar.specs.Grammars.{Begins, HasNone, IsNotNext, behind, pair}
 use Rattle.nll_mir_grammar.specs.Parts.{any_words, places, operands, arguments, block_names, MayFollowOperand, MayFollowUnwind}
 use Rattle.nll_mir_grammar.specs.Kinds.{borrows, makes, signatures, value, borrowed, made, called, rights, tails, keyword_name, LineParts, line_grammars, lines, parts_of, IsLine, IsRightSide, IsBehind, HasNoKeyword}
@@ -335,3 +339,15 @@ pub one_form_lem : (ts : List Token) (f g : Form) → IsSpelled ts f → IsSpell
 one_form_lem ts f g s u =
     let same = lines_one ts _ _ [] [] (to_line ts f s) (to_line ts g u) in
     sym (from_parts s.callee f) ∙ (ap form_from same.0 ∙ from_parts u.callee g)
+
+-- tokens of a form that isn't of the version are those of none that is
+pub no_form_in : (version : Version) (ts : List Token) (g : Form) → IsSpelled ts g → is_of_version version g ≡ false → (f : Form) → IsSpelledIn version ts f → ⊥
+no_form_in version ts g s other f h = false≢true (sym other ∙ subst (λ z. is_of_version version z ≡ true) (one_form_lem ts f g h.0 s) h.1)
+
+-- a line that is kept where it is of the version is the one that the tokens spell there
+pub line_in_version : {E : Type 0} (version : Version) (ts : List Token) (line : Line) (r : Result (Option Line) E) → IsSpelled ts (form_of line)
+    → IfOk r (λ o. MatchOption o (is_of_version version (form_of line) ≡ false) (λ kept. (kept ≡ line) × (is_of_version version (form_of kept) ≡ true)))
+    → IfOk r (λ o. MatchOption o ((f : Form) → IsSpelledIn version ts f → ⊥) (λ kept. IsSpelledIn version ts (form_of kept)))
+line_in_version version ts line (Ok None) s h = no_form_in version ts (form_of line) s h
+line_in_version version ts line (Ok (Some kept)) s h = (subst (λ (l : Line). IsSpelled ts (form_of l)) (sym h.0) s, h.1)
+line_in_version version ts line (Err e) s h = tt

@@ -3,6 +3,7 @@
 -- Source: project's choice; docs/FORMATS.md says the same in words.
 use Rattle.std.specs.Prelude.{◌≡◌, ℕ, Bool, true, false, not, ◌&&◌, List, codes}
 use Rattle.std.specs.List.{list_all}
+use Rattle.nll_text.specs.Tokens.{Token}
 use Rattle.nll_types.specs.declared.parameter.Sign.{Sign}
 use Rattle.nll_types.specs.declared.parameter.Sign.TheVariants.{Covariant, Contravariant}
 use Rattle.nll_types.specs.declared.parameter.Sign.TheVariants.{Invariant}
@@ -10,7 +11,7 @@ use Rattle.nll_type_grammar.specs.Functions.{has_function, have_function}
 use Rattle.nll_statements.specs.Statements.{types_written}
 use Rattle.nll_mir_grammar.specs.MirForms.{WrittenParameter, region_parameter, type_parameter}
 use Rattle.nll_mir_grammar.specs.MirForms.{Form, assert_line, struct_line, variable, at_point}
-use Rattle.nll_mir_grammar.specs.MirForms.{HasForm}
+use Rattle.nll_mir_grammar.specs.MirForms.{HasForm, IsSpelled}
 use Rattle.nll_mir_grammar.specs.declared.version.Version.{Version}
 use Rattle.nll_mir_grammar.specs.declared.version.Version.TheVariants.{First, Second}
 
@@ -44,6 +45,10 @@ is_of_first _ = true
 abbrev pub is_of_version : Version → Form → Bool
 is_of_version First f = is_of_first f
 is_of_version Second f = true
+
+-- the tokens are those of the form, which may stand in a text of the version
+abbrev pub IsSpelledIn : Version → List Token → Form → Type 0
+IsSpelledIn version tokens f = IsSpelled tokens f × (is_of_version version f ≡ true)
 
 -- the line has the form in a text of the version
 abbrev pub HasFormIn : Version → List ℕ → Form → Type 0

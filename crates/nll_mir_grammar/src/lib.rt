@@ -24,4 +24,4 @@ mod words;
 pub use laws::one_form;
 pub use line::{Line, ParameterText, StructText, TupleText};
 pub use reading::line_of;
-pub use version::{Version, is_of_version};
+pub use version::Version;

@@ -1,6 +1,6 @@
 //! Reading a line from its tokens.
 
-ghost use Rattle.std.specs.Prelude.{◌≡◌, ◌∷◌, IfOk, MatchOption};
+ghost use Rattle.std.specs.Prelude.{◌≡◌, ◌∷◌, true, false, IfOk, MatchOption};
 ghost use Rattle.nll_text.specs.Tokens as lex;
 ghost use Rattle.nll_text.specs.Tokens.{views};
 ghost use Rattle.nll_mir_grammar.specs.Grammars.{HasNone, from};
@@ -9,6 +9,8 @@ ghost use Rattle.nll_mir_grammar.specs.Kinds.{HasNoKeyword, IsBehind, IsLine, ke
 ghost use Rattle.nll_mir_grammar.specs.Kinds.{tails};
 ghost use Rattle.nll_mir_grammar.specs.Lines.{form_of};
 ghost use Rattle.nll_mir_grammar.specs.MirForms.{Form, IsSpelled};
+ghost use Rattle.nll_mir_grammar.specs.Versions as spec;
+ghost use Rattle.nll_mir_grammar.specs.Versions.{IsSpelledIn};
 
 use crate::assignment::assignment_at;
 use crate::keyword::{Keyword, keyword_of};
@@ -19,6 +21,7 @@ use crate::lines::{
 };
 use crate::pairs::Read;
 use crate::points::{dead_line, drop_line, goto_line, live_line, read_line, switch_line};
+use crate::version::{Version, is_of_version};
 use crate::words::word_at;
 use nll_sets::Memory;
 use nll_statements::Statement;
@@ -79,11 +82,8 @@ fn line_at<'a>(alloc: Global, tokens: &[Token<'a>], at: usize) -> Read<Line<'a>>
     }
 }
 
-/// The form of the line that is made of these tokens, where it has one.
-///
-/// # Errors
-/// `Memory`.
-pub fn line_of<'a>(alloc: Global, tokens: &[Token<'a>]) -> Result<Option<Line<'a>>, Memory>
+// The form of the line that is made of these tokens, where it has one.
+fn spelled_line<'a>(alloc: Global, tokens: &[Token<'a>]) -> Result<Option<Line<'a>>, Memory>
     ensures { IfOk result
         (λ o. MatchOption o ((f : Form) → IsSpelled (views tokens.now) f → ⊥)
         (λ line. IsSpelled (views tokens.now) (form_of line))) }
@@ -96,4 +96,42 @@ pub fn line_of<'a>(alloc: Global, tokens: &[Token<'a>]) -> Result<Option<Line<'a
         return Ok(None);
     }
     Ok(Some(line))
+}
+
+// The line, where it may stand in a text of the version.
+fn line_in<'a>(alloc: Global, version: Version, line: Line<'a>) -> Result<Option<Line<'a>>, Memory>
+    ensures { IfOk result
+        (λ o. MatchOption o (spec.is_of_version version (form_of line.entry) ≡ false)
+        (λ kept. (kept ≡ line.entry) × (spec.is_of_version version (form_of kept) ≡ true))) }
+{
+    match is_of_version(alloc, version, &line) {
+        Ok(true) => Ok(Some(line)),
+        Ok(false) => {
+            drop(line);
+            Ok(None)
+        }
+        Err(memory) => {
+            drop(line);
+            Err(memory)
+        }
+    }
+}
+
+/// The form of the line that is made of these tokens, where it has one in a text of the version.
+///
+/// # Errors
+/// `Memory`.
+pub fn line_of<'a>(
+    alloc: Global,
+    version: Version,
+    tokens: &[Token<'a>],
+) -> Result<Option<Line<'a>>, Memory>
+    ensures { IfOk result
+        (λ o. MatchOption o ((f : Form) → IsSpelledIn version (views tokens.now) f → ⊥)
+        (λ line. IsSpelledIn version (views tokens.now) (form_of line))) }
+{
+    match spelled_line(alloc, tokens)? {
+        Some(line) => line_in(alloc, version, line),
+        None => Ok(None),
+    }
 }

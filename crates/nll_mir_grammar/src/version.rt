@@ -106,7 +106,11 @@ fn is_first_statement<'a>(
 }
 
 /// Whether a line may stand in a text of the version.
-pub fn is_of_version(alloc: Global, version: Version, line: &Line<'_>) -> Result<bool, Memory>
+pub(crate) fn is_of_version(
+    alloc: Global,
+    version: Version,
+    line: &Line<'_>,
+) -> Result<bool, Memory>
     ensures { IfOk result (λ b. b ≡ spec.is_of_version version (form_of line.now)) }
 {
     if version == Version::Second {

@@ -5,6 +5,7 @@ use Rattle.nll_text.specs.Lines.{lines_of}
 use Rattle.nll_text.specs.Tokens.{Token, word, region, arrow, sign, IsMadeOf, IsToken, spelling, IsNotMadeWithin}
 use Rattle.nll_text.specs.Scan.{IsTokenLine}
 use Rattle.nll_mir_grammar.specs.MirForms.{Form, IsSpelled, HasForm}
+use Rattle.nll_mir_grammar.specs.Versions.{IsSpelledIn, HasFormIn}
 use Rattle.nll_reading.specs.Text.{HasFault, IsFaulty, Says}
 use Rattle.nll_reading.specs.declared.error.TextKind.{TextKind}
 use Rattle.nll_reading.proofs.ReadingLemmas as lemmas
@@ -101,14 +102,14 @@ few_made line (t ∷ ts) h =
 pub no_form_within : (line : List ℕ) → IsNotMadeWithin (length line) line → (f : Form) → HasForm line f → ⊥
 no_form_within line none f h = none h.0 (few_made line h.0 h.1) h.1
 
--- a line whose tokens spell no form has none
-pub no_form_from : (line : List ℕ) (ts us : List Token) → us ≡ ts → IsTokenLine line ts → ((f : Form) → IsSpelled us f → ⊥) → (f : Form) → HasForm line f → ⊥
-no_form_from line ts us e scanned none f h =
-    none f (subst (λ (vs : List Token). IsSpelled vs f) (scanned.only h.0 h.1 ∙ sym e) h.2)
+-- a line whose tokens spell no form of the version has none
+pub no_form_from : (v : Version) (line : List ℕ) (ts us : List Token) → us ≡ ts → IsTokenLine line ts → ((f : Form) → IsSpelledIn v us f → ⊥) → (f : Form) → HasFormIn v line f → ⊥
+no_form_from v line ts us e scanned none f h =
+    none f (subst (λ (vs : List Token). IsSpelled vs f) (scanned.only h.0.0 h.0.1 ∙ sym e) h.0.2, h.1)
 
--- a line whose tokens spell a form has it
-pub form_from : (line : List ℕ) (ts us : List Token) → us ≡ ts → IsTokenLine line ts → (f : Form) → IsSpelled us f → HasForm line f
-form_from line ts us e scanned f s = (us, subst (IsMadeOf line) (sym e) scanned.made, s)
+-- a line whose tokens spell a form of the version has it
+pub form_from : (v : Version) (line : List ℕ) (ts us : List Token) → us ≡ ts → IsTokenLine line ts → (f : Form) → IsSpelledIn v us f → HasFormIn v line f
+form_from v line ts us e scanned f s = ((us, subst (IsMadeOf line) (sym e) scanned.made, s.0), s.1)
 
 -- ---- how long lines are
 

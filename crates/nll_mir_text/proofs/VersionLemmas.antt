@@ -1,24 +1,20 @@
 -- Texts of the two versions: which text is of which, and how a text is refused.
-use Rattle.std.proofs.Common.{◌≡◌, ℕ, ◌<◌, true, false, List, length, get_or, refl, sym, ap, ◌∙◌, subst, arith, inl, inr, ⊎_elim}
+use Rattle.std.proofs.Common.{◌≡◌, ℕ, ◌<◌, List, length, get_or, refl, sym, ap, ◌∙◌, subst, arith, inl, inr, ⊎_elim}
 use Rattle.std.specs.Prelude.{codes}
 use Rattle.std.specs.Str.{IsUtf8}
-use Rattle.std.proofs.lemmas.Bool.{false≢true}
 use Rattle.nll_text.specs.Tokens.{Token}
 use Rattle.nll_text.proofs.TokenLemmas.{one_token_list_lem}
 use Rattle.nll_problem.specs.Limits.{most_bytes}
 use Rattle.nll_problem.specs.declared.error.Kind.TheVariants.{Text}
-use Rattle.nll_reading.specs.Text.{IsHeaded, IsHeader, IsHeaderFault, IsCut, IsFault, IsFaulty, IsRefusal, too_long, no_form}
-use Rattle.nll_text.specs.Lines.{is_skipped}
+use Rattle.nll_reading.specs.Text.{IsHeaded, IsHeader, IsHeaderFault, IsCut, IsFault, IsRefusal, too_long}
 use Rattle.nll_reading.specs.declared.error.TextError.{TextError}
-use Rattle.nll_reading.specs.declared.error.TextKind.{TextKind}
-use Rattle.nll_reading.specs.declared.error.TextKind.TheVariants.{Limit, Syntax}
+use Rattle.nll_reading.specs.declared.error.TextKind.TheVariants.{Limit}
 use Rattle.nll_reading.proofs.ReadingLemmas.{header_refused}
 use Rattle.nll_mir_grammar.specs.MirForms.{Form, IsSpelled, HasForm}
-use Rattle.nll_mir_grammar.specs.Versions.{HasFormIn, is_of_version}
+use Rattle.nll_mir_grammar.specs.Versions.{HasFormIn}
 use Rattle.nll_mir_grammar.specs.declared.version.Version.{Version}
 use Rattle.nll_mir_grammar.specs.declared.version.Version.TheVariants.{First, Second}
 use Rattle.nll_mir_grammar.proofs.LineLemmas.{one_form_lem}
-use Rattle.nll_mir_text.specs.MirSaid.{Said}
 use Rattle.nll_mir_text.specs.MirText.{mir, IsOfVersion, IsMirFault}
 
 -- ---- a line has one form
@@ -29,13 +25,6 @@ one_form line f g h k =
 
 pub one_form_in : (version : Version) (line : List ℕ) (f g : Form) → HasFormIn version line f → HasFormIn version line g → f ≡ g
 one_form_in version line f g h k = one_form line f g h.0 k.0
-
--- a line of a form that isn't of the version has no form in it
-pub other_version : (version : Version) (s : Said) (line : List ℕ) (f : Form) (kind : TextKind) → IsUtf8 line → is_skipped line ≡ false → HasForm line f
-    → kind ≡ Syntax → is_of_version version f ≡ false → IsFaulty (mir version) s line kind
-other_version version s line f kind utf8 kept form e other =
-    subst (λ k. IsFaulty (mir version) s line k) (sym e)
-    (no_form utf8 kept (λ g h. false≢true (sym other ∙ subst (λ z. is_of_version version z ≡ true) (one_form line g f h.0 form) h.1)))
 
 -- ---- a text has one version
 

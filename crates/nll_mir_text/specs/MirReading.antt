@@ -23,11 +23,10 @@ use Rattle.nll_reading.specs.Reading as reading
 use Rattle.nll_reading.specs.Text.{Says, IsText, IsFault, IsHeaded, IsRefusal}
 use Rattle.nll_reading.specs.declared.error.TextError.{TextError}
 use Rattle.nll_reading.specs.declared.error.TextKind.{TextKind}
-use Rattle.nll_reading.specs.declared.error.TextKind.TheVariants.{Memory, Syntax}
+use Rattle.nll_reading.specs.declared.error.TextKind.TheVariants.{Memory}
 use Rattle.nll_mir_grammar.specs.MirForms.{Form, universal, further, struct_line, at_point}
 use Rattle.nll_mir_grammar.specs.MirForms.{WrittenParameter, region_parameter, type_parameter}
 pub use Rattle.nll_mir_grammar.specs.Lines.{struct_form}
-use Rattle.nll_mir_grammar.specs.Versions.{is_of_version}
 use Rattle.nll_mir_grammar.specs.declared.version.Version.{Version}
 use Rattle.nll_type_grammar.specs.WrittenTypes.{Name, WrittenType}
 use Rattle.nll_naming.specs.Naming.{Scope, is_known, has_arguments, meant}
@@ -184,13 +183,6 @@ Adds s f t = t ≡ says s f
 -- t is what is said after a line that has no fault in a text of the version
 abbrev pub ReadsLine : Version → Said → List ℕ → Said → Type 0
 ReadsLine version = reading.ReadsLine (mir version) Adds
-
--- a line of the form is refused after lines that say s in a text of the version: for want of
--- memory, since it isn't of the version, or with its first kind of fault
-abbrev pub IsRefusedIn : Version → Said → Form → TextKind → Type 0
-IsRefusedIn version s f kind = (kind ≡ Memory)
-    ⊎ ((kind ≡ Syntax) × (is_of_version version f ≡ false))
-    ⊎ ((is_of_version version f ≡ true) × (first_fault s f ≡ Some kind))
 
 -- ---- all lines
 

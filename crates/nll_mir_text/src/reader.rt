@@ -1,6 +1,6 @@
 //! The reader of the lines of a MIR text: what they say so far, and which line takes what.
 
-ghost use Rattle.std.specs.Prelude.{◌≡◌, ◌⊎◌, ◌↔◌, ◌≤◌, [], length, false, true};
+ghost use Rattle.std.specs.Prelude.{◌≡◌, ◌⊎◌, ◌↔◌, ◌≤◌, [], length, false};
 ghost use Rattle.std.specs.Prelude.{IsTrue, IfOk, IfErr, OnOk};
 ghost use Rattle.nll_problem.specs.Limits.{most_bytes};
 ghost use Rattle.nll_types.specs.Declarations.{structs_of};
@@ -9,8 +9,7 @@ ghost use Rattle.nll_mir_text.specs.MirSaid as specs;
 ghost use Rattle.nll_mir_text.specs.MirSaid.{said};
 ghost use Rattle.nll_mir_text.specs.MirFaults.{is_in_order};
 ghost use Rattle.nll_mir_text.specs.MirReading.{said_by, IsReady, HasTexts, HasFewParameters};
-ghost use Rattle.nll_mir_text.specs.MirReading.{IsDue, IsTaken, IsRefused, IsRefusedIn, ReadsLine};
-ghost use Rattle.nll_mir_grammar.specs.Versions as versions;
+ghost use Rattle.nll_mir_text.specs.MirReading.{IsDue, IsTaken, IsRefused, ReadsLine};
 ghost use Rattle.nll_body.specs.Parts.{body_of};
 ghost use Rattle.nll_mir_text.specs.MirText.{body_said, mir};
 ghost use Rattle.nll_reading.specs.Text.{IsFaulty};
@@ -18,7 +17,7 @@ ghost use Rattle.nll_reading.specs.Text.{IsFaulty};
 use crate::tables::{Points, Regions, StructNames, Variables};
 use indexmap::IndexSet;
 use nll_body::BodyParts;
-use nll_mir_grammar::{Line, Version, is_of_version, line_of};
+use nll_mir_grammar::{Line, Version, line_of};
 use nll_reading::{Names, TextKind};
 use nll_sets::Memory;
 use nll_text::{ScanError, Scanned, Token, scan_line};
@@ -173,32 +172,6 @@ impl Reader {
         self.accept(line)
     }
 
-    // Takes in a line of a form, unless it isn't of the version or something else is wrong with it.
-    fn take_of_version(&mut self, version: Version, line: Line<'_>) -> Result<(), TextKind>
-        requires ready { IsReady self.old }
-        requires texts { HasTexts (form_of line) }
-        requires few { HasFewParameters (form_of line) }
-        ensures taken { OnOk result (IsTaken (said_by self.old) (form_of line.entry) self.new
-            × (versions.is_of_version version (form_of line.entry) ≡ true)) }
-        ensures refused { IfErr result
-            (IsRefusedIn version (said_by self.old) (form_of line.entry)) }
-    {
-        match is_of_version(self.alloc, version, &line) {
-            Ok(fits) => {
-                if fits {
-                    self.take(line)
-                } else {
-                    drop(line);
-                    Err(TextKind::Syntax)
-                }
-            }
-            Err(memory) => {
-                drop(line);
-                Err(TextKind::from(memory))
-            }
-        }
-    }
-
     /// Takes in a line behind the header of a text of the version. The list serves for its tokens.
     pub fn read_line<'a>(
         &mut self,
@@ -223,11 +196,11 @@ impl Reader {
             Err(ScanError::NoTokens) => return Err(TextKind::Syntax),
             Err(ScanError::Memory) => return Err(TextKind::Memory),
         }
-        let found = line_of(self.alloc, tokens.as_slice())?;
+        let found = line_of(self.alloc, version, tokens.as_slice())?;
         let Some(form) = found else {
             return Err(TextKind::Syntax);
         };
-        self.take_of_version(version, form)
+        self.take(form)
     }
 
     /// Whether the last line that a text needs was read.

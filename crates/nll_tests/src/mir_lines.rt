@@ -3,11 +3,13 @@ use super::lines::OfLine;
 use super::rows::compare_text;
 use super::transcript::Transcript;
 use super::written_types::{write_flag, write_nodes};
-use nll_mir_grammar::{Line, ParameterText, StructText, Version, is_of_version, line_of, one_form};
+use nll_mir_grammar::{Line, ParameterText, StructText, Version, line_of, one_form};
+use nll_sets::Memory;
 use nll_statements::{Call, Make, Statement};
 use nll_text::Token;
 use nll_type_grammar::TypeText;
 use nll_types::{Operand, Parameter, Place, Projection, Sign};
+use std::alloc::Global;
 
 // A statement as it is written.
 type Written<'a> = Statement<&'a [u8], TypeText<'a>>;
@@ -181,9 +183,9 @@ fn write_told(out: &mut Transcript, line: &Line<'_>, is_done: bool) {
     }
 }
 
-/// Writes the form of tokens, or what their statement does.
+/// Writes the form of tokens in version 2, which has each form, or what their statement does.
 pub fn write_form(out: &mut Transcript, tokens: &[Token<'_>], is_done: bool) {
-    match line_of(out.alloc, tokens) {
+    match line_of(out.alloc, Version::Second, tokens) {
         Ok(Some(line)) => {
             write_told(out, &line, is_done);
             drop(line);
@@ -193,20 +195,24 @@ pub fn write_form(out: &mut Transcript, tokens: &[Token<'_>], is_done: bool) {
     }
 }
 
-/// Writes whether the form of tokens is one of version 1. In version 2 each form is lawful.
-pub fn write_version_flag(out: &mut Transcript, tokens: &[Token<'_>]) {
-    match line_of(out.alloc, tokens) {
-        Ok(Some(line)) => {
-            let first = is_of_version(out.alloc, Version::First, &line);
-            let second = is_of_version(out.alloc, Version::Second, &line);
+// Whether tokens have a form in a version.
+fn has_form(alloc: Global, version: Version, tokens: &[Token<'_>]) -> Result<bool, Memory> {
+    match line_of(alloc, version, tokens)? {
+        Some(line) => {
             drop(line);
-            write_flag(out, first);
-            out.say(" ");
-            write_flag(out, second);
+            Ok(true)
         }
-        Ok(None) => out.say("none"),
-        Err(_) => out.say("refused"),
+        None => Ok(false),
     }
+}
+
+/// Writes whether tokens have a form in version 1, and in version 2.
+pub fn write_version_flag(out: &mut Transcript, tokens: &[Token<'_>]) {
+    let first = has_form(out.alloc, Version::First, tokens);
+    let second = has_form(out.alloc, Version::Second, tokens);
+    write_flag(out, first);
+    out.say(" ");
+    write_flag(out, second);
 }
 
 // Lines, and their forms.
@@ -292,6 +298,7 @@ _2 = call f(const: int, const: fn() -> int): int -> bb1 ~ false true
 _2 = call f(const: int): fn() -> int -> bb1 ~ false true
 return ~ true true
 end ~ true true
+end end ~ false false
 ";
 
 // Statements and terminators; and the variables that each uses, that which it defines, that which

@@ -1,17 +1,8 @@
-use Rattle.nll_mir_grammar.proofs.TokenLemmas.{nothing_past, some_left}
-use Rattle.nll_mir_grammar.proofs.LineLemmas.{no_form, no_form_before, from_line}
+use Rattle.nll_mir_grammar.proofs.LineLemmas.{line_in_version}
 use Rattle.nll_mir_grammar.proofs.reading.line_of.Goals as goal
 
-pub returns-in_default : goal.returns-in_default
-returns-in_default c = let none = rw c.in_default.is at c.in_ok-line.ensures in no_form _ none
+pub returns-in-Some : goal.returns-in-Some
+returns-in-Some c = line_in_version c.args.version _ c.in-Some.line c.line_in.result (rw c.in-Some.is at c.in_ok-line.ensures) c.line_in.ensures
 
-pub returns-then-rest-tokens : goal.returns-then-rest-tokens
-returns-then-rest-tokens c =
-    let found = rw c.in-Some.is at c.in_ok-line.ensures in
-    no_form_before _ _ _ found (some_left _ c.in-Some.rest c.if-rest-tokens.true)
-
-pub returns : goal.returns
-returns c =
-    let found = rw c.in-Some.is at c.in_ok-line.ensures in
-    let end = rw (nothing_past c.args.tokens.now c.in-Some.rest c.if-rest-tokens.false) at found in
-    from_line _ _ end
+pub returns-in-None : goal.returns-in-None
+returns-in-None c = λ f h. (rw c.in-None.is at c.in_ok-line.ensures) f h.0

@@ -5,7 +5,6 @@ use Rattle.nll_reading.specs.Text.{skipped, of_form, not_utf8, no_form, at_form}
 use Rattle.nll_reading.specs.Reading.{skips, reads}
 use Rattle.nll_mir_text.proofs.FormLemmas.{texts_in, few_parameters_in}
 use Rattle.nll_mir_text.proofs.TextLemmas.{no_form_from, form_from, no_form_within}
-use Rattle.nll_mir_text.proofs.VersionLemmas.{other_version}
 use Rattle.nll_mir_text.proofs.reader.Reader.read_line.Goals as goal
 
 pub returns-in-Ok-Skipped-clause-ok : goal.returns-in-Ok-Skipped-clause-ok
@@ -20,33 +19,29 @@ returns-in-Err-NoTokens-clause-fault c = let h = rw c.in-Err-NoTokens.field-0-is
 pub returns-in_default-clause-fault : goal.returns-in_default-clause-fault
 returns-in_default-clause-fault c =
     let h = rw c.in-Ok-Tokens.field-0-is at c.in-Ok-Tokens.ensures.ok in
-    inr (no_form h.utf8 h.kept (λ f k. no_form_from _ _ _ (ap views c.as_slice.ensures.value) h (rw c.in_default.is at c.in_ok-found.ensures) f k.0))
+    inr (no_form h.utf8 h.kept (no_form_from _ _ _ _ (ap views c.as_slice.ensures.value) h (rw c.in_default.is at c.in_ok-found.ensures)))
 
-pub take_of_version-requires-clause-texts : goal.take_of_version-requires-clause-texts
-take_of_version-requires-clause-texts c =
+pub take-requires-clause-texts : goal.take-requires-clause-texts
+take-requires-clause-texts c =
     let h = rw c.in-Ok-Tokens.field-0-is at c.in-Ok-Tokens.ensures.ok in
-    texts_in _ _ (form_from _ _ _ (ap views c.as_slice.ensures.value) h _ (rw c.in-Some.is at c.in_ok-found.ensures))
+    texts_in _ _ (form_from _ _ _ _ (ap views c.as_slice.ensures.value) h _ (rw c.in-Some.is at c.in_ok-found.ensures)).0
 
-pub take_of_version-requires-clause-few : goal.take_of_version-requires-clause-few
-take_of_version-requires-clause-few c =
+pub take-requires-clause-few : goal.take-requires-clause-few
+take-requires-clause-few c =
     let h = rw c.in-Ok-Tokens.field-0-is at c.in-Ok-Tokens.ensures.ok in
-    few_parameters_in _ _ c.requires.short (form_from _ _ _ (ap views c.as_slice.ensures.value) h _ (rw c.in-Some.is at c.in_ok-found.ensures))
+    few_parameters_in _ _ c.requires.short (form_from _ _ _ _ (ap views c.as_slice.ensures.value) h _ (rw c.in-Some.is at c.in_ok-found.ensures)).0
 
 pub returns-clause-fault : goal.returns-clause-fault
 returns-clause-fault c =
     let h = rw c.in-Ok-Tokens.field-0-is at c.in-Ok-Tokens.ensures.ok in
-    let form = form_from _ _ _ (ap views c.as_slice.ensures.value) h _ (rw c.in-Some.is at c.in_ok-found.ensures) in
-    IfErr-weaker c.take_of_version.result _ _ (λ kind refused. ⊎_elim inl
-    (⊎_elim
-    (λ other. inr (other_version c.args.version _ _ _ kind h.utf8 h.kept form other.0 other.1))
-    (λ fault. inr (at_form _ _ h.utf8 h.kept (form, fault.0) fault.1)))
-    refused) c.take_of_version.ensures.refused
+    let form = form_from _ _ _ _ (ap views c.as_slice.ensures.value) h _ (rw c.in-Some.is at c.in_ok-found.ensures) in
+    IfErr-weaker c.take.result _ _ (λ kind refused. ⊎_elim inl (λ fault. inr (at_form _ _ h.utf8 h.kept form fault)) refused) c.take.ensures.refused
 
 pub returns-clause-ready : goal.returns-clause-ready
-returns-clause-ready c = on_ok_weaker c.take_of_version.result (λ told. told.0.ready) c.take_of_version.ensures.taken
+returns-clause-ready c = on_ok_weaker c.take.result (λ told. told.ready) c.take.ensures.taken
 
 pub returns-clause-ok : goal.returns-clause-ok
 returns-clause-ok c =
     let h = rw c.in-Ok-Tokens.field-0-is at c.in-Ok-Tokens.ensures.ok in
-    let form = form_from _ _ _ (ap views c.as_slice.ensures.value) h _ (rw c.in-Some.is at c.in_ok-found.ensures) in
-    on_ok_weaker c.take_of_version.result (λ told. reads _ (of_form _ h.utf8 h.kept (form, told.1) told.0.fine) told.0.says) c.take_of_version.ensures.taken
+    let form = form_from _ _ _ _ (ap views c.as_slice.ensures.value) h _ (rw c.in-Some.is at c.in_ok-found.ensures) in
+    on_ok_weaker c.take.result (λ told. reads _ (of_form _ h.utf8 h.kept form told.fine) told.says) c.take.ensures.taken
