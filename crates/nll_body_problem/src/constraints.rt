@@ -4,7 +4,6 @@
 ghost use Rattle.std.specs.Prelude.{◌≡◌, ◌<◌, ℕ, [], Contains, IfErr, OnOk, length};
 ghost use Rattle.nll_problem.specs.At.{IsAmong};
 ghost use Rattle.nll_body.specs.Sound.{IsSound};
-ghost use Rattle.nll_rules.specs.RegionFree.{AreRegionFree};
 ghost use Rattle.nll_body_problem.specs.Adding.{AddsConstraints, AreRegions, IsRefused};
 ghost use Rattle.nll_body_problem.specs.Adding.{IsOfPair, IsOfPairs, IsOfPairsEverywhere};
 ghost use Rattle.nll_body_problem.specs.Adding.{everywhere};
@@ -13,9 +12,10 @@ ghost use Rattle.nll_body_problem.specs.Known.{AreAskedAt, AreKinds, AreKnown};
 
 use crate::kinds::kinds_of;
 use crate::known::{Known, find, keep_once, nothing_known, remember};
+use crate::survey::Survey;
 use nll_body::Body;
 use nll_problem::{At, BuildError, Constraint, ProblemBuilder, RegionId};
-use nll_rules::{asks, region_free};
+use nll_rules::{Variables, asks, region_free};
 use std::alloc::Global;
 
 /// Adds the constraints of a body to a problem of its points and regions.
@@ -78,15 +78,12 @@ fn add_asked(alloc: Global, body: &Body, builder: &mut ProblemBuilder) -> Result
     let kinds = kinds_of(alloc, body.variable_types())?;
     let mut asked = Vec::new(alloc);
     let mut known = nothing_known(alloc);
-    let told = add_points(
-        alloc,
+    let survey = Survey {
         body,
-        free.as_slice(),
-        kinds.as_slice(),
-        &mut known,
-        &mut asked,
-        builder,
-    );
+        region_free: free.as_slice(),
+        kinds: kinds.as_slice(),
+    };
+    let told = add_points(alloc, &survey, &mut known, &mut asked, builder);
     drop(known);
     drop(asked);
     told
@@ -95,24 +92,21 @@ fn add_asked(alloc: Global, body: &Body, builder: &mut ProblemBuilder) -> Result
 // Adds what stands at each point asks. The list is for its own use.
 fn add_points(
     alloc: Global,
-    body: &Body,
-    free: &[bool],
-    kinds: &[usize],
+    survey: &Survey<'_>,
     known: &mut Known,
     asked: &mut Vec<(RegionId, RegionId)>,
     builder: &mut ProblemBuilder,
 ) -> Result<(), BuildError>
-    requires free { AreRegionFree body.now.structs body.now.variables free.now }
-    requires kinds { AreKinds body.now.variables kinds.now }
+    requires kinds { AreKinds survey.now.body.now.variables survey.now.kinds.now }
     requires none { known.old.entries.items ≡ [] }
-    requires points { builder.old.graph.points ≡ length body.now.points }
-    requires regions { builder.old.regions ≡ length body.now.names }
+    requires points { builder.old.graph.points ≡ length survey.now.body.now.points }
+    requires regions { builder.old.regions ≡ length survey.now.body.now.names }
     ensures ok { OnOk result
-        (AddsConstraints (IsAskedSomewhere body.now) builder.old builder.new) }
-    ensures err { IfErr result (IsRefused (IsAskedSomewhere body.now) builder.old) }
+        (AddsConstraints (IsAskedSomewhere survey.now.body.now) builder.old builder.new) }
+    ensures err { IfErr result (IsRefused (IsAskedSomewhere survey.now.body.now) builder.old) }
 {
-    for point in 0..body.points() {
-        add_next(alloc, body, free, kinds, point, known, asked, builder)?;
+    for point in 0..survey.body.points() {
+        add_next(alloc, survey, point, known, asked, builder)?;
     }
     Ok(())
 }
@@ -120,39 +114,28 @@ fn add_points(
 // Adds what stands at a point asks, which may be known. The list is for its own use.
 fn add_next(
     alloc: Global,
-    body: &Body,
-    free: &[bool],
-    kinds: &[usize],
+    survey: &Survey<'_>,
     point: u32,
     known: &mut Known,
     asked: &mut Vec<(RegionId, RegionId)>,
     builder: &mut ProblemBuilder,
 ) -> Result<(), BuildError>
-    requires sound { IsSound body.now }
-    requires free { AreRegionFree body.now.structs body.now.variables free.now }
-    requires kinds { AreKinds body.now.variables kinds.now }
-    requires point { point < length body.now.points }
-    requires known { AreKnown body.now known.old.entries.items }
-    requires points { builder.old.graph.points ≡ length body.now.points }
-    requires regions { builder.old.regions ≡ length body.now.names }
-    ensures ok { OnOk result (AddsConstraints (IsAskedAt body.now point) builder.old builder.new) }
-    ensures known { OnOk result (AreKnown body.now known.new.entries.items) }
-    ensures err { IfErr result (IsRefused (IsAskedAt body.now point) builder.old) }
+    requires sound { IsSound survey.now.body.now }
+    requires kinds { AreKinds survey.now.body.now.variables survey.now.kinds.now }
+    requires point { point < length survey.now.body.now.points }
+    requires known { AreKnown survey.now.body.now known.old.entries.items }
+    requires points { builder.old.graph.points ≡ length survey.now.body.now.points }
+    requires regions { builder.old.regions ≡ length survey.now.body.now.names }
+    ensures ok { OnOk result
+        (AddsConstraints (IsAskedAt survey.now.body.now point) builder.old builder.new) }
+    ensures known { OnOk result (AreKnown survey.now.body.now known.new.entries.items) }
+    ensures err { IfErr result (IsRefused (IsAskedAt survey.now.body.now point) builder.old) }
 {
-    if let Some(pairs) = find(known, kinds, free, body, point) {
-        return add_known(body, point, pairs, builder);
+    if let Some(pairs) = find(known, survey, point) {
+        return add_known(survey.body, point, pairs, builder);
     }
-    let many = add_point(alloc, body, free, point, asked, builder)?;
-    remember(
-        alloc,
-        known,
-        kinds,
-        free,
-        body,
-        point,
-        many,
-        asked.as_slice(),
-    )?;
+    let many = add_point(alloc, survey, point, asked, builder)?;
+    remember(alloc, known, survey, point, many, asked.as_slice())?;
     Ok(())
 }
 
@@ -178,30 +161,28 @@ fn add_known(
 // Adds what stands at a point asks, and leaves it in the list: whether that was much.
 fn add_point(
     alloc: Global,
-    body: &Body,
-    free: &[bool],
+    survey: &Survey<'_>,
     point: u32,
     asked: &mut Vec<(RegionId, RegionId)>,
     builder: &mut ProblemBuilder,
 ) -> Result<bool, BuildError>
-    requires sound { IsSound body.now }
-    requires free { AreRegionFree body.now.structs body.now.variables free.now }
-    requires point { point < length body.now.points }
-    requires points { builder.old.graph.points ≡ length body.now.points }
-    requires regions { builder.old.regions ≡ length body.now.names }
-    ensures ok { OnOk result (AddsConstraints (IsAskedAt body.now point) builder.old builder.new) }
-    ensures asked { OnOk result (AreAskedAt body.now point asked.new.items) }
-    ensures err { IfErr result (IsRefused (IsAskedAt body.now point) builder.old) }
+    requires sound { IsSound survey.now.body.now }
+    requires point { point < length survey.now.body.now.points }
+    requires points { builder.old.graph.points ≡ length survey.now.body.now.points }
+    requires regions { builder.old.regions ≡ length survey.now.body.now.names }
+    ensures ok { OnOk result
+        (AddsConstraints (IsAskedAt survey.now.body.now point) builder.old builder.new) }
+    ensures asked { OnOk result (AreAskedAt survey.now.body.now point asked.new.items) }
+    ensures err { IfErr result (IsRefused (IsAskedAt survey.now.body.now point) builder.old) }
 {
+    let body = survey.body;
     asked.clear();
-    asks(
-        alloc,
-        body.structs(),
-        body.variable_types(),
-        free,
-        body.line_at(point),
-        asked,
-    )?;
+    let variables = Variables {
+        structs: body.structs(),
+        types: body.variable_types(),
+        region_free: survey.region_free,
+    };
+    asks(alloc, &variables, body.line_at(point), asked)?;
     let many = keep_once(asked);
     add_pairs(builder, body.graph().next_of(point), asked.as_slice())?;
     Ok(many)

@@ -7,8 +7,9 @@ ghost use Rattle.nll_body_problem.specs.declared.known.Entry.{Entry as entry};
 
 use crate::alike::{goes_by_field, is_alike};
 use crate::digest::digest_of;
+use crate::survey::Survey;
 use indexmap::IndexMap;
-use nll_body::{Body, Stmt};
+use nll_body::Stmt;
 use nll_problem::RegionId;
 use nll_sets::Memory;
 use std::alloc::Global;
@@ -66,8 +67,8 @@ fn sort_once(pairs: &mut Vec<(RegionId, RegionId)>)
 }
 
 // Where the entry of a statement may stand.
-fn hint(known: &Known, kinds: &[usize], region_free: &[bool], statement: &Stmt) -> usize {
-    match digest_of(kinds, region_free, statement) {
+fn hint(known: &Known, survey: &Survey<'_>, statement: &Stmt) -> usize {
+    match digest_of(survey.kinds, survey.region_free, statement) {
         Some(digest) => match known.places.get(&digest).copied() {
             Some(place) => place,
             None => known.entries.len(),
@@ -80,26 +81,25 @@ fn hint(known: &Known, kinds: &[usize], region_free: &[bool], statement: &Stmt) 
 /// like it.
 pub(crate) fn find<'a>(
     known: &'a Known,
-    kinds: &[usize],
-    region_free: &[bool],
-    body: &Body,
+    survey: &Survey<'_>,
     point: u32,
 ) -> Option<&'a [(RegionId, RegionId)]>
-    requires known { AreKnown body.now known.now.entries.items }
-    requires kinds { AreKinds body.now.variables kinds.now }
-    requires point { point < length body.now.points }
-    ensures { MatchOption result Unit (λ pairs. AreAskedAt body.now point pairs.now) }
+    requires known { AreKnown survey.now.body.now known.now.entries.items }
+    requires kinds { AreKinds survey.now.body.now.variables survey.now.kinds.now }
+    requires point { point < length survey.now.body.now.points }
+    ensures { MatchOption result Unit (λ pairs. AreAskedAt survey.now.body.now point pairs.now) }
 {
     if known.entries.is_empty() {
         return None;
     }
+    let body = survey.body;
     let statement = body.line_at(point);
-    let place = hint(known, kinds, region_free, statement);
+    let place = hint(known, survey, statement);
     if place >= known.entries.len() {
         return None;
     }
     let entry = &known.entries[place];
-    if is_alike(kinds, body.line_at(entry.point), statement) {
+    if is_alike(survey.kinds, body.line_at(entry.point), statement) {
         Some(entry.pairs.as_slice())
     } else {
         None
@@ -129,23 +129,21 @@ fn push(
 pub(crate) fn remember(
     alloc: Global,
     known: &mut Known,
-    kinds: &[usize],
-    region_free: &[bool],
-    body: &Body,
+    survey: &Survey<'_>,
     point: u32,
     many: bool,
     asked: &[(RegionId, RegionId)],
 ) -> Result<(), Memory>
-    requires known { AreKnown body.now known.old.entries.items }
-    requires point { point < length body.now.points }
-    requires asked { AreAskedAt body.now point asked.now }
-    ensures { OnOk result (AreKnown body.now known.new.entries.items) }
+    requires known { AreKnown survey.now.body.now known.old.entries.items }
+    requires point { point < length survey.now.body.now.points }
+    requires asked { AreAskedAt survey.now.body.now point asked.now }
+    ensures { OnOk result (AreKnown survey.now.body.now known.new.entries.items) }
 {
-    let statement = body.line_at(point);
+    let statement = survey.body.line_at(point);
     if !many && !goes_by_field(statement) {
         return Ok(());
     }
-    match digest_of(kinds, region_free, statement) {
+    match digest_of(survey.kinds, survey.region_free, statement) {
         Some(digest) => push(alloc, known, digest, point, asked),
         None => Ok(()),
     }

@@ -1,8 +1,8 @@
 //! Problems of bodies: the graph, the base elements that liveness gives, and the constraints that
 //! the statements ask. It knows no text.
 //!
-//! Reading order: `error`, `body_problem`, `facts`, `constraints`, `known`, `kinds`, `alike`,
-//! `digest`, `laws`. The definitions are in specs/.
+//! Reading order: `error`, `body_problem`, `facts`, `constraints`, `survey`, `known`, `kinds`,
+//! `alike`, `digest`, `laws`. The definitions are in specs/.
 #![tactic(auto)]
 
 mod alike;
@@ -14,6 +14,7 @@ mod facts;
 mod kinds;
 mod known;
 mod laws;
+mod survey;
 
 pub use body_problem::problem_of;
 pub use error::RuleError;

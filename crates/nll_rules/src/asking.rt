@@ -7,6 +7,7 @@ ghost use Rattle.nll_types.specs.Views.{tree, trees};
 ghost use Rattle.nll_rules.specs.Pairs.{AddsPairs, ArgumentAsks, AtOne, TypeAsks};
 ghost use Rattle.nll_rules.specs.Subtyping.{IsAsked, SubtypeAsks, SubtypeAsksBehind};
 
+use crate::reference::ReferenceType;
 use crate::sign::{region_parameters, sign_or, target_sign, times, type_parameters};
 use nll_problem::RegionId;
 use nll_sets::Memory;
@@ -30,6 +31,15 @@ fn ask_pair(
         }
     }
     Ok(())
+}
+
+// The signs of types in a row: that of where the row stands, those of the parameters for which the
+// types are, and that of a type for which there is no parameter.
+#[derive(Clone, Copy)]
+struct RowSigns<'a> {
+    outer: Sign,
+    parameters: &'a [Parameter],
+    other: Sign,
 }
 
 // Puts what is asked at region arguments behind the others.
@@ -73,22 +83,22 @@ pub fn subtyping(
 /// second behind the others.
 pub(crate) fn subtyping_of_reference(
     structs: &Structs,
-    region: RegionId,
-    mutable: bool,
-    target: &Ty,
+    one: &ReferenceType<'_>,
     other: &Ty,
     asked: &mut Vec<(RegionId, RegionId)>,
 ) -> Result<(), Memory>
     ensures { OnOk result (AddsPairs
-        (SubtypeAsks (structs_of structs.now) (reference region mutable (tree target.now))
+        (SubtypeAsks (structs_of structs.now)
+        (reference one.now.region one.now.mutable (tree one.now.target.now))
         (tree other.now))
         asked.old.items asked.new.items) }
 {
     match other {
         Ty::Reference(other_region, other_mutable, other_target) => {
-            ask_pair(Sign::Covariant, region, *other_region, asked)?;
-            if mutable == *other_mutable {
-                ask(structs, target, other_target, target_sign(mutable), asked)?;
+            ask_pair(Sign::Covariant, one.region, *other_region, asked)?;
+            if one.mutable == *other_mutable {
+                let sign = target_sign(one.mutable);
+                ask(structs, one.target, other_target, sign, asked)?;
             }
             Ok(())
         }
@@ -128,7 +138,12 @@ fn ask(
         Ty::Tuple(ts) => match other {
             Ty::Tuple(us) => {
                 let (ts, us) = (ts.as_slice(), us.as_slice());
-                ask_types(structs, &[], Sign::Covariant, ts, us, outer, asked)?;
+                let signs = RowSigns {
+                    outer,
+                    parameters: &[],
+                    other: Sign::Covariant,
+                };
+                ask_types(structs, &signs, ts, us, asked)?;
                 Ok(())
             }
             Ty::Int
@@ -144,7 +159,12 @@ fn ask(
                     ask_regions(parameters, rs.as_slice(), qs.as_slice(), outer, asked)?;
                     let parameters = type_parameters(structs, *number);
                     let (ts, us) = (ts.as_slice(), us.as_slice());
-                    ask_types(structs, parameters, Sign::Invariant, ts, us, outer, asked)?;
+                    let signs = RowSigns {
+                        outer,
+                        parameters,
+                        other: Sign::Invariant,
+                    };
+                    ask_types(structs, &signs, ts, us, asked)?;
                 }
                 Ok(())
             }
@@ -157,7 +177,12 @@ fn ask(
         Ty::Function(ts, t) => match other {
             Ty::Function(us, u) => {
                 let (ts, us) = (ts.as_slice(), us.as_slice());
-                ask_types(structs, &[], Sign::Contravariant, ts, us, outer, asked)?;
+                let signs = RowSigns {
+                    outer,
+                    parameters: &[],
+                    other: Sign::Contravariant,
+                };
+                ask_types(structs, &signs, ts, us, asked)?;
                 ask(structs, t, u, outer, asked)?;
                 Ok(())
             }
@@ -175,19 +200,18 @@ fn ask(
 #[cycle(asking)]
 fn ask_types(
     structs: &Structs,
-    parameters: &[Parameter],
-    other: Sign,
+    signs: &RowSigns<'_>,
     ts: &[Ty],
     us: &[Ty],
-    outer: Sign,
     asked: &mut Vec<(RegionId, RegionId)>,
 ) -> Result<(), Memory>
     ensures { OnOk result (AddsPairs
-        (AtOne (TypeAsks (structs_of structs.now) parameters.now other outer (trees ts.now)
-        (trees us.now))) asked.old.items asked.new.items) }
+        (AtOne (TypeAsks (structs_of structs.now) signs.now.parameters.now
+        signs.now.other signs.now.outer (trees ts.now) (trees us.now)))
+        asked.old.items asked.new.items) }
 {
     for place in 0..ts.len().min(us.len()) {
-        let sign = times(outer, sign_or(parameters, place, other));
+        let sign = times(signs.outer, sign_or(signs.parameters, place, signs.other));
         ask(structs, &ts[place], &us[place], sign, asked)?;
     }
     Ok(())

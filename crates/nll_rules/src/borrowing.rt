@@ -5,21 +5,22 @@ ghost use Rattle.nll_types.specs.Declarations.{structs_of};
 ghost use Rattle.nll_types.specs.Places.{path_of, type_of};
 ghost use Rattle.nll_types.specs.Types.{reference};
 ghost use Rattle.nll_types.specs.Views.{tree};
-ghost use Rattle.nll_statements.specs.Statements.{borrow};
+ghost use Rattle.nll_statements.specs.Statements as spec;
 ghost use Rattle.nll_rules.specs.Asking.{Asks};
 ghost use Rattle.nll_rules.specs.Pairs.{AddsPairs, BothAsk, OneOutlives};
 ghost use Rattle.nll_rules.specs.Reborrows.{RestsOn};
 ghost use Rattle.nll_rules.specs.Leading.{IsThere};
-ghost use Rattle.nll_rules.specs.RegionFree.{AreRegionFree};
 
 use crate::leading::has_type;
 use crate::marking::is_of_marked;
 use crate::places::ask_reference_into;
 use crate::reborrow::rests_on;
+use crate::reference::{Borrow, ReferenceType};
+use crate::variables::Variables;
 use crate::written::written_type;
 use nll_problem::RegionId;
 use nll_sets::Memory;
-use nll_types::{Place, Structs, Ty, place_type};
+use nll_types::{Place, Ty, place_type};
 use std::alloc::Global;
 
 // Puts behind the others that each of these regions outlives this one.
@@ -37,39 +38,49 @@ fn ask_outlives(
     Ok(())
 }
 
-// Puts behind the others what a reference to the borrowed place asks where it goes to the first
-// place.
+// The type of a borrow's reference, where that of the borrowed place is this one.
+fn reference_to<'a>(borrow: &Borrow<'_>, target: &'a Ty) -> ReferenceType<'a>
+    ensures region { result.region ≡ borrow.now.region }
+    ensures mutable { result.mutable ≡ borrow.now.mutable }
+    ensures target { result.target.now ≡ target.now }
+{
+    ReferenceType {
+        region: borrow.region,
+        mutable: borrow.mutable,
+        target,
+    }
+}
+
+// Puts what a borrow's reference asks where it goes to a place behind the others.
 fn ask_target(
     alloc: Global,
-    structs: &Structs,
-    variables: &[Ty],
+    variables: &Variables<'_>,
     place: &Place,
-    region: RegionId,
-    mutable: bool,
-    borrowed: &Place,
+    borrow: &Borrow<'_>,
     asked: &mut Vec<(RegionId, RegionId)>,
 ) -> Result<(), Memory>
     ensures { OnOk result (AddsPairs
-        (BothAsk (structs_of structs.now)
-        (option_map (reference region mutable)
-        (type_of (structs_of structs.now) (map tree variables.now) (path_of borrowed.now)))
-        (type_of (structs_of structs.now) (map tree variables.now) (path_of place.now)))
+        (BothAsk (structs_of variables.now.structs.now)
+        (option_map (reference borrow.now.region borrow.now.mutable)
+        (type_of (structs_of variables.now.structs.now) (map tree variables.now.types.now)
+        (path_of borrow.now.borrowed.now)))
+        (type_of (structs_of variables.now.structs.now) (map tree variables.now.types.now)
+        (path_of place.now)))
         asked.old.items asked.new.items) }
 {
-    match written_type(variables, borrowed) {
+    match written_type(variables.types, borrow.borrowed) {
         Some(target) => {
-            ask_reference_into(
-                alloc, structs, variables, region, mutable, target, place, asked,
-            )?;
+            let one = reference_to(borrow, target);
+            ask_reference_into(alloc, variables, &one, place, asked)?;
             Ok(())
         }
         None => {
-            let made = place_type(alloc, structs, variables, borrowed)?;
+            let borrowed = borrow.borrowed;
+            let made = place_type(alloc, variables.structs, variables.types, borrowed)?;
             match &made {
                 Some(target) => {
-                    ask_reference_into(
-                        alloc, structs, variables, region, mutable, target, place, asked,
-                    )?;
+                    let one = reference_to(borrow, target);
+                    ask_reference_into(alloc, variables, &one, place, asked)?;
                     Ok(())
                 }
                 None => Ok(()),
@@ -79,124 +90,85 @@ fn ask_target(
 }
 
 // Whether a place has a type, and its variable is marked.
-fn is_bare_place(structs: &Structs, variables: &[Ty], region_free: &[bool], place: &Place) -> bool
+fn is_bare_place(variables: &Variables<'_>, place: &Place) -> bool
     ensures marked { IsTrue result
-        → slice_get region_free.now (path_of place.now).variable ≡ Some true }
+        → slice_get variables.now.region_free.now (path_of place.now).variable ≡ Some true }
     ensures there { IsTrue result → IsThere
-        (type_of (structs_of structs.now) (map tree variables.now) (path_of place.now)) }
+        (type_of (structs_of variables.now.structs.now) (map tree variables.now.types.now)
+        (path_of place.now)) }
 {
-    if !is_of_marked(region_free, place) {
+    if !is_of_marked(variables.region_free, place) {
         return false;
     }
-    let there = has_type(structs, variables, place);
+    let there = has_type(variables.structs, variables.types, place);
     there
 }
 
-// Puts behind the others what a reference to the borrowed place asks where it goes to the first
-// place.
+// Puts what a borrow's reference asks where it goes to a place behind the others.
 fn ask_reference(
     alloc: Global,
-    structs: &Structs,
-    variables: &[Ty],
-    region_free: &[bool],
+    variables: &Variables<'_>,
     place: &Place,
-    region: RegionId,
-    mutable: bool,
-    borrowed: &Place,
+    borrow: &Borrow<'_>,
     asked: &mut Vec<(RegionId, RegionId)>,
 ) -> Result<(), Memory>
-    requires { AreRegionFree (structs_of structs.now) (map tree variables.now) region_free.now }
     ensures { OnOk result (AddsPairs
-        (BothAsk (structs_of structs.now)
-        (option_map (reference region mutable)
-        (type_of (structs_of structs.now) (map tree variables.now) (path_of borrowed.now)))
-        (type_of (structs_of structs.now) (map tree variables.now) (path_of place.now)))
+        (BothAsk (structs_of variables.now.structs.now)
+        (option_map (reference borrow.now.region borrow.now.mutable)
+        (type_of (structs_of variables.now.structs.now) (map tree variables.now.types.now)
+        (path_of borrow.now.borrowed.now)))
+        (type_of (structs_of variables.now.structs.now) (map tree variables.now.types.now)
+        (path_of place.now)))
         asked.old.items asked.new.items) }
 {
-    if is_of_marked(region_free, place) {
+    if is_of_marked(variables.region_free, place) {
         return Ok(());
     }
-    if is_bare_place(structs, variables, region_free, borrowed) {
+    if is_bare_place(variables, borrow.borrowed) {
         // An `int` stands for a type without regions.
-        ask_reference_into(
-            alloc,
-            structs,
-            variables,
-            region,
-            mutable,
-            &Ty::Int,
-            place,
-            asked,
-        )?;
+        let one = reference_to(borrow, &Ty::Int);
+        ask_reference_into(alloc, variables, &one, place, asked)?;
         return Ok(());
     }
-    ask_target(
-        alloc, structs, variables, place, region, mutable, borrowed, asked,
-    )?;
+    ask_target(alloc, variables, place, borrow, asked)?;
     Ok(())
 }
 
-// Puts behind the others that the regions on which a reborrow of the place rests outlive this one.
+// Puts behind the others that the regions on which a borrow rests outlive its own.
 fn ask_rests(
     alloc: Global,
-    structs: &Structs,
-    variables: &[Ty],
-    region_free: &[bool],
-    region: RegionId,
-    borrowed: &Place,
+    variables: &Variables<'_>,
+    borrow: &Borrow<'_>,
     asked: &mut Vec<(RegionId, RegionId)>,
 ) -> Result<(), Memory>
-    requires { AreRegionFree (structs_of structs.now) (map tree variables.now) region_free.now }
     ensures { OnOk result (AddsPairs
-        (λ x. RestsOn (structs_of structs.now) (map tree variables.now) (path_of borrowed.now) x.0
-        × (x.1 ≡ region))
+        (λ x. RestsOn (structs_of variables.now.structs.now) (map tree variables.now.types.now)
+        (path_of borrow.now.borrowed.now) x.0 × (x.1 ≡ borrow.now.region))
         asked.old.items asked.new.items) }
 {
-    if is_of_marked(region_free, borrowed) {
+    if is_of_marked(variables.region_free, borrow.borrowed) {
         return Ok(());
     }
-    let regions = rests_on(alloc, structs, variables, borrowed)?;
-    ask_outlives(regions.as_slice(), region, asked)?;
+    let regions = rests_on(alloc, variables.structs, variables.types, borrow.borrowed)?;
+    ask_outlives(regions.as_slice(), borrow.region, asked)?;
     Ok(())
 }
 
-// Puts what a reference to the borrowed place that goes to the first place asks behind the others.
+// Puts what a borrow whose reference goes to a place asks behind the others.
 pub(crate) fn ask_borrow(
     alloc: Global,
-    structs: &Structs,
-    variables: &[Ty],
-    region_free: &[bool],
+    variables: &Variables<'_>,
     place: &Place,
-    region: RegionId,
-    mutable: bool,
-    borrowed: &Place,
+    borrow: &Borrow<'_>,
     asked: &mut Vec<(RegionId, RegionId)>,
 ) -> Result<(), Memory>
-    requires { AreRegionFree (structs_of structs.now) (map tree variables.now) region_free.now }
     ensures { OnOk result (AddsPairs
-        (Asks (structs_of structs.now) (map tree variables.now)
-        (borrow (path_of place.now) region mutable (path_of borrowed.now)))
+        (Asks (structs_of variables.now.structs.now) (map tree variables.now.types.now)
+        (spec.borrow (path_of place.now) borrow.now.region borrow.now.mutable
+        (path_of borrow.now.borrowed.now)))
         asked.old.items asked.new.items) }
 {
-    ask_reference(
-        alloc,
-        structs,
-        variables,
-        region_free,
-        place,
-        region,
-        mutable,
-        borrowed,
-        asked,
-    )?;
-    ask_rests(
-        alloc,
-        structs,
-        variables,
-        region_free,
-        region,
-        borrowed,
-        asked,
-    )?;
+    ask_reference(alloc, variables, place, borrow, asked)?;
+    ask_rests(alloc, variables, borrow, asked)?;
     Ok(())
 }

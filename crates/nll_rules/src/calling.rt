@@ -9,56 +9,51 @@ ghost use Rattle.nll_types.specs.Views.{tree};
 ghost use Rattle.nll_statements.specs.Statements as spec;
 ghost use Rattle.nll_rules.specs.Asking.{Asks};
 ghost use Rattle.nll_rules.specs.Pairs.{AddsPairs, AtOne, BothAsk, InputAsks};
-ghost use Rattle.nll_rules.specs.RegionFree.{AreRegionFree};
 
 use crate::assigning::{ask_operand, is_silent};
 use crate::making::ask_result;
+use crate::variables::Variables;
 use nll_problem::RegionId;
 use nll_sets::Memory;
 use nll_statements::Call;
-use nll_types::{Operand, Structs, Ty};
+use nll_types::{Operand, Ty};
 use std::alloc::Global;
 
 // Puts what an operand for a parameter of a type asks behind the others.
 fn ask_input(
     alloc: Global,
-    structs: &Structs,
-    variables: &[Ty],
-    region_free: &[bool],
+    variables: &Variables<'_>,
     argument: &(Operand, Ty),
     asked: &mut Vec<(RegionId, RegionId)>,
 ) -> Result<(), Memory>
-    requires { AreRegionFree (structs_of structs.now) (map tree variables.now) region_free.now }
     ensures { OnOk result (AddsPairs
-        (BothAsk (structs_of structs.now)
-        (operands.operand_type (structs_of structs.now) (map tree variables.now)
-        (operand_of argument.now.0)) (Some (tree argument.now.1)))
+        (BothAsk (structs_of variables.now.structs.now)
+        (operands.operand_type (structs_of variables.now.structs.now)
+        (map tree variables.now.types.now) (operand_of argument.now.0))
+        (Some (tree argument.now.1)))
         asked.old.items asked.new.items) }
 {
-    if is_silent(region_free, &argument.0) {
+    if is_silent(variables.region_free, &argument.0) {
         return Ok(());
     }
-    ask_operand(alloc, structs, variables, &argument.0, &argument.1, asked)?;
+    ask_operand(alloc, variables, &argument.0, &argument.1, asked)?;
     Ok(())
 }
 
 // Puts what the operands of a call ask behind the others.
 fn ask_inputs(
     alloc: Global,
-    structs: &Structs,
-    variables: &[Ty],
-    region_free: &[bool],
+    variables: &Variables<'_>,
     arguments: &[(Operand, Ty)],
     asked: &mut Vec<(RegionId, RegionId)>,
 ) -> Result<(), Memory>
-    requires { AreRegionFree (structs_of structs.now) (map tree variables.now) region_free.now }
     ensures { OnOk result (AddsPairs
-        (AtOne (InputAsks (structs_of structs.now) (map tree variables.now)
+        (AtOne (InputAsks (structs_of variables.now.structs.now)
+        (map tree variables.now.types.now)
         (map (λ a. (operand_of a.0, tree a.1)) arguments.now))) asked.old.items asked.new.items) }
 {
     for place in 0..arguments.len() {
-        let argument = &arguments[place];
-        ask_input(alloc, structs, variables, region_free, argument, asked)?;
+        ask_input(alloc, variables, &arguments[place], asked)?;
     }
     Ok(())
 }
@@ -66,24 +61,20 @@ fn ask_inputs(
 // Puts what a call asks behind the others.
 pub(crate) fn ask_call(
     alloc: Global,
-    structs: &Structs,
-    variables: &[Ty],
-    region_free: &[bool],
+    variables: &Variables<'_>,
     call: &Call<RegionId, Ty>,
     asked: &mut Vec<(RegionId, RegionId)>,
 ) -> Result<(), Memory>
-    requires { AreRegionFree (structs_of structs.now) (map tree variables.now) region_free.now }
     ensures { OnOk result (AddsPairs
-        (Asks (structs_of structs.now) (map tree variables.now)
+        (Asks (structs_of variables.now.structs.now) (map tree variables.now.types.now)
         (spec.call (path_of call.now.place)
         (map (λ a. (operand_of a.0, tree a.1)) call.now.arguments.items) (tree call.now.result)
         call.now.wheres.items call.now.target call.now.unwind))
         asked.old.items asked.new.items) }
 {
     let arguments = call.arguments.as_slice();
-    ask_inputs(alloc, structs, variables, region_free, arguments, asked)?;
-    let (ty, place) = (&call.result, &call.place);
-    ask_result(alloc, structs, variables, region_free, ty, place, asked)?;
+    ask_inputs(alloc, variables, arguments, asked)?;
+    ask_result(alloc, variables, &call.result, &call.place, asked)?;
     asked.extend_from_slice(call.wheres.as_slice())?;
     Ok(())
 }

@@ -10,11 +10,14 @@ mod making;
 mod marking;
 mod places;
 mod reborrow;
+mod reference;
 mod sign;
 mod statement;
+mod variables;
 mod written;
 
 pub use asking::subtyping;
 pub use marking::region_free;
 pub use reborrow::rests_on;
 pub use statement::asks;
+pub use variables::Variables;

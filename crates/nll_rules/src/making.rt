@@ -7,48 +7,48 @@ ghost use Rattle.nll_types.specs.Operands.{operand_of};
 ghost use Rattle.nll_types.specs.Places.{behind, path_of, type_of};
 ghost use Rattle.nll_types.specs.Views.{tree};
 ghost use Rattle.nll_types.specs.declared.place.Projection.TheVariants.{Field as field};
-ghost use Rattle.nll_statements.specs.Statements.{make};
+ghost use Rattle.nll_statements.specs.Statements as spec;
 ghost use Rattle.nll_rules.specs.Asking.{Asks};
 ghost use Rattle.nll_rules.specs.Pairs.{AddsPairs, AtOne, BothAsk, PartAsks};
-ghost use Rattle.nll_rules.specs.RegionFree.{AreRegionFree};
 
 use crate::assigning::{ask_operand, ask_operand_to, is_silent};
 use crate::marking::is_of_marked;
 use crate::places::ask_into;
+use crate::variables::Variables;
 use nll_problem::RegionId;
 use nll_sets::Memory;
-use nll_types::{Operand, Place, Structs, Ty, field_type};
+use nll_statements::Make;
+use nll_types::{Operand, Place, Ty, field_type};
 use std::alloc::Global;
 
 // Puts what an operand that becomes the part at a place of a tuple, or the field of a struct, asks
 // behind the others.
 fn ask_part_of(
     alloc: Global,
-    structs: &Structs,
-    variables: &[Ty],
+    variables: &Variables<'_>,
     ty: &Ty,
     operand: &Operand,
     place: usize,
     asked: &mut Vec<(RegionId, RegionId)>,
 ) -> Result<(), Memory>
     ensures { OnOk result (AddsPairs
-        (BothAsk (structs_of structs.now)
-        (operands.operand_type (structs_of structs.now) (map tree variables.now)
-        (operand_of operand.now))
-        (behind (structs_of structs.now) (field place) (tree ty.now)))
+        (BothAsk (structs_of variables.now.structs.now)
+        (operands.operand_type (structs_of variables.now.structs.now)
+        (map tree variables.now.types.now) (operand_of operand.now))
+        (behind (structs_of variables.now.structs.now) (field place) (tree ty.now)))
         asked.old.items asked.new.items) }
 {
     match ty {
         Ty::Tuple(parts) => {
             if place < parts.len() {
-                ask_operand(alloc, structs, variables, operand, &parts[place], asked)?;
+                ask_operand(alloc, variables, operand, &parts[place], asked)?;
             }
             Ok(())
         }
         Ty::Named(number, regions, types) => {
             let (regions, types) = (regions.as_slice(), types.as_slice());
-            let made = field_type(alloc, structs, *number, regions, types, place)?;
-            ask_operand_to(alloc, structs, variables, operand, &made, asked)?;
+            let made = field_type(alloc, variables.structs, *number, regions, types, place)?;
+            ask_operand_to(alloc, variables, operand, &made, asked)?;
             Ok(())
         }
         Ty::Int | Ty::Parameter(_) | Ty::Reference(_, _, _) | Ty::Function(_, _) => Ok(()),
@@ -58,55 +58,41 @@ fn ask_part_of(
 // Puts what the operand at a place, of which a type is made, asks behind the others.
 fn ask_part(
     alloc: Global,
-    structs: &Structs,
-    variables: &[Ty],
-    region_free: &[bool],
+    variables: &Variables<'_>,
     ty: &Ty,
     operand: &Operand,
     place: usize,
     asked: &mut Vec<(RegionId, RegionId)>,
 ) -> Result<(), Memory>
-    requires { AreRegionFree (structs_of structs.now) (map tree variables.now) region_free.now }
     ensures { OnOk result (AddsPairs
-        (BothAsk (structs_of structs.now)
-        (operands.operand_type (structs_of structs.now) (map tree variables.now)
-        (operand_of operand.now))
-        (behind (structs_of structs.now) (field place) (tree ty.now)))
+        (BothAsk (structs_of variables.now.structs.now)
+        (operands.operand_type (structs_of variables.now.structs.now)
+        (map tree variables.now.types.now) (operand_of operand.now))
+        (behind (structs_of variables.now.structs.now) (field place) (tree ty.now)))
         asked.old.items asked.new.items) }
 {
-    if is_silent(region_free, operand) {
+    if is_silent(variables.region_free, operand) {
         return Ok(());
     }
-    ask_part_of(alloc, structs, variables, ty, operand, place, asked)?;
+    ask_part_of(alloc, variables, ty, operand, place, asked)?;
     Ok(())
 }
 
 // Puts what the operands of which a type is made ask behind the others.
 fn ask_parts(
     alloc: Global,
-    structs: &Structs,
-    variables: &[Ty],
-    region_free: &[bool],
+    variables: &Variables<'_>,
     ty: &Ty,
     operands: &[Operand],
     asked: &mut Vec<(RegionId, RegionId)>,
 ) -> Result<(), Memory>
-    requires { AreRegionFree (structs_of structs.now) (map tree variables.now) region_free.now }
     ensures { OnOk result (AddsPairs
-        (AtOne (PartAsks (structs_of structs.now) (map tree variables.now) (tree ty.now)
+        (AtOne (PartAsks (structs_of variables.now.structs.now)
+        (map tree variables.now.types.now) (tree ty.now)
         (map operand_of operands.now))) asked.old.items asked.new.items) }
 {
     for place in 0..operands.len() {
-        ask_part(
-            alloc,
-            structs,
-            variables,
-            region_free,
-            ty,
-            &operands[place],
-            place,
-            asked,
-        )?;
+        ask_part(alloc, variables, ty, &operands[place], place, asked)?;
     }
     Ok(())
 }
@@ -114,45 +100,38 @@ fn ask_parts(
 // Puts behind the others what a value of a type that goes to a place asks.
 pub(crate) fn ask_result(
     alloc: Global,
-    structs: &Structs,
-    variables: &[Ty],
-    region_free: &[bool],
+    variables: &Variables<'_>,
     ty: &Ty,
     place: &Place,
     asked: &mut Vec<(RegionId, RegionId)>,
 ) -> Result<(), Memory>
-    requires { AreRegionFree (structs_of structs.now) (map tree variables.now) region_free.now }
     ensures { OnOk result (AddsPairs
-        (BothAsk (structs_of structs.now) (Some (tree ty.now))
-        (type_of (structs_of structs.now) (map tree variables.now) (path_of place.now)))
+        (BothAsk (structs_of variables.now.structs.now) (Some (tree ty.now))
+        (type_of (structs_of variables.now.structs.now) (map tree variables.now.types.now)
+        (path_of place.now)))
         asked.old.items asked.new.items) }
 {
-    if is_of_marked(region_free, place) {
+    if is_of_marked(variables.region_free, place) {
         return Ok(());
     }
-    ask_into(alloc, structs, variables, ty, place, asked)?;
+    ask_into(alloc, variables, ty, place, asked)?;
     Ok(())
 }
 
-// Puts what a tuple or struct of a type that is made of operands and goes to a place asks behind
-// the others.
+// Puts what a tuple or struct that is made of operands and goes to a place asks behind the others.
 pub(crate) fn ask_make(
     alloc: Global,
-    structs: &Structs,
-    variables: &[Ty],
-    region_free: &[bool],
-    place: &Place,
-    ty: &Ty,
-    operands: &[Operand],
+    variables: &Variables<'_>,
+    make: &Make<Ty>,
     asked: &mut Vec<(RegionId, RegionId)>,
 ) -> Result<(), Memory>
-    requires { AreRegionFree (structs_of structs.now) (map tree variables.now) region_free.now }
     ensures { OnOk result (AddsPairs
-        (Asks (structs_of structs.now) (map tree variables.now)
-        (make (path_of place.now) (tree ty.now) (map operand_of operands.now)))
+        (Asks (structs_of variables.now.structs.now) (map tree variables.now.types.now)
+        (spec.make (path_of make.now.place) (tree make.now.ty)
+        (map operand_of make.now.operands.items)))
         asked.old.items asked.new.items) }
 {
-    ask_parts(alloc, structs, variables, region_free, ty, operands, asked)?;
-    ask_result(alloc, structs, variables, region_free, ty, place, asked)?;
+    ask_parts(alloc, variables, &make.ty, make.operands.as_slice(), asked)?;
+    ask_result(alloc, variables, &make.ty, &make.place, asked)?;
     Ok(())
 }

@@ -9,6 +9,8 @@ ghost use Rattle.nll_types.specs.Views.{tree};
 ghost use Rattle.nll_rules.specs.Pairs.{AddsPairs, BothAsk};
 
 use crate::asking::{subtyping, subtyping_of_reference};
+use crate::reference::ReferenceType;
+use crate::variables::Variables;
 use crate::written::written_type;
 use nll_problem::RegionId;
 use nll_sets::Memory;
@@ -38,26 +40,26 @@ fn ask_before(
 /// Puts what a value of a place that goes to one of this type asks behind the others.
 pub(crate) fn ask_from(
     alloc: Global,
-    structs: &Structs,
-    variables: &[Ty],
+    variables: &Variables<'_>,
     place: &Place,
     other: &Ty,
     asked: &mut Vec<(RegionId, RegionId)>,
 ) -> Result<(), Memory>
     ensures { OnOk result (AddsPairs
-        (BothAsk (structs_of structs.now)
-        (type_of (structs_of structs.now) (map tree variables.now) (path_of place.now))
+        (BothAsk (structs_of variables.now.structs.now)
+        (type_of (structs_of variables.now.structs.now) (map tree variables.now.types.now)
+        (path_of place.now))
         (Some (tree other.now)))
         asked.old.items asked.new.items) }
 {
-    match written_type(variables, place) {
+    match written_type(variables.types, place) {
         Some(one) => {
-            subtyping(structs, one, other, asked)?;
+            subtyping(variables.structs, one, other, asked)?;
             Ok(())
         }
         None => {
-            let one = place_type(alloc, structs, variables, place)?;
-            let told = ask_before(structs, &one, other, asked);
+            let one = place_type(alloc, variables.structs, variables.types, place)?;
+            let told = ask_before(variables.structs, &one, other, asked);
             told
         }
     }
@@ -86,25 +88,25 @@ fn ask_behind(
 /// Puts what a value of this type that goes to a place asks behind the others.
 pub(crate) fn ask_into(
     alloc: Global,
-    structs: &Structs,
-    variables: &[Ty],
+    variables: &Variables<'_>,
     one: &Ty,
     place: &Place,
     asked: &mut Vec<(RegionId, RegionId)>,
 ) -> Result<(), Memory>
     ensures { OnOk result (AddsPairs
-        (BothAsk (structs_of structs.now) (Some (tree one.now))
-        (type_of (structs_of structs.now) (map tree variables.now) (path_of place.now)))
+        (BothAsk (structs_of variables.now.structs.now) (Some (tree one.now))
+        (type_of (structs_of variables.now.structs.now) (map tree variables.now.types.now)
+        (path_of place.now)))
         asked.old.items asked.new.items) }
 {
-    match written_type(variables, place) {
+    match written_type(variables.types, place) {
         Some(other) => {
-            subtyping(structs, one, other, asked)?;
+            subtyping(variables.structs, one, other, asked)?;
             Ok(())
         }
         None => {
-            let other = place_type(alloc, structs, variables, place)?;
-            let told = ask_behind(structs, one, &other, asked);
+            let other = place_type(alloc, variables.structs, variables.types, place)?;
+            let told = ask_behind(variables.structs, one, &other, asked);
             told
         }
     }
@@ -114,50 +116,48 @@ pub(crate) fn ask_into(
 // there.
 fn ask_reference_behind(
     structs: &Structs,
-    region: RegionId,
-    mutable: bool,
-    target: &Ty,
+    one: &ReferenceType<'_>,
     other: &Option<Ty>,
     asked: &mut Vec<(RegionId, RegionId)>,
 ) -> Result<(), Memory>
     ensures { OnOk result (AddsPairs
-        (BothAsk (structs_of structs.now) (Some (reference region mutable (tree target.now)))
+        (BothAsk (structs_of structs.now)
+        (Some (reference one.now.region one.now.mutable (tree one.now.target.now)))
         (option_map tree other.now))
         asked.old.items asked.new.items) }
 {
     match other {
         Some(other) => {
-            subtyping_of_reference(structs, region, mutable, target, other, asked)?;
+            subtyping_of_reference(structs, one, other, asked)?;
             Ok(())
         }
         None => Ok(()),
     }
 }
 
-/// Puts what a reference to this type that goes to a place asks behind the others.
+/// Puts what a reference of this type that goes to a place asks behind the others.
 pub(crate) fn ask_reference_into(
     alloc: Global,
-    structs: &Structs,
-    variables: &[Ty],
-    region: RegionId,
-    mutable: bool,
-    target: &Ty,
+    variables: &Variables<'_>,
+    one: &ReferenceType<'_>,
     place: &Place,
     asked: &mut Vec<(RegionId, RegionId)>,
 ) -> Result<(), Memory>
     ensures { OnOk result (AddsPairs
-        (BothAsk (structs_of structs.now) (Some (reference region mutable (tree target.now)))
-        (type_of (structs_of structs.now) (map tree variables.now) (path_of place.now)))
+        (BothAsk (structs_of variables.now.structs.now)
+        (Some (reference one.now.region one.now.mutable (tree one.now.target.now)))
+        (type_of (structs_of variables.now.structs.now) (map tree variables.now.types.now)
+        (path_of place.now)))
         asked.old.items asked.new.items) }
 {
-    match written_type(variables, place) {
+    match written_type(variables.types, place) {
         Some(other) => {
-            subtyping_of_reference(structs, region, mutable, target, other, asked)?;
+            subtyping_of_reference(variables.structs, one, other, asked)?;
             Ok(())
         }
         None => {
-            let other = place_type(alloc, structs, variables, place)?;
-            let told = ask_reference_behind(structs, region, mutable, target, &other, asked);
+            let other = place_type(alloc, variables.structs, variables.types, place)?;
+            let told = ask_reference_behind(variables.structs, one, &other, asked);
             told
         }
     }

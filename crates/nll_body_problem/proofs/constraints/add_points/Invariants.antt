@@ -4,6 +4,6 @@ use Rattle.nll_body_problem.proofs.constraints.add_points.Given as goal
 
 abbrev pub invariant-loop-point : goal.invariant-loop-point
 invariant-loop-point l = record {
-  adds : AddsConstraints (IsAskedBefore l.body l.point) l.fn.builder l.builder;
-  known : AreKnown l.body l.known.entries.items;
+  adds : AddsConstraints (IsAskedBefore l.survey.body.now l.point) l.fn.builder l.builder;
+  known : AreKnown l.survey.body.now l.known.entries.items;
 }

@@ -142,9 +142,9 @@ ask_types-loop-place-preserved t c =
     let b = c.index-us-place.result in
     let here : n < length ts = omega (arith, c.min-place-end.ensures) in
     let there : n < length us = omega (arith, c.min-place-end.ensures) in
-    below_more _ _ n _ _ _ (λ x. type_at_place (structs_of c.args.structs.now) c.args.parameters.now c.args.other c.args.outer (trees ts) (trees us) n (tree a) (tree b) x
+    below_more _ _ n _ _ _ (λ x. type_at_place (structs_of c.args.structs.now) c.args.signs.now.parameters.now c.args.signs.now.other c.args.signs.now.outer (trees ts) (trees us) n (tree a) (tree b) x
     (type_at_item ts n a (slice_get_read ts _ n a refl here c.index-ts-place.is)) (type_at_item us n b (slice_get_read us _ n b refl there c.index-us-place.is)))
     c.loop-place.invariant (rw (c.times-sign.ensures, c.sign_or.ensures) at c.in_ok-ask.ensures)
 
 pub ask_types-returns : goal.ask_types-returns
-ask_types-returns t c = below_all _ c.loop-place.place _ _ (λ k x p. types_within (structs_of c.args.structs.now) c.args.parameters.now c.args.other c.args.outer c.args.ts.now c.args.us.now c.loop-place.place k x (omega (arith, c.min-place-end.ensures)) p) c.loop-place.invariant
+ask_types-returns t c = below_all _ c.loop-place.place _ _ (λ k x p. types_within (structs_of c.args.structs.now) c.args.signs.now.parameters.now c.args.signs.now.other c.args.signs.now.outer c.args.ts.now c.args.us.now c.loop-place.place k x (omega (arith, c.min-place-end.ensures)) p) c.loop-place.invariant

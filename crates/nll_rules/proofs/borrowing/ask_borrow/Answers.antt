@@ -8,5 +8,5 @@ use Rattle.nll_rules.proofs.borrowing.ask_borrow.Goals as goal
 
 pub returns : goal.returns
 returns c =
-    adds_same _ _ _ _ (λ x. asks_borrow (structs_of c.args.structs.now) (map tree c.args.variables.now) (path_of c.args.place.now) c.args.region c.args.mutable (path_of c.args.borrowed.now) x)
+    adds_same _ _ _ _ (λ x. asks_borrow (structs_of c.args.variables.now.structs.now) (map tree c.args.variables.now.types.now) (path_of c.args.place.now) c.args.borrow.now.region c.args.borrow.now.mutable (path_of c.args.borrow.now.borrowed.now) x)
     (adds_append _ _ _ _ _ c.in_ok-ask_reference.ensures c.in_ok-ask_rests.ensures)

@@ -12,7 +12,7 @@ use Rattle.nll_rules.proofs.making.ask_part_of.Goals as goal
 
 pub returns-in_ok-ask_operand-in-Tuple : goal.returns-in_ok-ask_operand-in-Tuple
 returns-in_ok-ask_operand-in-Tuple c =
-    let structs = structs_of c.args.structs.now in
+    let structs = structs_of c.args.variables.now.structs.now in
     let parts = c.in-Tuple.parts.items in
     let item = c.index.result.now in
     let within : c.args.place < length parts = omega arith in
@@ -21,7 +21,7 @@ returns-in_ok-ask_operand-in-Tuple c =
 
 pub returns-else-place-len : goal.returns-else-place-len
 returns-else-place-len c =
-    let structs = structs_of c.args.structs.now in
+    let structs = structs_of c.args.variables.now.structs.now in
     let parts = c.in-Tuple.parts.items in
     let past : length parts ≤ c.args.place = omega arith in
     let none = ap (behind structs (Field c.args.place)) (ap tree c.in-Tuple.is ∙ tree_tuple _) ∙ type_at_trees parts c.args.place ∙ ap (option_map tree) (slice_get_past parts c.args.place past) in
@@ -29,7 +29,7 @@ returns-else-place-len c =
 
 pub returns-in_ok-ask_operand_to-in-Named : goal.returns-in_ok-ask_operand_to-in-Named
 returns-in_ok-ask_operand_to-in-Named c =
-    let structs = structs_of c.args.structs.now in
+    let structs = structs_of c.args.variables.now.structs.now in
     let made = rw (c.as_slice-regions.ensures.value, c.as_slice-types.ensures.value) at c.in_ok-made-in-Named.ensures in
     let there = ap (behind structs (Field c.args.place)) (ap tree c.in-Named.is ∙ tree_named _ _ _) ∙ sym made in
     rw there c.in_ok-ask_operand_to-in-Named.ensures

@@ -13,12 +13,12 @@ use Rattle.nll_rules.proofs.statement.asks.Goals as goal
 
 pub returns-in_ok-ask_assign-in-Assign : goal.returns-in_ok-ask_assign-in-Assign
 returns-in_ok-ask_assign-in-Assign c =
-    rw c.in-Assign.is (adds_same _ _ _ _ (λ x. asks_assign (structs_of c.args.structs.now) (map tree c.args.variables.now) (path_of c.in-Assign.place) (operand_of c.in-Assign.operand) x) c.in_ok-ask_assign-in-Assign.ensures)
+    rw c.in-Assign.is (adds_same _ _ _ _ (λ x. asks_assign (structs_of c.args.variables.now.structs.now) (map tree c.args.variables.now.types.now) (path_of c.in-Assign.place) (operand_of c.in-Assign.operand) x) c.in_ok-ask_assign-in-Assign.ensures)
 
 pub returns-in_ok-ask_call-in-Call : goal.returns-in_ok-ask_call-in-Call
 returns-in_ok-ask_call-in-Call c =
-    let structs = structs_of c.args.structs.now in
-    let types = map tree c.args.variables.now in
+    let structs = structs_of c.args.variables.now.structs.now in
+    let types = map tree c.args.variables.now.types.now in
     let called = c.in-Call.call.value in
     let old = c.args.asked.now.items in
     let new = c.ask_call.new.asked.items in
