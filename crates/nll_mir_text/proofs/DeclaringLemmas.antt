@@ -5,18 +5,19 @@ use Rattle.std.proofs.lemmas.List.{length-map, map_push}
 use Rattle.nll_problem.specs.Limits.{most_bytes}
 use Rattle.nll_types.specs.Structs.{Struct, HasGoodFields}
 use Rattle.nll_types.specs.Tables.{Tables}
+use Rattle.nll_types.specs.Types.{TypeTree, tuple}
 use Rattle.nll_types.specs.Views.{trees}
 use Rattle.nll_types.specs.Declarations.{structs_of}
 use Rattle.nll_types.specs.Declarations as kept
 use Rattle.nll_types.specs.declared.node.Node.{Node}
 use Rattle.nll_types.specs.declared.structs.Declaration.{Declaration}
-use Rattle.nll_type_grammar.specs.WrittenTypes.{Name, WrittenTypes}
+use Rattle.nll_type_grammar.specs.WrittenTypes.{Name, WrittenType, WrittenTypes}
 use Rattle.nll_type_grammar.specs.TypeTexts.{written}
 use Rattle.nll_mir_grammar.specs.Lines.{parameter_of}
 use Rattle.nll_mir_grammar.specs.MirForms.{WrittenParameter}
-use Rattle.nll_mir_grammar.specs.Tuples.{parts}
+use Rattle.nll_mir_grammar.specs.Tuples.{IsTuple, parts}
 use Rattle.nll_mir_grammar.specs.declared.line.StructText.{StructText}
-use Rattle.nll_naming.specs.Naming.{all_meant}
+use Rattle.nll_naming.specs.Naming.{Scope, all_meant, meant}
 use Rattle.nll_mir_text.specs.MirSaid.{Said, says, declared, field_scope, is_region, regions_in, types_in}
 use Rattle.nll_mir_text.specs.MirFaults.{first_fault}
 use Rattle.nll_mir_text.specs.MirReading.{said_by, AreKinds, AreShapes, IsDue, IsTaken, struct_form}
@@ -31,6 +32,14 @@ use Rattle.nll_mir_text.proofs.StructLemmas.{IsFine, struct_fine, kinds_pushed, 
 abbrev said_with : Said → List Name → List (List Bool) → List Struct → Said
 said_with s names kinds structs = record s { reached = 5; struct_names = names; kinds = kinds; structs = structs }
 
+-- the tree of resolved fields is a tuple of what they mean
+pub fields_are : (s : Scope) (t : WrittenType) (tree : TypeTree) → IsTuple t → tree ≡ meant s t → tree ≡ tuple (all_meant s (parts t))
+fields_are s t tree is same = same ∙ ap (meant s) is
+
+-- the numbers of the regions that fields may name have room in 32 bits
+pub few_own : (r : Reader) (own : OwnNames) (text : StructText) → IsDue r (struct_form text) → AreOwn (map parameter_of text.parameters.items) own → length own.regions < 2 ^ 32
+few_own r own text due h = omega (arith, due.few, h.few)
+
 module _ (r : Reader) (own : OwnNames) (text : StructText) (due : IsDue r (struct_form text)) (h : AreOwn (map parameter_of text.parameters.items) own) (fine : first_fault (said_by r) (struct_form text) ≡ None) where
   abbrev parameters : List WrittenParameter
   parameters = map parameter_of text.parameters.items
@@ -43,9 +52,6 @@ module _ (r : Reader) (own : OwnNames) (text : StructText) (due : IsDue r (struc
 
   few_in : length (regions_in parameters) ≤ most_bytes
   few_in = omega (arith, due.few, few_regions parameters)
-
-  pub few_own : length own.regions < 2 ^ 32
-  few_own = omega (arith, few_in, ap length (h.regions.same is_fine.regions), length-map (regions_in parameters) (λ p. p.0))
 
   module _ (d : Declaration) (regions : d.regions.items ≡ map (λ p. p.1) (regions_in parameters)) (types : d.types.items ≡ map (λ p. p.1) (types_in parameters)) (has_drop : d.has_drop ≡ text.has_drop) (meant : trees d.fields.items ≡ all_meant (own_scope own r.structs) fields) where
     abbrev more : Struct

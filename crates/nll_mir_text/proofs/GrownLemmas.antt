@@ -17,7 +17,7 @@ module _ (r : Reader) (t : Tables) (same : t.structs ≡ r.variables.table.struc
   pub said_grown : said_by (grown r t) ≡ said_by r
   said_grown = rw same refl
 
-  ready_grown : IsReady r → IsReady (grown r t)
+  pub ready_grown : IsReady r → IsReady (grown r t)
   ready_grown h = record {
     static = h.static;
     universals = h.universals;

@@ -19,3 +19,4 @@ pub mod TextLemmas
 pub mod TypedLemmas
 pub mod VariableLemmas
 pub mod VersionLemmas
+pub mod ResolvedLemmas

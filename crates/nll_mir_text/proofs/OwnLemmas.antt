@@ -4,7 +4,7 @@ use Rattle.std.specs.Prelude.{◌&&◌, ◌||◌, nat_lt, codes, is_some, MatchO
 use Rattle.std.specs.List.{AllByRecursion, list_any}
 use Rattle.std.specs.Str.{bytes_eq}
 use Rattle.std.proofs.lemmas.Bool.{cases_lt, cases_Bool, lt-ltb, le-ltb, ltb-false, or_parts, or_right, false_from_ne_true, false≢true}
-use Rattle.std.proofs.lemmas.List.{append-nil, map_push}
+use Rattle.std.proofs.lemmas.List.{append-nil, length-append, map_push}
 use Rattle.std.proofs.lemmas.List.Elements.{filter_map-append}
 use Rattle.std.proofs.lemmas.Slice.Eq.{bytes_eq-Decides}
 use Rattle.nll_reading.specs.Names.{number_of}
@@ -121,6 +121,11 @@ names_more row names after y false h e a =
 not_new : (row names : List Name) (y : Name) (new : Bool) → AreNamesOf row names → new ≡ not (is_among names y) → not new ≡ is_among row y
 not_new row names y new h e = ap not e ∙ (not_not (is_among names y) ∙ h.members y)
 
+-- at most one more
+names_few : (names after : List Name) (y : Name) (new : Bool) → after ≡ cond new (names ++ y ∷ []) names → length after ≤ length names + 1
+names_few names after y true a = omega (arith, ap length a, length-append names (y ∷ []))
+names_few names after y false a = omega (arith, ap length a)
+
 -- ---- one more parameter
 
 regions_more : (ps : List WrittenParameter) (a : Name) (p : Parameter) → region_names (ps ++ region_parameter a p ∷ []) ≡ region_names ps ++ a ∷ []
@@ -155,6 +160,7 @@ module _ (ps : List WrittenParameter) (x : Name) (p : Parameter) (old after : Ow
   own_region is regions types repeats =
       let qs = ps ++ region_parameter x p ∷ [] in
       record {
+        few = omega (arith, names_few old.regions after.regions x new regions, length-append ps (region_parameter x p ∷ []), h.few);
         regions = subst (λ (xs : List Name). AreNamesOf xs after.regions) (sym (regions_more ps x p)) (names_more (region_names ps) old.regions after.regions x new h.regions is regions);
         types = subst (λ (xs : List Name). AreNamesOf xs after.types) (sym (types_stay ps x p)) (subst (AreNamesOf (type_names ps)) (sym types) h.types);
         repeats = repeated (is_among (region_names ps) x) (not_new (region_names ps) old.regions x new h.regions is) repeats
@@ -167,6 +173,7 @@ module _ (ps : List WrittenParameter) (x : Name) (p : Parameter) (old after : Ow
   own_type is types regions repeats =
       let qs = ps ++ type_parameter x p ∷ [] in
       record {
+        few = omega (arith, ap length regions, length-append ps (type_parameter x p ∷ []), h.few);
         regions = subst (λ (xs : List Name). AreNamesOf xs after.regions) (sym (regions_stay ps x p)) (subst (AreNamesOf (region_names ps)) (sym regions) h.regions);
         types = subst (λ (xs : List Name). AreNamesOf xs after.types) (sym (types_more ps x p)) (names_more (type_names ps) old.types after.types x new h.types is types);
         repeats = repeated (is_among (type_names ps) x) (not_new (type_names ps) old.types x new h.types is) repeats
@@ -181,6 +188,7 @@ own_none own regions types repeats = record {
   regions = record { same = λ _. regions; members = λ x. ap (λ (xs : List Name). is_among xs x) regions };
   types = record { same = λ _. types; members = λ x. ap (λ (xs : List Name). is_among xs x) types };
   repeats = repeats;
+  few = omega (arith, ap length regions);
 }
 
 -- ---- the parameters of the code

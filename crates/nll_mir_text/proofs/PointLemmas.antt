@@ -3,9 +3,7 @@ use Rattle.std.proofs.Common.{◌≡◌, ℕ, ◌+◌, ◌<◌, ◌≤◌, Bool,
 use Rattle.std.specs.Prelude.{◌&&◌, nat_lt, nat_le}
 use Rattle.std.proofs.lemmas.Bool.{le-leb, lt-leb, lt-ltb, le-ltb}
 use Rattle.std.specs.List.{list_all}
-use Rattle.std.specs.Borrow.{Bor}
 use Rattle.std.proofs.lemmas.List.{length-map}
-use Rattle.std.proofs.lemmas.List.Folds.{list_all-map}
 use Rattle.std.proofs.lemmas.List.Sums.{fold_push}
 use Rattle.nll_problem.specs.Limits.{most_points, most_edges}
 use Rattle.nll_problem.specs.declared.error.Kind.TheVariants.{Points, Edges}
@@ -17,16 +15,15 @@ use Rattle.nll_types.specs.Declarations.{structs_of}
 use Rattle.nll_types.specs.Views.{tree}
 use Rattle.nll_types.specs.declared.ty.Ty.{Ty}
 use Rattle.nll_type_grammar.specs.WrittenTypes.{Name, WrittenType}
-use Rattle.nll_type_grammar.specs.TypeTexts.{written}
-use Rattle.nll_type_grammar.specs.declared.type_text.TypeNode.{TypeNode}
-use Rattle.nll_statements.specs.Statements.{Statement, map_statement, types_written, is_terminator}
+use Rattle.nll_statements.specs.Statements.{Statement, types_written, is_terminator}
 use Rattle.nll_statements.specs.Effects.{targets}
 use Rattle.nll_statements.specs.Written.{regions_written, variables_written}
 use Rattle.nll_statements.specs.Edges.{edges_from, edge_count}
 use Rattle.nll_statements.specs.Kept.{statement_of}
 use Rattle.nll_statements.specs.declared.statement.Statement.{Statement as Kept}
-use Rattle.nll_statements.proofs.MapLemmas.{same_terminator, same_targets, same_edges, same_variables, regions_mapped, types_mapped, mapped_twice}
+use Rattle.nll_statements.proofs.MapLemmas.{same_terminator, same_targets, same_edges, same_variables}
 use Rattle.nll_naming.specs.Naming.{Scope, is_among, is_known, has_arguments, meant}
+use Rattle.nll_naming.specs.Resolution.{Resolved, tree_of}
 use Rattle.nll_typing.specs.Typing.{types_agree, types_are_small}
 use Rattle.nll_typing.specs.Judging.{IsJudged}
 use Rattle.nll_typing.specs.declared.judged.JudgedStatement.{JudgedStatement}
@@ -36,9 +33,9 @@ use Rattle.nll_mir_text.specs.declared.tables.StructNames.{StructNames}
 use Rattle.nll_mir_text.specs.declared.tables.Variables.{Variables}
 use Rattle.nll_mir_text.specs.declared.stating.JudgedPoint.{JudgedPoint}
 use Rattle.nll_mir_text.specs.MirSaid.{Said, says, statement_meant, body_scope}
-use Rattle.nll_mir_text.specs.MirFaults.{is_in_order, knows, has_targets, shapes_fit, first_fault}
+use Rattle.nll_mir_text.specs.MirFaults.{are_declared, is_in_order, knows, has_targets, shapes_fit, first_fault}
 use Rattle.nll_mir_text.specs.MirReading.{scope_in, statement_kept}
-use Rattle.nll_mir_text.specs.Stating.{as_written, declared_by, IsOfPoint}
+use Rattle.nll_mir_text.specs.Stating.{as_resolved, declared_by, has_names, IsOfPoint, IsOfStatement}
 
 second : (a b : Bool) → (a && b) ≡ true → b ≡ true
 second true b h = h
@@ -46,83 +43,77 @@ second false b h = absurd cc
 
 -- ---- what is judged
 
-module _ (regions : Regions) (structs : StructNames) (variables : Variables) (i : Kept (Bor (List ℕ)) (List TypeNode)) where
+first : (a b : Bool) → (a && b) ≡ true → a ≡ true
+first true b h = refl
+first false b h = absurd cc
+
+all_three : (a b c : Bool) → (b && c) ≡ true → a ≡ (a && b && c)
+all_three true b c h = sym h
+all_three false b c h = refl
+
+-- what stands over numbers has the variables, the targets and the edges of what is written
+module _ (s : Scope) (i : Statement Name WrittenType) (r : Statement ℕ Resolved) (of : IsOfStatement s i r) where
+  pub variables_resolved : variables_written r ≡ variables_written i
+  variables_resolved =
+      sym (same_variables (λ r. r) tree_of r) ∙ (ap (λ (m : Statement ℕ TypeTree). variables_written m) of.meant ∙ same_variables (number_of s.regions) (meant s) i)
+
+  pub targets_resolved : targets r ≡ targets i
+  targets_resolved = sym (same_targets (λ r. r) tree_of r) ∙ (ap (λ (m : Statement ℕ TypeTree). targets m) of.meant ∙ same_targets (number_of s.regions) (meant s) i)
+
+  pub edges_resolved : edges_from r ≡ edges_from i
+  edges_resolved = sym (same_edges (λ r. r) tree_of r) ∙ (ap (λ (m : Statement ℕ TypeTree). edges_from m) of.meant ∙ same_edges (number_of s.regions) (meant s) i)
+
+module _ (regions : Regions) (structs : StructNames) (variables : Variables) (i : Statement Name WrittenType) (r : Statement ℕ Resolved) (of : IsOfStatement (scope_in regions structs) i r) where
   abbrev declared_in : Said
   declared_in = declared_by regions structs variables
 
   abbrev scope : Scope
   scope = scope_in regions structs
 
-  -- the statement as it is meant, at once
-  abbrev pub meant_at_once : Statement ℕ TypeTree
-  meant_at_once = map_statement (λ r. number_of regions.names r.now) (λ t. meant scope (written t)) (statement_of i)
-
-  same_meaning : meant_at_once ≡ statement_meant declared_in (as_written i)
-  same_meaning = sym (mapped_twice (λ (r : Bor (List ℕ)). r.now) (number_of regions.names) written (meant scope) (statement_of i))
-
-  knows_is : (declared names types : Bool)
-      → declared ≡ list_all (λ x. nat_lt x (length variables.types.items)) (variables_written (statement_of i))
-      → names ≡ list_all (is_among regions.names) (map (λ r. r.now) (regions_written (statement_of i)))
-      → types ≡ list_all (λ t. is_known scope (written t)) (types_written (statement_of i))
-      → (declared && names && types) ≡ knows declared_in (as_written i)
-  knows_is declared names types d n t =
-      let f : Bor (List ℕ) → Name = λ r. r.now in
-      let declared_is : declared ≡ list_all (λ x. nat_lt x (length (map tree variables.types.items))) (variables_written (as_written i)) =
-      d ∙ (ap (λ m. list_all (λ x. nat_lt x m) (variables_written (statement_of i))) (sym (length-map variables.types.items tree))
-      ∙ ap (list_all (λ x. nat_lt x (length (map tree variables.types.items)))) (sym (same_variables f written (statement_of i)))) in
-      let names_are : names ≡ list_all (is_among regions.names) (regions_written (as_written i)) =
-      n ∙ ap (list_all (is_among regions.names)) (sym (regions_mapped f written (statement_of i))) in
-      let types_are : types ≡ list_all (is_known scope) (types_written (as_written i)) =
-      t ∙ (sym (list_all-map (is_known scope) written (types_written (statement_of i)))
-      ∙ ap (list_all (is_known scope)) (sym (types_mapped f written (statement_of i)))) in
-      rw (declared_is, names_are, types_are) refl
+  knows_is : (declared : Bool) → declared ≡ list_all (λ x. nat_lt x (length variables.types.items)) (variables_written r) → declared ≡ knows declared_in i
+  knows_is declared d =
+      let declared_is : declared ≡ list_all (λ x. nat_lt x (length (map tree variables.types.items))) (variables_written i) =
+      d ∙ (ap (λ m. list_all (λ x. nat_lt x m) (variables_written r)) (sym (length-map variables.types.items tree))
+      ∙ ap (list_all (λ x. nat_lt x (length (map tree variables.types.items)))) (variables_resolved scope i r of)) in
+      declared_is ∙ all_three _ _ _ of.known
 
   fits_is : (types agree : Bool)
-      → types ≡ list_all (λ t. has_arguments scope (written t)) (types_written (statement_of i))
-      → agree ≡ types_agree (structs_of variables.table.structs) (map tree variables.types.items) meant_at_once
-      → (types && agree) ≡ shapes_fit declared_in (as_written i)
+      → types ≡ list_all (λ t. t.fits) (types_written r)
+      → agree ≡ types_agree (structs_of variables.table.structs) (map tree variables.types.items) (as_resolved r)
+      → (types && agree) ≡ shapes_fit declared_in i
   fits_is types agree t a =
-      let f : Bor (List ℕ) → Name = λ r. r.now in
-      let types_are : types ≡ list_all (has_arguments scope) (types_written (as_written i)) =
-      t ∙ (sym (list_all-map (has_arguments scope) written (types_written (statement_of i)))
-      ∙ ap (list_all (has_arguments scope)) (sym (types_mapped f written (statement_of i)))) in
-      let agree_is : agree ≡ types_agree (structs_of variables.table.structs) (map tree variables.types.items) (statement_meant declared_in (as_written i)) =
-      a ∙ ap (types_agree (structs_of variables.table.structs) (map tree variables.types.items)) same_meaning in
+      let types_are : types ≡ list_all (has_arguments scope) (types_written i) = t ∙ of.fits in
+      let agree_is : agree ≡ types_agree (structs_of variables.table.structs) (map tree variables.types.items) (statement_meant declared_in i) =
+      a ∙ ap (types_agree (structs_of variables.table.structs) (map tree variables.types.items)) of.meant in
       rw (types_are, agree_is) refl
 
   -- what is judged of the statement
-  pub point_judged : (declared names types_known types_fit : Bool) (judged : JudgedStatement) (j : JudgedPoint)
-      → j.known ≡ (declared && names && types_known)
+  pub point_judged : (declared types_fit : Bool) (judged : JudgedStatement) (j : JudgedPoint)
+      → j.known ≡ declared
       → j.fits ≡ (types_fit && judged.fits)
       → j.small ≡ judged.small
-      → declared ≡ list_all (λ x. nat_lt x (length variables.types.items)) (variables_written (statement_of i))
-      → names ≡ list_all (is_among regions.names) (map (λ r. r.now) (regions_written (statement_of i)))
-      → types_known ≡ list_all (λ t. is_known scope (written t)) (types_written (statement_of i))
-      → types_fit ≡ list_all (λ t. has_arguments scope (written t)) (types_written (statement_of i))
-      → IsJudged (types_agree (structs_of variables.table.structs) (map tree variables.types.items) meant_at_once) (types_are_small (structs_of variables.table.structs) (map tree variables.types.items) meant_at_once) judged
-      → IsOfPoint declared_in (as_written i) j
-  point_judged declared names types_known types_fit judged j known fits small d n k t e = record {
-    known = known ∙ knows_is declared names types_known d n k;
+      → declared ≡ list_all (λ x. nat_lt x (length variables.types.items)) (variables_written r)
+      → types_fit ≡ list_all (λ t. t.fits) (types_written r)
+      → IsJudged (types_agree (structs_of variables.table.structs) (map tree variables.types.items) (as_resolved r)) (types_are_small (structs_of variables.table.structs) (map tree variables.types.items) (as_resolved r)) judged
+      → IsOfPoint declared_in i j
+  point_judged declared types_fit judged j known fits small d t e = record {
+    known = known ∙ knows_is declared d;
     fits = fits ∙ fits_is types_fit judged.fits t e.fits;
     fits_small = λ fit.
-        let agreed : types_agree (structs_of variables.table.structs) (map tree variables.types.items) meant_at_once ≡ true =
+        let agreed : types_agree (structs_of variables.table.structs) (map tree variables.types.items) (as_resolved r) ≡ true =
         sym e.fits ∙ second types_fit judged.fits (sym fits ∙ fit) in
         small ∙ (e.fits_small
-        ∙ (ap (λ b. b && types_are_small (structs_of variables.table.structs) (map tree variables.types.items) meant_at_once) agreed
-        ∙ ap (types_are_small (structs_of variables.table.structs) (map tree variables.types.items)) same_meaning));
+        ∙ (ap (λ b. b && types_are_small (structs_of variables.table.structs) (map tree variables.types.items) (as_resolved r)) agreed
+        ∙ ap (types_are_small (structs_of variables.table.structs) (map tree variables.types.items)) of.meant));
   }
 
-  ends_false : (a b : Bool) → (a && b && false) ≡ false
-  ends_false true true = refl
-  ends_false true false = refl
-  ends_false false b = refl
+unknown_last : (a b c : Bool) → (b && c) ≡ false → (a && b && c) ≡ false
+unknown_last true b c h = h
+unknown_last false b c h = refl
 
-  -- a type of the statement has a name that isn't known
-  pub unknown_types : list_all (λ t. is_known scope (written t)) (types_written (statement_of i)) ≡ false → knows declared_in (as_written i) ≡ false
-  unknown_types none =
-      let declared : Bool = list_all (λ x. nat_lt x (length variables.types.items)) (variables_written (statement_of i)) in
-      let names : Bool = list_all (is_among regions.names) (map (λ r. r.now) (regions_written (statement_of i))) in
-      sym (knows_is declared names false refl refl (sym none)) ∙ ends_false declared names
+-- a name in the statement isn't declared
+pub names_unknown : (s : Said) (i : Statement Name WrittenType) → has_names (body_scope s) i ≡ false → knows s i ≡ false
+names_unknown s i none = unknown_last (are_declared s (variables_written i)) (list_all (is_among (body_scope s).regions) (regions_written i)) (list_all (is_known (body_scope s)) (types_written i)) none
 
 -- what is judged of the statement stands, where the types and the structs are the same
 pub judged_same : (regions : Regions) (structs : StructNames) (old new : Variables) (i : Statement Name WrittenType) (j : JudgedPoint)
@@ -193,13 +184,9 @@ module _ (s : Said) (i : Statement Name WrittenType) (order : is_in_order s (at_
             by_none : (a b c d e : Bool) → a ≡ false → b ≡ false → c ≡ false → d ≡ false → e ≡ false → told false false a b c d e ≡ None
             by_none a b c d e h k l m n = rw (h, k, l, m, n) refl
 
--- the targets of a statement of the code are blocks
-pub targets_written : (s : Said) (i : Kept (Bor (List ℕ)) (List TypeNode)) (b : Bool) → b ≡ list_all (λ x. nat_lt x s.blocks) (targets (statement_of i)) → b ≡ has_targets s (as_written i)
-targets_written s i b h = h ∙ ap (list_all (λ x. nat_lt x s.blocks)) (sym (same_targets (λ (r : Bor (List ℕ)). r.now) written (statement_of i)))
-
--- as many edges leave it as it is written
-pub edges_written : (i : Kept (Bor (List ℕ)) (List TypeNode)) → edges_from (as_written i) ≡ edges_from (statement_of i)
-edges_written i = same_edges (λ (r : Bor (List ℕ)). r.now) written (statement_of i)
+-- the targets of a statement over numbers are blocks
+pub targets_are : (s : Said) (i : Statement Name WrittenType) (r : Statement ℕ Resolved) → IsOfStatement (body_scope s) i r → (b : Bool) → b ≡ list_all (λ x. nat_lt x s.blocks) (targets r) → b ≡ has_targets s i
+targets_are s i r of b h = h ∙ ap (list_all (λ x. nat_lt x s.blocks)) (targets_resolved (body_scope s) i r of)
 
 -- ---- what is said
 

@@ -4,9 +4,8 @@ use Rattle.std.specs.Prelude.{◌&&◌, nat_lt}
 use Rattle.std.specs.List.{list_all, flat_map}
 use Rattle.std.specs.Borrow.{Bor}
 use Rattle.std.proofs.lemmas.List.{append-nil, append_assoc, map_push}
-use Rattle.std.proofs.lemmas.List.Folds.{list_all-append, list_all-map}
+use Rattle.std.proofs.lemmas.List.Folds.{list_all-append}
 use Rattle.nll_types.specs.Places.{path_of}
-use Rattle.nll_types.specs.Types.{TypeTree}
 use Rattle.nll_types.specs.Shapes.{shape_of}
 use Rattle.nll_types.specs.Table.{Extends, AreBelow, shape_in}
 use Rattle.nll_types.specs.Views.{tree}
@@ -19,15 +18,12 @@ use Rattle.nll_statements.specs.Effects.{place_in, operands_of}
 use Rattle.nll_statements.specs.Kept.{arguments_of}
 use Rattle.nll_types.proofs.ShapingLemmas.{below_push}
 use Rattle.nll_type_grammar.specs.WrittenTypes.{Name}
-use Rattle.nll_type_grammar.specs.TypeTexts.{written}
-use Rattle.nll_type_grammar.specs.declared.type_text.TypeNode.{TypeNode}
-use Rattle.nll_naming.specs.Naming.{Scope, is_among, is_known, has_arguments, meant}
+use Rattle.nll_naming.specs.Naming.{is_among}
+use Rattle.nll_naming.specs.Resolution.{Resolved, tree_of}
 use Rattle.nll_typing.specs.Judging.{HaveShapes}
 use Rattle.nll_typing.proofs.FoundLemmas.{below_later, shapes_later}
-use Rattle.nll_mir_text.specs.declared.judging.JudgedType.{JudgedType}
-use Rattle.nll_mir_text.specs.declared.judging_types.JudgedTypes.{JudgedTypes}
-use Rattle.nll_mir_text.proofs.CallLemmas.{same_types}
-use Rattle.nll_mir_text.specs.MirReading.{AreShapes, IsOfType}
+use Rattle.nll_mir_text.specs.declared.shapes.ShapedTypes.{ShapedTypes}
+use Rattle.nll_mir_text.specs.MirReading.{AreShapes}
 use Rattle.nll_mir_text.specs.Stating.{is_bound, operand_within, argument_within, AreOfTypes, AddsTypes}
 
 and_true : (b : Bool) → (b && true) ≡ b
@@ -41,25 +37,11 @@ and_false : (b : Bool) → (b && false) ≡ false
 and_false true = refl
 and_false false = refl
 
--- ---- names that aren't known
-
 -- of these one doesn't pass
 pub one_false : {X : Type 0} (p : X → Bool) (xs : List X) (k : ℕ) (x : X) → k < length xs → x ≡ get_or xs k x → p x ≡ false → list_all p xs ≡ false
 one_false p [] k x within at none = absurd (omega (arith, within))
 one_false p (y ∷ xs) zero x within at none = ap (λ z. p z && list_all p xs) (sym at) ∙ ap (λ b. b && list_all p xs) none
 one_false p (y ∷ xs) (suc k) x within at none = ap (λ b. p y && b) (one_false p xs k x (omega (arith, within)) at none) ∙ and_false (p y)
-
--- of the types of a call's arguments, or its result's, one isn't known
-pub argument_unknown : (p : List TypeNode → Bool) (args : List (KeptOperand × List TypeNode)) (t : List TypeNode) → list_all (λ a. p a.1) args ≡ false → list_all p (map (λ a. a.1) (arguments_of args) ++ t ∷ []) ≡ false
-argument_unknown p args t none =
-    all_push p (map (λ a. a.1) (arguments_of args)) t
-    ∙ ap (λ b. b && p t) (ap (list_all p) (sym (same_types args)) ∙ (list_all-map p (λ a. a.1) args ∙ none))
-
-pub result_unknown : (p : List TypeNode → Bool) (ts : List (List TypeNode)) (t : List TypeNode) → p t ≡ false → list_all p (ts ++ t ∷ []) ≡ false
-result_unknown p ts t none = all_push p ts t ∙ (ap (λ b. list_all p ts && b) none ∙ and_false (list_all p ts))
-
-pub made_unknown : (p : List TypeNode → Bool) (t : List TypeNode) → p t ≡ false → list_all p (t ∷ []) ≡ false
-made_unknown p t none = ap (λ b. b && true) none
 
 -- ---- bounds
 
@@ -85,7 +67,7 @@ operands_are_within count (Move p ∷ ops) =
     ap (λ b. operand_within count (Move p) && b) (operands_are_within count ops) ∙ and_assoc (nat_lt (path_of p).variable count) true _
 
 -- and of arguments of a call
-pub arguments_are_within : (count : ℕ) (args : List (KeptOperand × List TypeNode)) → list_all (argument_within count) args ≡ list_all (λ x. nat_lt x count) (map (λ p. p.variable) (flat_map place_in (operands_of (arguments_of args))))
+pub arguments_are_within : (count : ℕ) (args : List (KeptOperand × Resolved)) → list_all (argument_within count) args ≡ list_all (λ x. nat_lt x count) (map (λ p. p.variable) (flat_map place_in (operands_of (arguments_of args))))
 arguments_are_within count [] = refl
 arguments_are_within count ((Const, t) ∷ args) = arguments_are_within count args
 arguments_are_within count ((Copy p, t) ∷ args) =
@@ -93,41 +75,38 @@ arguments_are_within count ((Copy p, t) ∷ args) =
 arguments_are_within count ((Move p, t) ∷ args) =
     ap (λ b. operand_within count (Move p) && b) (arguments_are_within count args) ∙ and_assoc (nat_lt (path_of p).variable count) true _
 
--- ---- written types
+-- ---- types
 
-module _ (s : Scope) where
-  -- of a further type
-  pub types_push : (old new : List Node) (ts : List (List TypeNode)) (t : List TypeNode) (before after : JudgedTypes) (one : JudgedType) → Extends old new → AreOfTypes s old ts before → IsOfType s new (written t) one → after.known ≡ (before.known && one.known) → after.fit ≡ (before.fit && one.fits) → after.shapes.items ≡ before.shapes.items ++ one.shape ∷ [] → AreOfTypes s new (ts ++ t ∷ []) after
-  types_push old new ts t before after one e b o known fit shapes =
-      let meaning : List TypeNode → TypeTree = λ u. meant s (written u) in
-      let earlier = shapes_later old new before.shapes.items (map meaning ts) e b.within b.same in
-      record {
-        known = known ∙ (ap (λ x. x && one.known) b.known ∙ (ap (λ x. list_all (λ u. is_known s (written u)) ts && x) o.known ∙ sym (all_push (λ u. is_known s (written u)) ts t)));
-        fit = fit ∙ (ap (λ x. x && one.fits) b.fit ∙ (ap (λ x. list_all (λ u. has_arguments s (written u)) ts && x) o.fits ∙ sym (all_push (λ u. has_arguments s (written u)) ts t)));
-        within = subst (λ is. AreBelow (length new) is) (sym shapes) (below_push (length new) one.shape before.shapes.items (below_later old new before.shapes.items e b.within) o.within);
-        same = ap (map (shape_in new)) shapes
-            ∙ (map_push (shape_in new) before.shapes.items one.shape
-            ∙ (ap (λ xs. xs ++ shape_in new one.shape ∷ []) earlier
-            ∙ (ap (λ x. map shape_of (map meaning ts) ++ x ∷ []) o.shape
-            ∙ (sym (map_push shape_of (map meaning ts) (meaning t)) ∙ ap (map shape_of) (sym (map_push meaning ts t))))));
-      }
+-- of a further type
+pub types_push : (old new : List Node) (ts : List Resolved) (t : Resolved) (before after : ShapedTypes) (shape : ℕ) → Extends old new → AreOfTypes old ts before → shape < length new → shape_in new shape ≡ shape_of (tree_of t)
+    → after.fit ≡ (before.fit && t.fits) → after.shapes.items ≡ before.shapes.items ++ shape ∷ [] → AreOfTypes new (ts ++ t ∷ []) after
+types_push old new ts t before after shape e b within is fit shapes =
+    let earlier = shapes_later old new before.shapes.items (map tree_of ts) e b.within b.same in
+    record {
+      fit = fit ∙ (ap (λ x. x && t.fits) b.fit ∙ sym (all_push (λ u. u.fits) ts t));
+      within = subst (λ is. AreBelow (length new) is) (sym shapes) (below_push (length new) shape before.shapes.items (below_later old new before.shapes.items e b.within) within);
+      same = ap (map (shape_in new)) shapes
+          ∙ (map_push (shape_in new) before.shapes.items shape
+          ∙ (ap (λ xs. xs ++ shape_in new shape ∷ []) earlier
+          ∙ (ap (λ x. map shape_of (map tree_of ts) ++ x ∷ []) is
+          ∙ (sym (map_push shape_of (map tree_of ts) (tree_of t)) ∙ ap (map shape_of) (sym (map_push tree_of ts t))))));
+    }
 
-  -- no type is told of yet
-  pub none_told : (ns : List Node) (j : JudgedTypes) → j.known ≡ true → j.fit ≡ true → j.shapes.items ≡ [] → AreOfTypes s ns [] j
-  none_told ns j known fit shapes = record {
-    known = known;
-    fit = fit;
-    within = subst (λ is. AreBelow (length ns) is) (sym shapes) (λ k h. absurd (omega arith));
-    same = ap (map (shape_in ns)) shapes;
-  }
+-- no type is told of yet
+pub none_told : (ns : List Node) (j : ShapedTypes) → j.fit ≡ true → j.shapes.items ≡ [] → AreOfTypes ns [] j
+none_told ns j fit shapes = record {
+  fit = fit;
+  within = subst (λ is. AreBelow (length ns) is) (sym shapes) (λ k h. absurd (omega arith));
+  same = ap (map (shape_in ns)) shapes;
+}
 
-  -- none is told of, in front of these
-  pub adds_none : (ns : List Node) (j : JudgedTypes) → AddsTypes s [] ns j ns j
-  adds_none ns j = record { beside = λ others h. subst (λ ts. AreOfTypes s ns ts j) (sym (append-nil others)) h }
+-- none is told of, in front of these
+pub adds_none : (ns : List Node) (j : ShapedTypes) → AddsTypes [] ns j ns j
+adds_none ns j = record { beside = λ others h. subst (λ ts. AreOfTypes ns ts j) (sym (append-nil others)) h }
 
-  -- these, and then those
-  pub adds_then : (ts us : List (List TypeNode)) (a b c : List Node) (j k l : JudgedTypes) → AddsTypes s ts a j b k → AddsTypes s us b k c l → AddsTypes s (ts ++ us) a j c l
-  adds_then ts us a b c j k l f g = record { beside = λ others h. subst (λ vs. AreOfTypes s c vs l) (append_assoc others ts us) (g.beside (others ++ ts) (f.beside others h)) }
+-- these, and then those
+pub adds_then : (ts us : List Resolved) (a b c : List Node) (j k l : ShapedTypes) → AddsTypes ts a j b k → AddsTypes us b k c l → AddsTypes (ts ++ us) a j c l
+adds_then ts us a b c j k l f g = record { beside = λ others h. subst (λ vs. AreOfTypes c vs l) (append_assoc others ts us) (g.beside (others ++ ts) (f.beside others h)) }
 
 -- ---- variables
 

@@ -1,7 +1,7 @@
 -- The first fault of a line that declares a variable.
 use Rattle.std.proofs.Common.{◌≡◌, ℕ, ◌<◌, ◌≤◌, true, false, Some, None, length, refl}
 use Rattle.std.specs.Prelude.{◌==◌}
-use Rattle.std.proofs.lemmas.Bool.{le-leb, lt-leb}
+use Rattle.std.proofs.lemmas.Bool.{le-leb, lt-leb, ne_eqb}
 use Rattle.nll_problem.specs.Limits.{most_variables}
 use Rattle.nll_problem.specs.declared.error.Kind.TheVariants.{Variables}
 use Rattle.nll_reading.specs.declared.error.TextKind.TheVariants.{Unknown, Range, Shape, TypeSize, Limit}
@@ -19,6 +19,9 @@ module _ (s : Said) (x : ℕ) (t : WrittenType) (order : is_in_order s (variable
   module _ (known : is_known (body_scope s) t ≡ true) where
     pub other_variable : (x == length s.variables) ≡ false → first_fault s (variable x t) ≡ Some Range
     other_variable next = rw (order, known, next) refl
+
+    pub other_number : (x ≡ length s.variables → ⊥) → first_fault s (variable x t) ≡ Some Range
+    other_number other = other_variable (ne_eqb x (length s.variables) other)
 
     module _ (next : (x == length s.variables) ≡ true) where
       pub type_unfit : has_arguments (body_scope s) t ≡ false → first_fault s (variable x t) ≡ Some Shape

@@ -1,6 +1,6 @@
 -- What a reader makes of a struct line.
 -- Source: project's choice. Only private contracts cite this file.
-use Rattle.std.specs.Prelude.{◌≡◌, Bool, false, ◌||◌, List, ◌∷◌, map, codes}
+use Rattle.std.specs.Prelude.{◌≡◌, ◌≤◌, ◌+◌, Bool, true, false, ◌||◌, List, ◌∷◌, map, length, codes}
 use Rattle.nll_type_grammar.specs.WrittenTypes.{Name, WrittenTypes}
 use Rattle.nll_mir_grammar.specs.MirForms.{WrittenParameter}
 use Rattle.nll_types.specs.declared.parameter.Parameter.{Parameter}
@@ -40,6 +40,7 @@ pub record AreOwn (ps : List WrittenParameter) (own : OwnNames) : Type 0 where
   pub regions : AreNamesOf (region_names ps) own.regions
   pub types : AreNamesOf (type_names ps) own.types
   pub repeats : own.repeats ≡ has_repeats (region_names ps) || has_repeats (type_names ps)
+  pub few : length own.regions ≤ length ps + 1
 
 -- the parameter is of a type, and its name is one of these
 abbrev pub takes_name : List Name → ParameterText → Bool
@@ -55,9 +56,9 @@ own_scope own structs = record {
   kinds = map (λ ks. ks.items) structs.kinds.items;
 }
 
--- It tells of the fields whether their names are known, whether they have arguments of the kinds
--- that they take, and whether none has more nodes than a type may have.
+-- The names in the fields are known; it tells whether they have arguments of the kinds that they
+-- take, and whether none has more nodes than a type may have.
 pub record AreJudged (s : Scope) (fields : WrittenTypes) (j : JudgedFields) : Type 0 where
-  pub known : j.known ≡ are_known s fields
+  pub known : are_known s fields ≡ true
   pub fits : j.fits ≡ have_arguments s fields
   pub small : j.small ≡ are_small (all_meant s fields)

@@ -4,3 +4,4 @@ pub mod MirText
 pub mod MirReading
 pub mod Declaring
 pub mod Stating
+pub mod Placing

@@ -7,7 +7,7 @@ use Rattle.std.specs.Str.{IsUtf8}
 use Rattle.nll_problem.specs.Limits.{most_points, most_edges, most_universals, most_regions}
 use Rattle.nll_problem.specs.Limits.{most_variables, most_structs, most_bytes}
 use Rattle.nll_types.specs.Types.{TypeTree}
-use Rattle.nll_types.specs.Shapes.{shape_of, is_small}
+use Rattle.nll_types.specs.Shapes.{shape_of}
 use Rattle.nll_types.specs.Table.{shape_in, AreBelow}
 use Rattle.nll_types.specs.Declarations.{structs_of}
 use Rattle.nll_types.specs.Structs.{Struct, struct_at}
@@ -29,10 +29,9 @@ use Rattle.nll_mir_grammar.specs.MirForms.{WrittenParameter, region_parameter, t
 pub use Rattle.nll_mir_grammar.specs.Lines.{struct_form}
 use Rattle.nll_mir_grammar.specs.declared.version.Version.{Version}
 use Rattle.nll_type_grammar.specs.WrittenTypes.{Name, WrittenType}
-use Rattle.nll_naming.specs.Naming.{Scope, is_known, has_arguments, meant}
+use Rattle.nll_naming.specs.Naming.{Scope}
 use Rattle.nll_mir_text.specs.declared.tables.Regions.{Regions}
 use Rattle.nll_mir_text.specs.declared.tables.StructNames.{StructNames}
-use Rattle.nll_mir_text.specs.declared.judging.JudgedType.{JudgedType}
 use Rattle.nll_mir_text.specs.MirSaid.{Said, said, says}
 use Rattle.nll_mir_text.specs.MirFaults.{is_in_order, first_fault}
 use Rattle.nll_mir_text.specs.MirText.{mir}
@@ -75,16 +74,6 @@ scope_in regions structs = record {
   structs = structs.names;
   kinds = map (λ ks. ks.items) structs.kinds.items;
 }
-
--- It tells of the type whether its names are known, whether it has arguments of the kinds that they
--- take, whether it has no more nodes than a type may have, and the number of its shape.
-pub record IsOfType (s : Scope) (shapes : List Node) (t : WrittenType) (j : JudgedType)
-    : Type 0 where
-  pub known : j.known ≡ is_known s t
-  pub fits : j.fits ≡ has_arguments s t
-  pub small : j.small ≡ is_small (meant s t)
-  pub within : j.shape < length shapes
-  pub shape : shape_in shapes j.shape ≡ shape_of (meant s t)
 
 -- how many of the kinds are that of a region, and how many are not
 abbrev pub region_count : List Bool → ℕ

@@ -1,13 +1,14 @@
 -- What is judged of the statements of a body.
 -- Source: project's choice. Only private contracts cite this file.
-use Rattle.std.specs.Prelude.{◌≡◌, ℕ, Bool, true, false, ◌&&◌, List, [], ◌++◌, map, length}
+use Rattle.std.specs.Prelude.{◌≡◌, ℕ, ◌<◌, Bool, true, false, ◌&&◌, List, [], ◌++◌, map, length}
 use Rattle.std.specs.Prelude.{nat_lt}
 use Rattle.std.specs.List.{list_all}
 use Rattle.std.specs.Borrow.{Bor}
 use Rattle.nll_reading.specs.Names.{number_of}
 use Rattle.nll_types.specs.Types.{TypeTree}
 use Rattle.nll_types.specs.Operands.{Operand, operand_of}
-use Rattle.nll_types.specs.Table.{AreBelow}
+use Rattle.nll_types.specs.Shapes.{is_small, shape_of}
+use Rattle.nll_types.specs.Table.{AreBelow, shape_in}
 use Rattle.nll_types.specs.Declarations.{structs_of}
 use Rattle.nll_types.specs.Views.{tree}
 use Rattle.nll_types.specs.declared.node.Node.{Node}
@@ -16,17 +17,20 @@ use Rattle.nll_types.specs.declared.ty.Ty.{Ty}
 use Rattle.nll_type_grammar.specs.WrittenTypes.{Name, WrittenType}
 use Rattle.nll_type_grammar.specs.TypeTexts.{written}
 use Rattle.nll_type_grammar.specs.declared.type_text.TypeNode.{TypeNode}
-use Rattle.nll_statements.specs.Statements.{Statement, map_statement}
+use Rattle.nll_statements.specs.Statements.{Statement, map_statement, types_written}
 use Rattle.nll_statements.specs.Effects.{place_in}
+use Rattle.nll_statements.specs.Written.{regions_written}
 use Rattle.nll_statements.specs.Kept.{statement_of}
 use Rattle.nll_statements.specs.declared.statement.Statement.{Statement as Kept}
 use Rattle.nll_naming.specs.Naming.{Scope, is_among, is_known, has_arguments, meant}
+use Rattle.nll_naming.specs.Resolution.{Resolved, tree_of}
 use Rattle.nll_typing.specs.Typing.{types_are_small}
 use Rattle.nll_typing.specs.Judging.{HaveShapes}
 use Rattle.nll_mir_text.specs.declared.tables.Regions.{Regions}
 use Rattle.nll_mir_text.specs.declared.tables.StructNames.{StructNames}
 use Rattle.nll_mir_text.specs.declared.tables.Variables.{Variables}
-use Rattle.nll_mir_text.specs.declared.judging_types.JudgedTypes.{JudgedTypes}
+use Rattle.nll_mir_text.specs.declared.judged_type.JudgedType.{JudgedType}
+use Rattle.nll_mir_text.specs.declared.shapes.ShapedTypes.{ShapedTypes}
 use Rattle.nll_mir_text.specs.declared.stating.JudgedPoint.{JudgedPoint}
 use Rattle.nll_mir_text.specs.MirSaid.{Said, statement_meant}
 use Rattle.nll_mir_text.specs.MirFaults.{knows, shapes_fit}
@@ -39,6 +43,49 @@ as_written i = map_statement (λ r. r.now) written (statement_of i)
 abbrev pub meant_in : Scope → Statement Name WrittenType → Statement ℕ TypeTree
 meant_in s i = map_statement (number_of s.regions) (meant s) i
 
+-- a statement over numbers, with its types as trees
+abbrev pub as_resolved : Statement ℕ Resolved → Statement ℕ TypeTree
+as_resolved r = map_statement (λ q. q) tree_of r
+
+-- each name in the statement is declared: those of regions that stand outside types, and those in
+-- types
+abbrev pub has_names : Scope → Statement Name WrittenType → Bool
+has_names s i =
+    list_all (is_among s.regions) (regions_written i) && list_all (is_known s) (types_written i)
+
+-- The names in the written statement are declared. The statement over numbers is what it means, and
+-- its types tell whether the names in those that are written have the arguments that they take.
+pub record IsOfStatement (s : Scope) (i : Statement Name WrittenType) (r : Statement ℕ Resolved)
+    : Type 0 where
+  pub known : has_names s i ≡ true
+  pub fits : list_all (λ t. t.fits) (types_written r)
+      ≡ list_all (has_arguments s) (types_written i)
+  pub meant : as_resolved r ≡ meant_in s i
+
+-- an argument of a call as it is meant, where names mean this
+abbrev pub argument_in : Scope → KeptOperand × List TypeNode → Operand × TypeTree
+argument_in s a = (operand_of a.0, meant s (written a.1))
+
+-- an argument of a call of the code over numbers
+abbrev pub argument_resolved : KeptOperand × Resolved → Operand × TypeTree
+argument_resolved a = (operand_of a.0, tree_of a.1)
+
+-- The names in the types of arguments are declared, and the arguments over numbers are what these
+-- mean.
+pub record AreOfArguments (s : Scope) (texts : List (KeptOperand × List TypeNode))
+    (args : List (KeptOperand × Resolved)) : Type 0 where
+  pub known : list_all (λ a. is_known s (written a.1)) texts ≡ true
+  pub fits : list_all (λ a. a.1.fits) args ≡ list_all (λ a. has_arguments s (written a.1)) texts
+  pub meant : map argument_resolved args ≡ map (argument_in s) texts
+
+-- Of all arguments those that are left are not gone through yet; of the others the names are
+-- declared, and the arguments over numbers are what these mean.
+pub record AreAmid (s : Scope) (all left : List (KeptOperand × List TypeNode))
+    (args : List (KeptOperand × Resolved)) : Type 0 where
+  pub front : List (KeptOperand × List TypeNode)
+  pub cut : front ++ left ≡ all
+  pub of : AreOfArguments s front args
+
 -- the numbers of a bound's two regions
 abbrev pub bound_numbers : List Name → Bor (List ℕ) × Bor (List ℕ) → ℕ × ℕ
 bound_numbers names w = (number_of names w.0.now, number_of names w.1.now)
@@ -46,10 +93,6 @@ bound_numbers names w = (number_of names w.0.now, number_of names w.1.now)
 -- an argument of a call of the code, with its type as a tree
 abbrev pub argument_kept : KeptOperand × Ty → Operand × TypeTree
 argument_kept a = (operand_of a.0, tree a.1)
-
--- an argument of a call as it is meant, where names mean this
-abbrev pub argument_in : Scope → KeptOperand × List TypeNode → Operand × TypeTree
-argument_in s a = (operand_of a.0, meant s (written a.1))
 
 -- both names of a bound are among these
 abbrev pub is_bound : List Name → Bor (List ℕ) × Bor (List ℕ) → Bool
@@ -61,7 +104,7 @@ operand_within count op =
     list_all (λ x. nat_lt x count) (map (λ p. p.variable) (place_in (operand_of op)))
 
 -- and that of an argument's operand
-abbrev pub argument_within : ℕ → KeptOperand × List TypeNode → Bool
+abbrev pub argument_within : ℕ → KeptOperand × Resolved → Bool
 argument_within count a = operand_within count a.0
 
 -- what lines say of names, structs and variables, as these tables have it
@@ -82,20 +125,25 @@ declared_by regions structs variables = record {
   owes = false;
 }
 
--- It tells of the types whether their names are known, whether these have arguments of the kinds
--- that they take, and the numbers of their shapes.
-pub record AreOfTypes (s : Scope) (shapes : List Node) (ts : List (List TypeNode)) (j : JudgedTypes)
-    : Type 0 where
-  pub known : j.known ≡ list_all (λ t. is_known s (written t)) ts
-  pub fit : j.fit ≡ list_all (λ t. has_arguments s (written t)) ts
+-- It tells of the type whether it has no more nodes than a type may have, and the number of its
+-- shape.
+pub record IsOfType (shapes : List Node) (t : Resolved) (j : JudgedType) : Type 0 where
+  pub small : j.small ≡ is_small (tree_of t)
+  pub within : j.shape < length shapes
+  pub shape : shape_in shapes j.shape ≡ shape_of (tree_of t)
+
+-- It tells of the types whether the names in each have the arguments that they take, and the numbers
+-- of their shapes.
+pub record AreOfTypes (shapes : List Node) (ts : List Resolved) (j : ShapedTypes) : Type 0 where
+  pub fit : j.fit ≡ list_all (λ t. t.fits) ts
   pub within : AreBelow (length shapes) j.shapes.items
-  pub same : HaveShapes shapes j.shapes.items (map (λ t. meant s (written t)) ts)
+  pub same : HaveShapes shapes j.shapes.items (map tree_of ts)
 
 -- What was told of others is told of these types too.
-pub record AddsTypes (s : Scope) (ts : List (List TypeNode)) (before : List Node)
-    (old : JudgedTypes) (after : List Node) (new : JudgedTypes) : Type 0 where
-  pub beside : (others : List (List TypeNode)) → AreOfTypes s before others old
-      → AreOfTypes s after (others ++ ts) new
+pub record AddsTypes (ts : List Resolved) (before : List Node) (old : ShapedTypes)
+    (after : List Node) (new : ShapedTypes) : Type 0 where
+  pub beside : (others : List Resolved) → AreOfTypes before others old
+      → AreOfTypes after (others ++ ts) new
 
 -- It tells whether each name and variable in the statement is declared, whether its types fit, and,
 -- where they do, whether none is too large.

@@ -1,25 +1,27 @@
 //! The fields of a struct: judging them, and making their types.
 
 ghost use Rattle.std.specs.Prelude.{◌≡◌, ◌<◌, ◌^◌, ◌++◌, true, false, length, map, IfOk, OnOk};
+ghost use Rattle.std.specs.Prelude.{MatchOption};
 ghost use Rattle.std.specs.List.{list_all};
 ghost use Rattle.nll_types.specs.Shapes.{is_small_shape, tuple_shape, shapes_of};
 ghost use Rattle.nll_types.specs.Table.{AreBelow, Extends, shape_in};
 ghost use Rattle.nll_types.specs.Types.{TypeTrees, tuple};
 ghost use Rattle.nll_types.specs.Views.{tree, trees};
 ghost use Rattle.nll_type_grammar.specs.TypeTexts.{written};
+ghost use Rattle.nll_type_grammar.specs.WrittenTypes.{WrittenType};
 ghost use Rattle.nll_mir_grammar.specs.Lines.{parameter_of};
 ghost use Rattle.nll_mir_grammar.specs.Tuples.{IsTuple, parts};
-ghost use Rattle.nll_naming.specs.Naming.{all_meant, are_known};
+ghost use Rattle.nll_naming.specs.Naming.{Scope as naming_scope, is_known};
+ghost use Rattle.nll_naming.specs.Resolution.{IsResolved, tree_of};
 ghost use Rattle.nll_mir_text.specs.MirSaid.{regions_in, types_in};
 ghost use Rattle.nll_typing.specs.Typing as typing;
 ghost use Rattle.nll_mir_text.specs.Declaring.{AreJudged, own_scope, region_marks, type_marks};
 
-use crate::judging::has_unknown;
 use crate::own_names::OwnNames;
 use crate::parameters::push_marks;
 use crate::tables::StructNames;
 use nll_mir_grammar::{ParameterText, StructText};
-use nll_naming::{Scope, judge, meant};
+use nll_naming::{ResolvedType, Scope, resolve};
 use nll_sets::Memory;
 use nll_type_grammar::TypeText;
 use nll_types::{Declaration, Node, Shapes, Ty, TypeTable};
@@ -28,8 +30,6 @@ use std::alloc::Global;
 /// What is judged of the fields of a struct.
 #[derive(Clone, Copy)]
 pub struct JudgedFields {
-    /// Each name in them is known.
-    pub known: bool,
     /// Each name in them has arguments of the kinds that it takes.
     pub fits: bool,
     /// None has more nodes than a type may have.
@@ -61,16 +61,17 @@ fn has_small_parts(shapes: &Shapes, shape: usize) -> bool
     }
 }
 
-/// Whether the fields of a struct are large, and have a name that isn't known.
-pub fn are_unknown_fields(
+/// The fields of a struct, as a tuple, where each name in them is known.
+pub fn resolve_fields(
     alloc: Global,
     own: &OwnNames,
     structs: &StructNames,
     fields: &TypeText<'_>,
-) -> Result<bool, Memory>
-    requires { IsTuple (written fields.now) }
-    ensures { IfOk result (λ unknown. unknown ≡ true
-        → are_known (own_scope own.now structs.now) (parts (written fields.now)) ≡ false) }
+) -> Result<Option<ResolvedType>, Memory>
+    requires { length own.now.regions < 2 ^ 32 }
+    ensures { IfOk result (λ o. MatchOption o
+        (is_known (own_scope own.now structs.now) (written fields.now) ≡ false)
+        (IsResolved (own_scope own.now structs.now) (written fields.now))) }
 {
     let scope = Scope {
         regions: &own.regions,
@@ -78,34 +79,25 @@ pub fn are_unknown_fields(
         structs: &structs.names,
         kinds: structs.kinds.as_slice(),
     };
-    has_unknown(alloc, &scope, fields)
+    resolve(alloc, &scope, fields)
 }
 
 /// Judges the fields of a struct, and puts their shapes into the table.
 pub fn judge_fields(
     alloc: Global,
-    own: &OwnNames,
-    structs: &StructNames,
     table: &mut TypeTable,
-    fields: &TypeText<'_>,
+    fields: &ResolvedType,
 ) -> Result<JudgedFields, Memory>
-    requires { IsTuple (written fields.now) }
     ensures structs { table.new.structs ≡ table.old.structs }
     ensures extends { Extends table.old.shapes table.new.shapes }
-    ensures judged { IfOk result
-        (AreJudged (own_scope own.now structs.now) (parts (written fields.now))) }
+    ensures judged { IfOk result (λ j. (s : naming_scope) (t : WrittenType) → IsTuple t
+        → IsResolved s t fields.now → AreJudged s (parts t) j) }
 {
-    let scope = Scope {
-        regions: &own.regions,
-        parameters: &own.types,
-        structs: &structs.names,
-        kinds: structs.kinds.as_slice(),
-    };
-    let judged = judge(alloc, &scope, table, fields)?;
+    let shape = fields.shape(alloc, table)?;
+    let small = has_small_parts(table.shapes(), shape);
     Ok(JudgedFields {
-        known: judged.known,
-        fits: judged.fits,
-        small: has_small_parts(table.shapes(), judged.shape),
+        fits: fields.fits(),
+        small,
     })
 }
 
@@ -119,25 +111,12 @@ fn parts_of(alloc: Global, ty: Ty) -> Vec<Ty>
     }
 }
 
-/// The types of the fields of a struct. It recurses to their depth.
-pub fn fields_meant(
-    alloc: Global,
-    own: &OwnNames,
-    structs: &StructNames,
-    fields: &TypeText<'_>,
-) -> Result<Vec<Ty>, Memory>
-    requires tuple { IsTuple (written fields.now) }
-    requires few { length own.now.regions < 2 ^ 32 }
-    ensures { IfOk result (λ v. trees v.items
-        ≡ all_meant (own_scope own.now structs.now) (parts (written fields.now))) }
+// The types of the fields of a struct. It recurses to their depth.
+fn fields_meant(alloc: Global, fields: &ResolvedType) -> Result<Vec<Ty>, Memory>
+    ensures { IfOk result (λ v. (ts : TypeTrees) → tree_of fields.now ≡ tuple ts
+        → trees v.items ≡ ts) }
 {
-    let scope = Scope {
-        regions: &own.regions,
-        parameters: &own.types,
-        structs: &structs.names,
-        kinds: structs.kinds.as_slice(),
-    };
-    let ty = meant(alloc, &scope, fields)?;
+    let ty = fields.ty(alloc)?;
     Ok(parts_of(alloc, ty))
 }
 
@@ -170,14 +149,12 @@ fn declared_with(
     }
 }
 
-/// What a struct line declares.
+/// What a struct line declares, whose fields are resolved.
 pub fn declaration(
     alloc: Global,
-    own: &OwnNames,
-    structs: &StructNames,
     text: &StructText<'_>,
+    fields: &ResolvedType,
 ) -> Result<Declaration, Memory>
-    requires { length own.now.regions < 2 ^ 32 }
     ensures regions { IfOk result (λ d.
         d.regions.items ≡ map (λ p. p.1)
         (regions_in (map parameter_of text.now.parameters.items))) }
@@ -185,9 +162,9 @@ pub fn declaration(
         d.types.items ≡ map (λ p. p.1)
         (types_in (map parameter_of text.now.parameters.items))) }
     ensures has_drop { IfOk result (λ d. d.has_drop ≡ text.now.has_drop) }
-    ensures fields { IfOk result (λ d. trees d.fields.items
-        ≡ all_meant (own_scope own.now structs.now) (parts (written text.now.fields))) }
+    ensures fields { IfOk result (λ d. (ts : TypeTrees) → tree_of fields.now ≡ tuple ts
+        → trees d.fields.items ≡ ts) }
 {
-    let fields = fields_meant(alloc, own, structs, text.fields.as_type())?;
+    let fields = fields_meant(alloc, fields)?;
     declared_with(alloc, text.parameters.as_slice(), text.has_drop, fields)
 }

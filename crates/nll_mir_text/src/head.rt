@@ -3,24 +3,30 @@
 ghost use Rattle.std.specs.Prelude.{◌≡◌, map, Some, None, true, false};
 ghost use Rattle.std.specs.Prelude.{IfOk, IfErr, OnOk, OnErr};
 ghost use Rattle.nll_naming.specs.Naming.{is_among};
+ghost use Rattle.nll_naming.specs.Resolution.{IsResolved};
 ghost use Rattle.nll_reading.specs.Names.{number_of};
 ghost use Rattle.nll_type_grammar.specs.TypeTexts.{written};
+ghost use Rattle.nll_type_grammar.specs.WrittenTypes.{WrittenType};
 ghost use Rattle.nll_mir_grammar.specs.MirForms as forms;
 ghost use Rattle.nll_mir_grammar.specs.Lines.{parameter_of};
-ghost use Rattle.nll_mir_grammar.specs.Tuples.{parts};
+ghost use Rattle.nll_mir_grammar.specs.Tuples.{IsTuple, parts};
 ghost use Rattle.nll_mir_text.specs.MirFaults.{first_fault, is_universal};
 ghost use Rattle.nll_mir_text.specs.MirReading.{said_by, IsReady};
 ghost use Rattle.nll_mir_text.specs.MirReading.{IsDue, IsTaken, IsRefused};
-ghost use Rattle.nll_mir_text.specs.MirReading.{struct_form, scope_in, IsOfType};
+ghost use Rattle.nll_mir_text.specs.MirReading.{struct_form};
 ghost use Rattle.nll_mir_text.specs.Declaring.{AreJudged, AreOwn, own_scope};
+ghost use Rattle.nll_mir_text.specs.Placing.{IsOfVariable};
+ghost use Rattle.nll_mir_text.specs.Stating.{IsOfType};
 
-use crate::fields::{JudgedFields, are_unknown_fields, declaration, judge_fields};
-use crate::judging::{JudgedType, is_unknown_type, judge_type, type_meant};
+use crate::fields::{JudgedFields, declaration, judge_fields, resolve_fields};
+use crate::judged_type::{JudgedType, judge_type};
 use crate::limits::{MAX_STRUCTS, MAX_VARIABLES};
 use crate::own_names::{OwnNames, gather_names, redeclares};
 use crate::parameters::kinds;
 use crate::reader::Reader;
+use crate::resolution::resolve_type;
 use nll_mir_grammar::StructText;
+use nll_naming::ResolvedType;
 use nll_problem::{Kind, MAX_POINTS, MAX_REGIONS, MAX_UNIVERSALS};
 use nll_reading::TextKind;
 use nll_sets::Memory;
@@ -150,37 +156,48 @@ impl Reader {
         ensures refused { IfErr result
             (IsRefused (said_by self.old) (forms.variable number (written text.now))) }
     {
-        let unknown = is_unknown_type(self.alloc, &self.regions, &self.structs, text)?;
-        if unknown {
-            return Err(TextKind::Unknown);
+        match resolve_type(self.alloc, &self.regions, &self.structs, text)? {
+            Some(ty) => {
+                let taken = self.add_resolved_variable(number, &ty);
+                drop(ty);
+                taken
+            }
+            None => Err(TextKind::Unknown),
         }
-        let table = &mut self.variables.table;
-        let judged = judge_type(self.alloc, &self.regions, &self.structs, table, text)?;
-        self.add_judged_variable(number, text, judged)
+    }
+
+    // Declares a variable whose type is resolved.
+    fn add_resolved_variable(&mut self, number: u32, ty: &ResolvedType) -> Result<(), TextKind>
+        requires { IsReady self.old }
+        ensures taken { OnOk result ((t : WrittenType) → IsOfVariable self.old number t ty.now
+            → IsTaken (said_by self.old) (forms.variable number t) self.new) }
+        ensures refused { IfErr result (λ kind. (t : WrittenType)
+            → IsOfVariable self.old number t ty.now
+            → IsRefused (said_by self.old) (forms.variable number t) kind) }
+    {
+        let judged = judge_type(self.alloc, &mut self.variables.table, ty)?;
+        self.add_judged_variable(number, ty, judged)
     }
 
     // Declares a variable whose type is judged.
     fn add_judged_variable(
         &mut self,
         number: u32,
-        text: &TypeText<'_>,
+        ty: &ResolvedType,
         judged: JudgedType,
     ) -> Result<(), TextKind>
-        requires due { IsDue self.old (forms.variable number (written text.now)) }
-        requires judged { IsOfType (scope_in self.old.regions self.old.structs)
-            self.old.variables.table.shapes (written text.now) judged }
-        ensures taken { OnOk result
-            (IsTaken (said_by self.old) (forms.variable number (written text.now)) self.new) }
-        ensures refused { IfErr result
-            (IsRefused (said_by self.old) (forms.variable number (written text.now))) }
+        requires ready { IsReady self.old }
+        requires judged { IsOfType self.old.variables.table.shapes ty.now judged }
+        ensures taken { OnOk result ((t : WrittenType) → IsOfVariable self.old number t ty.now
+            → IsTaken (said_by self.old) (forms.variable number t) self.new) }
+        ensures refused { IfErr result (λ kind. (t : WrittenType)
+            → IsOfVariable self.old number t ty.now
+            → IsRefused (said_by self.old) (forms.variable number t) kind) }
     {
-        if !judged.known {
-            return Err(TextKind::Unknown);
-        }
         if number as usize != self.variables.types.len() {
             return Err(TextKind::Range);
         }
-        if !judged.fits {
+        if !ty.fits() {
             return Err(TextKind::Shape);
         }
         if !judged.small {
@@ -189,7 +206,7 @@ impl Reader {
         if self.variables.types.len() >= MAX_VARIABLES {
             return Err(TextKind::Limit(Kind::Variables));
         }
-        let ty = type_meant(self.alloc, &self.regions, &self.structs, text)?;
+        let ty = ty.ty(self.alloc)?;
         self.variables.types.push(ty)?;
         self.variables.shapes.push(judged.shape)?;
         self.reached = 6;
@@ -216,13 +233,33 @@ impl Reader {
         ensures refused { IfErr result (IsRefused (said_by self.old) (struct_form text.now)) }
     {
         let fields = text.fields.as_type();
-        let unknown = are_unknown_fields(self.alloc, own, &self.structs, fields)?;
-        if unknown {
-            return Err(TextKind::Unknown);
+        match resolve_fields(self.alloc, own, &self.structs, fields)? {
+            Some(fields) => {
+                let taken = self.add_resolved_struct(own, text, &fields);
+                drop(fields);
+                taken
+            }
+            None => Err(TextKind::Unknown),
         }
-        let table = &mut self.variables.table;
-        let judged = judge_fields(self.alloc, own, &self.structs, table, fields)?;
-        self.add_judged_struct(own, text, judged)
+    }
+
+    // Declares a struct whose fields are resolved.
+    fn add_resolved_struct(
+        &mut self,
+        own: &OwnNames,
+        text: &StructText<'_>,
+        fields: &ResolvedType,
+    ) -> Result<(), TextKind>
+        requires due { IsDue self.old (struct_form text.now) }
+        requires own { AreOwn (map parameter_of text.now.parameters.items) own.now }
+        requires fields { IsResolved (own_scope own.now self.old.structs)
+            (written text.now.fields) fields.now }
+        requires tuple { IsTuple (written text.now.fields) }
+        ensures taken { OnOk result (IsTaken (said_by self.old) (struct_form text.now) self.new) }
+        ensures refused { IfErr result (IsRefused (said_by self.old) (struct_form text.now)) }
+    {
+        let judged = judge_fields(self.alloc, &mut self.variables.table, fields)?;
+        self.add_judged_struct(own, text, fields, judged)
     }
 
     // Declares a struct whose fields are judged.
@@ -230,18 +267,19 @@ impl Reader {
         &mut self,
         own: &OwnNames,
         text: &StructText<'_>,
+        fields: &ResolvedType,
         judged: JudgedFields,
     ) -> Result<(), TextKind>
         requires due { IsDue self.old (struct_form text.now) }
         requires own { AreOwn (map parameter_of text.now.parameters.items) own.now }
+        requires fields { IsResolved (own_scope own.now self.old.structs)
+            (written text.now.fields) fields.now }
+        requires tuple { IsTuple (written text.now.fields) }
         requires judged { AreJudged (own_scope own.now self.old.structs)
             (parts (written text.now.fields)) judged }
         ensures taken { OnOk result (IsTaken (said_by self.old) (struct_form text.now) self.new) }
         ensures refused { IfErr result (IsRefused (said_by self.old) (struct_form text.now)) }
     {
-        if !judged.known {
-            return Err(TextKind::Unknown);
-        }
         if redeclares(
             own,
             &self.structs.names,
@@ -259,19 +297,27 @@ impl Reader {
         if self.structs.names.len() >= MAX_STRUCTS {
             return Err(TextKind::Limit(Kind::Structs));
         }
-        self.declare_struct(own, text)?;
+        self.declare_struct(own, text, fields)?;
         Ok(())
     }
 
     // Declares a struct with which nothing is wrong.
-    fn declare_struct(&mut self, own: &OwnNames, text: &StructText<'_>) -> Result<(), Memory>
+    fn declare_struct(
+        &mut self,
+        own: &OwnNames,
+        text: &StructText<'_>,
+        fields: &ResolvedType,
+    ) -> Result<(), Memory>
         requires due { IsDue self.old (struct_form text.now) }
         requires own { AreOwn (map parameter_of text.now.parameters.items) own.now }
+        requires fields { IsResolved (own_scope own.now self.old.structs)
+            (written text.now.fields) fields.now }
+        requires tuple { IsTuple (written text.now.fields) }
         requires fine { first_fault (said_by self.old) (struct_form text.now) ≡ None }
         ensures { OnOk result (IsTaken (said_by self.old) (struct_form text.now) self.new) }
     {
         let parameters = text.parameters.as_slice();
-        let declaration = declaration(self.alloc, own, &self.structs, text)?;
+        let declaration = declaration(self.alloc, text, fields)?;
         self.variables.table.declare(self.alloc, declaration)?;
         let kinds = kinds(self.alloc, parameters)?;
         self.structs.add(self.alloc, text.name, kinds)?;

@@ -1,14 +1,12 @@
 //! The reader of MIR texts, of versions 1 and 2.
-//! Read `tables`, `judging`, `own_names`, `fields`, `reader`, `head`, `placing`, `header`, `text`,
+//! Read `tables`, `resolution`, `own_names`, `fields`, `reader`, `head`, `placing`, `header`, `text`,
 //! `parts`, `mir`, then `laws`; the definitions are in specs/.
 #![tactic(auto)]
 
 mod fields;
 mod head;
 mod header;
-mod judging;
-mod judging_types;
-mod knowing;
+mod judged_type;
 mod laws;
 mod limits;
 mod meaning;
@@ -17,7 +15,10 @@ mod own_names;
 mod parameters;
 mod parts;
 mod placing;
+mod ranges;
 mod reader;
+mod resolution;
+mod shapes;
 mod stating;
 mod tables;
 mod text;

@@ -4,30 +4,27 @@ ghost use Rattle.std.specs.Prelude.{◌≡◌, Some, IfOk, IfErr, OnOk};
 ghost use Rattle.nll_mir_grammar.specs.MirForms as forms;
 ghost use Rattle.nll_mir_grammar.specs.Lines.{form_of};
 ghost use Rattle.nll_mir_text.specs.MirFaults.{first_fault};
-ghost use Rattle.nll_mir_text.specs.MirReading.{said_by, IsAdmitted, IsDue};
+ghost use Rattle.nll_type_grammar.specs.WrittenTypes.{Name, WrittenType};
+ghost use Rattle.nll_statements.specs.Kept.{statement_of};
+ghost use Rattle.nll_statements.specs.Statements.{Statement as written_statement};
+ghost use Rattle.nll_mir_text.specs.MirReading.{said_by, IsAdmitted, IsDue, IsReady};
 ghost use Rattle.nll_mir_text.specs.MirReading.{IsTaken, IsRefused};
-ghost use Rattle.nll_mir_text.specs.Stating.{as_written, IsOfPoint};
+ghost use Rattle.nll_mir_text.specs.MirSaid.{statement_meant};
+ghost use Rattle.nll_mir_text.specs.Placing.{IsPlaced};
+ghost use Rattle.nll_mir_text.specs.Stating.{as_resolved, IsOfPoint};
 ghost use Rattle.nll_mir_grammar.specs.declared.line.Line.TheVariants as lines;
 
-use crate::judging_types::are_unknown_types;
-use crate::knowing::targets_are_blocks;
 use crate::meaning::statement_meant;
+use crate::ranges::targets_are_blocks;
 use crate::reader::Reader;
+use crate::resolution::resolve_statement;
 use crate::stating::{JudgedPoint, add_point, judge_point};
-use nll_problem::{Kind, MAX_EDGES, MAX_POINTS};
+use nll_naming::ResolvedType;
+use nll_problem::{Kind, MAX_EDGES, MAX_POINTS, RegionId};
 use nll_reading::TextKind;
 use nll_sets::Memory;
 use nll_statements::Statement;
 use nll_type_grammar::TypeText;
-
-// A statement that may stand at the next point.
-#[derive(Clone, Copy)]
-struct Admitted {
-    // How many edges there are with those of it.
-    edges: usize,
-    // Where the region of a borrow may stand.
-    region: usize,
-}
 
 impl Reader {
     /// Begins a block.
@@ -65,14 +62,15 @@ impl Reader {
     fn admit_judged(
         &self,
         judged: JudgedPoint,
-        statement: &Statement<&[u8], TypeText<'_>>,
-    ) -> Result<Admitted, TextKind>
-        requires due { IsDue self.now (form_of (lines.At statement.now)) }
-        requires judged { IsOfPoint (said_by self.now) (as_written statement.now) judged }
-        ensures admitted { IfOk result (λ a.
-            IsAdmitted (said_by self.now) (as_written statement.now) a.edges self.now) }
-        ensures refused { IfErr result
-            (IsRefused (said_by self.now) (form_of (lines.At statement.now))) }
+        statement: &Statement<RegionId, ResolvedType>,
+    ) -> Result<usize, TextKind>
+        requires { IsReady self.now }
+        ensures admitted { IfOk result (λ edges. (i : written_statement Name WrittenType)
+            → IsPlaced self.now i statement.now → IsOfPoint (said_by self.now) i judged
+            → IsAdmitted (said_by self.now) i edges self.now) }
+        ensures refused { IfErr result (λ kind. (i : written_statement Name WrittenType)
+            → IsPlaced self.now i statement.now → IsOfPoint (said_by self.now) i judged
+            → IsRefused (said_by self.now) (forms.at_point i) kind) }
     {
         if !judged.known {
             return Err(TextKind::Unknown);
@@ -93,50 +91,60 @@ impl Reader {
         if edges > MAX_EDGES {
             return Err(TextKind::Limit(Kind::Edges));
         }
-        Ok(Admitted {
-            edges,
-            region: judged.region,
-        })
+        Ok(edges)
     }
 
     // Judges what is to stand at the next point: how many edges there are with those of it.
-    fn admit(&mut self, statement: &Statement<&[u8], TypeText<'_>>) -> Result<Admitted, TextKind>
-        requires { IsDue self.old (form_of (lines.At statement.now)) }
-        ensures admitted { IfOk result (λ a.
-            IsAdmitted (said_by self.old) (as_written statement.now) a.edges self.new) }
-        ensures refused { IfErr result
-            (IsRefused (said_by self.old) (form_of (lines.At statement.now))) }
+    fn admit(&mut self, statement: &Statement<RegionId, ResolvedType>) -> Result<usize, TextKind>
+        requires { IsReady self.old }
+        ensures admitted { IfOk result (λ edges. (i : written_statement Name WrittenType)
+            → IsPlaced self.old i statement.now
+            → IsAdmitted (said_by self.old) i edges self.new) }
+        ensures refused { IfErr result (λ kind. (i : written_statement Name WrittenType)
+            → IsPlaced self.old i statement.now
+            → IsRefused (said_by self.old) (forms.at_point i) kind) }
     {
-        let unknown = are_unknown_types(self.alloc, &self.regions, &self.structs, statement)?;
-        if unknown {
-            return Err(TextKind::Unknown);
-        }
-        let variables = &mut self.variables;
-        let judged = judge_point(
-            self.alloc,
-            &self.regions,
-            &self.structs,
-            variables,
-            statement,
-        )?;
+        let judged = judge_point(self.alloc, &mut self.variables, statement)?;
         self.admit_judged(judged, statement)
     }
 
     // Puts a statement that is admitted at the next point.
     fn put(
         &mut self,
-        statement: Statement<&[u8], TypeText<'_>>,
-        admitted: Admitted,
+        statement: Statement<RegionId, ResolvedType>,
+        edges: usize,
     ) -> Result<(), Memory>
-        requires { IsAdmitted (said_by self.old) (as_written statement) admitted.edges self.old }
-        ensures { OnOk result
-            (IsTaken (said_by self.old) (form_of (lines.At statement.entry)) self.new) }
+        ensures { OnOk result ((i : written_statement Name WrittenType)
+            → IsAdmitted (said_by self.old) i edges self.old
+            → as_resolved (statement_of statement) ≡ statement_meant (said_by self.old) i
+            → IsTaken (said_by self.old) (forms.at_point i) self.new) }
     {
-        let (regions, structs) = (&self.regions, &self.structs);
-        let meant = statement_meant(self.alloc, regions, structs, statement, admitted.region)?;
-        add_point(&mut self.points, meant, admitted.edges)?;
+        let meant = statement_meant(self.alloc, statement)?;
+        add_point(&mut self.points, meant, edges)?;
         self.reached = 8;
         Ok(())
+    }
+
+    // Adds what stands at the next point, over numbers.
+    fn add_resolved(&mut self, statement: Statement<RegionId, ResolvedType>) -> Result<(), TextKind>
+        requires { IsReady self.old }
+        ensures taken { OnOk result ((i : written_statement Name WrittenType)
+            → IsPlaced self.old i statement
+            → IsTaken (said_by self.old) (forms.at_point i) self.new) }
+        ensures refused { IfErr result (λ kind. (i : written_statement Name WrittenType)
+            → IsPlaced self.old i statement
+            → IsRefused (said_by self.old) (forms.at_point i) kind) }
+    {
+        match self.admit(&statement) {
+            Ok(edges) => {
+                self.put(statement, edges)?;
+                Ok(())
+            }
+            Err(kind) => {
+                drop(statement);
+                Err(kind)
+            }
+        }
     }
 
     /// Adds what stands at the next point.
@@ -150,15 +158,9 @@ impl Reader {
         ensures refused { IfErr result
             (IsRefused (said_by self.old) (form_of (lines.At statement.entry))) }
     {
-        match self.admit(&statement) {
-            Ok(admitted) => {
-                self.put(statement, admitted)?;
-                Ok(())
-            }
-            Err(kind) => {
-                drop(statement);
-                Err(kind)
-            }
+        match resolve_statement(self.alloc, &self.regions, &self.structs, statement)? {
+            Some(resolved) => self.add_resolved(resolved),
+            None => Err(TextKind::Unknown),
         }
     }
 }

@@ -1,19 +1,23 @@
-//! Judging a statement, and putting it at the next point.
+//! Judging a statement over numbers, and putting it at the next point.
 
 ghost use Rattle.std.specs.Prelude.{◌≡◌, ◌++◌, ◌∷◌, [], not, IfOk, OnOk};
 ghost use Rattle.nll_types.specs.Table.{Extends};
+ghost use Rattle.nll_type_grammar.specs.WrittenTypes.{Name, WrittenType};
 ghost use Rattle.nll_statements.specs.Kept.{statement_of};
 ghost use Rattle.nll_statements.specs.Statements.{is_terminator};
-ghost use Rattle.nll_mir_text.specs.MirReading.{AreShapes};
-ghost use Rattle.nll_mir_text.specs.Stating.{as_written, declared_by, IsOfPoint};
+ghost use Rattle.nll_statements.specs.Statements.{Statement as written_statement};
+ghost use Rattle.nll_mir_text.specs.MirReading.{AreShapes, scope_in};
+ghost use Rattle.nll_mir_text.specs.Stating.{declared_by, IsOfPoint, IsOfStatement};
+ghost use Rattle.nll_mir_text.specs.declared.tables.Regions.{Regions as regions_kept};
+ghost use Rattle.nll_mir_text.specs.declared.tables.StructNames.{StructNames as structs_kept};
 
-use crate::judging_types::judge_types;
-use crate::knowing::{regions_known, variables_declared};
-use crate::tables::{Points, Regions, StructNames, Variables};
+use crate::ranges::variables_declared;
+use crate::shapes::shape_types;
+use crate::tables::{Points, Variables};
+use nll_naming::ResolvedType;
 use nll_problem::RegionId;
 use nll_sets::Memory;
 use nll_statements::Statement;
-use nll_type_grammar::TypeText;
 use nll_types::Ty;
 use nll_typing::judge_statement;
 use std::alloc::Global;
@@ -21,47 +25,42 @@ use std::alloc::Global;
 /// What is judged of a statement.
 #[derive(Clone, Copy)]
 pub struct JudgedPoint {
-    /// Each name and each variable in it is declared.
+    /// Each variable in it is declared.
     pub known: bool,
     /// Its types fit.
     pub fits: bool,
     /// Its types fit, and none of them is too large.
     pub small: bool,
-    /// Where the region of a borrow may stand.
-    pub region: usize,
 }
 
-/// Judges a statement, and puts the shapes of its types into the table.
+/// Judges a statement over numbers, and puts the shapes of its types into the table.
 pub fn judge_point(
     alloc: Global,
-    regions: &Regions,
-    structs: &StructNames,
     variables: &mut Variables,
-    statement: &Statement<&[u8], TypeText<'_>>,
+    statement: &Statement<RegionId, ResolvedType>,
 ) -> Result<JudgedPoint, Memory>
-    requires none { structs.now.none ≡ [] }
-    requires shapes { AreShapes variables.old.table.shapes variables.old.shapes.items
+    requires { AreShapes variables.old.table.shapes variables.old.shapes.items
         variables.old.types.items }
     ensures others { variables.new ≡ record variables.old { table = variables.new.table } }
     ensures structs { variables.new.table.structs ≡ variables.old.table.structs }
     ensures extends { Extends variables.old.table.shapes variables.new.table.shapes }
-    ensures judged { IfOk result (IsOfPoint
-        (declared_by regions.now structs.now variables.old) (as_written statement.now)) }
+    ensures judged { IfOk result (λ j. (regions : regions_kept) (structs : structs_kept)
+        (i : written_statement Name WrittenType)
+        → IsOfStatement (scope_in regions structs) i (statement_of statement.now)
+        → IsOfPoint (declared_by regions structs variables.old) i j) }
 {
-    let types = judge_types(alloc, regions, structs, &mut variables.table, statement)?;
-    let declared = variables_declared(variables.types.len(), statement);
-    let regions = regions_known(&regions.names, statement);
+    let types = shape_types(alloc, &mut variables.table, statement)?;
+    let known = variables_declared(variables.types.len(), statement);
     let shapes = variables.shapes.as_slice();
     let table = &mut variables.table;
     let judged = judge_statement(alloc, table, shapes, statement, types.shapes.as_slice());
-    let (known, fit) = (types.known, types.fit);
+    let fit = types.fit;
     drop(types);
     let judged = judged?;
     Ok(JudgedPoint {
-        known: declared & regions.known & known,
+        known,
         fits: fit & judged.fits,
         small: judged.small,
-        region: regions.place,
     })
 }
 

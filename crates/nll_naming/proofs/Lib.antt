@@ -1,4 +1,5 @@
-pub mod JudgingLemmas
-pub mod MeaningLemmas
-pub mod NodeLemmas
-pub mod KnowingLemmas
+pub mod MeantLemmas
+pub mod PushLemmas
+pub mod ResolvedLemmas
+pub mod ToldLemmas
+pub mod WrittenLemmas

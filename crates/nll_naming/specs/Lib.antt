@@ -1,3 +1,3 @@
 pub mod Naming
-pub mod Judging
-pub mod Knowing
+pub mod Resolution
+pub mod Telling

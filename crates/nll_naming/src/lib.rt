@@ -1,15 +1,18 @@
 //! What the names in written types mean.
-//! Read `scope`, `judged`, `judging`, `knowing`, then `meaning`; the definitions are in specs/.
+//! Read `scope`, `resolved_type`, `told`, `arguments`, `resolution`, then `shapes` and `trees`; the
+//! definitions are in specs/.
 #![tactic(auto)]
 
-mod judged;
-mod judging;
-mod knowing;
-mod meaning;
+mod arguments;
+mod resolution;
+mod resolved_type;
 mod scope;
+mod shapes;
+mod told;
+mod trees;
 
-pub use judged::Judged;
-pub use judging::judge;
-pub use knowing::is_known;
-pub use meaning::meant;
+pub use resolution::resolve;
+pub use resolved_type::{
+    ResolvedArguments, ResolvedFunction, ResolvedName, ResolvedNode, ResolvedType,
+};
 pub use scope::Scope;

@@ -3,7 +3,7 @@ use super::lines::OfLine;
 use super::rows::compare_text;
 use super::transcript::Transcript;
 use super::typing::write_type;
-use nll_naming::{Scope, judge, meant};
+use nll_naming::{ResolvedType, Scope, resolve};
 use nll_reading::Names;
 use nll_text::Token;
 use nll_type_grammar::{TypeText, type_at};
@@ -20,38 +20,39 @@ fn names_of(out: &mut Transcript, words: &[&str]) -> Names {
     names
 }
 
-// Writes whether the names in a type are known, whether they have the arguments that they take, and
-// how many nodes the type has.
-fn write_judged(
-    out: &mut Transcript,
-    scope: &Scope<'_>,
-    table: &mut TypeTable,
-    text: &TypeText<'_>,
-) {
-    if let Ok(judged) = judge(out.alloc, scope, table, text) {
-        out.flag("", judged.known, " ");
-        out.flag("", judged.fits, " ");
-        out.size("", table.shapes().size(judged.shape));
+// Writes how many nodes a type has.
+fn write_size(out: &mut Transcript, ty: &ResolvedType) {
+    let mut table = TypeTable::new(out.alloc);
+    if let Ok(shape) = ty.shape(out.alloc, &mut table) {
+        out.size("", table.shapes().size(shape));
         out.say(": ");
     }
+    drop(table);
 }
 
-// Writes the type that a type means.
-fn write_meant(out: &mut Transcript, scope: &Scope<'_>, text: &TypeText<'_>) {
-    if scope.regions.len() <= 100 {
-        if let Ok(ty) = meant(out.alloc, scope, text) {
-            write_type(out, &ty);
-            drop(ty);
-        }
+// Writes whether the names in a type have the arguments that they take, how many nodes the type
+// has, and what it is.
+fn write_resolved(out: &mut Transcript, resolved: &ResolvedType) {
+    out.flag("true ", resolved.fits(), " ");
+    write_size(out, resolved);
+    if let Ok(ty) = resolved.ty(out.alloc) {
+        write_type(out, &ty);
+        drop(ty);
     }
 }
 
-// Writes what is told of a type, and what it means.
+// Writes whether the names in a type are known, and, where they are, what the type is.
 fn write_told(out: &mut Transcript, scope: &Scope<'_>, text: &TypeText<'_>) {
-    let mut table = TypeTable::new(out.alloc);
-    write_judged(out, scope, &mut table, text);
-    drop(table);
-    write_meant(out, scope, text);
+    if scope.regions.len() <= 100 {
+        match resolve(out.alloc, scope, text) {
+            Ok(Some(resolved)) => {
+                write_resolved(out, &resolved);
+                drop(resolved);
+            }
+            Ok(None) => out.say("false"),
+            Err(_) => out.say("refused"),
+        }
+    }
 }
 
 // Writes what is told of the type in front of tokens, where there is one.
@@ -99,32 +100,32 @@ pub fn write_names(out: &mut Transcript, tokens: &[Token<'_>]) {
 // Which arguments of the structs W, V, U and T are regions.
 const KINDS: &[&[bool]] = &[&[true], &[true, false], &[], &[true]];
 
-// Types; whether the names in each are known, whether they have the arguments that they take, how
-// many nodes it has, and what it means. A name that isn't known has the number behind the last.
+// Types; whether the names in each are known, and, where they are, whether they have the arguments
+// that they take, how many nodes the type has, and what it means.
 const TYPES: &str = "
 int ~ true true 1: int
 &'a mut int ~ true true 2: &1 mut int
 &'static int ~ true true 2: &0 int
-&'c int ~ false true 2: &3 int
-&'a X ~ false true 2: &1 S4< >
+&'c int ~ false
+&'a X ~ false
 T ~ true true 1: P0
 T<'a> ~ true false 1: P0
 W<'b> ~ true true 1: S0< 2 >
-W<'c> ~ false true 1: S0< 3 >
+W<'c> ~ false
 W ~ true false 1: S0< >
 W<int> ~ true false 2: S0< int >
 W<'a, 'b> ~ true false 1: S0< 1 2 >
 V<'b, T> ~ true true 2: S1< 2 P0 >
 V<T, 'b> ~ true false 2: S1< 2 P0 >
-V<'a, W<'c>> ~ false true 2: S1< 1 S0< 3 > >
+V<'a, W<'c>> ~ false
 V<'a, W> ~ true false 2: S1< 1 S0< > >
 U<'a> ~ true false 1: S2< 1 >
 () ~ true true 1: ( )
 (W<'a>, &'b U) ~ true true 4: ( S0< 1 > &2 S2< > )
-(X, W) ~ false false 3: ( S4< > S0< > )
+(X, W) ~ false
 ";
 
-// Names are judged, and mean what they stand for.
+// Names are resolved, and mean what they stand for.
 #[test]
 fn names_have_meanings(rt: HostRuntime) {
     compare_text(&rt, rt.alloc(), OfLine::Names, TYPES);

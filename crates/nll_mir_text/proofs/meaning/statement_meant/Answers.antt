@@ -5,7 +5,7 @@ pub returns-in-Assign : goal.returns-in-Assign
 returns-in-Assign c = rw c.in-Assign.is refl
 
 pub returns-in-Borrow : goal.returns-in-Borrow
-returns-in-Borrow c = rw (c.in-Borrow.is, c.region_near-region.ensures) refl
+returns-in-Borrow c = rw c.in-Borrow.is refl
 
 pub returns-in-Make : goal.returns-in-Make
 returns-in-Make c = rw c.in-Make.is c.make_meant.ensures

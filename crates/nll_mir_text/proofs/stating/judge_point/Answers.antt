@@ -1,31 +1,24 @@
-use Rattle.std.proofs.Common.{◌≡◌, ℕ, List, length, map, refl, sym, ◌∙◌, arith, Bor}
-use Rattle.nll_reading.specs.Names.{number_of}
+use Rattle.std.proofs.Common.{◌≡◌, ℕ, length, map, refl, sym, ◌∙◌, arith}
 use Rattle.nll_types.specs.Views.{tree}
 use Rattle.nll_types.proofs.ShapingLemmas.{extends_then}
-use Rattle.nll_type_grammar.specs.TypeTexts.{written}
-use Rattle.nll_type_grammar.specs.declared.type_text.TypeNode.{TypeNode}
-use Rattle.nll_naming.specs.Naming.{meant}
-use Rattle.nll_mir_text.specs.MirReading.{scope_in}
+use Rattle.nll_statements.specs.Kept.{statement_of}
+use Rattle.nll_naming.specs.Resolution.{tree_of}
 use Rattle.nll_mir_text.proofs.StatingLemmas.{have_shapes}
 use Rattle.nll_mir_text.proofs.PointLemmas.{point_judged}
 use Rattle.nll_mir_text.proofs.stating.judge_point.Goals as goal
 
 pub returns-clause-judged : goal.returns-clause-judged
-returns-clause-judged c =
-    let t = c.in_ok-types.ensures.judged in
+returns-clause-judged c = λ regions structs i of.
+    let t = c.in_ok-types.ensures.shaped in
     let count : c.len.result ≡ length c.args.variables.now.types.items = omega (arith, c.len.ensures, c.args.variables.now.types.ok.0) in
     let numbers = c.as_slice-shapes.ensures.value in
     let shapes = c.as_slice.ensures in
-    let variables = rw (sym numbers) at (have_shapes _ _ _ _ c.in_ok-types.ensures.extends c.requires.shapes) in
+    let variables = rw (sym numbers) at (have_shapes _ _ _ _ c.in_ok-types.ensures.extends c.requires) in
     let types = rw (sym shapes) at t.same in
-    let judged = c.in_ok-judged.ensures.judged (map tree c.args.variables.now.types.items)
-    (λ (r : Bor (List ℕ)). number_of c.args.regions.now.names r.now)
-    (λ (t : List TypeNode). meant (scope_in c.args.regions.now c.args.structs.now) (written t)) variables types in
-    point_judged c.args.regions.now c.args.structs.now c.args.variables.now c.args.statement.now
-    c.variables_declared-declared.result c.regions_known-regions.result.known c.in_ok-types.types.known c.in_ok-types.types.fit c.in_ok-judged.judged _ refl refl refl
-    (rw count at c.variables_declared-declared.ensures)
-    c.regions_known-regions.ensures
-    t.known
+    let judged = c.in_ok-judged.ensures.judged (map tree c.args.variables.now.types.items) (λ (r : ℕ). r) tree_of variables types in
+    point_judged regions structs c.args.variables.now i (statement_of c.args.statement.now) of
+    c.variables_declared-known.result c.in_ok-types.types.fit c.in_ok-judged.judged _ refl refl refl
+    (rw count at c.variables_declared-known.ensures)
     t.fit
     (rw c.in_ok-types.ensures.structs at judged)
 
@@ -55,6 +48,3 @@ returns-in_err-types-clause-extends c = c.in_err-types.ensures.extends
 
 pub returns-in_err-judged-clause-others : goal.returns-in_err-judged-clause-others
 returns-in_err-judged-clause-others c = refl
-
-pub judge_types-requires : goal.judge_types-requires
-judge_types-requires c = c.requires.none

@@ -2,55 +2,51 @@ use Rattle.std.proofs.Common.{◌∷◌, [], length, map, ap, refl, sym, ◌∙�
 use Rattle.std.proofs.lemmas.Bool.{not-true, not-false, eq-eqb, leb-true}
 use Rattle.std.proofs.lemmas.List.{length-map, map_push}
 use Rattle.nll_types.proofs.ShapingLemmas.{below_push}
-use Rattle.nll_types.specs.Shapes.{shape_of}
+use Rattle.nll_types.specs.Shapes.{is_small, shape_of}
 use Rattle.nll_types.specs.Table.{shape_in}
 use Rattle.nll_types.specs.Views.{tree}
 use Rattle.nll_types.specs.declared.ty.Ty.{Ty}
-use Rattle.nll_type_grammar.specs.TypeTexts.{written}
 use Rattle.nll_mir_text.specs.MirReading.{said_by}
-use Rattle.nll_mir_text.proofs.VariableLemmas.{type_unknown, type_unfit, type_too_large, too_many_variables, variable_fine}
+use Rattle.nll_mir_text.proofs.VariableLemmas.{other_number, type_unfit, type_too_large, too_many_variables, variable_fine}
 use Rattle.nll_mir_text.proofs.reader.Reader.add_judged_variable.Goals as goal
 
+pub returns-then-number-len-clause-refused : goal.returns-then-number-len-clause-refused
+returns-then-number-len-clause-refused c = λ t of.
+    let types = c.args.self.now.variables.types in
+    inr (other_number (said_by c.args.self.now) c.args.number t of.order of.of.known (λ e. c.if-number-len.true (omega (arith, e, c.len.ensures, types.ok.0, length-map types.items tree))))
+
+pub returns-then-not-fits-clause-refused : goal.returns-then-not-fits-clause-refused
+returns-then-not-fits-clause-refused c = λ t of.
+    let types = c.args.self.now.variables.types in
+    let next = eq-eqb c.args.number (length (map tree types.items)) (omega (arith, c.if-number-len.false, c.len.ensures, types.ok.0, length-map types.items tree)) in
+    inr (type_unfit (said_by c.args.self.now) c.args.number t of.order of.of.known next (sym of.of.fits ∙ (sym c.fits.ensures ∙ c.if-not-fits.true)))
+
 pub returns-then-not-judged-clause-refused : goal.returns-then-not-judged-clause-refused
-returns-then-not-judged-clause-refused c =
-    inr (type_unknown (said_by c.args.self.now) c.args.number (written c.args.text.now) c.requires.due.order (sym c.requires.judged.known ∙ not-true _ c.if-not-judged.true))
-
-pub returns-then-not-judged-2-clause-refused : goal.returns-then-not-judged-2-clause-refused
-returns-then-not-judged-2-clause-refused c =
+returns-then-not-judged-clause-refused c = λ t of.
     let types = c.args.self.now.variables.types in
-    let known = sym c.requires.judged.known ∙ not-false _ c.if-not-judged.false in
     let next = eq-eqb c.args.number (length (map tree types.items)) (omega (arith, c.if-number-len.false, c.len.ensures, types.ok.0, length-map types.items tree)) in
-    inr (type_unfit (said_by c.args.self.now) c.args.number (written c.args.text.now) c.requires.due.order known next (sym c.requires.judged.fits ∙ not-true _ c.if-not-judged-2.true))
-
-pub returns-then-not-judged-3-clause-refused : goal.returns-then-not-judged-3-clause-refused
-returns-then-not-judged-3-clause-refused c =
-    let types = c.args.self.now.variables.types in
-    let known = sym c.requires.judged.known ∙ not-false _ c.if-not-judged.false in
-    let next = eq-eqb c.args.number (length (map tree types.items)) (omega (arith, c.if-number-len.false, c.len.ensures, types.ok.0, length-map types.items tree)) in
-    inr (type_too_large (said_by c.args.self.now) c.args.number (written c.args.text.now) c.requires.due.order known next (sym c.requires.judged.fits ∙ not-false _ c.if-not-judged-2.false) (sym c.requires.judged.small ∙ not-true _ c.if-not-judged-3.true))
+    inr (type_too_large (said_by c.args.self.now) c.args.number t of.order of.of.known next (sym of.of.fits ∙ (sym c.fits.ensures ∙ c.if-not-fits.false)) (ap is_small (sym of.of.tree) ∙ (sym c.requires.judged.small ∙ not-true _ c.if-not-judged.true)))
 
 pub returns-then-len-ge-MAX_VARIABLES-clause-refused : goal.returns-then-len-ge-MAX_VARIABLES-clause-refused
-returns-then-len-ge-MAX_VARIABLES-clause-refused c =
+returns-then-len-ge-MAX_VARIABLES-clause-refused c = λ t of.
     let types = c.args.self.now.variables.types in
-    let known = sym c.requires.judged.known ∙ not-false _ c.if-not-judged.false in
     let next = eq-eqb c.args.number (length (map tree types.items)) (omega (arith, c.if-number-len.false, c.len.ensures, types.ok.0, length-map types.items tree)) in
-    inr (too_many_variables (said_by c.args.self.now) c.args.number (written c.args.text.now) c.requires.due.order known next (sym c.requires.judged.fits ∙ not-false _ c.if-not-judged-2.false) (sym c.requires.judged.small ∙ not-false _ c.if-not-judged-3.false)
+    inr (too_many_variables (said_by c.args.self.now) c.args.number t of.order of.of.known next (sym of.of.fits ∙ (sym c.fits.ensures ∙ c.if-not-fits.false)) (ap is_small (sym of.of.tree) ∙ (sym c.requires.judged.small ∙ not-false _ c.if-not-judged.false))
     (omega (arith, c.if-len-ge-MAX_VARIABLES.true, c.len-2.ensures, types.ok.0, length-map types.items tree)))
 
 pub returns-clause-taken : goal.returns-clause-taken
-returns-clause-taken c =
+returns-clause-taken c = λ t of.
     let types = c.args.self.now.variables.types in
     let numbers = c.args.self.now.variables.shapes in
     let table = c.args.self.now.variables.table in
     let ty = c.in_ok-ty.ty in
-    let r = c.requires.due.ready in
+    let r = c.requires.ready in
     let j = c.requires.judged in
-    let known = sym j.known ∙ not-false _ c.if-not-judged.false in
     let next = eq-eqb c.args.number (length (map tree types.items)) (omega (arith, c.if-number-len.false, c.len.ensures, types.ok.0, length-map types.items tree)) in
     record {
-      fine = variable_fine (said_by c.args.self.now) c.args.number (written c.args.text.now) c.requires.due.order known next (sym j.fits ∙ not-false _ c.if-not-judged-2.false) (sym j.small ∙ not-false _ c.if-not-judged-3.false)
+      fine = variable_fine (said_by c.args.self.now) c.args.number t of.order of.of.known next (sym of.of.fits ∙ (sym c.fits.ensures ∙ c.if-not-fits.false)) (ap is_small (sym of.of.tree) ∙ (sym j.small ∙ not-false _ c.if-not-judged.false))
           (omega (arith, c.if-len-ge-MAX_VARIABLES.false, c.len-2.ensures, types.ok.0, length-map types.items tree));
-      says = rw (c.in_ok-push.ensures.items, map_push tree types.items ty, c.in_ok-ty.ensures) refl;
+      says = rw (c.in_ok-push.ensures.items, map_push tree types.items ty, c.in_ok-ty.ensures, of.of.tree) refl;
       ready = record {
         static = r.static;
         universals = r.universals;
@@ -67,7 +63,7 @@ returns-clause-taken c =
           same = rw (c.in_ok-push-2.ensures.items, c.in_ok-push.ensures.items, map_push (shape_in table.shapes) numbers.items c.args.judged.shape, map_push (λ (t : Ty). shape_of (tree t)) types.items ty, r.shapes.same, j.shape, c.in_ok-ty.ensures) refl;
         };
         few_blocks = r.few_blocks;
-        no_start = λ h. r.no_start (omega (arith, leb-true _ _ c.requires.due.order));
+        no_start = λ h. r.no_start (omega (arith, leb-true _ _ of.order));
         starts = r.starts;
         few_points = r.few_points;
         edges = r.edges;

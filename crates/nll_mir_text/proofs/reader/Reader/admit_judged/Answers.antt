@@ -1,70 +1,68 @@
 use Rattle.std.proofs.Common.{refl, sym, ◌∙◌, inr, arith}
 use Rattle.std.proofs.lemmas.List.{length-map}
-use Rattle.nll_mir_text.specs.MirReading.{said_by, statement_kept}
-use Rattle.nll_mir_text.specs.Stating.{as_written}
-use Rattle.nll_mir_text.proofs.PointLemmas.{out_of_range, unfit, too_large, too_many_points, too_many_edges, no_fault, targets_written, edges_written}
+use Rattle.nll_statements.specs.Kept.{statement_of}
+use Rattle.nll_mir_text.specs.MirReading.{said_by, scope_in, statement_kept}
+use Rattle.nll_mir_text.proofs.PointLemmas.{undeclared, out_of_range, unfit, too_large, too_many_points, too_many_edges, no_fault, targets_are, edges_resolved}
 use Rattle.nll_mir_text.proofs.reader.Reader.admit_judged.Goals as goal
 
+pub returns-then-not-judged-clause-refused : goal.returns-then-not-judged-clause-refused
+returns-then-not-judged-clause-refused c = λ i placed told. inr (undeclared (said_by c.args.self.now) i placed.order (sym told.known ∙ c.if-not-judged.true))
+
 pub returns-then-not-targets_are_blocks-clause-refused : goal.returns-then-not-targets_are_blocks-clause-refused
-returns-then-not-targets_are_blocks-clause-refused c =
+returns-then-not-targets_are_blocks-clause-refused c = λ i placed told.
     let s = said_by c.args.self.now in
-    let i = as_written c.args.statement.now in
-    let known = sym c.requires.judged.known ∙ c.if-not-judged.false in
-    let blocks = sym (targets_written s c.args.statement.now _ c.targets_are_blocks.ensures) ∙ c.if-not-targets_are_blocks.true in
-    inr (out_of_range s i c.requires.due.order known blocks)
+    let known = sym told.known ∙ c.if-not-judged.false in
+    let blocks = sym (targets_are s i (statement_of c.args.statement.now) placed.of _ c.targets_are_blocks.ensures) ∙ c.if-not-targets_are_blocks.true in
+    inr (out_of_range s i placed.order known blocks)
 
 pub returns-then-not-judged-2-clause-refused : goal.returns-then-not-judged-2-clause-refused
-returns-then-not-judged-2-clause-refused c =
+returns-then-not-judged-2-clause-refused c = λ i placed told.
     let s = said_by c.args.self.now in
-    let i = as_written c.args.statement.now in
-    let known = sym c.requires.judged.known ∙ c.if-not-judged.false in
-    let blocks = sym (targets_written s c.args.statement.now _ c.targets_are_blocks.ensures) ∙ c.if-not-targets_are_blocks.false in
-    inr (unfit s i c.requires.due.order known blocks (sym c.requires.judged.fits ∙ c.if-not-judged-2.true))
+    let known = sym told.known ∙ c.if-not-judged.false in
+    let blocks = sym (targets_are s i (statement_of c.args.statement.now) placed.of _ c.targets_are_blocks.ensures) ∙ c.if-not-targets_are_blocks.false in
+    inr (unfit s i placed.order known blocks (sym told.fits ∙ c.if-not-judged-2.true))
 
 pub returns-then-not-judged-3-clause-refused : goal.returns-then-not-judged-3-clause-refused
-returns-then-not-judged-3-clause-refused c =
+returns-then-not-judged-3-clause-refused c = λ i placed told.
     let s = said_by c.args.self.now in
-    let i = as_written c.args.statement.now in
-    let known = sym c.requires.judged.known ∙ c.if-not-judged.false in
-    let blocks = sym (targets_written s c.args.statement.now _ c.targets_are_blocks.ensures) ∙ c.if-not-targets_are_blocks.false in
-    inr (too_large s i c.requires.due.order known blocks (sym c.requires.judged.fits ∙ c.if-not-judged-2.false) (sym (c.requires.judged.fits_small c.if-not-judged-2.false) ∙ c.if-not-judged-3.true))
+    let known = sym told.known ∙ c.if-not-judged.false in
+    let blocks = sym (targets_are s i (statement_of c.args.statement.now) placed.of _ c.targets_are_blocks.ensures) ∙ c.if-not-targets_are_blocks.false in
+    inr (too_large s i placed.order known blocks (sym told.fits ∙ c.if-not-judged-2.false) (sym (told.fits_small c.if-not-judged-2.false) ∙ c.if-not-judged-3.true))
 
 pub returns-then-len-clause-refused : goal.returns-then-len-clause-refused
-returns-then-len-clause-refused c =
+returns-then-len-clause-refused c = λ i placed told.
     let s = said_by c.args.self.now in
-    let i = as_written c.args.statement.now in
-    let known = sym c.requires.judged.known ∙ c.if-not-judged.false in
-    let blocks = sym (targets_written s c.args.statement.now _ c.targets_are_blocks.ensures) ∙ c.if-not-targets_are_blocks.false in
+    let known = sym told.known ∙ c.if-not-judged.false in
+    let blocks = sym (targets_are s i (statement_of c.args.statement.now) placed.of _ c.targets_are_blocks.ensures) ∙ c.if-not-targets_are_blocks.false in
     let kept = c.args.self.now.points.statements in
-    inr (too_many_points s i c.requires.due.order known blocks (sym c.requires.judged.fits ∙ c.if-not-judged-2.false) (sym (c.requires.judged.fits_small c.if-not-judged-2.false) ∙ c.if-not-judged-3.false)
+    inr (too_many_points s i placed.order known blocks (sym told.fits ∙ c.if-not-judged-2.false) (sym (told.fits_small c.if-not-judged-2.false) ∙ c.if-not-judged-3.false)
     (omega (arith, c.len.ensures, kept.ok.0, length-map kept.items statement_kept, c.if-len.true)))
 
 pub returns-then-edges-gt-MAX_EDGES-clause-refused : goal.returns-then-edges-gt-MAX_EDGES-clause-refused
-returns-then-edges-gt-MAX_EDGES-clause-refused c =
+returns-then-edges-gt-MAX_EDGES-clause-refused c = λ i placed told.
     let s = said_by c.args.self.now in
-    let i = as_written c.args.statement.now in
-    let known = sym c.requires.judged.known ∙ c.if-not-judged.false in
-    let blocks = sym (targets_written s c.args.statement.now _ c.targets_are_blocks.ensures) ∙ c.if-not-targets_are_blocks.false in
+    let known = sym told.known ∙ c.if-not-judged.false in
+    let blocks = sym (targets_are s i (statement_of c.args.statement.now) placed.of _ c.targets_are_blocks.ensures) ∙ c.if-not-targets_are_blocks.false in
     let kept = c.args.self.now.points.statements in
-    inr (too_many_edges s i c.requires.due.order known blocks (sym c.requires.judged.fits ∙ c.if-not-judged-2.false) (sym (c.requires.judged.fits_small c.if-not-judged-2.false) ∙ c.if-not-judged-3.false)
+    let edges = edges_resolved (scope_in c.args.self.now.regions c.args.self.now.structs) i (statement_of c.args.statement.now) placed.of in
+    inr (too_many_edges s i placed.order known blocks (sym told.fits ∙ c.if-not-judged-2.false) (sym (told.fits_small c.if-not-judged-2.false) ∙ c.if-not-judged-3.false)
     (omega (arith, c.len.ensures, kept.ok.0, length-map kept.items statement_kept, c.if-len.false))
-    (omega (arith, c.in_ok-edges.ensures.edges, edges_written c.args.statement.now, c.requires.due.ready.edges, c.if-edges-gt-MAX_EDGES.true)))
+    (omega (arith, c.in_ok-edges.ensures.edges, edges, c.requires.edges, c.if-edges-gt-MAX_EDGES.true)))
 
 pub returns-clause-admitted : goal.returns-clause-admitted
-returns-clause-admitted c =
+returns-clause-admitted c = λ i placed told.
     let s = said_by c.args.self.now in
-    let i = as_written c.args.statement.now in
-    let r = c.requires.due.ready in
-    let known = sym c.requires.judged.known ∙ c.if-not-judged.false in
-    let blocks = sym (targets_written s c.args.statement.now _ c.targets_are_blocks.ensures) ∙ c.if-not-targets_are_blocks.false in
+    let known = sym told.known ∙ c.if-not-judged.false in
+    let blocks = sym (targets_are s i (statement_of c.args.statement.now) placed.of _ c.targets_are_blocks.ensures) ∙ c.if-not-targets_are_blocks.false in
     let kept = c.args.self.now.points.statements in
+    let edges = edges_resolved (scope_in c.args.self.now.regions c.args.self.now.structs) i (statement_of c.args.statement.now) placed.of in
     record {
-      fine = no_fault s i c.requires.due.order known blocks (sym c.requires.judged.fits ∙ c.if-not-judged-2.false) (sym (c.requires.judged.fits_small c.if-not-judged-2.false) ∙ c.if-not-judged-3.false)
+      fine = no_fault s i placed.order known blocks (sym told.fits ∙ c.if-not-judged-2.false) (sym (told.fits_small c.if-not-judged-2.false) ∙ c.if-not-judged-3.false)
           (omega (arith, c.len.ensures, kept.ok.0, length-map kept.items statement_kept, c.if-len.false))
-          (omega (arith, c.in_ok-edges.ensures.edges, edges_written c.args.statement.now, r.edges, c.if-edges-gt-MAX_EDGES.false));
+          (omega (arith, c.in_ok-edges.ensures.edges, edges, c.requires.edges, c.if-edges-gt-MAX_EDGES.false));
       same = refl;
-      ready = r;
+      ready = c.requires;
       few = omega (arith, c.len.ensures, kept.ok.0, c.if-len.false);
-      counted = omega (arith, c.in_ok-edges.ensures.edges, edges_written c.args.statement.now);
+      counted = omega (arith, c.in_ok-edges.ensures.edges, edges);
       few_edges = omega (arith, c.if-edges-gt-MAX_EDGES.false);
     }

@@ -5,26 +5,24 @@ use Rattle.nll_statements.specs.Statements.{Statement}
 use Rattle.nll_statements.specs.Edges.{edge_count}
 use Rattle.nll_mir_text.specs.MirSaid.{statement_meant}
 use Rattle.nll_mir_text.specs.MirReading.{said_by, statement_kept}
-use Rattle.nll_mir_text.specs.Stating.{as_written}
 use Rattle.nll_mir_text.proofs.PointLemmas.{point_said, ends_same, edges_more}
 use Rattle.nll_mir_text.proofs.reader.Reader.put.Goals as goal
 
 pub returns : goal.returns
-returns c =
+returns c = λ i h meaning.
     let s = said_by c.args.self.now in
-    let i = as_written c.args.statement in
-    let h = c.requires in
+    let meant = c.in_ok-meant.ensures ∙ meaning in
     let r = h.ready in
     let kept = c.args.self.now.points.statements in
     let e = c.in_ok-add_point.ensures in
     let stand : map statement_kept c.add_point.new.points.statements.items ≡ map statement_kept kept.items ++ statement_meant s i ∷ [] =
     ap (map statement_kept) e.statements ∙ (map_push statement_kept kept.items c.in_ok-meant.meant
-    ∙ ap (λ (m : Statement ℕ TypeTree). map statement_kept kept.items ++ m ∷ []) c.in_ok-meant.ensures) in
+    ∙ ap (λ (m : Statement ℕ TypeTree). map statement_kept kept.items ++ m ∷ []) meant) in
     let counted : c.add_point.new.points.edges ≡ edge_count (map statement_kept c.add_point.new.points.statements.items) =
     omega (arith, e.edges, r.edges, h.counted, edges_more s (map statement_kept kept.items) i, ap edge_count stand) in
     record {
       fine = h.fine;
-      says = point_said s i _ _ _ _ e.blocks (ap (λ v. v.items) e.starts) stand (e.owes ∙ ap not (ends_same s i c.in_ok-meant.meant c.in_ok-meant.ensures));
+      says = point_said s i _ _ _ _ e.blocks (ap (λ v. v.items) e.starts) stand (e.owes ∙ ap not (ends_same s i c.in_ok-meant.meant meant));
       ready = record {
         static = r.static;
         universals = r.universals;

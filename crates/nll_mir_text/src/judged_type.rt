@@ -1,0 +1,34 @@
+//! What is judged of a type of a variable.
+
+ghost use Rattle.std.specs.Prelude.{◌≡◌, IfOk};
+ghost use Rattle.nll_types.specs.Table.{Extends};
+ghost use Rattle.nll_mir_text.specs.Stating.{IsOfType};
+
+use nll_naming::ResolvedType;
+use nll_sets::Memory;
+use nll_types::TypeTable;
+use std::alloc::Global;
+
+/// What is judged of a type.
+#[derive(Clone, Copy)]
+pub struct JudgedType {
+    /// It has no more nodes than a type may have.
+    pub small: bool,
+    /// The number of its shape.
+    pub shape: usize,
+}
+
+/// Judges a type, and puts its shape into the table.
+pub fn judge_type(
+    alloc: Global,
+    table: &mut TypeTable,
+    ty: &ResolvedType,
+) -> Result<JudgedType, Memory>
+    ensures structs { table.new.structs ≡ table.old.structs }
+    ensures extends { Extends table.old.shapes table.new.shapes }
+    ensures judged { IfOk result (IsOfType table.new.shapes ty.now) }
+{
+    let shape = ty.shape(alloc, table)?;
+    let small = table.shapes().is_small(shape);
+    Ok(JudgedType { small, shape })
+}
