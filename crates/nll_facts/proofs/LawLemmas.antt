@@ -15,7 +15,7 @@ use Rattle.nll_facts.specs.FactsText.{facts, IsFactsFault, IsOfVersion, Means}
 use Rattle.nll_facts.specs.declared.version.Version.{Version}
 use Rattle.nll_facts.specs.declared.version.Version.TheVariants.{First, Second}
 use Rattle.nll_facts.proofs.OneFormLemmas.{one_form, form_or_none}
-use Rattle.nll_facts.proofs.TextLemmas.{ended, not_ended}
+use Rattle.nll_facts.proofs.TextLemmas.{ended, end_reached}
 use Rattle.nll_facts.proofs.VersionLemmas.{one_form_in, one_version, of_headed, first_line}
 
 -- a line has a form of the version, or none
@@ -30,7 +30,7 @@ form_in_or_none version line = ⊎_elim
 
 -- the last line is among the lines, or it isn't
 ended_or_not : (forms : List Form) → Contains forms end ⊎ (Contains forms end → ⊥)
-ended_or_not forms = ⊎_elim (λ h. inl (ended forms h)) (λ none. inr (not_ended forms none)) (cases_eq (reached forms) 6)
+ended_or_not forms = ⊎_elim (λ h. inl (ended forms h)) (λ none. inr (λ has. none (end_reached forms has))) (cases_eq (reached forms) 6)
 
 -- a text has the header of version 2, or it hasn't
 headed_or_not : (text : List ℕ) → ((body : List (List ℕ)) × IsHeaded (facts Second) text body) ⊎ ((body : List (List ℕ)) → IsHeaded (facts Second) text body → ⊥)

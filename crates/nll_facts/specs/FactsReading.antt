@@ -11,17 +11,12 @@ use Rattle.nll_problem.specs.Building.{AddsFact, bare_problem}
 use Rattle.nll_problem.specs.GraphBuilding.{bare_graph}
 use Rattle.nll_reading.specs.Names.{number_of}
 use Rattle.nll_reading.specs.Parts.{Part, keyword, number, region}
-use Rattle.nll_reading.specs.Reading as reading
-use Rattle.nll_reading.specs.Text.{Says, IsFault, IsHeaded, IsRefusal}
-use Rattle.nll_reading.specs.declared.error.TextError.{TextError}
 use Rattle.nll_reading.specs.declared.error.TextKind.{TextKind}
 use Rattle.nll_reading.specs.declared.error.TextKind.TheVariants.{Memory}
 use Rattle.nll_facts.specs.FactsForms.{Form, points, universal, outlives, further, next, return}
 use Rattle.nll_facts.specs.FactsForms.{base, constraint, end, parts}
 use Rattle.nll_facts.specs.FactsSaid.{Said, said, group, is_in_order, first_fault}
-use Rattle.nll_facts.specs.FactsText.{facts}
 use Rattle.nll_facts.specs.declared.reader.Reader.{Reader}
-use Rattle.nll_facts.specs.declared.version.Version.{Version}
 
 -- ---- what a reader holds
 
@@ -130,10 +125,6 @@ pub record IsTaken (s : Said) (f : Form) (r : Reader) : Type 0 where
 abbrev pub IsRefused : Said → Form → TextKind → Type 0
 IsRefused s f kind = (kind ≡ Memory) ⊎ (first_fault s f ≡ Some kind)
 
--- t is what is said after a line that has no fault in a text of the version
-abbrev pub ReadsLine : Version → Said → List ℕ → Said → Type 0
-ReadsLine version = reading.ReadsLine (facts version) Adds
-
 -- ---- all lines
 
 -- The two say the same: the facts as sets, and as many edges and constraints.
@@ -143,14 +134,3 @@ pub record SameSaid (s t : Said) : Type 0 where
   pub problem : SameProblem s.problem t.problem
   pub edge_count : length s.problem.graph.edges ≡ length t.problem.graph.edges
   pub constraint_count : length s.problem.constraints ≡ length t.problem.constraints
-
--- the lines have no fault in a text of the version, and the reader holds what they say
-abbrev pub HasRead : Version → List (List ℕ) → Reader → Type 0
-HasRead version body r =
-    (forms : List Form) × Says (facts version) [] body forms × SameSaid (said forms) (said_by r)
-
--- the error refuses each text that has the header of the version and these lines behind it
-abbrev pub RefusesBody : Version → List (List ℕ) → TextError → Type 0
-RefusesBody version body error =
-    (text : List ℕ) → IsHeaded (facts version) text body
-    → IsRefusal (IsFault (facts version) text) error

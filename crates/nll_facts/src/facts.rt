@@ -1,18 +1,16 @@
 //! Reading a whole facts text.
 
-ghost use Rattle.std.specs.Prelude.{◌≡◌, ◌<◌, ◌^◌, ℕ, List, [], length};
-ghost use Rattle.std.specs.Prelude.{OnOk, IfOk, IfErr};
+ghost use Rattle.std.specs.Prelude.{◌<◌, ◌^◌, ℕ, List, length, IfOk, IfErr};
 ghost use Rattle.nll_text.specs.Lines.{lines_left};
+ghost use Rattle.nll_reading.specs.Lines.{AreShort, RefusesBody};
 ghost use Rattle.nll_reading.specs.Text.{IsHeaded, IsRefusal};
-ghost use Rattle.nll_facts.specs.FactsSaid.{said};
 ghost use Rattle.nll_facts.specs.FactsText.{facts, IsFactsFault, Means};
-ghost use Rattle.nll_facts.specs.FactsReading.{said_by, IsReady, HasRead, RefusesBody};
 
 use crate::header::check_header;
 use crate::reader::Reader;
 use crate::version::Version;
 use nll_problem::{Kind, Problem};
-use nll_reading::{Labels, MAX_TEXT, TextError, TextKind};
+use nll_reading::{Labels, MAX_TEXT, TextError, TextKind, read_lines};
 use nll_text::next_line;
 use std::alloc::Global;
 
@@ -23,48 +21,20 @@ pub struct Facts {
     pub labels: Labels,
 }
 
-// Takes in the lines behind the header of a text of the version, to the end.
-fn read_lines(reader: &mut Reader, version: Version, body: Option<&[u8]>) -> Result<(), TextError>
-    requires start { said_by reader.old ≡ said [] }
-    requires ready { IsReady reader.old }
-    requires long { length (lines_left body) < 2 ^ 32 }
-    ensures read { OnOk result (HasRead version (lines_left body.entry) reader.new) }
-    ensures ready { OnOk result (IsReady reader.new) }
-    ensures ended { OnOk result (reader.new.reached ≡ 6) }
-    ensures fault { IfErr result (RefusesBody version (lines_left body.entry)) }
-{
-    let mut number = 1;
-    let mut rest = body;
-    while let Some(text) = rest {
-        let (line, after) = next_line(text);
-        number += 1;
-        if let Err(kind) = reader.read_line(version, line) {
-            return Err(TextError::at(number, kind));
-        }
-        rest = after;
-    }
-    if !reader.has_ended() {
-        return Err(TextError {
-            line: number,
-            kind: TextKind::End,
-        });
-    }
-    Ok(())
-}
-
 // Reads the lines behind the header of a text of the version.
 fn read_body(alloc: Global, version: Version, body: Option<&[u8]>) -> Result<Facts, TextError>
     requires long { length (lines_left body) < 2 ^ 32 }
+    requires short { AreShort (lines_left body) }
     ensures ok { IfOk result (λ q. (text : List ℕ)
         → IsHeaded (facts version) text (lines_left body.entry)
         → Means text q.problem q.labels) }
-    ensures fault { IfErr result (RefusesBody version (lines_left body.entry)) }
+    ensures fault { IfErr result (RefusesBody (facts version) (lines_left body.entry)) }
 {
     let mut reader = match Reader::new(alloc) {
         Ok(reader) => reader,
         Err(kind) => return Err(TextError { line: 0, kind }),
     };
-    if let Err(error) = read_lines(&mut reader, version, body) {
+    if let Err(error) = read_lines(&mut reader, &version, body, &mut ()) {
         drop(reader);
         return Err(error);
     }

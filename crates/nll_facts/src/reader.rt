@@ -4,17 +4,16 @@
 //! that stands behind them.
 
 ghost use Rattle.std.specs.Prelude.{◌≡◌, ◌⊎◌, ◌↔◌, ◌<◌, ◌≤◌, ℕ, [], length, Some, true, false};
-ghost use Rattle.std.specs.Prelude.{IsTrue, IfOk, IfErr, OnOk, OnErr};
+ghost use Rattle.std.specs.Prelude.{IfOk, IfErr, OnOk, OnErr};
 ghost use Rattle.nll_problem.specs.Limits.{most_regions};
 ghost use Rattle.nll_problem.specs.Problem.{SameProblem};
 ghost use Rattle.nll_facts.specs.FactsForms as forms;
 ghost use Rattle.nll_facts.specs.FactsLines.{view};
 ghost use Rattle.nll_facts.specs.FactsSaid as specs;
 ghost use Rattle.nll_facts.specs.FactsSaid.{first_fault, is_declared, is_in_order, said};
-ghost use Rattle.nll_facts.specs.FactsReading.{said_by, IsKept, IsReady, HasTexts, ReadsLine};
+ghost use Rattle.nll_facts.specs.FactsReading.{said_by, IsKept, IsReady, HasTexts, SameSaid};
 ghost use Rattle.nll_facts.specs.FactsReading.{IsDue, IsTaken, IsRefused};
 ghost use Rattle.nll_facts.specs.FactsText.{facts};
-ghost use Rattle.nll_reading.specs.Text.{IsFaulty};
 ghost use Rattle.nll_reading.specs.Names.{number_of};
 
 use crate::line::{Line, line_of};
@@ -22,7 +21,7 @@ use crate::version::{Version, is_of_version};
 use nll_problem::{
     At, Constraint, Kind, MAX_POINTS, MAX_UNIVERSALS, Problem, ProblemBuilder, RegionId,
 };
-use nll_reading::{Names, TextKind, pass_over};
+use nll_reading::{LineReader, Names, TextKind, pass_over};
 use std::alloc::Global;
 
 /// What the lines read so far say.
@@ -287,33 +286,6 @@ impl Reader {
         }
     }
 
-    /// Takes in a line behind the header of a text of the version.
-    pub fn read_line(&mut self, version: Version, line: &[u8]) -> Result<(), TextKind>
-        requires ready { IsReady self.old }
-        ensures ok { OnOk result
-            (ReadsLine version (said_by self.old) line.now (said_by self.new)) }
-        ensures ready { OnOk result (IsReady self.new) }
-        ensures fault { IfErr result
-            (λ kind. (kind ≡ TextKind.Memory)
-            ⊎ IsFaulty (facts version) (said_by self.old) line.now kind) }
-    {
-        let Some(form) = line_of(line) else {
-            return pass_over(line);
-        };
-        if !is_of_version(version, &form) {
-            return Err(TextKind::Syntax);
-        }
-        self.accept(&form)?;
-        Ok(())
-    }
-
-    /// Whether the last line that a text needs was read.
-    pub fn has_ended(&self) -> bool
-        ensures { IsTrue result ↔ ((said_by self.now).reached ≡ 6) }
-    {
-        self.reached == 6
-    }
-
     /// The problem and the names that the lines say. Takes no memory.
     pub fn finish(self) -> (Problem, Names)
         requires ready { IsReady self }
@@ -326,6 +298,36 @@ impl Reader {
             unreachable!();
         };
         (finished(builder), names)
+    }
+}
+
+impl<'a> LineReader<'a, Version> for Reader {
+    type Room = ();
+
+    ghost format_of = { facts };
+
+    ghost holds = { λ _ forms reader. SameSaid (said forms) (said_by reader) };
+
+    ghost ready = { IsReady };
+
+    fn read_line(
+        &mut self,
+        version: &Version,
+        line: &'a [u8],
+        _room: &mut (),
+    ) -> Result<(), TextKind> {
+        let Some(form) = line_of(line) else {
+            return pass_over(line);
+        };
+        if !is_of_version(*version, &form) {
+            return Err(TextKind::Syntax);
+        }
+        self.accept(&form)?;
+        Ok(())
+    }
+
+    fn has_ended(&self, _version: &Version) -> bool {
+        self.reached == 6
     }
 }
 

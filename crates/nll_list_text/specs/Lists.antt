@@ -1,10 +1,8 @@
--- What a reader of a text that lists items makes of a line, and of all lines.
+-- What a reader of a text that lists items makes of a line.
 -- Source: project's choice. What a listing is stands in nll_reading (`Listing`).
-use Rattle.std.specs.Prelude.{◌≡◌, ℕ, ◌-◌, ◌≤◌, List, ◌∷◌, Option, None, Some, Result, Ok, Err}
+use Rattle.std.specs.Prelude.{◌≡◌, ℕ, List, ◌∷◌, Option, None, Some, Result, Ok, Err}
 use Rattle.nll_reading.specs.Listing.{Listing}
 use Rattle.nll_reading.specs.Parts.{Part, Spells}
-use Rattle.nll_reading.specs.Text.{Format, HasFault, IsRefusal}
-use Rattle.nll_reading.specs.declared.error.TextError.{TextError}
 use Rattle.nll_reading.specs.declared.error.TextKind.{TextKind}
 
 -- The answer to a line is the item of an entry without a fault, which the line spells; or what is
@@ -22,10 +20,3 @@ IsItemOf listing entry line (Err kind) =
 abbrev pub HasSomePart : Listing → Type 0
 HasSomePart listing = (e : listing.Entry)
     → (first : Part) × (rest : List Part) × (listing.parts e ≡ first ∷ rest)
-
--- ---- private contracts alone cite this
-
--- the error tells the first fault of the lines behind the header, or that memory was refused
-abbrev pub IsBodyFault : Format → List (List ℕ) → TextError → Type 0
-IsBodyFault format body =
-    IsRefusal (λ line kind. (2 ≤ line) × HasFault format body (line - 2) kind)

@@ -1,15 +1,13 @@
 //! Reading a whole text that lists items.
 
-ghost use Rattle.std.specs.Prelude.{◌≡◌, ◌⊎◌, ◌<◌, ◌^◌, [], length, map, OnOk, IfOk, IfErr};
+ghost use Rattle.std.specs.Prelude.{◌≡◌, ◌<◌, ◌^◌, [], length, map, IfOk, IfErr};
 ghost use Rattle.nll_text.specs.Lines.{lines_left};
-ghost use Rattle.nll_reading.specs.Listing.{AddsEntry, format_of};
-ghost use Rattle.nll_reading.specs.Reading.{ReadsLine};
-ghost use Rattle.nll_reading.specs.Text.{IsFault, IsFaulty, IsRefusal, IsText, Says};
-ghost use Rattle.nll_list_text.specs.Lists.{IsBodyFault};
+ghost use Rattle.nll_reading.specs.Lines.{AreShort, RefusesBody};
+ghost use Rattle.nll_reading.specs.Listing.{format_of};
+ghost use Rattle.nll_reading.specs.Text.{IsFault, IsRefusal, IsText, Says};
 
 use crate::format::ListFormat;
-use nll_reading::{TextError, TextKind, open_text, pass_over};
-use nll_text::next_line;
+use nll_reading::{LineReader, TextError, TextKind, open_text, pass_over, read_lines};
 use std::alloc::Global;
 
 /// Reads a text of a format: its items, in the order of their lines.
@@ -31,50 +29,55 @@ pub fn read_list<F: ListFormat>(
         (IsRefusal (IsFault (format_of (F.listing format.now)) text.now)) }
 {
     let body = open_text(text, format.kind(), format.version())?;
-    read_lines(alloc, format, body)
+    read_body(alloc, format, body)
 }
 
 // Reads the lines behind the header.
-fn read_lines<F: ListFormat>(
+fn read_body<F: ListFormat>(
     alloc: Global,
     format: &F,
     body: Option<&[u8]>,
 ) -> Result<Vec<F::Item>, TextError>
     requires long { length (lines_left body) < 2 ^ 32 }
+    requires short { AreShort (lines_left body) }
     ensures ok { IfOk result (λ list. Says (format_of (F.listing format.now)) []
         (lines_left body.entry) (map (F.entry format.now) list.items)) }
     ensures fault { IfErr result
-        (IsBodyFault (format_of (F.listing format.now)) (lines_left body.entry)) }
+        (RefusesBody (format_of (F.listing format.now)) (lines_left body.entry)) }
 {
-    let mut list = Vec::new(alloc);
-    let mut number = 1;
-    let mut rest = body;
-    while let Some(text) = rest {
-        let (line, after) = next_line(text);
-        number += 1;
-        if let Err(kind) = read_line(format, line, &mut list) {
-            return Err(TextError::at(number, kind));
-        }
-        rest = after;
+    let mut items = Items::<F> {
+        list: Vec::new(alloc),
+    };
+    if let Err(error) = read_lines(&mut items, format, body, &mut ()) {
+        drop(items);
+        return Err(error);
     }
-    Ok(list)
+    Ok(items.list)
 }
 
-// Takes in a line behind the header.
-fn read_line<F: ListFormat>(
-    format: &F,
-    line: &[u8],
-    list: &mut Vec<F::Item>,
-) -> Result<(), TextKind>
-    ensures ok { OnOk result (ReadsLine (format_of (F.listing format.now))
-        (AddsEntry (F.listing format.now)) (map (F.entry format.now) list.old.items)
-        line.now (map (F.entry format.now) list.new.items)) }
-    ensures fault { IfErr result (λ kind. (kind ≡ TextKind.Memory)
-        ⊎ IsFaulty (format_of (F.listing format.now)) (map (F.entry format.now) list.old.items)
-        line.now kind) }
-{
-    match format.item(line)? {
-        Some(item) => Ok(list.push(item)?),
-        None => pass_over(line),
+// The items of the lines that were read.
+#[derive(Drop)]
+struct Items<F: ListFormat> {
+    list: Vec<F::Item>,
+}
+
+impl<'a, F: ListFormat> LineReader<'a, F> for Items<F> {
+    type Room = ();
+
+    ghost format_of = { λ format. format_of (F.listing format) };
+
+    ghost holds = { λ format entries items. entries ≡ map (F.entry format) items.list.items };
+
+    ghost ready = { λ _. Unit {0} };
+
+    fn read_line(&mut self, format: &F, line: &'a [u8], _room: &mut ()) -> Result<(), TextKind> {
+        match format.item(line)? {
+            Some(item) => Ok(self.list.push(item)?),
+            None => pass_over(line),
+        }
+    }
+
+    fn has_ended(&self, _format: &F) -> bool {
+        true
     }
 }

@@ -105,14 +105,12 @@ fn part(constraints: &[Constraint], first: usize, end: usize) -> &[Constraint]
     &constraints[first..end]
 }
 
-// Sorts constraints; where they ascend already it is one pass.
+// Sorts constraints.
 fn sort(constraints: &mut Vec<Constraint>)
     ensures permutation { IsPermutation constraints.old.items constraints.new.items }
     ensures sorted { IsSorted constraint_cmp constraints.new.items }
 {
-    if !constraints.is_sorted() {
-        constraints.sort_unstable();
-    }
+    constraints.sort_unstable();
 }
 
 // Where the constraints of each of so many regions start, and where all end.

@@ -1,4 +1,5 @@
 pub mod LabelLemmas
+pub mod LinesLemmas
 pub mod ListingLemmas
 pub mod NameLemmas
 pub mod PartLemmas

@@ -19,15 +19,15 @@ pub no_form_within : (format : Format) (most : ℕ) (line : List ℕ) → HasAtM
 no_form_within format most line few none f form = let made = few line f form in none made.0 made.1 made.2
 
 -- one more line
-says_push : (format : Format) (before : List format.Form) (front : List (List ℕ)) (forms : List format.Form) (line : List ℕ) (added : List format.Form) → Says format before front forms → Fits format (format.said forms) line added → Says format before (front ++ line ∷ []) (forms ++ added)
+pub says_push : (format : Format) (before : List format.Form) (front : List (List ℕ)) (forms : List format.Form) (line : List ℕ) (added : List format.Form) → Says format before front forms → Fits format (format.said forms) line added → Says format before (front ++ line ∷ []) (forms ++ added)
 says_push format before [] forms line added h fit = (added, rw h at fit, ap (λ (fs : List format.Form). fs ++ added) h)
 says_push format before (l ∷ front) forms line added h fit = (h.0, h.1, says_push format (before ++ h.0) front forms line added h.2 fit)
 
-cut_more : (all front rest : List (List ℕ)) (line : List ℕ) (after : List (List ℕ)) → all ≡ front ++ rest → rest ≡ line ∷ after → all ≡ (front ++ line ∷ []) ++ after
+pub cut_more : (all front rest : List (List ℕ)) (line : List ℕ) (after : List (List ℕ)) → all ≡ front ++ rest → rest ≡ line ∷ after → all ≡ (front ++ line ∷ []) ++ after
 cut_more all front rest line after cut step = cut ∙ (ap (λ (xs : List (List ℕ)). front ++ xs) step ∙ sym (append_assoc front (line ∷ []) after))
 
 -- a line fits that has a form without a fault
-fine_of : (format : Format) (s : format.Said) (line : List ℕ) (f : format.Form) → Fits format s line (f ∷ []) → format.first_fault s f ≡ None
+pub fine_of : (format : Format) (s : format.Said) (line : List ℕ) (f : format.Form) → Fits format s line (f ∷ []) → format.first_fault s f ≡ None
 fine_of format s line f (of_form _ u k form fine) = fine
 
 module _ (format : Format) (Same : format.Said → format.Said → Type 0) where
@@ -55,12 +55,12 @@ AddsSaid format Same Adds = (forms : List format.Form) (s t : format.Said) (f : 
 
 module _ (format : Format) (Same : format.Said → format.Said → Type 0) (same_fault : SameFault format Same) where
   -- where the same is said, a line fits the same
-  fits_same : (s t : format.Said) → Same s t → (line : List ℕ) (added : List format.Form) → Fits format t line added → Fits format s line added
+  pub fits_same : (s t : format.Said) → Same s t → (line : List ℕ) (added : List format.Form) → Fits format t line added → Fits format s line added
   fits_same s t h line [] (skipped u k) = skipped u k
   fits_same s t h line (f ∷ []) (of_form _ u k form fine) = of_form f u k form (same_fault s t h f ∙ fine)
   fits_same s t h line (f ∷ (g ∷ more)) fit = elim fit [ ]
 
-  faulty_same : (s t : format.Said) → Same s t → (line : List ℕ) (kind : TextKind) → IsFaulty format t line kind → IsFaulty format s line kind
+  pub faulty_same : (s t : format.Said) → Same s t → (line : List ℕ) (kind : TextKind) → IsFaulty format t line kind → IsFaulty format s line kind
   faulty_same s t h line kind (not_utf8 bad) = not_utf8 bad
   faulty_same s t h line kind (no_form u k none) = no_form u k none
   faulty_same s t h line kind (at_form f _ u k form fault) = at_form f kind u k form (same_fault s t h f ∙ fault)

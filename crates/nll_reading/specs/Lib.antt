@@ -5,3 +5,4 @@ pub mod Text
 pub mod Parts
 pub mod Listing
 pub mod Reading
+pub mod Lines

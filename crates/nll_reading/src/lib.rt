@@ -1,13 +1,16 @@
 //! What all texts share above their lines and tokens: what a text is, the kinds of its faults,
 //! the parts of lines, names and labels.
 //!
-//! Reading order: `limits`, `error`, `opening`, `arguments`, `name`, `names`, `labels`.
+//! Reading order: `limits`, `error`, `opening`, `line_reader`, `lines`, `arguments`, `name`, `names`,
+//! `labels`.
 #![tactic(auto)]
 
 mod arguments;
 mod error;
 mod labels;
 mod limits;
+mod line_reader;
+mod lines;
 mod name;
 mod names;
 mod opening;
@@ -16,5 +19,7 @@ pub use arguments::{nothing, number, region, region_number, two_numbers, two_reg
 pub use error::{TextError, TextKind};
 pub use labels::{Labels, PointName};
 pub use limits::MAX_TEXT;
+pub use line_reader::LineReader;
+pub use lines::{check_end, read_lines, read_until};
 pub use names::Names;
 pub use opening::{open_text, pass_over};

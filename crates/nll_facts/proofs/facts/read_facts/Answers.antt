@@ -3,6 +3,7 @@ use Rattle.std.proofs.lemmas.Result.{err_from_is_err_and, IfOk-weaker, IfErr-wea
 use Rattle.nll_text.specs.Lines.{lines_left}
 use Rattle.nll_text.proofs.LineLemmas.{length-lines_of-le}
 use Rattle.nll_reading.specs.Text.{IsCut, IsHeaded}
+use Rattle.nll_reading.proofs.LinesLemmas.{body_short}
 use Rattle.nll_facts.specs.FactsText.{facts}
 use Rattle.nll_facts.proofs.VersionLemmas.{too_long, refused_in, refused_at_header}
 use Rattle.nll_facts.proofs.facts.read_facts.Goals as goal
@@ -21,7 +22,10 @@ returns-in_err-version-clause-fault c =
     rw (p.1, p.2) (refused_at_header _ _ _ _ (cut (goal.at.returns-in_err-version-clause-fault c).After-next_line) c.in_err-version.ensures.fault)
 
 pub read_body-requires : goal.read_body-requires
-read_body-requires c = record { long = omega (arith, ap length c.next_line.ensures, length-lines_of-le c.args.text.now) }
+read_body-requires c = record {
+  long = omega (arith, ap length c.next_line.ensures, length-lines_of-le c.args.text.now);
+  short = body_short c.args.text.now _ _ (record { short = omega arith; cut = c.next_line.ensures });
+}
 
 -- the text has a header, and these lines behind it
 headed : (c : After-read_body) → IsHeaded (facts c.in_ok-version.version) c.args.text.now (lines_left c.next_line.result.1)

@@ -4,7 +4,7 @@ use Rattle.nll_problem.proofs.BaseLemmas.{finished_same, finished_ascend}
 use Rattle.nll_problem.proofs.outlives.Outlives.finish.Goals as goal
 
 pub returns-clause-each : goal.returns-clause-each
-returns-clause-each c = rw (← c.self.view_is, dedup_is same_pair _ _ c.dedup.ensures.filtered) (finished_same _ _ c.sort.ensures.permutation)
+returns-clause-each c = rw (← c.self.view_is, dedup_is same_pair _ _ c.dedup.ensures.filtered) (finished_same _ _ c.sort_unstable.ensures.permutation)
 
 pub returns-clause-ascending : goal.returns-clause-ascending
-returns-clause-ascending c = rw (dedup_is same_pair _ _ c.dedup.ensures.filtered) (finished_ascend _ c.sort.ensures.sorted)
+returns-clause-ascending c = rw (dedup_is same_pair _ _ c.dedup.ensures.filtered) (finished_ascend _ c.sort_unstable.ensures.sorted)
