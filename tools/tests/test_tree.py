@@ -10,8 +10,9 @@ sys.path.insert(0, str(ROOT / "tools"))
 
 from crates import uses_of  # noqa: E402 (the path stands above)
 
-MOST_COLUMNS = 100      # of lines of src/ and specs/, imports apart
-MOST_LONG = 16          # lines that are longer
+# Of lines, imports apart, by folder: what they end in, and how many columns they may have.
+COLUMNS = {"src": (".rt", 100), "specs": (".antt", 100), "proofs": (".antt", 120)}
+MOST_LONG = {"src": 0, "specs": 0, "proofs": 7013}     # lines that are longer
 HEADING = re.compile(r"# ---- ([^:]*)(?:: (.*))?$")
 IMPORT = re.compile(r"\s*(?:pub |ghost )*use ")
 
@@ -74,12 +75,12 @@ class Documents(unittest.TestCase):
                     self.assertEqual([name for name in names if title not in apart and name not in found], [])
 
 
-def long_lines(path):
+def long_lines(path, columns):
     """The lines of a file that are too long, by number; an import goes on until its braces close."""
     is_import = False
     for number, line in enumerate(path.read_text().splitlines(), 1):
         is_import = is_import or bool(IMPORT.match(line))
-        if len(line) > MOST_COLUMNS and not is_import:
+        if len(line) > columns and not is_import:
             yield number
         is_import = is_import and not ("}" in line or ";" in line or "{" not in line and IMPORT.match(line))
 
@@ -118,14 +119,82 @@ class Reading(unittest.TestCase):
                 self.assertTrue(any(re.search(rf"\bfn {call}\b", one) for one in found))
 
 
+def table(text, head):
+    """The rows of the table whose head begins with this: what each speaks of, and the files that it names."""
+    rows = re.search(rf"^\| {re.escape(head)} \|.*\n\|.*\n((?:\|.*\n)*)", text, re.MULTILINE)[1]
+    for row in rows.splitlines():
+        what, files = row.strip("| ").split(" | ")
+        yield what, re.findall(r"`([^`]*)`", files)
+
+
+def variants(name):
+    """The variants of an enum, in the one crate that has it."""
+    head = re.compile(rf"^pub enum {name}\b.*\n((?:    .*\n)*)", re.MULTILINE)
+    bodies = [found[1] for path in sorted((ROOT / "crates").glob("*/src/*.rt")) for found in head.finditer(path.read_text())]
+    return [re.findall(r"^    (\w+)", body, re.MULTILINE) for body in bodies]
+
+
+class Calls(unittest.TestCase):
+    def test_one_crate_each(self):
+        """No two crates hand out a call of one name; what a crate hands on of another isn't its own."""
+        handed = re.compile(r"^pub use (?!nll_)\w+::(\{[^}]*\}|\w+);", re.MULTILINE)
+        crates = {}
+        for path in sorted((ROOT / "crates").glob("*/src/lib.rt")):
+            for names in handed.findall(path.read_text()):
+                for name in re.findall(r"\b[a-z]\w*", names):
+                    crates.setdefault(name, []).append(path.parts[-3])
+        self.assertIn("solve", crates)
+        self.assertEqual({name: where for name, where in crates.items() if len(where) > 1}, {})
+
+
+class Rules(unittest.TestCase):
+    """docs/READING.md says of each kind of error, each statement and each rule what to open."""
+
+    def setUp(self):
+        self.text = (ROOT / "docs" / "READING.md").read_text()
+        self.formats = (ROOT / "docs" / "FORMATS.md").read_text()
+
+    def said(self, head):
+        return " ".join(what for what, _ in table(self.text, head))
+
+    def test_at_most_three_files(self):
+        for head in ("Kind", "Statement, terminator", "Rule"):
+            for what, files in table(self.text, head):
+                with self.subTest(what=what):
+                    self.assertIn(len(files), (1, 2, 3))
+                    self.assertEqual([name for name in files if not (ROOT / "crates" / name).is_file()], [])
+
+    def test_each_kind(self):
+        [kinds] = variants("TextKind")
+        self.assertIn("NotUtf8", kinds)
+        named = re.findall(r"`(\w+)`", self.said("Kind"))
+        self.assertEqual(sorted(set(named)), sorted(kinds))
+
+    def test_each_statement(self):
+        [statements] = [names for names in variants("Statement") if "Assign" in names]
+        self.assertEqual(sorted(re.findall(r"`(\w+)`", self.said("Statement, terminator"))), sorted(statements))
+
+    def test_each_rule(self):
+        """What the sections of docs/FORMATS.md on effects, on types that fit and on the problem of a body name."""
+        said = self.said("Rule")
+        effects = re.search(r"^### What a statement uses.*\n\n\| \| \|\n.*\n((?:\|.*\n)*)", self.formats, re.MULTILINE)[1]
+        rules = re.findall(r"^\| ([\w ]+?) \|", effects, re.MULTILINE)
+        self.assertIn("uses", rules)
+        fit = re.search(r"^### Types that fit \(.*\.(\w+)`\)$", self.formats, re.MULTILINE)
+        problem = re.search(r"^### The problem of a body .*\n(?:(?!##).*\n)*", self.formats, re.MULTILINE)
+        rules += [fit[1]] + re.findall(r"`(?:\w+\.)?([A-Z]\w+)`", problem[0])
+        self.assertEqual([rule for rule in rules if not re.search(rf"\b{rule}\b", said)], [])
+
+
 class Lines(unittest.TestCase):
     def test_lengths(self):
-        """No line more is too long than there were when this was written; the number is to come to 0."""
-        long = [f"{path.relative_to(ROOT)}:{number}"
-                for folder, ending in (("src", ".rt"), ("specs", ".antt"))
-                for path in sorted((ROOT / "crates").glob(f"*/{folder}/**/*{ending}"))
-                for number in long_lines(path)]
-        self.assertLessEqual(len(long), MOST_LONG, long)
+        """No line more is too long than there were when this was written."""
+        for folder, (ending, columns) in COLUMNS.items():
+            long = [f"{path.relative_to(ROOT)}:{number}"
+                    for path in sorted((ROOT / "crates").glob(f"*/{folder}/**/*{ending}"))
+                    for number in long_lines(path, columns)]
+            with self.subTest(folder=folder):
+                self.assertLessEqual(len(long), MOST_LONG[folder], long[:40])
 
 
 if __name__ == "__main__":

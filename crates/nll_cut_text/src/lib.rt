@@ -6,4 +6,6 @@ mod cut;
 mod laws;
 
 pub use cut::read_cut;
-pub use laws::{never_at_end, not_both, one_fault, one_meaning, some_meaning_or_fault};
+pub use laws::{
+    cut_never_at_end, cut_not_both, cut_one_fault, cut_one_meaning, cut_some_meaning_or_fault,
+};

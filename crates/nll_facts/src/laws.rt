@@ -10,27 +10,27 @@ ghost use Rattle.nll_facts.specs.FactsText.{facts, IsFactsFault, Means};
 ghost use Rattle.nll_reading.specs.declared.error.TextKind.{TextKind};
 
 /// States that a text has at most one fault.
-pub fn one_fault()
+pub fn facts_one_fault()
     ensures { (text : List ℕ) (line other_line : ℕ) (kind other_kind : TextKind)
         → IsFactsFault text line kind → IsFactsFault text other_line other_kind
         → (line ≡ other_line) × (kind ≡ other_kind) }
 {}
 
 /// States that a text that means a problem has no fault.
-pub fn not_both()
+pub fn facts_not_both()
     ensures { (text : List ℕ) (problem : Problem) (labels : Labels) (line : ℕ) (kind : TextKind)
         → Means text problem labels → IsFactsFault text line kind → ⊥ }
 {}
 
 /// States that a text means at most one problem, with one set of labels.
-pub fn one_meaning()
+pub fn facts_one_meaning()
     ensures { (text : List ℕ) (problem other : Problem) (labels other_labels : Labels)
         → Means text problem labels → Means text other other_labels
         → SameProblem problem other × (labels ≡ other_labels) }
 {}
 
 /// States that a text means a problem or has a fault. With the laws above it has just one of them.
-pub fn some_meaning_or_fault()
+pub fn facts_some_meaning_or_fault()
     ensures { (text : List ℕ)
         → ((problem : Problem) × (labels : Labels) × Means text problem labels)
         ⊎ ((line : ℕ) × (kind : TextKind) × IsFactsFault text line kind) }

@@ -10,4 +10,6 @@ mod reader;
 mod version;
 
 pub use facts::{Facts, read_facts};
-pub use laws::{few_tokens, not_both, one_fault, one_meaning, some_meaning_or_fault};
+pub use laws::{
+    facts_not_both, facts_one_fault, facts_one_meaning, facts_some_meaning_or_fault, few_tokens,
+};

@@ -8,7 +8,7 @@ use nll_cut::Cut;
 use nll_event::Event;
 use nll_mail::Growth;
 use nll_model::{Lane, ModelError, Replay, Seat, Step, World, replay};
-use nll_worked_problems::{Written, problem_of};
+use nll_worked_problems::{Written, worked_problem};
 use std::alloc::{AllocError, Global};
 use std::collections::VecDeque;
 use std::process::Abort;
@@ -93,7 +93,7 @@ pub fn replayed(
     owners: u16,
     events: &[Event],
 ) -> Result<String, Failure> {
-    let problem = problem_of(alloc, written)?;
+    let problem = worked_problem(alloc, written)?;
     let told = replayed_round(alloc, &problem, owners, events);
     drop(problem);
     told
@@ -209,7 +209,7 @@ pub fn stepped(
     owners: u16,
     events: &[Event],
 ) -> Result<String, Failure> {
-    let problem = problem_of(alloc, written)?;
+    let problem = worked_problem(alloc, written)?;
     let told = stepped_round(alloc, &problem, owners, events);
     drop(problem);
     told

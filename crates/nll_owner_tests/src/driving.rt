@@ -7,7 +7,7 @@ use nll_cut::Cut;
 use nll_driver::{Network, Turn, drive_by_turns};
 use nll_mail::{Growth, Mail};
 use nll_owner::Owner;
-use nll_worked_problems::{Written, problem_of};
+use nll_worked_problems::{Written, worked_problem};
 use std::alloc::{AllocError, Global};
 
 // Writes what an owner has in a region.
@@ -87,7 +87,7 @@ pub fn driven<M: Mail>(
     owners: u16,
     turns: &[Turn],
 ) -> Result<String, Failure> {
-    let problem = problem_of(alloc, written)?;
+    let problem = worked_problem(alloc, written)?;
     let told = driven_round(alloc, mail, &problem, owners, turns);
     drop(problem);
     told
@@ -159,7 +159,7 @@ pub fn logs_of<M: Mail>(
     owners: u16,
     turns: &[Turn],
 ) -> Result<String, Failure> {
-    let problem = problem_of(alloc, written)?;
+    let problem = worked_problem(alloc, written)?;
     let told = logs_round(alloc, mail, &problem, owners, turns);
     drop(problem);
     told
@@ -225,7 +225,7 @@ pub fn answers_of<M: Mail>(
     owners: u16,
     turns: &[Turn],
 ) -> Result<String, Failure> {
-    let problem = problem_of(alloc, written)?;
+    let problem = worked_problem(alloc, written)?;
     let told = answers_round(alloc, mail, &problem, owners, turns);
     drop(problem);
     told
@@ -290,7 +290,7 @@ fn last_answers_round(alloc: Global, problem: &Problem) -> Result<String, Failur
 /// to one of the rank before, and to one of rank 1 that asks it to grow; and what it has for the
 /// other then.
 pub fn answers_at_the_last_rank(alloc: Global, written: Written) -> Result<String, Failure> {
-    let problem = problem_of(alloc, written)?;
+    let problem = worked_problem(alloc, written)?;
     let told = last_answers_round(alloc, &problem);
     drop(problem);
     told

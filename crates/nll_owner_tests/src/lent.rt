@@ -10,7 +10,7 @@ use nll_core::Problem;
 use nll_cut::Cut;
 use nll_mail::Growth;
 use nll_owner::{Owner, OwnerError, Tables};
-use nll_worked_problems::{Written, problem_of};
+use nll_worked_problems::{Written, worked_problem};
 use std::alloc::Global;
 
 // The owners of a cut, on lent tables.
@@ -164,7 +164,7 @@ fn told_round(alloc: Global, problem: &Problem, owners: u16) -> Result<String, F
 
 // The same of a written problem.
 fn told(alloc: Global, written: Written, owners: u16) -> Result<String, Failure> {
-    let problem = problem_of(alloc, written)?;
+    let problem = worked_problem(alloc, written)?;
     let told = told_round(alloc, &problem, owners);
     drop(problem);
     told

@@ -8,7 +8,7 @@ use nll_core::{BuildError, Problem};
 use nll_cut::{Cut, CutError};
 use nll_mail::Growth;
 use nll_owner::{Owner, OwnerError};
-use nll_worked_problems::{BY_TURNS, FILLED_HOLE, REACHED, Written, problem_of};
+use nll_worked_problems::{BY_TURNS, FILLED_HOLE, REACHED, Written, worked_problem};
 use std::alloc::Global;
 
 // How it ends: with so many growths of each owner; with memory refused, and each owner as it is
@@ -151,7 +151,7 @@ fn dealt(alloc: Global, problem: &Problem) -> Ending {
 
 // The same of a written problem.
 fn of_written(alloc: Global, written: Written) -> Ending {
-    match problem_of(alloc, written) {
+    match worked_problem(alloc, written) {
         Ok(problem) => dealt(alloc, &problem),
         Err(BuildError::Memory) => Ending::Refused,
         Err(_) => Ending::Wrong,

@@ -2,7 +2,9 @@
 use super::comparing::compare;
 use super::reading::point_told;
 use super::rows::{Asked, compare_rows};
-use nll_facts::{few_tokens, not_both, one_fault, one_meaning, some_meaning_or_fault};
+use nll_facts::{
+    facts_not_both, facts_one_fault, facts_one_meaning, facts_some_meaning_or_fault, few_tokens,
+};
 use nll_report::{no_text_has_both, one_text_fault, one_text_meaning};
 
 // Texts, and what they say.
@@ -85,10 +87,10 @@ fn names_points_by_their_numbers(rt: HostRuntime) {
 // The laws are calls that do nothing.
 #[test]
 fn states_laws(_rt: HostRuntime) {
-    one_meaning();
-    one_fault();
-    not_both();
-    some_meaning_or_fault();
+    facts_one_meaning();
+    facts_one_fault();
+    facts_not_both();
+    facts_some_meaning_or_fault();
     few_tokens();
     one_text_fault();
     one_text_meaning();

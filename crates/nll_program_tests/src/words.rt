@@ -205,7 +205,8 @@ Arguments:
   <FILE>  The facts text or MIR text, or /dev/stdin for standard input
 
 Options:
-      --owners <N>           Has 1 to 64 owners of regions find the answer, each in a thread of its own
+      --owners <N>           Has 1 to 64 owners of regions find the answer, \
+      each in a thread of its own
       --deal <round!blocks>  Deals the regions to the owners in turns, or in blocks of neighbours
       --cut <CUT>            Deals the regions to the owners as the cut file CUT lists
       --mail <queue!ring>    Has the owners tell each other through queues or through rings
@@ -220,7 +221,8 @@ Arguments:
   <FILE>  The facts text or MIR text, or /dev/stdin for standard input
 
 Options:
-      --owners <N>           Has 1 to 64 owners of regions find the answer, each in a thread of its own
+      --owners <N>           Has 1 to 64 owners of regions find the answer, \
+      each in a thread of its own
       --deal <round!blocks>  Deals the regions to the owners in turns, or in blocks of neighbours
       --cut <CUT>            Deals the regions to the owners as the cut file CUT lists
       --mail <queue!ring>    Has the owners tell each other through queues or through rings

@@ -11,7 +11,7 @@ use nll_cut::Cut;
 use nll_ledger::{Ledger, LockLedger, WordLedger};
 use nll_mail::{Mail, QueueMail, RingMail};
 use nll_run::run_with;
-use nll_worked_problems::{BY_TURNS, MANY, REACHED, Written, problem_of};
+use nll_worked_problems::{BY_TURNS, MANY, REACHED, Written, worked_problem};
 use nll_worker::NoGate;
 use std::alloc::{AllocGlobal, Global};
 use std::process::Abort;
@@ -113,7 +113,7 @@ fn told_of<M: Mail, L: Ledger, R: Threads + Wait + Sync>(
     ledger: &L,
     refused: Refused,
 ) -> Result<String, Failure> {
-    let problem = problem_of(alloc, written)?;
+    let problem = worked_problem(alloc, written)?;
     let told = match cut_of(alloc, deal, problem.regions()) {
         Ok(cut) => told_twice(rt, alloc, &problem, &cut, mail, ledger, refused),
         Err(error) => Err(Failure::from(error)),

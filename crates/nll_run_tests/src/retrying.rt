@@ -11,7 +11,7 @@ use nll_cut::Cut;
 use nll_ledger::{Ledger, LockLedger, WordLedger};
 use nll_mail::{Mail, QueueMail, RingMail};
 use nll_run::RunError;
-use nll_worked_problems::{BY_TURNS, FILLED_HOLE, MANY, REACHED, Written, problem_of};
+use nll_worked_problems::{BY_TURNS, FILLED_HOLE, MANY, REACHED, Written, worked_problem};
 use nll_worked_texts::{TWO_BORROWS, text_of};
 use nll_worker::NoGate;
 use std::alloc::{AllocGlobal, Global};
@@ -75,9 +75,9 @@ fn is_refusal(failure: Failure) -> bool {
 
 // The problem that is written.
 fn problem_again(rt: &impl Abort, alloc: Global, written: Written) -> Problem {
-    match problem_of(alloc, written) {
+    match worked_problem(alloc, written) {
         Ok(problem) => problem,
-        Err(_) => problem_of(alloc, written).expect(rt, "memory for the problem"),
+        Err(_) => worked_problem(alloc, written).expect(rt, "memory for the problem"),
     }
 }
 

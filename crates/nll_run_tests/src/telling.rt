@@ -9,7 +9,7 @@ use nll_cut::Cut;
 use nll_ledger::Ledger;
 use nll_mail::{Growth, Mail};
 use nll_run::{Outcome, run};
-use nll_worked_problems::{Written, problem_of};
+use nll_worked_problems::{Written, worked_problem};
 use nll_worker::Gate;
 use std::alloc::{AllocError, Global};
 use std::process::Abort;
@@ -131,7 +131,7 @@ pub fn told<M: Mail, L: Ledger, G: Gate, R: Threads + Wait + Sync>(
     ledger: &L,
     gate: &G,
 ) -> Result<String, Failure> {
-    let problem = problem_of(alloc, written)?;
+    let problem = worked_problem(alloc, written)?;
     let told = told_of::<M, L, G, R>(rt, alloc, &problem, deal, mail, ledger, gate);
     drop(problem);
     told

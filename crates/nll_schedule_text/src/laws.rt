@@ -7,7 +7,7 @@ ghost use Rattle.nll_reading.specs.declared.error.TextKind.{TextKind};
 ghost use Rattle.nll_schedule_text.specs.ScheduleText.{schedule, Means};
 
 /// States that a text has at most one fault.
-pub fn one_fault()
+pub fn schedule_one_fault()
     ensures { (owners : ℕ) (text : List ℕ) (line other_line : ℕ) (kind other_kind : TextKind)
         → IsFault (schedule owners) text line kind
         → IsFault (schedule owners) text other_line other_kind
@@ -15,25 +15,25 @@ pub fn one_fault()
 {}
 
 /// States that a text that means a list of events has no fault.
-pub fn not_both()
+pub fn schedule_not_both()
     ensures { (owners : ℕ) (text : List ℕ) (list : List Event) (line : ℕ) (kind : TextKind)
         → Means owners text list → IsFault (schedule owners) text line kind → ⊥ }
 {}
 
 /// States that a text means at most one list.
-pub fn one_meaning()
+pub fn schedule_one_meaning()
     ensures { (owners : ℕ) (text : List ℕ) (list other : List Event)
         → Means owners text list → Means owners text other → list ≡ other }
 {}
 
 /// States that each text means a list or has a fault. With the laws above it has just one of them.
-pub fn some_meaning_or_fault()
+pub fn schedule_some_meaning_or_fault()
     ensures { (owners : ℕ) (text : List ℕ) → ((list : List Event) × Means owners text list)
         ⊎ ((line : ℕ) × (kind : TextKind) × IsFault (schedule owners) text line kind) }
 {}
 
 /// States that a text may stop behind any line: no fault is told at its end.
-pub fn never_at_end()
+pub fn schedule_never_at_end()
     ensures { (owners : ℕ) (text : List ℕ) (line : ℕ) (kind : TextKind)
         → IsFault (schedule owners) text line kind → kind ≢ TextKind.End }
 {}

@@ -6,5 +6,8 @@ mod laws;
 mod line;
 mod schedule;
 
-pub use laws::{never_at_end, not_both, one_fault, one_meaning, some_meaning_or_fault};
+pub use laws::{
+    schedule_never_at_end, schedule_not_both, schedule_one_fault, schedule_one_meaning,
+    schedule_some_meaning_or_fault,
+};
 pub use schedule::read_schedule;

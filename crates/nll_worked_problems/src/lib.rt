@@ -9,4 +9,4 @@ mod written;
 pub use problems::{
     BY_TURNS, EVERYWHERE, FILLED_HOLE, MANY, MANY_BOTH_WAYS, ONE_POINT, REACHED, TWO_SOURCES,
 };
-pub use written::{Written, problem_of};
+pub use written::{Written, worked_problem};

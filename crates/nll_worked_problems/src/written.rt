@@ -49,7 +49,7 @@ fn enter(builder: &mut ProblemBuilder, written: Written) -> Result<(), BuildErro
 }
 
 /// The problem that is written.
-pub fn problem_of(alloc: Global, written: Written) -> Result<Problem, BuildError> {
+pub fn worked_problem(alloc: Global, written: Written) -> Result<Problem, BuildError> {
     let mut builder = ProblemBuilder::new(alloc, written.points, 1)?;
     let entered = enter(&mut builder, written);
     entered.and(builder.finish())

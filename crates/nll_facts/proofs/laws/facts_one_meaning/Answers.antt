@@ -1,5 +1,5 @@
 use Rattle.nll_facts.proofs.LawLemmas.{one_meaning_lem}
-use Rattle.nll_facts.proofs.laws.one_meaning.Goals as goal
+use Rattle.nll_facts.proofs.laws.facts_one_meaning.Goals as goal
 
 pub returns : goal.returns
 returns c = one_meaning_lem
