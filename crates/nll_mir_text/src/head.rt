@@ -15,6 +15,7 @@ ghost use Rattle.nll_mir_text.specs.MirReading.{struct_form, scope_in, IsOfType}
 ghost use Rattle.nll_mir_text.specs.Declaring.{AreJudged, AreOwn, own_scope};
 
 use crate::fields::{JudgedFields, are_unknown_fields, declaration, judge_fields};
+use crate::groups::Group;
 use crate::judging::{JudgedType, is_unknown_type, judge_type, type_meant};
 use crate::limits::{MAX_STRUCTS, MAX_VARIABLES};
 use crate::own_names::{OwnNames, gather_names, redeclares};
@@ -45,7 +46,7 @@ impl Reader {
         }
         self.regions.names.add(self.alloc, name)?;
         self.regions.universals += 1;
-        self.reached = 1;
+        self.reached = Group::Universals;
         Ok(())
     }
 
@@ -62,7 +63,7 @@ impl Reader {
             return Err(TextKind::Limit(Kind::Regions));
         }
         self.regions.names.add(self.alloc, name)?;
-        self.reached = 3;
+        self.reached = Group::Regions;
         Ok(())
     }
 
@@ -91,7 +92,7 @@ impl Reader {
         let longer = self.universal(longer)?;
         let shorter = self.universal(shorter)?;
         self.regions.outlives.insert((longer, shorter))?;
-        self.reached = 2;
+        self.reached = Group::Outlives;
         Ok(())
     }
 
@@ -120,7 +121,7 @@ impl Reader {
         let longer = self.region(longer)?;
         let shorter = self.region(shorter)?;
         self.regions.asserts.insert((longer, shorter))?;
-        self.reached = 4;
+        self.reached = Group::Asserts;
         Ok(())
     }
 
@@ -138,7 +139,7 @@ impl Reader {
             return Err(TextKind::Limit(Kind::Points));
         }
         self.points.blocks = count;
-        self.reached = 7;
+        self.reached = Group::BlockCount;
         Ok(())
     }
 
@@ -192,7 +193,7 @@ impl Reader {
         let ty = type_meant(self.alloc, &self.regions, &self.structs, text)?;
         self.variables.types.push(ty)?;
         self.variables.shapes.push(judged.shape)?;
-        self.reached = 6;
+        self.reached = Group::Variables;
         Ok(())
     }
 
@@ -275,7 +276,7 @@ impl Reader {
         self.variables.table.declare(self.alloc, declaration)?;
         let kinds = kinds(self.alloc, parameters)?;
         self.structs.add(self.alloc, text.name, kinds)?;
-        self.reached = 5;
+        self.reached = Group::Structs;
         Ok(())
     }
 }

@@ -9,6 +9,7 @@ ghost use Rattle.nll_mir_text.specs.MirReading.{IsTaken, IsRefused};
 ghost use Rattle.nll_mir_text.specs.Stating.{as_written, IsOfPoint};
 ghost use Rattle.nll_mir_grammar.specs.declared.line.Line.TheVariants as lines;
 
+use crate::groups::Group;
 use crate::judging_types::are_unknown_types;
 use crate::knowing::targets_are_blocks;
 use crate::meaning::statement_meant;
@@ -42,7 +43,7 @@ impl Reader {
         let start = self.points.statements.len() as u32;
         self.points.starts.push(start)?;
         self.points.owes = true;
-        self.reached = 8;
+        self.reached = Group::Blocks;
         Ok(())
     }
 
@@ -56,7 +57,7 @@ impl Reader {
         if self.points.starts.len() < self.points.blocks as usize {
             return Err(TextKind::Range);
         }
-        self.reached = 9;
+        self.reached = Group::End;
         Ok(())
     }
 
@@ -135,7 +136,7 @@ impl Reader {
         let (regions, structs) = (&self.regions, &self.structs);
         let meant = statement_meant(self.alloc, regions, structs, statement, admitted.region)?;
         add_point(&mut self.points, meant, admitted.edges)?;
-        self.reached = 8;
+        self.reached = Group::Blocks;
         Ok(())
     }
 

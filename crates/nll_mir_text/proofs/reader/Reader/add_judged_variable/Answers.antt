@@ -1,5 +1,5 @@
 use Rattle.std.proofs.Common.{◌∷◌, [], length, map, ap, refl, sym, ◌∙◌, inr, arith, length-append}
-use Rattle.std.proofs.lemmas.Bool.{not-true, not-false, eq-eqb, leb-true}
+use Rattle.std.proofs.lemmas.Bool.{not-true, not-false, eq-eqb}
 use Rattle.std.proofs.lemmas.List.{length-map, map_push}
 use Rattle.nll_types.proofs.ShapingLemmas.{below_push}
 use Rattle.nll_types.specs.Shapes.{shape_of}
@@ -67,7 +67,7 @@ returns-clause-taken c =
           same = rw (c.in_ok-push-2.ensures.items, c.in_ok-push.ensures.items, map_push (shape_in table.shapes) numbers.items c.args.judged.shape, map_push (λ (t : Ty). shape_of (tree t)) types.items ty, r.shapes.same, j.shape, c.in_ok-ty.ensures) refl;
         };
         few_blocks = r.few_blocks;
-        no_start = λ h. r.no_start (omega (arith, leb-true _ _ c.requires.due.order));
+        no_start = λ h. r.no_start (omega (arith, c.requires.due.follows));
         starts = r.starts;
         few_points = r.few_points;
         edges = r.edges;

@@ -35,6 +35,7 @@ admit_judged-requires-clause-due c =
         few_edges = r.few_edges;
       };
       order = c.requires.order;
+      follows = c.requires.follows;
       texts = c.requires.texts;
       few = c.requires.few;
     }
