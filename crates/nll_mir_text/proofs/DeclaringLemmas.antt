@@ -1,6 +1,5 @@
 -- A struct line with which nothing is wrong is taken.
 use Rattle.std.proofs.Common.{◌≡◌, ◌+◌, ◌<◌, ◌≤◌, ◌^◌, ◌-◌, Bool, None, List, [], ◌∷◌, ◌++◌, length, map, refl, sym, ap, ◌∙◌, subst, arith, length-append}
-use Rattle.std.proofs.lemmas.Bool.{leb-true}
 use Rattle.std.proofs.lemmas.List.{length-map, map_push}
 use Rattle.nll_problem.specs.Limits.{most_bytes}
 use Rattle.nll_types.specs.Structs.{Struct, HasGoodFields}
@@ -18,7 +17,9 @@ use Rattle.nll_mir_grammar.specs.MirForms.{WrittenParameter}
 use Rattle.nll_mir_grammar.specs.Tuples.{IsTuple, parts}
 use Rattle.nll_mir_grammar.specs.declared.line.StructText.{StructText}
 use Rattle.nll_naming.specs.Naming.{Scope, all_meant, meant}
-use Rattle.nll_mir_text.specs.MirSaid.{Said, says, declared, field_scope, is_region, regions_in, types_in}
+use Rattle.nll_mir_text.specs.declared.groups.Group.TheVariants.{Structs}
+use Rattle.nll_mir_text.specs.MirSaid.{Said, field_scope, is_region, regions_in, types_in}
+use Rattle.nll_mir_text.specs.MirSteps.{says, declared}
 use Rattle.nll_mir_text.specs.MirFaults.{first_fault}
 use Rattle.nll_mir_text.specs.MirReading.{said_by, AreKinds, AreShapes, IsDue, IsTaken, struct_form}
 use Rattle.nll_mir_text.specs.Declaring.{AreOwn, own_scope}
@@ -30,7 +31,7 @@ use Rattle.nll_mir_text.proofs.StructLemmas.{IsFine, struct_fine, kinds_pushed, 
 
 -- what is said with other structs
 abbrev said_with : Said → List Name → List (List Bool) → List Struct → Said
-said_with s names kinds structs = record s { reached = 5; struct_names = names; kinds = kinds; structs = structs }
+said_with s names kinds structs = record s { reached = Structs; struct_names = names; kinds = kinds; structs = structs }
 
 -- the tree of resolved fields is a tuple of what they mean
 pub fields_are : (s : Scope) (t : WrittenType) (tree : TypeTree) → IsTuple t → tree ≡ meant s t → tree ≡ tuple (all_meant s (parts t))
@@ -75,7 +76,7 @@ module _ (r : Reader) (own : OwnNames) (text : StructText) (due : IsDue r (struc
 
     module _ (t : Tables) (s : StructNames) (structs : t.structs ≡ r.variables.table.structs ++ d ∷ []) (shapes : t.shapes ≡ r.variables.table.shapes) (names : s.names ≡ r.structs.names ++ text.name.now ∷ []) (kinds : map (λ ks. ks.items) s.kinds.items ≡ map (λ ks. ks.items) r.structs.kinds.items ++ map is_region parameters ∷ []) (none : s.none ≡ r.structs.none) where
       abbrev after : Reader
-      after = record r { reached = 5; structs = s; variables = record r.variables { table = t } }
+      after = record r { reached = Structs; structs = s; variables = record r.variables { table = t } }
 
       more_structs : structs_of t.structs ≡ structs_of r.variables.table.structs ++ more ∷ []
       more_structs = ap structs_of structs ∙ (map_push kept.declared r.variables.table.structs d ∙ ap (λ x. structs_of r.variables.table.structs ++ x ∷ []) declares)
@@ -116,7 +117,7 @@ module _ (r : Reader) (own : OwnNames) (text : StructText) (due : IsDue r (struc
           few_variables = due.ready.few_variables;
           shapes = subst (λ (ns : List Node). AreShapes ns r.variables.shapes.items r.variables.types.items) (sym shapes) due.ready.shapes;
           few_blocks = due.ready.few_blocks;
-          no_start = λ _. due.ready.no_start (omega (arith, leb-true r.reached 5 due.order));
+          no_start = λ _. due.ready.no_start (omega (arith, due.follows));
           starts = due.ready.starts;
           few_points = due.ready.few_points;
           edges = due.ready.edges;

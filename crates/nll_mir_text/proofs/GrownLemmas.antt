@@ -43,6 +43,7 @@ module _ (r : Reader) (t : Tables) (same : t.structs ≡ r.variables.table.struc
   due_grown f h = record {
     ready = ready_grown h.ready;
     order = ap (λ (s : Said). is_in_order s f) said_grown ∙ h.order;
+    follows = h.follows;
     texts = h.texts;
     few = h.few;
   }

@@ -3,6 +3,7 @@ pub mod DeclaringLemmas
 pub mod FaultLemmas
 pub mod FormLemmas
 pub mod GoodFieldLemmas
+pub mod GroupLemmas
 pub mod GrownLemmas
 pub mod LawLemmas
 pub mod LineLemmas

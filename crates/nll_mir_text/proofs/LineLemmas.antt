@@ -1,16 +1,15 @@
 -- Tests and lists, as one more line of a text changes them.
-use Rattle.std.proofs.Common.{◌≡◌, ◌⊎◌, ℕ, ◌+◌, ◌<◌, ◌≤◌, Bool, true, false, not, cond, List, [], ◌∷◌, ◌++◌, Some, Contains, length, map, inl, inr, refl, sym, ap, ◌∙◌, subst, ⊎_elim, arith, length-append, slice_get}
-use Rattle.std.specs.Prelude.{◌&&◌, ◌==◌, nat_le, nat_lt, All}
+use Rattle.std.proofs.Common.{◌≡◌, ◌⊎◌, ℕ, ◌+◌, ◌<◌, Bool, true, false, cond, List, [], ◌∷◌, ◌++◌, Some, Contains, length, map, inl, inr, refl, sym, ap, ◌∙◌, subst, ⊎_elim, arith, length-append, slice_get}
+use Rattle.std.specs.Prelude.{◌&&◌, ◌==◌, nat_lt, All}
 use Rattle.std.specs.List.{list_all}
 use Rattle.std.specs.List.Sorted.{IsStrictlyIncreasing}
-use Rattle.std.proofs.lemmas.Bool.{cases_lt, and_parts, not-false, leb-true, ltb-true, eqb-false}
+use Rattle.std.proofs.lemmas.Bool.{cases_lt, and_parts, ltb-true, eqb-false}
 use Rattle.std.proofs.lemmas.List.{get_or_append_left, get_or_at}
 use Rattle.std.proofs.lemmas.List.Elements.{Contains-push_cases, All-cons, All-nil}
 use Rattle.std.proofs.lemmas.Option.{get_or_from_slice_get, slice_get_within, slice_get-get_or}
 use Rattle.nll_reading.specs.Names.{number_of}
 use Rattle.nll_type_grammar.specs.WrittenTypes.{Name}
 use Rattle.nll_naming.specs.Naming.{is_among}
-use Rattle.nll_mir_text.specs.MirSaid.{Said}
 
 -- ---- tests
 
@@ -72,7 +71,3 @@ inserted false ks x y c = Contains-push_cases ks x y c
 pub first_pushed : (xs : List ℕ) (n : ℕ) → (length xs ≡ 0 → n ≡ 0) → (0 < length xs → slice_get xs 0 ≡ Some 0) → slice_get (xs ++ n ∷ []) 0 ≡ Some 0
 first_pushed [] n z h = ap Some (z refl)
 first_pushed (x ∷ xs) n z h = h (omega arith)
-
--- the line is of a group that isn't before that reached
-pub in_group : (s : Said) (n : ℕ) → not (nat_le s.reached n) ≡ false → s.reached ≤ n
-in_group s n e = leb-true s.reached n (not-false _ e)

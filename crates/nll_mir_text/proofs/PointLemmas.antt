@@ -32,7 +32,9 @@ use Rattle.nll_mir_text.specs.declared.tables.Regions.{Regions}
 use Rattle.nll_mir_text.specs.declared.tables.StructNames.{StructNames}
 use Rattle.nll_mir_text.specs.declared.tables.Variables.{Variables}
 use Rattle.nll_mir_text.specs.declared.stating.JudgedPoint.{JudgedPoint}
-use Rattle.nll_mir_text.specs.MirSaid.{Said, says, statement_meant, body_scope}
+use Rattle.nll_mir_text.specs.declared.groups.Group.TheVariants.{Blocks}
+use Rattle.nll_mir_text.specs.MirSaid.{Said, statement_meant, body_scope}
+use Rattle.nll_mir_text.specs.MirSteps.{says}
 use Rattle.nll_mir_text.specs.MirFaults.{are_declared, is_in_order, knows, has_targets, shapes_fit, first_fault}
 use Rattle.nll_mir_text.specs.MirReading.{scope_in, statement_kept}
 use Rattle.nll_mir_text.specs.Stating.{as_resolved, declared_by, has_names, IsOfPoint, IsOfStatement}
@@ -193,7 +195,7 @@ targets_are s i r of b h = h ∙ ap (list_all (λ x. nat_lt x s.blocks)) (target
 -- the statement stands at the next point
 pub point_said : (s : Said) (i : Statement Name WrittenType) (points : List (Statement ℕ TypeTree)) (owes : Bool) (blocks : ℕ) (starts : List ℕ)
     → blocks ≡ s.blocks → starts ≡ s.starts → points ≡ s.points ++ statement_meant s i ∷ [] → owes ≡ not (is_terminator i)
-    → record s { reached = 8; points = points; owes = owes; blocks = blocks; starts = starts } ≡ says s (at_point i)
+    → record s { reached = Blocks; points = points; owes = owes; blocks = blocks; starts = starts } ≡ says s (at_point i)
 point_said s i points owes blocks starts b c h k = rw (b, c, h, k) refl
 
 -- what the code keeps ends the block as its line does

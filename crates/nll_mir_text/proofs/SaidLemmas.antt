@@ -1,53 +1,34 @@
 -- What lines say once there is one more line.
-use Rattle.std.proofs.Common.{◌≡◌, ℕ, suc, Bool, true, false, not, cond, List, [], ◌∷◌, ◌++◌, Option, Some, None, Contains, ◌⊎◌, inl, inr, refl, sym, ap, ◌∙◌, subst, ⊎_elim, arith}
-use Rattle.std.proofs.lemmas.Bool.Decides.{nat_tests}
-use Rattle.std.proofs.lemmas.List.{append-nil}
-use Rattle.std.proofs.lemmas.List.Elements.{Contains-push_cases}
-use Rattle.nll_mir_grammar.specs.MirForms.{Form, universal, outlives, further, assert_line, struct_line, variable, blocks, block, at_point, end}
+use Rattle.std.proofs.Common.{◌≡◌, ℕ, zero, suc, ◌+◌, ◌<◌, ◌≤◌, Bool, true, false, not, cond, List, [], ◌∷◌, ◌++◌, Option, Some, None, Contains, length, map, get_or, unwrap_or, refl, sym, ap, ◌∙◌, subst, ⊎_elim, arith, append_assoc, length-append}
+use Rattle.std.specs.Prelude.{codes, nat_lt}
+use Rattle.std.specs.List.{filter_map, last_or}
+use Rattle.std.specs.Str.{bytes_eq}
+use Rattle.std.proofs.lemmas.Bool.{and_parts, not-false, ltb-true}
+use Rattle.std.proofs.lemmas.List.{append-nil, length-map, map_push}
+use Rattle.std.proofs.lemmas.List.Elements.{filter_map-append}
+use Rattle.indexmap.specs.IndexSet.{insert_all, insert_key}
+use Rattle.nll_problem.specs.Building.{same_pair}
+use Rattle.nll_reading.specs.Names.{number_of}
 use Rattle.nll_reading.specs.Text.{Fits, skipped, of_form, Says}
 use Rattle.nll_reading.specs.declared.error.TextKind.TheVariants.{Syntax}
-use Rattle.nll_mir_text.specs.MirSaid.{Said, said, said_after, says, group}
-use Rattle.nll_mir_text.specs.MirFaults.{first_fault, is_in_order}
-use Rattle.nll_mir_text.specs.MirReading.{Adds}
+use Rattle.nll_types.specs.Types.{TypeTree}
+use Rattle.nll_types.specs.Structs.{Struct}
+use Rattle.nll_type_grammar.specs.WrittenTypes.{Name, WrittenType, WrittenTypes}
+use Rattle.nll_statements.specs.Statements.{Statement, is_terminator}
+use Rattle.nll_naming.specs.Naming.{Scope, meant}
+use Rattle.nll_mir_grammar.specs.MirForms.{Form, WrittenParameter, universal, outlives, further, assert_line, struct_line, variable, blocks, block, at_point, end}
 use Rattle.nll_mir_grammar.specs.declared.version.Version.{Version}
+use Rattle.nll_mir_text.specs.declared.groups.Group.{Group}
+use Rattle.nll_mir_text.specs.declared.groups.Group.TheVariants.{Universals, Outlives, Regions, Asserts, Structs, Variables, BlockCount, Blocks, End}
+use Rattle.nll_mir_text.specs.MirSaid.{Said, said, group, last_group, is_region, universal_in, further_in, outlives_in, assert_in, struct_in, variable_in, blocks_in, statement_in, owes_in, numbers_of, universals_said, names_said, meant_in, with_fronts, declared_in, start_in}
+use Rattle.nll_mir_text.specs.MirSteps.{rank, says, declared, nothing_said}
+use Rattle.nll_mir_text.specs.MirFaults.{first_fault, is_in_order, is_universal, has_reached}
+use Rattle.nll_mir_text.specs.MirReading.{Adds}
 use Rattle.nll_mir_text.specs.MirText.{mir}
-
-said_after_push : (s : Said) (forms : List Form) (f : Form) → said_after s (forms ++ f ∷ []) ≡ says (said_after s forms) f
-said_after_push s [] f = refl
-said_after_push s (g ∷ forms) f = said_after_push (says s g) forms f
-
--- one more line
-pub said_push : (forms : List Form) (f : Form) → said (forms ++ f ∷ []) ≡ says (said forms) f
-said_push forms f = said_after_push _ forms f
-
-pub adds_said : (forms : List Form) (s t : Said) (f : Form) → said forms ≡ s → first_fault s f ≡ None → Adds s f t → said (forms ++ f ∷ []) ≡ t
-adds_said forms s t f h fine a = said_push forms f ∙ (ap (λ (u : Said). says u f) h ∙ sym a)
-
-pub same_fault : (s t : Said) → s ≡ t → (f : Form) → first_fault s f ≡ first_fault t f
-same_fault s t h f = ap (λ (u : Said). first_fault u f) h
+use Rattle.nll_mir_text.proofs.FaultLemmas.{faultless}
+use Rattle.nll_mir_text.proofs.GroupLemmas.{follows, before_blocks, last_push, none_before, group_reached, reached_more, reached_at, is_reached, of_first_or_later, rank_most}
 
 -- ---- the order of lines
-
-guard : {A : Type 0} (b : Bool) (x : A) (o : Option A) → cond b (Some x) o ≡ None → b ≡ false
-guard true x o e = absurd cc
-guard false x o e = refl
-
-not_false : (b : Bool) → not b ≡ false → b ≡ true
-not_false true e = refl
-not_false false e = absurd cc
-
--- a line without a fault stands in order
-pub in_order : (s : Said) (f : Form) → first_fault s f ≡ None → is_in_order s f ≡ true
-in_order s (universal a) e = not_false _ (guard _ _ _ e)
-in_order s (outlives a b) e = not_false _ (guard _ _ _ e)
-in_order s (further x) e = not_false _ (guard _ _ _ e)
-in_order s (assert_line a b) e = not_false _ (guard _ _ _ e)
-in_order s (struct_line n ps has_drop fields) e = not_false _ (guard _ _ _ e)
-in_order s (variable x t) e = not_false _ (guard _ _ _ e)
-in_order s (blocks n) e = not_false _ (guard _ _ _ e)
-in_order s (block n) e = not_false _ (guard _ _ _ e)
-in_order s (at_point i) e = not_false _ (guard _ _ _ e)
-in_order s end e = not_false _ (guard _ _ _ e)
 
 first_is : {A : Type 0} (b : Bool) (x : A) (o : Option A) → b ≡ false → cond (not b) (Some x) o ≡ Some x
 first_is true x o h = absurd cc
@@ -66,93 +47,324 @@ out_of_order s (block n) h = first_is _ _ _ h
 out_of_order s (at_point i) h = first_is _ _ _ h
 out_of_order s end h = first_is _ _ _ h
 
--- nothing stands in order behind an `end` line
-none_behind : (s : Said) (f : Form) → s.reached ≡ 9 → is_in_order s f ≡ true → ⊥
-none_behind s (universal a) h e = grind (arith, nat_tests)
-none_behind s (outlives a b) h e = grind (arith, nat_tests)
-none_behind s (further x) h e = grind (arith, nat_tests)
-none_behind s (assert_line a b) h e = grind (arith, nat_tests)
-none_behind s (struct_line n ps has_drop fields) h e = grind (arith, nat_tests)
-none_behind s (variable x t) h e = grind (arith, nat_tests)
-none_behind s (blocks n) h e = grind (arith, nat_tests)
-none_behind s (block n) h e = grind (arith, nat_tests)
-none_behind s (at_point i) h e = grind (arith, nat_tests)
-none_behind s end h e = grind (arith, nat_tests)
+-- a line without a fault stands in order
+pub in_order : (s : Said) (f : Form) → first_fault s f ≡ None → is_in_order s f ≡ true
+in_order s f fine = not-false _ (faultless s f fine).syntax'
+
+-- it is of no group before the last one that has a line
+in_place : (forms : List Form) (f : Form) → first_fault (said forms) f ≡ None → rank (last_group forms) ≤ rank (group f)
+in_place forms f fine = (follows (said forms) f (in_order (said forms) f fine)).0
+
+-- ---- what lines say, from what each says
+
+abbrev scope_from : List Name → List Name → List (Name × List WrittenParameter) → Scope
+scope_from us fs ds = record {
+  regions = (codes "static" ∷ us) ++ fs;
+  parameters = [];
+  structs = map (λ d. d.0) ds;
+  kinds = map (λ d. map is_region d.1) ds;
+}
+
+abbrev said_from : Group → List Name → List Name → List (Name × Name) → List (Name × Name) → List (Name × List WrittenParameter) → List Struct → List WrittenType → List ℕ → List ℕ → List (Statement Name WrittenType) → List Bool → Said
+said_from r us fs os cs ds structs vs bs starts is ows = record {
+  reached = r;
+  names = (codes "static" ∷ us) ++ fs;
+  universals = length (codes "static" ∷ us);
+  outlives = insert_all same_pair [] (map (numbers_of (codes "static" ∷ us)) os);
+  asserts = insert_all same_pair [] (map (numbers_of ((codes "static" ∷ us) ++ fs)) cs);
+  struct_names = map (λ d. d.0) ds;
+  kinds = map (λ d. map is_region d.1) ds;
+  structs = structs;
+  variables = map (meant (scope_from us fs ds)) vs;
+  blocks = get_or bs 0 0;
+  starts = starts;
+  points = map (meant_in (scope_from us fs ds)) is;
+  owes = unwrap_or (last_or None ows) false;
+}
+
+-- a list with one more element, or none
+abbrev grown : {X : Type 0} → List X → Option X → List X
+grown xs None = xs
+grown xs (Some x) = xs ++ x ∷ []
+
+pushed : {A X : Type 0} (g : A → Option X) (xs : List A) (a : A) → filter_map g (xs ++ a ∷ []) ≡ grown (filter_map g xs) (g a)
+pushed g xs a = filter_map-append g xs (a ∷ []) ∙ alone (g a) refl
+  where
+    nothing : g a ≡ None → filter_map g (a ∷ []) ≡ []
+    nothing e = rw e refl
+
+    one : (x : _) → g a ≡ Some x → filter_map g (a ∷ []) ≡ x ∷ []
+    one x e = rw e refl
+
+    alone : (o : Option _) → g a ≡ o → filter_map g xs ++ filter_map g (a ∷ []) ≡ grown (filter_map g xs) o
+    alone None e = ap (λ ys. filter_map g xs ++ ys) (nothing e) ∙ append-nil (filter_map g xs)
+    alone (Some x) e = ap (λ ys. filter_map g xs ++ ys) (one x e)
+
+fronts_push : (forms : List Form) (f : Form) → with_fronts (forms ++ f ∷ []) ≡ with_fronts forms ++ (forms, f) ∷ []
+fronts_push [] f = refl
+fronts_push (x ∷ forms) f =
+    ap (λ (ps : List (List Form × Form)). ([], x) ∷ map (λ (p : List Form × Form). (x ∷ p.0, p.1)) ps) (fronts_push forms f)
+    ∙ ap (λ (ps : List (List Form × Form)). ([], x) ∷ ps) (map_push (λ (p : List Form × Form). (x ∷ p.0, p.1)) (with_fronts forms) (forms, f))
+
+same_from : (r : Group) (us us' fs fs' : List Name) (os os' cs cs' : List (Name × Name)) (ds ds' : List (Name × List WrittenParameter)) (structs structs' : List Struct) (vs vs' : List WrittenType) (bs bs' starts starts' : List ℕ) (is is' : List (Statement Name WrittenType)) (ows ows' : List Bool)
+    → us ≡ us' → fs ≡ fs' → os ≡ os' → cs ≡ cs' → ds ≡ ds' → structs ≡ structs' → vs ≡ vs' → bs ≡ bs' → starts ≡ starts' → is ≡ is' → ows ≡ ows'
+    → said_from r us fs os cs ds structs vs bs starts is ows ≡ said_from r us' fs' os' cs' ds' structs' vs' bs' starts' is' ows'
+same_from r us us' fs fs' os os' cs cs' ds ds' structs structs' vs vs' bs bs' starts starts' is is' ows ows' a b c d e f g h i j k = rw (a, b, c, d, e, f, g, h, i, j, k) refl
+
+-- what the lines and one more say, where r is the last group
+abbrev more : List Form → Form → Group → Said
+more forms f r =
+    said_from r
+    (grown (filter_map universal_in forms) (universal_in f))
+    (grown (filter_map further_in forms) (further_in f))
+    (grown (filter_map outlives_in forms) (outlives_in f))
+    (grown (filter_map assert_in forms) (assert_in f))
+    (grown (filter_map struct_in forms) (struct_in f))
+    (grown (filter_map declared_in (with_fronts forms)) (declared_in (forms, f)))
+    (grown (filter_map variable_in forms) (variable_in f))
+    (grown (filter_map blocks_in forms) (blocks_in f))
+    (grown (filter_map start_in (with_fronts forms)) (start_in (forms, f)))
+    (grown (filter_map statement_in forms) (statement_in f))
+    (grown (filter_map owes_in forms) (owes_in f))
+
+all_pushed : (forms : List Form) (f : Form) → said (forms ++ f ∷ []) ≡ more forms f (last_group (forms ++ f ∷ []))
+all_pushed forms f = same_from (last_group (forms ++ f ∷ [])) _ _ _ _ _ _ _ _ _ _ _ _ _ _ _ _ _ _ _ _ _ _
+    (pushed universal_in forms f)
+    (pushed further_in forms f)
+    (pushed outlives_in forms f)
+    (pushed assert_in forms f)
+    (pushed struct_in forms f)
+    (ap (filter_map declared_in) (fronts_push forms f) ∙ pushed declared_in (with_fronts forms) (forms, f))
+    (pushed variable_in forms f)
+    (pushed blocks_in forms f)
+    (ap (filter_map start_in) (fronts_push forms f) ∙ pushed start_in (with_fronts forms) (forms, f))
+    (pushed statement_in forms f)
+    (pushed owes_in forms f)
+
+-- ---- lines of later groups
+
+outlives_early : (f : Form) → rank (group f) ≤ 1 → outlives_in f ≡ None
+outlives_early (outlives a b) h = absurd (omega (arith, h))
+outlives_early _ h = refl
+
+further_early : (f : Form) → rank (group f) ≤ 2 → further_in f ≡ None
+further_early (further x) h = absurd (omega (arith, h))
+further_early _ h = refl
+
+assert_early : (f : Form) → rank (group f) ≤ 3 → assert_in f ≡ None
+assert_early (assert_line a b) h = absurd (omega (arith, h))
+assert_early _ h = refl
+
+variable_early : (f : Form) → rank (group f) ≤ 5 → variable_in f ≡ None
+variable_early (variable x t) h = absurd (omega (arith, h))
+variable_early _ h = refl
+
+blocks_early : (f : Form) → rank (group f) ≤ 6 → blocks_in f ≡ None
+blocks_early (blocks n) h = absurd (omega (arith, h))
+blocks_early _ h = refl
+
+statement_early : (f : Form) → rank (group f) ≤ 7 → statement_in f ≡ None
+statement_early (at_point i) h = absurd (omega (arith, h))
+statement_early _ h = refl
+
+module _ (forms : List Form) (n : ℕ) (h : rank (last_group forms) ≤ n) where
+  no_outlives : n ≤ 1 → filter_map outlives_in forms ≡ []
+  no_outlives e = none_before outlives_in 1 outlives_early forms (omega (arith, h, e))
+
+  no_further : n ≤ 2 → filter_map further_in forms ≡ []
+  no_further e = none_before further_in 2 further_early forms (omega (arith, h, e))
+
+  no_asserts : n ≤ 3 → filter_map assert_in forms ≡ []
+  no_asserts e = none_before assert_in 3 assert_early forms (omega (arith, h, e))
+
+  no_variables : n ≤ 5 → filter_map variable_in forms ≡ []
+  no_variables e = none_before variable_in 5 variable_early forms (omega (arith, h, e))
+
+  no_blocks : n ≤ 6 → filter_map blocks_in forms ≡ []
+  no_blocks e = none_before blocks_in 6 blocks_early forms (omega (arith, h, e))
+
+  no_statements : n ≤ 7 → filter_map statement_in forms ≡ []
+  no_statements e = none_before statement_in 7 statement_early forms (omega (arith, h, e))
+
+-- ---- one more line, by its form
+
+named_more : (s : Said) (r : Group) (xs ys : List Name) (m n : ℕ) → xs ≡ ys → m ≡ n → record s { reached = r; names = xs; universals = m } ≡ record s { reached = r; names = ys; universals = n }
+named_more s r xs ys m n e k = rw (e, k) refl
+
+universal_more : (r : Group) (us fs : List Name) (os cs : List (Name × Name)) (ds : List (Name × List WrittenParameter)) (structs : List Struct) (vs : List WrittenType) (bs starts : List ℕ) (is : List (Statement Name WrittenType)) (ows : List Bool) (a : Name)
+    → fs ≡ [] → os ≡ [] → cs ≡ [] → vs ≡ [] → is ≡ []
+    → said_from Universals (us ++ a ∷ []) fs os cs ds structs vs bs starts is ows ≡ says (said_from r us fs os cs ds structs vs bs starts is ows) (universal a)
+universal_more r us fs os cs ds structs vs bs starts is ows a f o c v i = rw (f, o, c, v, i)
+    (named_more (said_from r us [] [] [] ds structs [] bs starts [] ows) Universals _ _ _ _
+    (append-nil (codes "static" ∷ (us ++ a ∷ [])) ∙ ap (λ (xs : List Name). xs ++ a ∷ []) (sym (append-nil (codes "static" ∷ us))))
+    (length-append (codes "static" ∷ us) (a ∷ [])))
+
+further_more : (r : Group) (us fs : List Name) (os cs : List (Name × Name)) (ds : List (Name × List WrittenParameter)) (structs : List Struct) (vs : List WrittenType) (bs starts : List ℕ) (is : List (Statement Name WrittenType)) (ows : List Bool) (x : Name)
+    → cs ≡ [] → vs ≡ [] → is ≡ []
+    → said_from Regions us (fs ++ x ∷ []) os cs ds structs vs bs starts is ows ≡ says (said_from r us fs os cs ds structs vs bs starts is ows) (further x)
+further_more r us fs os cs ds structs vs bs starts is ows x c v i = rw (c, v, i)
+    (named_more (said_from r us fs os [] ds structs [] bs starts [] ows) Regions _ _ _ _ (sym (append_assoc (codes "static" ∷ us) fs (x ∷ []))) refl)
+
+declared_more : (s : Said) (ns ms : List Name) (ks ls : List (List Bool)) (structs : List Struct) → ns ≡ ms → ks ≡ ls
+    → record s { reached = Structs; struct_names = ns; kinds = ks; structs = structs } ≡ record s { reached = Structs; struct_names = ms; kinds = ls; structs = structs }
+declared_more s ns ms ks ls structs e k = rw (e, k) refl
+
+struct_more : (r : Group) (us fs : List Name) (os cs : List (Name × Name)) (ds : List (Name × List WrittenParameter)) (structs : List Struct) (vs : List WrittenType) (bs starts : List ℕ) (is : List (Statement Name WrittenType)) (ows : List Bool) (n : Name) (ps : List WrittenParameter) (has_drop : Bool) (fields : WrittenTypes)
+    → vs ≡ [] → is ≡ []
+    → said_from Structs us fs os cs (ds ++ (n, ps) ∷ []) (structs ++ declared (said_from r us fs os cs ds structs vs bs starts is ows) ps has_drop fields ∷ []) vs bs starts is ows
+    ≡ says (said_from r us fs os cs ds structs vs bs starts is ows) (struct_line n ps has_drop fields)
+struct_more r us fs os cs ds structs vs bs starts is ows n ps has_drop fields v i = rw (v, i)
+    (declared_more (said_from r us fs os cs ds structs [] bs starts [] ows) _ _ _ _ _
+    (map_push (λ (d : Name × List WrittenParameter). d.0) ds (n, ps))
+    (map_push (λ (d : Name × List WrittenParameter). map is_region d.1) ds (n, ps)))
+
+paired : (s : Said) (r : Group) (ps qs : List (ℕ × ℕ)) → ps ≡ qs → record s { reached = r; outlives = ps } ≡ record s { reached = r; outlives = qs }
+paired s r ps qs e = rw e refl
+
+asserted : (s : Said) (r : Group) (ps qs : List (ℕ × ℕ)) → ps ≡ qs → record s { reached = r; asserts = ps } ≡ record s { reached = r; asserts = qs }
+asserted s r ps qs e = rw e refl
+
+typed : (s : Said) (r : Group) (ts us : List TypeTree) → ts ≡ us → record s { reached = r; variables = ts } ≡ record s { reached = r; variables = us }
+typed s r ts us e = rw e refl
+
+counted : (s : Said) (r : Group) (m n : ℕ) → m ≡ n → record s { reached = r; blocks = m } ≡ record s { reached = r; blocks = n }
+counted s r m n e = rw e refl
+
+begun : (s : Said) (m n : ℕ) (b c : Bool) → m ≡ n → b ≡ c → record s { reached = Blocks; starts = s.starts ++ m ∷ []; owes = b } ≡ record s { reached = Blocks; starts = s.starts ++ n ∷ []; owes = c }
+begun s m n b c e k = rw (e, k) refl
+
+stood : (s : Said) (is js : List (Statement ℕ TypeTree)) (b c : Bool) → is ≡ js → b ≡ c → record s { reached = Blocks; points = is; owes = b } ≡ record s { reached = Blocks; points = js; owes = c }
+stood s is js b c e k = rw (e, k) refl
+
+-- one more pair is inserted last
+insert_all_push : {X : Type 0} (e : X → X → Bool) (ks xs : List X) (x : X) → insert_all e ks (xs ++ x ∷ []) ≡ insert_key e (insert_all e ks xs) x
+insert_all_push e ks [] x = refl
+insert_all_push e ks (y ∷ xs) x = insert_all_push e (insert_key e ks y) xs x
+
+pair_more : (names : List Name) (ps : List (Name × Name)) (p : Name × Name) → insert_all same_pair [] (map (numbers_of names) (ps ++ p ∷ [])) ≡ insert_all same_pair (insert_all same_pair [] (map (numbers_of names) ps)) (numbers_of names p ∷ [])
+pair_more names ps p =
+    ap (insert_all same_pair []) (map_push (numbers_of names) ps p) ∙ insert_all_push same_pair [] (map (numbers_of names) ps) (numbers_of names p)
+
+-- a name's number among the universal regions, which stand in front
+front_step : (b : Bool) (n m l : ℕ) → (n < l → n ≡ m) → cond (not b) (1 + n) 0 < suc l → cond (not b) (1 + n) 0 ≡ cond (not b) (1 + m) 0
+front_step true n m l later h = refl
+front_step false n m l later h = ap (λ k. 1 + k) (later (omega arith))
+
+number_front : (us fs : List Name) (a : Name) → number_of (us ++ fs) a < length us → number_of (us ++ fs) a ≡ number_of us a
+number_front [] fs a h = absurd (omega arith)
+number_front (u ∷ us) fs a h = front_step (bytes_eq a u) (number_of (us ++ fs) a) (number_of us a) (length us) (number_front us fs a) h
+
+last_is : {X : Type 0} (o : Option X) (xs : List X) (x : X) → last_or o (xs ++ x ∷ []) ≡ Some x
+last_is o [] x = refl
+last_is o (y ∷ xs) x = last_is (Some y) xs x
+
+owed : (ows : List Bool) (b : Bool) → unwrap_or (last_or None (ows ++ b ∷ [])) false ≡ b
+owed ows b = ap (λ (o : Option Bool). unwrap_or o false) (last_is None ows b)
+
+-- the numbers of two universal regions
+universal_numbers : (forms : List Form) (a b : Name) → first_fault (said forms) (outlives a b) ≡ None → numbers_of (universals_said forms) (a, b) ≡ numbers_of (names_said forms) (a, b)
+universal_numbers forms a b fine =
+    let both = and_parts (is_universal (said forms) a) (is_universal (said forms) b) (not-false _ (faultless (said forms) (outlives a b) fine).unknown) in
+    let of : (z : Name) → nat_lt (number_of (names_said forms) z) (length (universals_said forms)) ≡ true → number_of (universals_said forms) z ≡ number_of (names_said forms) z = λ z is.
+    sym (number_front (universals_said forms) (filter_map further_in forms) z (ltb-true _ _ is)) in
+    ap (λ (k : ℕ). (k, number_of (universals_said forms) b)) (of a both.0) ∙ ap (λ (k : ℕ). (number_of (names_said forms) a, k)) (of b both.1)
+
+step : (forms : List Form) (f : Form) → first_fault (said forms) f ≡ None → more forms f (group f) ≡ says (said forms) f
+step forms (universal a) fine =
+    let h : rank (last_group forms) ≤ 1 = in_place forms (universal a) fine in
+    universal_more (last_group forms) (filter_map universal_in forms) (filter_map further_in forms) (filter_map outlives_in forms) (filter_map assert_in forms) (filter_map struct_in forms) (filter_map declared_in (with_fronts forms)) (filter_map variable_in forms) (filter_map blocks_in forms) (filter_map start_in (with_fronts forms)) (filter_map statement_in forms) (filter_map owes_in forms) a (no_further forms 1 h (omega arith)) (no_outlives forms 1 h (omega arith)) (no_asserts forms 1 h (omega arith)) (no_variables forms 1 h (omega arith)) (no_statements forms 1 h (omega arith))
+step forms (outlives a b) fine =
+    paired (said forms) Outlives _ _
+    (pair_more (universals_said forms) (filter_map outlives_in forms) (a, b)
+    ∙ ap (λ (p : ℕ × ℕ). insert_all same_pair (said forms).outlives (p ∷ [])) (universal_numbers forms a b fine))
+step forms (further x) fine =
+    let h : rank (last_group forms) ≤ 3 = in_place forms (further x) fine in
+    further_more (last_group forms) (filter_map universal_in forms) (filter_map further_in forms) (filter_map outlives_in forms) (filter_map assert_in forms) (filter_map struct_in forms) (filter_map declared_in (with_fronts forms)) (filter_map variable_in forms) (filter_map blocks_in forms) (filter_map start_in (with_fronts forms)) (filter_map statement_in forms) (filter_map owes_in forms) x (no_asserts forms 3 h (omega arith)) (no_variables forms 3 h (omega arith)) (no_statements forms 3 h (omega arith))
+step forms (assert_line a b) fine = asserted (said forms) Asserts _ _ (pair_more (names_said forms) (filter_map assert_in forms) (a, b))
+step forms (struct_line n ps has_drop fields) fine =
+    let h : rank (last_group forms) ≤ 5 = in_place forms (struct_line n ps has_drop fields) fine in
+    struct_more (last_group forms) (filter_map universal_in forms) (filter_map further_in forms) (filter_map outlives_in forms) (filter_map assert_in forms) (filter_map struct_in forms) (filter_map declared_in (with_fronts forms)) (filter_map variable_in forms) (filter_map blocks_in forms) (filter_map start_in (with_fronts forms)) (filter_map statement_in forms) (filter_map owes_in forms) n ps has_drop fields (no_variables forms 5 h (omega arith)) (no_statements forms 5 h (omega arith))
+step forms (variable x t) fine = typed (said forms) Variables _ _ (map_push _ (filter_map variable_in forms) t)
+step forms (blocks n) fine =
+    let h : rank (last_group forms) < 7 = before_blocks (said forms) n (in_order (said forms) (blocks n) fine) in
+    counted (said forms) BlockCount _ _ (ap (λ (bs : List ℕ). get_or (bs ++ n ∷ []) 0 0) (no_blocks forms 6 (omega (arith, h)) (omega arith)))
+step forms (block n) fine = begun (said forms) _ _ _ _ (sym (length-map (filter_map statement_in forms) _)) (owed (filter_map owes_in forms) true)
+step forms (at_point i) fine = stood (said forms) _ _ _ _ (map_push _ (filter_map statement_in forms) i) (owed (filter_map owes_in forms) (not (is_terminator i)))
+step forms end fine = refl
+
+-- one more line without a fault
+pub said_push : (forms : List Form) (f : Form) → first_fault (said forms) f ≡ None → said (forms ++ f ∷ []) ≡ says (said forms) f
+said_push forms f fine = all_pushed forms f ∙ (ap (more forms f) (last_push forms f (in_place forms f fine)) ∙ step forms f fine)
+
+pub adds_said : (forms : List Form) (s t : Said) (f : Form) → said forms ≡ s → first_fault s f ≡ None → Adds s f t → said (forms ++ f ∷ []) ≡ t
+adds_said forms s t f h fine a =
+    said_push forms f (ap (λ (u : Said). first_fault u f) h ∙ fine) ∙ (ap (λ (u : Said). says u f) h ∙ sym a)
+
+pub same_fault : (s t : Said) → s ≡ t → (f : Form) → first_fault s f ≡ first_fault t f
+same_fault s t h f = ap (λ (u : Said). first_fault u f) h
+
+-- ---- lines without a fault
+
+-- what holds before all lines, and still behind one more line without a fault, holds behind all
+module _ (P : List Form → Type 0) (more : (forms : List Form) (f : Form) → first_fault (said forms) f ≡ None → P forms → P (forms ++ f ∷ [])) where
+  behind_line : (v : Version) (forms : List Form) (line : List ℕ) (added : List Form) → Fits (mir v) (said forms) line added → P forms → P (forms ++ added)
+  behind_line v forms line [] (skipped u k) h = subst P (sym (append-nil forms)) h
+  behind_line v forms line (f ∷ []) (of_form _ u k form fine) h = more forms f fine h
+  behind_line v forms line (f ∷ (g ∷ rest)) fit h = elim fit [ ]
+
+  pub behind_all : (v : Version) (before : List Form) (lines : List (List ℕ)) (forms : List Form) → Says (mir v) before lines forms → P before → P forms
+  behind_all v before [] forms says h = subst P (sym says) h
+  behind_all v before (line ∷ lines) forms says h = behind_all v (before ++ says.0) lines forms says.2 (behind_line v before line says.0 says.1 h)
+
+-- what is said, line by line
+abbrev said_after : Said → List Form → Said
+said_after s [] = s
+said_after s (f ∷ forms) = said_after (says s f) forms
+
+said_after_push : (s : Said) (forms : List Form) (f : Form) → said_after s (forms ++ f ∷ []) ≡ says (said_after s forms) f
+said_after_push s [] f = refl
+said_after_push s (g ∷ forms) f = said_after_push (says s g) forms f
+
+-- of lines without a fault it is what they say together
+pub said_line_by_line : (v : Version) (lines : List (List ℕ)) (forms : List Form) → Says (mir v) [] lines forms → said_after nothing_said forms ≡ said forms
+said_line_by_line v lines forms h = behind_all (λ fs. said_after nothing_said fs ≡ said fs)
+    (λ fs f fine same. said_after_push nothing_said fs f ∙ (ap (λ (s : Said). says s f) same ∙ sym (said_push fs f fine)))
+    v [] lines forms h refl
 
 -- ---- the last line
 
-reached_group : (s : Said) (f : Form) → (says s f).reached ≡ group f
-reached_group s (universal a) = refl
-reached_group s (outlives a b) = refl
-reached_group s (further x) = refl
-reached_group s (assert_line a b) = refl
-reached_group s (struct_line n ps has_drop fields) = refl
-reached_group s (variable x t) = refl
-reached_group s (blocks n) = refl
-reached_group s (block n) = refl
-reached_group s (at_point i) = refl
-reached_group s end = refl
-
-group_end : (f : Form) → group f ≡ 9 → f ≡ end
-group_end (universal a) h = absurd (omega arith)
-group_end (outlives a b) h = absurd (omega arith)
-group_end (further x) h = absurd (omega arith)
-group_end (assert_line a b) h = absurd (omega arith)
-group_end (struct_line n ps has_drop fields) h = absurd (omega arith)
-group_end (variable x t) h = absurd (omega arith)
-group_end (blocks n) h = absurd (omega arith)
-group_end (block n) h = absurd (omega arith)
-group_end (at_point i) h = absurd (omega arith)
+group_end : (f : Form) → 9 ≤ rank (group f) → f ≡ end
+group_end (universal a) h = absurd (omega (arith, h))
+group_end (outlives a b) h = absurd (omega (arith, h))
+group_end (further x) h = absurd (omega (arith, h))
+group_end (assert_line a b) h = absurd (omega (arith, h))
+group_end (struct_line n ps has_drop fields) h = absurd (omega (arith, h))
+group_end (variable x t) h = absurd (omega (arith, h))
+group_end (blocks n) h = absurd (omega (arith, h))
+group_end (block n) h = absurd (omega (arith, h))
+group_end (at_point i) h = absurd (omega (arith, h))
 group_end end h = refl
 
-ended_after : (s : Said) (forms : List Form) → (s.reached ≡ 9 → ⊥) → (said_after s forms).reached ≡ 9 → Contains forms end
-ended_after s [] none h = absurd (none h)
-ended_after s (f ∷ forms) none h = ⊎_elim
-    (λ here. (0, omega arith, here))
-    (λ other.
-    let c = ended_after (says s f) forms (λ e. other (group_end f (sym (reached_group s f) ∙ e))) h in
-    (suc c.0, omega (arith, c.1), c.2))
-    (is_end f)
-  where
-    is_end : (f : Form) → (f ≡ end) ⊎ (f ≡ end → ⊥)
-    is_end end = inl refl
-    is_end (universal a) = inr (λ e. cc)
-    is_end (outlives a b) = inr (λ e. cc)
-    is_end (further x) = inr (λ e. cc)
-    is_end (assert_line a b) = inr (λ e. cc)
-    is_end (struct_line n ps has_drop fields) = inr (λ e. cc)
-    is_end (variable x t) = inr (λ e. cc)
-    is_end (blocks n) = inr (λ e. cc)
-    is_end (block n) = inr (λ e. cc)
-    is_end (at_point i) = inr (λ e. cc)
+ended_rank : (forms : List Form) → 9 ≤ rank (last_group forms) → Contains forms end
+ended_rank [] h = absurd (omega (arith, h))
+ended_rank (f ∷ forms) h = ⊎_elim
+    (λ here. (0, omega arith, group_end f (subst (λ g. 9 ≤ rank g) here h)))
+    (λ later. let c = ended_rank forms (subst (λ g. 9 ≤ rank g) later h) in (suc c.0, omega (arith, c.1), c.2))
+    (of_first_or_later f forms)
 
 -- the lines have an `end` line where the last group is reached
-pub ended : (forms : List Form) → (said forms).reached ≡ 9 → Contains forms end
-ended forms h = ended_after _ forms (λ e. omega (arith, e)) h
+pub ended : (forms : List Form) → has_reached (said forms) End ≡ true → Contains forms end
+ended forms h = ended_rank forms (reached_at (said forms) End h)
 
--- where there is an `end` line, it is the last that was reached
-abbrev EndsLast : List Form → Type 0
-EndsLast forms = Contains forms end → (said forms).reached ≡ 9
-
-ends_push : (forms : List Form) (f : Form) → first_fault (said forms) f ≡ None → EndsLast forms → EndsLast (forms ++ f ∷ [])
-ends_push forms f fine h c = ⊎_elim
-    (λ before. absurd (none_behind (said forms) f (h before) (in_order (said forms) f fine)))
-    (λ same. ap (λ (s : Said). s.reached) (said_push forms f) ∙ (reached_group (said forms) f ∙ ap group same))
-    (Contains-push_cases forms f end c)
-
-ends_fit : (v : Version) (forms : List Form) (line : List ℕ) (added : List Form) → Fits (mir v) (said forms) line added → EndsLast forms → EndsLast (forms ++ added)
-ends_fit v forms line [] (skipped u k) h = subst EndsLast (sym (append-nil forms)) h
-ends_fit v forms line (f ∷ []) (of_form _ u k form fine) h = ends_push forms f fine h
-ends_fit v forms line (f ∷ (g ∷ more)) fit h = elim fit [ ]
-
-ends_said : (v : Version) (before : List Form) (lines : List (List ℕ)) (forms : List Form) → Says (mir v) before lines forms → EndsLast before → EndsLast forms
-ends_said v before [] forms h e = subst EndsLast (sym h) e
-ends_said v before (line ∷ lines) forms h e = ends_said v (before ++ h.0) lines forms h.2 (ends_fit v before line h.0 h.1 e)
-
--- the last group is reached where there is an `end` line
-pub reached_at_end : (v : Version) (lines : List (List ℕ)) (forms : List Form) → Says (mir v) [] lines forms → Contains forms end → (said forms).reached ≡ 9
-reached_at_end v lines forms h c = ends_said v [] lines forms h (λ empty. absurd (omega (arith, empty.1))) c
+contains_rank : (forms : List Form) (f : Form) (k : ℕ) → k < length forms → get_or forms k f ≡ f → rank (group f) ≤ rank (last_group forms)
+contains_rank [] f k h e = absurd (omega (arith, h))
+contains_rank (g ∷ forms) f zero h e = subst (λ x. rank (group x) ≤ rank (last_group (g ∷ forms))) e (group_reached g forms)
+contains_rank (g ∷ forms) f (suc k) h e = omega (arith, contains_rank forms f k (omega (arith, h)) e, reached_more g forms)
 
 -- and have none where it isn't
-pub not_ended : (v : Version) (lines : List (List ℕ)) (forms : List Form) → Says (mir v) [] lines forms → ((said forms).reached ≡ 9 → ⊥) → Contains forms end → ⊥
-not_ended v lines forms h none c = none (reached_at_end v lines forms h c)
+pub not_ended : (forms : List Form) → (has_reached (said forms) End ≡ true → ⊥) → Contains forms end → ⊥
+not_ended forms none c = none (is_reached (said forms) End (contains_rank forms end c.0 c.1 c.2))
+
+-- the last group is reached where there is an `end` line
+pub reached_at_end : (forms : List Form) → Contains forms end → rank (said forms).reached ≡ 9
+reached_at_end forms c = omega (arith, contains_rank forms end c.0 c.1 c.2, rank_most (last_group forms))

@@ -1,10 +1,9 @@
 -- What the lines of a text that fits say is a sound body.
 use Rattle.std.proofs.Common.{◌≡◌, ℕ, ◌+◌, ◌<◌, ◌≤◌, Bool, true, false, not, cond, List, [], ◌∷◌, ◌++◌, Some, None, Contains, length, map, refl, sym, ap, ◌∙◌, subst, ⊎_elim, arith, length-append, slice_get}
-use Rattle.std.specs.Prelude.{◌&&◌, ◌==◌, nat_le, All, codes}
+use Rattle.std.specs.Prelude.{◌&&◌, All, codes}
 use Rattle.std.specs.List.{list_all, list_any}
 use Rattle.std.specs.List.Sorted.{IsStrictlyIncreasing}
-use Rattle.std.proofs.lemmas.Bool.{and_parts, not-true, not-false, leb-true, leb-false, ltb-true, ltb-false, eqb-true}
-use Rattle.std.proofs.lemmas.List.{append-nil}
+use Rattle.std.proofs.lemmas.Bool.{and_parts, not-true, not-false, leb-false, ltb-true, ltb-false}
 use Rattle.std.proofs.lemmas.List.Elements.{All-cons, All-push, All-weaker, All-nil, All-contains}
 use Rattle.std.proofs.lemmas.List.Sums.{sum_by_push}
 use Rattle.nll_problem.specs.Building.{same_pair}
@@ -19,20 +18,22 @@ use Rattle.nll_statements.specs.Written.{regions_written, variables_written}
 use Rattle.nll_statements.proofs.MapLemmas.{regions_mapped, types_mapped}
 use Rattle.nll_mir_grammar.specs.MirForms.{Form, WrittenParameter, universal, outlives, further, assert_line, struct_line, variable, blocks, block, at_point, end}
 use Rattle.nll_naming.specs.Naming.{meant, is_among, has_arguments, have_arguments, is_known, are_known}
-use Rattle.nll_reading.specs.Text.{Fits, skipped, of_form, Says, IsText}
+use Rattle.nll_reading.specs.Text.{Says, IsText}
 use Rattle.nll_body.specs.Edges.{edges_from, edge_count}
 use Rattle.nll_body.specs.Sound.{IsSound}
 use Rattle.nll_body.proofs.PointLemmas.{same_targets, same_end}
-use Rattle.nll_mir_text.specs.MirSaid.{Said, said, says, nothing_said, statement_meant, body_scope, field_scope, declared, is_region}
-use Rattle.nll_mir_text.specs.MirFaults.{is_universal, first_fault, has_targets, shapes_fit, knows, are_declared}
+use Rattle.nll_mir_text.specs.MirSaid.{Said, said, statement_meant, body_scope, field_scope, is_region}
+use Rattle.nll_mir_text.specs.MirSteps.{says, nothing_said, declared, rank}
+use Rattle.nll_mir_text.specs.MirFaults.{is_universal, first_fault, has_targets, shapes_fit, knows, are_declared, is_in_body}
 use Rattle.nll_typing.specs.Typing.{types_agree}
 use Rattle.nll_mir_text.specs.MirReading.{AreKinds}
 use Rattle.nll_mir_grammar.specs.declared.version.Version.{Version}
 use Rattle.nll_mir_text.specs.MirText.{mir, body_said}
 use Rattle.nll_mir_text.proofs.FaultLemmas.{faultless}
-use Rattle.nll_mir_text.proofs.LineLemmas.{three, positive, below_all, numbers_below, nothing_at, pushed_at, all_at, rise_push, inserted, first_pushed, in_group}
+use Rattle.nll_mir_text.proofs.LineLemmas.{three, positive, below_all, numbers_below, nothing_at, pushed_at, all_at, rise_push, inserted, first_pushed}
 use Rattle.nll_mir_text.proofs.GoodFieldLemmas.{well_formed}
-use Rattle.nll_mir_text.proofs.SaidLemmas.{said_push, reached_at_end}
+use Rattle.nll_mir_text.proofs.GroupLemmas.{follows, in_body, before_blocks}
+use Rattle.nll_mir_text.proofs.SaidLemmas.{in_order, said_push, behind_all, reached_at_end}
 use Rattle.nll_mir_text.proofs.StructLemmas.{order_push, kinds_pushed, regions_declared, types_declared, good_fields}
 
 -- ---- what holds of what lines say
@@ -97,8 +98,8 @@ asserted_more old new pairs more all a b c = let k = all a b c in (omega (arith,
 
 record IsWell (s : Said) : Type 0 where
   asserted : AreAsserted s.names s.asserts
-  declares : IsDeclared s.reached s.universals s.names s.outlives s.struct_names s.kinds s.structs s.variables
-  places : ArePlaced s.reached s.blocks s.starts s.points s.owes
+  declares : IsDeclared (rank s.reached) s.universals s.names s.outlives s.struct_names s.kinds s.structs s.variables
+  places : ArePlaced (rank s.reached) s.blocks s.starts s.points s.owes
   written : AreWritten s.names s.structs s.points
 
 -- nothing is written where there are no points
@@ -193,7 +194,7 @@ module _ (s : Said) (w : IsWell s) where
   well_universal : (a : Name) → first_fault s (universal a) ≡ None → IsWell (says s (universal a))
   well_universal a e =
       let no = faultless s (universal a) e in
-      let le : s.reached ≤ 1 = in_group s 1 no.syntax' in
+      let le : rank s.reached ≤ 1 = (follows s (universal a) (in_order s (universal a) e)).0 in
       let few : s.universals < most_universals = leb-false most_universals s.universals no.universals in
       let regions : length s.names < most_regions = leb-false most_regions (length s.names) no.regions in
       let d = w.declares in
@@ -220,7 +221,7 @@ module _ (s : Said) (w : IsWell s) where
   well_outlives : (a b : Name) → first_fault s (outlives a b) ≡ None → IsWell (says s (outlives a b))
   well_outlives a b e =
       let no = faultless s (outlives a b) e in
-      let le : s.reached ≤ 2 = in_group s 2 no.syntax' in
+      let le : rank s.reached ≤ 2 = (follows s (outlives a b) (in_order s (outlives a b) e)).0 in
       let both = and_parts (is_universal s a) (is_universal s b) (not-false (is_universal s a && is_universal s b) no.unknown) in
       let d = w.declares in
       record {
@@ -246,7 +247,7 @@ module _ (s : Said) (w : IsWell s) where
   well_further : (x : Name) → first_fault s (further x) ≡ None → IsWell (says s (further x))
   well_further x e =
       let no = faultless s (further x) e in
-      let le : s.reached ≤ 3 = in_group s 3 no.syntax' in
+      let le : rank s.reached ≤ 3 = (follows s (further x) (in_order s (further x) e)).0 in
       let regions : length s.names < most_regions = leb-false most_regions (length s.names) no.regions in
       let d = w.declares in
       record {
@@ -272,7 +273,7 @@ module _ (s : Said) (w : IsWell s) where
   well_assert : (a b : Name) → first_fault s (assert_line a b) ≡ None → IsWell (says s (assert_line a b))
   well_assert a b e =
       let no = faultless s (assert_line a b) e in
-      let le : s.reached ≤ 4 = in_group s 4 no.syntax' in
+      let le : rank s.reached ≤ 4 = (follows s (assert_line a b) (in_order s (assert_line a b) e)).0 in
       let both = and_parts (is_among s.names a) (is_among s.names b) (not-false (is_among s.names a && is_among s.names b) no.unknown) in
       let d = w.declares in
       record {
@@ -298,7 +299,7 @@ module _ (s : Said) (w : IsWell s) where
   well_struct : (n : Name) (ps : List WrittenParameter) (has_drop : Bool) (fields : WrittenTypes) → first_fault s (struct_line n ps has_drop fields) ≡ None → IsWell (says s (struct_line n ps has_drop fields))
   well_struct n ps has_drop fields e =
       let no = faultless s (struct_line n ps has_drop fields) e in
-      let le : s.reached ≤ 5 = in_group s 5 no.syntax' in
+      let le : rank s.reached ≤ 5 = (follows s (struct_line n ps has_drop fields) (in_order s (struct_line n ps has_drop fields) e)).0 in
       let known : are_known (field_scope s ps) fields ≡ true = not-false _ no.unknown in
       let has : have_arguments (field_scope s ps) fields ≡ true = not-false _ no.shape in
       let d = w.declares in
@@ -326,7 +327,7 @@ module _ (s : Said) (w : IsWell s) where
   well_variable : (x : ℕ) (t : WrittenType) → first_fault s (variable x t) ≡ None → IsWell (says s (variable x t))
   well_variable x t e =
       let no = faultless s (variable x t) e in
-      let le : s.reached ≤ 6 = in_group s 6 no.syntax' in
+      let le : rank s.reached ≤ 6 = (follows s (variable x t) (in_order s (variable x t) e)).0 in
       let known : is_known (body_scope s) t ≡ true = not-false _ no.unknown in
       let has : has_arguments (body_scope s) t ≡ true = not-false _ no.shape in
       let limit : length s.variables < most_variables = leb-false most_variables (length s.variables) no.variables in
@@ -354,7 +355,7 @@ module _ (s : Said) (w : IsWell s) where
   well_blocks : (n : ℕ) → first_fault s (blocks n) ≡ None → IsWell (says s (blocks n))
   well_blocks n e =
       let no = faultless s (blocks n) e in
-      let at : s.reached ≡ 6 = eqb-true s.reached 6 (not-false _ no.syntax') in
+      let at : rank s.reached < 7 = before_blocks s n (in_order s (blocks n) e) in
       let some : 0 < n = positive n no.range in
       let p = w.places in
       let none = p.none_yet (omega (arith, at)) in
@@ -378,7 +379,7 @@ module _ (s : Said) (w : IsWell s) where
       }
 
   -- a block begins where no terminator is owed
-  begins : s.owes ≡ false → 7 ≤ s.reached → ArePlaced 8 s.blocks (s.starts ++ length s.points ∷ []) s.points true
+  begins : s.owes ≡ false → 7 ≤ rank s.reached → ArePlaced 8 s.blocks (s.starts ++ length s.points ∷ []) s.points true
   begins done late =
       let p = w.places in
       let here_ends : ends s.points s.owes ≡ length s.points = rw done refl in
@@ -398,16 +399,16 @@ module _ (s : Said) (w : IsWell s) where
 
   well_block : (n : ℕ) → first_fault s (block n) ≡ None → IsWell (says s (block n))
   well_block n e =
-      let order = three (nat_le 7 s.reached) (nat_le s.reached 8) (not s.owes) (not-false _ (faultless s (block n) e).syntax') in
+      let order = and_parts (is_in_body s) (not s.owes) (in_order s (block n) e) in
       record {
         asserted = w.asserted;
         declares = declares_late _ _ _ _ _ _ _ _ 8 w.declares (omega arith);
-        places = begins (not-true s.owes order.2) (leb-true 7 s.reached order.0);
+        places = begins (not-true s.owes order.1) (in_body s order.0).0;
         written = w.written;
       }
 
   -- a statement or terminator stands where a terminator is owed
-  stands : (i : Statement Name WrittenType) → s.reached ≡ 8 → s.owes ≡ true → has_targets s i ≡ true → length s.points < most_points → edge_count s.points + edges_from i ≤ most_edges
+  stands : (i : Statement Name WrittenType) → 7 ≤ rank s.reached → s.owes ≡ true → has_targets s i ≡ true → length s.points < most_points → edge_count s.points + edges_from i ≤ most_edges
       → ArePlaced 8 s.blocks s.starts (s.points ++ statement_meant s i ∷ []) (not (is_terminator i))
   stands i at owed targeted few_points few_edges =
       let p = w.places in
@@ -468,10 +469,10 @@ module _ (s : Said) (w : IsWell s) where
   well_at_point : (i : Statement Name WrittenType) → first_fault s (at_point i) ≡ None → IsWell (says s (at_point i))
   well_at_point i e =
       let no = faultless s (at_point i) e in
-      let order = and_parts (s.reached == 8) s.owes (not-false _ no.syntax') in
+      let order = and_parts (is_in_body s) s.owes (in_order s (at_point i) e) in
       let few_points : length s.points < most_points = leb-false most_points (length s.points) no.points in
       let few_edges : edge_count s.points + edges_from i ≤ most_edges = ltb-false most_edges (edge_count s.points + edges_from i) no.edges in
-      let at : s.reached ≡ 8 = eqb-true s.reached 8 order.0 in
+      let at : 7 ≤ rank s.reached = (in_body s order.0).0 in
       record {
         asserted = w.asserted;
         declares = declares_late _ _ _ _ _ _ _ _ 8 w.declares (omega arith);
@@ -482,10 +483,10 @@ module _ (s : Said) (w : IsWell s) where
   well_end : first_fault s end ≡ None → IsWell (says s end)
   well_end e =
       let no = faultless s end e in
-      let order = three (nat_le 7 s.reached) (nat_le s.reached 8) (not s.owes) (not-false _ no.syntax') in
+      let order = and_parts (is_in_body s) (not s.owes) (in_order s end e) in
       let p = w.places in
-      let late = leb-true 7 s.reached order.0 in
-      let done : s.owes ≡ false = not-true s.owes order.2 in
+      let late : 7 ≤ rank s.reached = (in_body s order.0).0 in
+      let done : s.owes ≡ false = not-true s.owes order.1 in
       let enough : s.blocks ≤ length s.starts = ltb-false (length s.starts) s.blocks no.range in
       record {
         asserted = w.asserted;
@@ -520,18 +521,15 @@ module _ (s : Said) (w : IsWell s) where
 
 -- ---- all lines
 
-well_fit : (v : Version) (forms : List Form) (line : List ℕ) (added : List Form) → Fits (mir v) (said forms) line added → IsWell (said forms) → IsWell (said (forms ++ added))
-well_fit v forms line [] (skipped u k) w = subst (λ (fs : List Form). IsWell (said fs)) (sym (append-nil forms)) w
-well_fit v forms line (f ∷ []) (of_form _ u k form fine) w = subst IsWell (sym (said_push forms f)) (well_says (said forms) w f fine)
-well_fit v forms line (f ∷ (g ∷ more)) fit w = elim fit [ ]
+well_push : (forms : List Form) (f : Form) → first_fault (said forms) f ≡ None → IsWell (said forms) → IsWell (said (forms ++ f ∷ []))
+well_push forms f fine w = subst IsWell (sym (said_push forms f fine)) (well_says (said forms) w f fine)
 
-well_said : (v : Version) (before : List Form) (lines : List (List ℕ)) (forms : List Form) → Says (mir v) before lines forms → IsWell (said before) → IsWell (said forms)
-well_said v before [] forms h w = subst (λ (fs : List Form). IsWell (said fs)) (sym h) w
-well_said v before (line ∷ lines) forms h w = well_said v (before ++ h.0) lines forms h.2 (well_fit v before line h.0 h.1 w)
+well_said : (v : Version) (lines : List (List ℕ)) (forms : List Form) → Says (mir v) [] lines forms → IsWell (said forms)
+well_said v lines forms h = behind_all (λ fs. IsWell (said fs)) well_push v [] lines forms h well_nothing
 
 -- ---- the body
 
-module _ (s : Said) (w : IsWell s) (at_end : s.reached ≡ 9) where
+module _ (s : Said) (w : IsWell s) (at_end : rank s.reached ≡ 9) where
   done : ends s.points s.owes ≡ length s.points
   done = let e = (w.places.whole at_end).0 in rw e refl
 
@@ -571,4 +569,4 @@ module _ (s : Said) (w : IsWell s) (at_end : s.reached ≡ 9) where
 -- the body that a text that fits says is sound
 pub sound_text : (v : Version) (text : List ℕ) (forms : List Form) → IsText (mir v) text forms → IsSound (body_said (said forms))
 sound_text v text forms fits =
-    sound_said (said forms) (well_said v [] fits.body forms fits.fine well_nothing) (reached_at_end v fits.body forms fits.fine fits.ended)
+    sound_said (said forms) (well_said v fits.body forms fits.fine) (reached_at_end forms fits.ended)

@@ -13,7 +13,8 @@ use Rattle.nll_types.specs.Structs.{Struct, no_struct, HasGoodFields, AreWellFor
 use Rattle.nll_type_grammar.specs.WrittenTypes.{Name, WrittenTypes}
 use Rattle.nll_mir_grammar.specs.MirForms.{WrittenParameter, region_parameter, type_parameter, struct_line}
 use Rattle.nll_naming.specs.Naming.{is_among, are_known, have_arguments, all_meant}
-use Rattle.nll_mir_text.specs.MirSaid.{Said, field_scope, declared, is_region, regions_in, types_in}
+use Rattle.nll_mir_text.specs.MirSaid.{Said, field_scope, is_region, regions_in, types_in}
+use Rattle.nll_mir_text.specs.MirSteps.{declared}
 use Rattle.nll_mir_text.specs.MirFaults.{has_repeats, redeclares, is_in_order, first_fault}
 use Rattle.nll_mir_text.specs.MirReading.{AreKinds, region_count, other_count}
 use Rattle.nll_mir_text.specs.Declaring.{region_names, type_names}

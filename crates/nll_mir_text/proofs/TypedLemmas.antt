@@ -1,8 +1,8 @@
 -- What the lines of a text that fits say is a well-typed body.
-use Rattle.std.proofs.Common.{◌≡◌, ℕ, ◌<◌, ◌≤◌, true, Bool, List, [], ◌∷◌, ◌++◌, Some, None, length, refl, sym, subst, ⊎_elim, arith, append-nil, length-append, slice_get}
+use Rattle.std.proofs.Common.{◌≡◌, ℕ, ◌<◌, ◌≤◌, true, Bool, List, [], ◌∷◌, ◌++◌, Some, None, length, refl, sym, subst, ⊎_elim, arith, length-append, slice_get}
 use Rattle.std.specs.Prelude.{All}
 use Rattle.std.specs.List.{list_all}
-use Rattle.std.proofs.lemmas.Bool.{and_parts, not-false, leb-false, eqb-true}
+use Rattle.std.proofs.lemmas.Bool.{and_parts, not-false, leb-false}
 use Rattle.std.proofs.lemmas.List.Elements.{All-push}
 use Rattle.nll_problem.specs.Limits.{most_structs}
 use Rattle.nll_types.specs.Types.{TypeTree}
@@ -12,15 +12,17 @@ use Rattle.nll_type_grammar.specs.WrittenTypes.{Name, WrittenType, WrittenTypes}
 use Rattle.nll_statements.specs.Statements.{Statement, types_written}
 use Rattle.nll_typing.specs.Typing.{types_agree, types_are_small, are_small}
 use Rattle.nll_naming.specs.Naming.{meant, has_arguments}
-use Rattle.nll_reading.specs.Text.{Fits, skipped, of_form, Says, IsText}
+use Rattle.nll_reading.specs.Text.{Says, IsText}
 use Rattle.nll_mir_grammar.specs.MirForms.{Form, WrittenParameter, universal, outlives, further, assert_line, struct_line, variable, blocks, block, at_point, end}
 use Rattle.nll_mir_grammar.specs.declared.version.Version.{Version}
-use Rattle.nll_mir_text.specs.MirSaid.{Said, said, says, nothing_said, statement_meant, body_scope, declared}
+use Rattle.nll_mir_text.specs.MirSaid.{Said, said, statement_meant, body_scope}
+use Rattle.nll_mir_text.specs.MirSteps.{says, nothing_said, declared, rank}
 use Rattle.nll_mir_text.specs.MirFaults.{first_fault, shapes_fit}
 use Rattle.nll_mir_text.specs.MirText.{mir, body_said, IsWellTyped}
 use Rattle.nll_mir_text.proofs.FaultLemmas.{faultless}
-use Rattle.nll_mir_text.proofs.LineLemmas.{nothing_at, pushed_at, in_group}
-use Rattle.nll_mir_text.proofs.SaidLemmas.{said_push}
+use Rattle.nll_mir_text.proofs.LineLemmas.{nothing_at, pushed_at}
+use Rattle.nll_mir_text.proofs.GroupLemmas.{follows, before_blocks}
+use Rattle.nll_mir_text.proofs.SaidLemmas.{in_order, said_push, behind_all}
 
 abbrev IsSmall : TypeTree → Type 0
 IsSmall t = is_small t ≡ true
@@ -33,7 +35,7 @@ record IsTyped (s : Said) : Type 0 where
   few_structs : length s.structs ≤ most_structs
   fields : All HasSmallFields s.structs
   variables : All IsSmall s.variables
-  none_yet : s.reached < 8 → length s.points ≡ 0
+  none_yet : rank s.reached < 8 → length s.points ≡ 0
   agree : (p : ℕ) (i : Statement ℕ TypeTree) → slice_get s.points p ≡ Some i → types_agree s.structs s.variables i ≡ true
   small : (p : ℕ) (i : Statement ℕ TypeTree) → slice_get s.points p ≡ Some i → types_are_small s.structs s.variables i ≡ true
 
@@ -52,7 +54,7 @@ typed_nothing = record {
 module _ (s : Said) (w : IsTyped s) where
   typed_universal : (a : Name) → first_fault s (universal a) ≡ None → IsTyped (says s (universal a))
   typed_universal a e =
-      let le : s.reached ≤ 1 = in_group s 1 (faultless s (universal a) e).syntax' in
+      let le : rank s.reached ≤ 1 = (follows s (universal a) (in_order s (universal a) e)).0 in
       record {
         few_structs = w.few_structs;
         fields = w.fields;
@@ -64,7 +66,7 @@ module _ (s : Said) (w : IsTyped s) where
 
   typed_outlives : (a b : Name) → first_fault s (outlives a b) ≡ None → IsTyped (says s (outlives a b))
   typed_outlives a b e =
-      let le : s.reached ≤ 2 = in_group s 2 (faultless s (outlives a b) e).syntax' in
+      let le : rank s.reached ≤ 2 = (follows s (outlives a b) (in_order s (outlives a b) e)).0 in
       record {
         few_structs = w.few_structs;
         fields = w.fields;
@@ -76,7 +78,7 @@ module _ (s : Said) (w : IsTyped s) where
 
   typed_further : (x : Name) → first_fault s (further x) ≡ None → IsTyped (says s (further x))
   typed_further x e =
-      let le : s.reached ≤ 3 = in_group s 3 (faultless s (further x) e).syntax' in
+      let le : rank s.reached ≤ 3 = (follows s (further x) (in_order s (further x) e)).0 in
       record {
         few_structs = w.few_structs;
         fields = w.fields;
@@ -88,7 +90,7 @@ module _ (s : Said) (w : IsTyped s) where
 
   typed_assert : (a b : Name) → first_fault s (assert_line a b) ≡ None → IsTyped (says s (assert_line a b))
   typed_assert a b e =
-      let le : s.reached ≤ 4 = in_group s 4 (faultless s (assert_line a b) e).syntax' in
+      let le : rank s.reached ≤ 4 = (follows s (assert_line a b) (in_order s (assert_line a b) e)).0 in
       record {
         few_structs = w.few_structs;
         fields = w.fields;
@@ -101,7 +103,7 @@ module _ (s : Said) (w : IsTyped s) where
   typed_struct : (n : Name) (ps : List WrittenParameter) (has_drop : Bool) (fields : WrittenTypes) → first_fault s (struct_line n ps has_drop fields) ≡ None → IsTyped (says s (struct_line n ps has_drop fields))
   typed_struct n ps has_drop fields e =
       let no = faultless s (struct_line n ps has_drop fields) e in
-      let le : s.reached ≤ 5 = in_group s 5 no.syntax' in
+      let le : rank s.reached ≤ 5 = (follows s (struct_line n ps has_drop fields) (in_order s (struct_line n ps has_drop fields) e)).0 in
       let few : length s.structs < most_structs = leb-false most_structs (length s.structs) no.structs in
       let none : length s.points ≡ 0 = w.none_yet (omega (arith, le)) in
       let more = declared s ps has_drop fields in
@@ -117,7 +119,7 @@ module _ (s : Said) (w : IsTyped s) where
   typed_variable : (x : ℕ) (t : WrittenType) → first_fault s (variable x t) ≡ None → IsTyped (says s (variable x t))
   typed_variable x t e =
       let no = faultless s (variable x t) e in
-      let le : s.reached ≤ 6 = in_group s 6 no.syntax' in
+      let le : rank s.reached ≤ 6 = (follows s (variable x t) (in_order s (variable x t) e)).0 in
       let none : length s.points ≡ 0 = w.none_yet (omega (arith, le)) in
       record {
         few_structs = w.few_structs;
@@ -130,7 +132,7 @@ module _ (s : Said) (w : IsTyped s) where
 
   typed_blocks : (n : ℕ) → first_fault s (blocks n) ≡ None → IsTyped (says s (blocks n))
   typed_blocks n e =
-      let at : s.reached ≡ 6 = eqb-true s.reached 6 (not-false _ (faultless s (blocks n) e).syntax') in
+      let at : rank s.reached < 7 = before_blocks s n (in_order s (blocks n) e) in
       record {
         few_structs = w.few_structs;
         fields = w.fields;
@@ -194,14 +196,11 @@ module _ (s : Said) (w : IsTyped s) where
 
 -- ---- all lines
 
-typed_fit : (v : Version) (forms : List Form) (line : List ℕ) (added : List Form) → Fits (mir v) (said forms) line added → IsTyped (said forms) → IsTyped (said (forms ++ added))
-typed_fit v forms line [] (skipped u k) w = subst (λ (fs : List Form). IsTyped (said fs)) (sym (append-nil forms)) w
-typed_fit v forms line (f ∷ []) (of_form _ u k form fine) w = subst IsTyped (sym (said_push forms f)) (typed_says (said forms) w f fine)
-typed_fit v forms line (f ∷ (g ∷ more)) fit w = elim fit [ ]
+typed_push : (forms : List Form) (f : Form) → first_fault (said forms) f ≡ None → IsTyped (said forms) → IsTyped (said (forms ++ f ∷ []))
+typed_push forms f fine w = subst IsTyped (sym (said_push forms f fine)) (typed_says (said forms) w f fine)
 
-typed_said : (v : Version) (before : List Form) (lines : List (List ℕ)) (forms : List Form) → Says (mir v) before lines forms → IsTyped (said before) → IsTyped (said forms)
-typed_said v before [] forms h w = subst (λ (fs : List Form). IsTyped (said fs)) (sym h) w
-typed_said v before (line ∷ lines) forms h w = typed_said v (before ++ h.0) lines forms h.2 (typed_fit v before line h.0 h.1 w)
+typed_said : (v : Version) (lines : List (List ℕ)) (forms : List Form) → Says (mir v) [] lines forms → IsTyped (said forms)
+typed_said v lines forms h = behind_all (λ fs. IsTyped (said fs)) typed_push v [] lines forms h typed_nothing
 
 typed_body : (s : Said) → IsTyped s → IsWellTyped (body_said s)
 typed_body s w = record {
@@ -214,4 +213,4 @@ typed_body s w = record {
 
 -- the body that a text that fits says is well typed
 pub typed_text : (v : Version) (text : List ℕ) (forms : List Form) → IsText (mir v) text forms → IsWellTyped (body_said (said forms))
-typed_text v text forms fits = typed_body (said forms) (typed_said v [] fits.body forms fits.fine typed_nothing)
+typed_text v text forms fits = typed_body (said forms) (typed_said v fits.body forms fits.fine)

@@ -24,19 +24,30 @@ use Rattle.nll_mir_grammar.specs.MirForms.{Form, universal, outlives, further, a
 use Rattle.nll_mir_grammar.specs.MirForms.{struct_line, variable, blocks, block, at_point, end}
 use Rattle.nll_naming.specs.Naming.{is_among, is_known, are_known, has_arguments}
 use Rattle.nll_naming.specs.Naming.{have_arguments, meant, all_meant}
-use Rattle.nll_mir_text.specs.MirSaid.{Said, body_scope, field_scope, group}
+use Rattle.nll_mir_text.specs.MirSaid.{Said, body_scope, field_scope, group, is_before}
 use Rattle.nll_mir_text.specs.MirSaid.{statement_meant}
+use Rattle.nll_mir_text.specs.declared.groups.Group.{Group}
+use Rattle.nll_mir_text.specs.declared.groups.Group.TheVariants.{BlockCount, End}
+use Rattle.nll_mir_text.specs.declared.groups.Group.TheVariants as groups
 
 -- ---- order
+
+-- a line of the group or of a later one is there
+abbrev pub has_reached : Said → Group → Bool
+has_reached s g = not (is_before s.reached g)
+
+-- the `blocks` line is there, and no `end` line
+abbrev pub is_in_body : Said → Bool
+is_in_body s = has_reached s BlockCount && not (has_reached s End)
 
 -- The line stands in order: no line of a later group is there, a text has a `let` line before the
 -- one `blocks` line, then blocks, each a `block` line, statements and one terminator, then `end`.
 abbrev pub is_in_order : Said → Form → Bool
-is_in_order s (blocks n) = s.reached == 6
-is_in_order s (block n) = nat_le 7 s.reached && nat_le s.reached 8 && not s.owes
-is_in_order s (at_point i) = s.reached == 8 && s.owes
-is_in_order s end = nat_le 7 s.reached && nat_le s.reached 8 && not s.owes
-is_in_order s f = nat_le s.reached (group f)
+is_in_order s (blocks n) = has_reached s groups.Variables && not (has_reached s BlockCount)
+is_in_order s (block n) = is_in_body s && not s.owes
+is_in_order s (at_point i) = is_in_body s && s.owes
+is_in_order s end = is_in_body s && not s.owes
+is_in_order s f = not (is_before (group f) s.reached)
 
 -- ---- names
 

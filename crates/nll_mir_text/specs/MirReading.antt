@@ -32,7 +32,8 @@ use Rattle.nll_type_grammar.specs.WrittenTypes.{Name, WrittenType}
 use Rattle.nll_naming.specs.Naming.{Scope}
 use Rattle.nll_mir_text.specs.declared.tables.Regions.{Regions}
 use Rattle.nll_mir_text.specs.declared.tables.StructNames.{StructNames}
-use Rattle.nll_mir_text.specs.MirSaid.{Said, said, says}
+use Rattle.nll_mir_text.specs.MirSaid.{Said, said, group}
+use Rattle.nll_mir_text.specs.MirSteps.{says, rank}
 use Rattle.nll_mir_text.specs.MirFaults.{is_in_order, first_fault}
 use Rattle.nll_mir_text.specs.MirText.{mir}
 use Rattle.nll_mir_text.specs.declared.reader.Reader.{Reader}
@@ -109,7 +110,7 @@ pub record IsReady (r : Reader) : Type 0 where
   pub shapes :
       AreShapes r.variables.table.shapes r.variables.shapes.items r.variables.types.items
   pub few_blocks : r.points.blocks ≤ most_points
-  pub no_start : r.reached < 7 → length r.points.starts.items ≡ 0
+  pub no_start : rank r.reached < 7 → length r.points.starts.items ≡ 0
   pub starts : length r.points.starts.items ≤ r.points.blocks
   pub few_points : length r.points.statements.items ≤ most_points
   pub edges : r.points.edges ≡ edge_count (map statement_kept r.points.statements.items)
@@ -139,6 +140,7 @@ HasFewParameters _ = Unit {0}
 pub record IsDue (r : Reader) (f : Form) : Type 0 where
   pub ready : IsReady r
   pub order : is_in_order (said_by r) f ≡ true
+  pub follows : rank r.reached ≤ rank (group f)
   pub texts : HasTexts f
   pub few : HasFewParameters f
 

@@ -1,9 +1,9 @@
 -- What the lines of a MIR text say together.
--- Source: project's choice; docs/FORMATS.md says the same in words.
-use Rattle.std.specs.Prelude.{ℕ, ◌+◌, Bool, true, false, not, List, [], ◌∷◌, ◌++◌}
-use Rattle.std.specs.Prelude.{length, map, codes}
-use Rattle.std.specs.List.{filter_map}
-use Rattle.std.specs.Prelude.{Option, Some, None}
+-- Source: project's choice; docs/FORMATS.md says the same in words. The code keeps tables; this
+-- speaks of whole lists of lines.
+use Rattle.std.specs.Prelude.{ℕ, Bool, true, false, not, if◌then◌else◌, nat_lt, List, [], ◌∷◌}
+use Rattle.std.specs.Prelude.{◌++◌, length, map, codes, get_or, Option, Some, None, unwrap_or}
+use Rattle.std.specs.List.{filter_map, last_or, position_or_len}
 use Rattle.indexmap.specs.IndexSet.{insert_all}
 use Rattle.nll_problem.specs.Building.{same_pair}
 use Rattle.nll_reading.specs.Names.{number_of}
@@ -16,6 +16,10 @@ use Rattle.nll_mir_grammar.specs.MirForms.{WrittenParameter, region_parameter, t
 use Rattle.nll_mir_grammar.specs.MirForms.{Form, universal, outlives, further, assert_line}
 use Rattle.nll_mir_grammar.specs.MirForms.{struct_line, variable, blocks, block, at_point, end}
 use Rattle.nll_naming.specs.Naming.{Scope, meant, all_meant}
+use Rattle.nll_mir_text.specs.declared.groups.Group.{Group}
+use Rattle.nll_mir_text.specs.declared.groups.Group.TheVariants.{Header, Universals, Outlives}
+use Rattle.nll_mir_text.specs.declared.groups.Group.TheVariants.{Regions, Asserts, Structs}
+use Rattle.nll_mir_text.specs.declared.groups.Group.TheVariants.{Variables, BlockCount, Blocks, End}
 
 -- ---- the parameters of a struct
 
@@ -41,12 +45,168 @@ regions_in ps = filter_map region_in ps
 abbrev pub types_in : List WrittenParameter → List (Name × Parameter)
 types_in ps = filter_map type_in ps
 
--- ---- what lines say
+-- ---- the groups of lines
+
+-- the group of a line of the form
+abbrev pub group : Form → Group
+group (universal a) = Universals
+group (outlives a b) = Outlives
+group (further x) = Regions
+group (assert_line a b) = Asserts
+group (struct_line n ps has_drop fields) = Structs
+group (variable x t) = Variables
+group (blocks n) = BlockCount
+group (block n) = Blocks
+group (at_point i) = Blocks
+group end = End
+
+-- the groups in the order in which they stand, that of the header in front
+abbrev pub groups : List Group
+groups =
+    Header ∷ Universals ∷ Outlives ∷ Regions ∷ Asserts ∷ Structs ∷ Variables ∷ BlockCount
+    ∷ Blocks ∷ End ∷ []
+
+-- the groups are one
+abbrev pub same_group : Group → Group → Bool
+same_group Header Header = true
+same_group Universals Universals = true
+same_group Outlives Outlives = true
+same_group Regions Regions = true
+same_group Asserts Asserts = true
+same_group Structs Structs = true
+same_group Variables Variables = true
+same_group BlockCount BlockCount = true
+same_group Blocks Blocks = true
+same_group End End = true
+same_group _ _ = false
+
+-- the first group stands before the second one
+abbrev pub is_before : Group → Group → Bool
+is_before g h =
+    nat_lt (position_or_len (same_group g) groups) (position_or_len (same_group h) groups)
+
+-- the last group, in this order, that has a line; the header has one
+abbrev pub last_group : List Form → Group
+last_group [] = Header
+last_group (f ∷ forms) =
+    if is_before (last_group forms) (group f) then group f else last_group forms
+
+-- ---- what one line says
+
+-- the universal region that a line declares
+abbrev pub universal_in : Form → Option Name
+universal_in (universal a) = Some a
+universal_in _ = None
+
+-- the further region that a line declares
+abbrev pub further_in : Form → Option Name
+further_in (further x) = Some x
+further_in _ = None
+
+-- the regions of an `outlives` line
+abbrev pub outlives_in : Form → Option (Name × Name)
+outlives_in (outlives a b) = Some (a, b)
+outlives_in _ = None
+
+-- the regions of an `assert` line
+abbrev pub assert_in : Form → Option (Name × Name)
+assert_in (assert_line a b) = Some (a, b)
+assert_in _ = None
+
+-- the name and the parameters of the struct that a line declares
+abbrev pub struct_in : Form → Option (Name × List WrittenParameter)
+struct_in (struct_line n ps has_drop fields) = Some (n, ps)
+struct_in _ = None
+
+-- the type of the variable that a line declares
+abbrev pub variable_in : Form → Option WrittenType
+variable_in (variable x t) = Some t
+variable_in _ = None
+
+-- the number of blocks, in a `blocks` line
+abbrev pub blocks_in : Form → Option ℕ
+blocks_in (blocks n) = Some n
+blocks_in _ = None
+
+-- the statement or terminator of a line
+abbrev pub statement_in : Form → Option (Statement Name WrittenType)
+statement_in (at_point i) = Some i
+statement_in _ = None
+
+-- whether the block still lacks its terminator, behind a line of it
+abbrev pub owes_in : Form → Option Bool
+owes_in (block n) = Some true
+owes_in (at_point i) = Some (not (is_terminator i))
+owes_in _ = None
+
+-- ---- what names mean
+
+-- the regions' numbers
+abbrev pub numbers_of : List Name → Name × Name → ℕ × ℕ
+numbers_of names p = (number_of names p.0, number_of names p.1)
+
+-- the universal regions in order, 'static first
+abbrev pub universals_said : List Form → List Name
+universals_said forms = codes "static" ∷ filter_map universal_in forms
+
+-- the regions in order: the universal ones, then the further ones
+abbrev pub names_said : List Form → List Name
+names_said forms = universals_said forms ++ filter_map further_in forms
+
+-- what names mean in the types of variables and of statements
+abbrev pub scope_said : List Form → Scope
+scope_said forms = record {
+  regions = names_said forms;
+  parameters = [];
+  structs = map (λ d. d.0) (filter_map struct_in forms);
+  kinds = map (λ d. map is_region d.1) (filter_map struct_in forms);
+}
+
+-- what names mean in the fields of a struct with these parameters: 'static, the struct's own
+-- parameters, and the structs that are declared
+abbrev pub scope_inside : Scope → List WrittenParameter → Scope
+scope_inside s ps = record s {
+  regions = codes "static" ∷ map (λ p. p.0) (regions_in ps);
+  parameters = map (λ p. p.0) (types_in ps);
+}
+
+-- the struct that a line declares, where names mean this in its fields
+abbrev pub struct_meant : Scope → List WrittenParameter → Bool → WrittenTypes → Struct
+struct_meant s ps has_drop fields = record {
+  regions = map (λ p. p.1) (regions_in ps);
+  types = map (λ p. p.1) (types_in ps);
+  has_drop = has_drop;
+  fields = all_meant s fields;
+}
+
+-- a statement with its regions and types as they are meant
+abbrev pub meant_in : Scope → Statement Name WrittenType → Statement ℕ TypeTree
+meant_in s i = map_statement (number_of s.regions) (meant s) i
+
+-- ---- what a line says behind others
+
+-- each line, with the lines that stand before it
+abbrev pub with_fronts : List Form → List (List Form × Form)
+with_fronts [] = []
+with_fronts (f ∷ forms) = ([], f) ∷ map (λ p. (f ∷ p.0, p.1)) (with_fronts forms)
+
+-- the struct that a line declares: in its fields the structs before it may be named
+abbrev pub declared_in : List Form × Form → Option Struct
+declared_in (front, struct_line n ps has_drop fields) =
+    Some (struct_meant (scope_inside (scope_said front) ps) ps has_drop fields)
+declared_in _ = None
+
+-- the first point of the block that begins with a line: as many statements stand before it
+abbrev pub start_in : List Form × Form → Option ℕ
+start_in (front, block n) = Some (length (filter_map statement_in front))
+start_in _ = None
+
+-- ---- what lines say together
 
 -- What lines say together.
 pub record Said : Type 0 where
-  -- the last group of lines that they reached
-  pub reached : ℕ
+  -- the last group that has a line
+  pub reached : Group
   -- the regions in order, 'static first, and how many of them are universal
   pub names : List Name
   pub universals : ℕ
@@ -70,101 +230,36 @@ pub record Said : Type 0 where
   -- the last block still lacks its terminator
   pub owes : Bool
 
--- no line says anything
-abbrev pub nothing_said : Said
-nothing_said = record {
-  reached = 0;
-  names = codes "static" ∷ [];
-  universals = 1;
-  outlives = [];
-  asserts = [];
-  struct_names = [];
-  kinds = [];
-  structs = [];
-  variables = [];
-  blocks = 0;
-  starts = [];
-  points = [];
-  owes = false;
+-- what lines of these forms say
+abbrev pub said : List Form → Said
+said forms = record {
+  reached = last_group forms;
+  names = names_said forms;
+  universals = length (universals_said forms);
+  outlives =
+      insert_all same_pair []
+      (map (numbers_of (universals_said forms)) (filter_map outlives_in forms));
+  asserts =
+      insert_all same_pair [] (map (numbers_of (names_said forms)) (filter_map assert_in forms));
+  struct_names = (scope_said forms).structs;
+  kinds = (scope_said forms).kinds;
+  structs = filter_map declared_in (with_fronts forms);
+  variables = map (meant (scope_said forms)) (filter_map variable_in forms);
+  blocks = get_or (filter_map blocks_in forms) 0 0;
+  starts = filter_map start_in (with_fronts forms);
+  points = map (meant_in (scope_said forms)) (filter_map statement_in forms);
+  owes = unwrap_or (last_or None (filter_map owes_in forms)) false;
 }
 
--- what names mean in the types of variables and of statements
+-- what names mean in the types of variables and of statements, after lines that say s
 abbrev pub body_scope : Said → Scope
 body_scope s =
     record { regions = s.names; parameters = []; structs = s.struct_names; kinds = s.kinds }
 
--- what names mean in the fields of a struct with these parameters: 'static, the struct's own
--- parameters, and the structs that were declared before
+-- and in the fields of a struct with these parameters
 abbrev pub field_scope : Said → List WrittenParameter → Scope
-field_scope s ps = record {
-  regions = codes "static" ∷ map (λ p. p.0) (regions_in ps);
-  parameters = map (λ p. p.0) (types_in ps);
-  structs = s.struct_names;
-  kinds = s.kinds;
-}
+field_scope s ps = scope_inside (body_scope s) ps
 
--- the struct that a line declares
-abbrev pub declared : Said → List WrittenParameter → Bool → WrittenTypes → Struct
-declared s ps has_drop fields = record {
-  regions = map (λ p. p.1) (regions_in ps);
-  types = map (λ p. p.1) (types_in ps);
-  has_drop = has_drop;
-  fields = all_meant (field_scope s ps) fields;
-}
-
--- a statement with its regions and types as they are meant
+-- a statement as it is meant after lines that say s
 abbrev pub statement_meant : Said → Statement Name WrittenType → Statement ℕ TypeTree
-statement_meant s i = map_statement (number_of s.names) (meant (body_scope s)) i
-
--- the group of a line of the form
-abbrev pub group : Form → ℕ
-group (universal a) = 1
-group (outlives a b) = 2
-group (further x) = 3
-group (assert_line a b) = 4
-group (struct_line n ps has_drop fields) = 5
-group (variable x t) = 6
-group (blocks n) = 7
-group (block n) = 8
-group (at_point i) = 8
-group end = 9
-
--- What is said after a further line of the form.
-abbrev pub says : Said → Form → Said
-says s (universal a) =
-    record s { reached = 1; names = s.names ++ a ∷ []; universals = s.universals + 1 }
-says s (outlives a b) = record s {
-  reached = 2;
-  outlives = insert_all same_pair s.outlives ((number_of s.names a, number_of s.names b) ∷ []);
-}
-says s (further x) = record s { reached = 3; names = s.names ++ x ∷ [] }
-says s (assert_line a b) = record s {
-  reached = 4;
-  asserts = insert_all same_pair s.asserts ((number_of s.names a, number_of s.names b) ∷ []);
-}
-says s (struct_line n ps has_drop fields) = record s {
-  reached = 5;
-  struct_names = s.struct_names ++ n ∷ [];
-  kinds = s.kinds ++ map is_region ps ∷ [];
-  structs = s.structs ++ declared s ps has_drop fields ∷ [];
-}
-says s (variable x t) =
-    record s { reached = 6; variables = s.variables ++ meant (body_scope s) t ∷ [] }
-says s (blocks n) = record s { reached = 7; blocks = n }
-says s (block n) =
-    record s { reached = 8; starts = s.starts ++ length s.points ∷ []; owes = true }
-says s (at_point i) = record s {
-  reached = 8;
-  points = s.points ++ statement_meant s i ∷ [];
-  owes = not (is_terminator i);
-}
-says s end = record s { reached = 9 }
-
--- what lines of these forms say, after others that say s
-abbrev pub said_after : Said → List Form → Said
-said_after s [] = s
-said_after s (f ∷ forms) = said_after (says s f) forms
-
--- what lines of these forms say
-abbrev pub said : List Form → Said
-said forms = said_after nothing_said forms
+statement_meant s i = meant_in (body_scope s) i

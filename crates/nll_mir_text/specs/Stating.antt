@@ -32,16 +32,14 @@ use Rattle.nll_mir_text.specs.declared.tables.Variables.{Variables}
 use Rattle.nll_mir_text.specs.declared.judged_type.JudgedType.{JudgedType}
 use Rattle.nll_mir_text.specs.declared.shapes.ShapedTypes.{ShapedTypes}
 use Rattle.nll_mir_text.specs.declared.stating.JudgedPoint.{JudgedPoint}
+use Rattle.nll_mir_text.specs.declared.groups.Group.TheVariants.{Header}
+pub use Rattle.nll_mir_text.specs.MirSaid.{meant_in}
 use Rattle.nll_mir_text.specs.MirSaid.{Said, statement_meant}
 use Rattle.nll_mir_text.specs.MirFaults.{knows, shapes_fit}
 
 -- a statement of the code as its line has it
 abbrev pub as_written : Kept (Bor (List ℕ)) (List TypeNode) → Statement Name WrittenType
 as_written i = map_statement (λ r. r.now) written (statement_of i)
-
--- and as it is meant, where names mean this
-abbrev pub meant_in : Scope → Statement Name WrittenType → Statement ℕ TypeTree
-meant_in s i = map_statement (number_of s.regions) (meant s) i
 
 -- a statement over numbers, with its types as trees
 abbrev pub as_resolved : Statement ℕ Resolved → Statement ℕ TypeTree
@@ -110,7 +108,7 @@ argument_within count a = operand_within count a.0
 -- what lines say of names, structs and variables, as these tables have it
 abbrev pub declared_by : Regions → StructNames → Variables → Said
 declared_by regions structs variables = record {
-  reached = 0;
+  reached = Header;
   names = regions.names;
   universals = regions.universals;
   outlives = regions.outlives.keys;

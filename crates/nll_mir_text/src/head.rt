@@ -19,6 +19,7 @@ ghost use Rattle.nll_mir_text.specs.Placing.{IsOfVariable};
 ghost use Rattle.nll_mir_text.specs.Stating.{IsOfType};
 
 use crate::fields::{JudgedFields, declaration, judge_fields, resolve_fields};
+use crate::groups::Group;
 use crate::judged_type::{JudgedType, judge_type};
 use crate::limits::{MAX_STRUCTS, MAX_VARIABLES};
 use crate::own_names::{OwnNames, gather_names, redeclares};
@@ -51,7 +52,7 @@ impl Reader {
         }
         self.regions.names.add(self.alloc, name)?;
         self.regions.universals += 1;
-        self.reached = 1;
+        self.reached = Group::Universals;
         Ok(())
     }
 
@@ -68,7 +69,7 @@ impl Reader {
             return Err(TextKind::Limit(Kind::Regions));
         }
         self.regions.names.add(self.alloc, name)?;
-        self.reached = 3;
+        self.reached = Group::Regions;
         Ok(())
     }
 
@@ -97,7 +98,7 @@ impl Reader {
         let longer = self.universal(longer)?;
         let shorter = self.universal(shorter)?;
         self.regions.outlives.insert((longer, shorter))?;
-        self.reached = 2;
+        self.reached = Group::Outlives;
         Ok(())
     }
 
@@ -126,7 +127,7 @@ impl Reader {
         let longer = self.region(longer)?;
         let shorter = self.region(shorter)?;
         self.regions.asserts.insert((longer, shorter))?;
-        self.reached = 4;
+        self.reached = Group::Asserts;
         Ok(())
     }
 
@@ -144,7 +145,7 @@ impl Reader {
             return Err(TextKind::Limit(Kind::Points));
         }
         self.points.blocks = count;
-        self.reached = 7;
+        self.reached = Group::BlockCount;
         Ok(())
     }
 
@@ -209,7 +210,7 @@ impl Reader {
         let ty = ty.ty(self.alloc)?;
         self.variables.types.push(ty)?;
         self.variables.shapes.push(judged.shape)?;
-        self.reached = 6;
+        self.reached = Group::Variables;
         Ok(())
     }
 
@@ -321,7 +322,7 @@ impl Reader {
         self.variables.table.declare(self.alloc, declaration)?;
         let kinds = kinds(self.alloc, parameters)?;
         self.structs.add(self.alloc, text.name, kinds)?;
-        self.reached = 5;
+        self.reached = Group::Structs;
         Ok(())
     }
 }

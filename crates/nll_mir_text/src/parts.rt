@@ -1,11 +1,13 @@
 //! Reading a MIR text part by part, each of which is freed once it is read.
 
 ghost use Rattle.std.specs.Prelude.{◌≡◌, ◌+◌, ◌<◌, ◌≤◌, ◌^◌, [], List, ℕ, length, option_map};
-ghost use Rattle.std.specs.Prelude.{OnOk, IfOk, IfErr};
+ghost use Rattle.std.specs.Prelude.{true, OnOk, IfOk, IfErr};
 ghost use Rattle.nll_problem.specs.Limits.{most_bytes};
 ghost use Rattle.nll_text.specs.Lines.{lines_left, lines_of};
 ghost use Rattle.nll_reading.specs.Text.{IsRefusal};
 ghost use Rattle.nll_mir_text.specs.MirSaid.{said};
+ghost use Rattle.nll_mir_text.specs.MirFaults.{has_reached};
+ghost use Rattle.nll_mir_text.specs.declared.groups.Group.TheVariants.{End};
 ghost use Rattle.nll_mir_text.specs.MirText.{IsMirFault};
 ghost use Rattle.nll_mir_text.specs.MirReading.{said_by, lines_in, Advances, AreShort, IsAmid};
 ghost use Rattle.nll_mir_text.specs.MirReading.{IsReady, IsUnderWay, HasRead, Holds, RefusesBody};
@@ -145,7 +147,7 @@ fn read_parts(
     requires long { before + length (lines_in (option_map (λ v. v.items) first)) ≤ 2 ^ 32 }
     requires short { AreShort (lines_in (option_map (λ v. v.items) first)) }
     ensures ready { OnOk result (IsReady reader.new) }
-    ensures ended { OnOk result ((said_by reader.new).reached ≡ 9) }
+    ensures ended { OnOk result (has_reached (said_by reader.new) End ≡ true) }
     ensures read { OnOk result ((all : List (List ℕ))
         → IsAmid version all (lines_in (option_map (λ v. v.items) first))
         (said_by reader.old) before → HasRead version all reader.new) }

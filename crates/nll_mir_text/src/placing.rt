@@ -14,6 +14,7 @@ ghost use Rattle.nll_mir_text.specs.Placing.{IsPlaced};
 ghost use Rattle.nll_mir_text.specs.Stating.{as_resolved, IsOfPoint};
 ghost use Rattle.nll_mir_grammar.specs.declared.line.Line.TheVariants as lines;
 
+use crate::groups::Group;
 use crate::meaning::statement_meant;
 use crate::ranges::targets_are_blocks;
 use crate::reader::Reader;
@@ -39,7 +40,7 @@ impl Reader {
         let start = self.points.statements.len() as u32;
         self.points.starts.push(start)?;
         self.points.owes = true;
-        self.reached = 8;
+        self.reached = Group::Blocks;
         Ok(())
     }
 
@@ -53,7 +54,7 @@ impl Reader {
         if self.points.starts.len() < self.points.blocks as usize {
             return Err(TextKind::Range);
         }
-        self.reached = 9;
+        self.reached = Group::End;
         Ok(())
     }
 
@@ -121,7 +122,7 @@ impl Reader {
     {
         let meant = statement_meant(self.alloc, statement)?;
         add_point(&mut self.points, meant, edges)?;
-        self.reached = 8;
+        self.reached = Group::Blocks;
         Ok(())
     }
 

@@ -1,19 +1,21 @@
 //! The reader of the lines of a MIR text: what they say so far, and which line takes what.
 
-ghost use Rattle.std.specs.Prelude.{◌≡◌, ◌⊎◌, ◌↔◌, ◌≤◌, [], length, false};
-ghost use Rattle.std.specs.Prelude.{IsTrue, IfOk, IfErr, OnOk};
+ghost use Rattle.std.specs.Prelude.{◌≡◌, ◌⊎◌, ◌≤◌, [], length, false};
+ghost use Rattle.std.specs.Prelude.{IfOk, IfErr, OnOk};
 ghost use Rattle.nll_problem.specs.Limits.{most_bytes};
 ghost use Rattle.nll_types.specs.Declarations.{structs_of};
 ghost use Rattle.nll_mir_grammar.specs.Lines.{form_of};
-ghost use Rattle.nll_mir_text.specs.MirSaid as specs;
 ghost use Rattle.nll_mir_text.specs.MirSaid.{said};
+ghost use Rattle.nll_mir_text.specs.MirFaults as faults;
 ghost use Rattle.nll_mir_text.specs.MirFaults.{is_in_order};
 ghost use Rattle.nll_mir_text.specs.MirReading.{said_by, IsReady, HasTexts, HasFewParameters};
 ghost use Rattle.nll_mir_text.specs.MirReading.{IsDue, IsTaken, IsRefused, ReadsLine};
 ghost use Rattle.nll_body.specs.Parts.{body_of};
 ghost use Rattle.nll_mir_text.specs.MirText.{body_said, mir};
 ghost use Rattle.nll_reading.specs.Text.{IsFaulty};
+ghost use Rattle.nll_mir_text.specs.declared.groups.Group.TheVariants.{End};
 
+use crate::groups::{Group, group_of};
 use crate::tables::{Points, Regions, StructNames, Variables};
 use indexmap::IndexSet;
 use nll_body::BodyParts;
@@ -28,28 +30,11 @@ use std::alloc::Global;
 #[derive(Drop)]
 pub struct Reader {
     pub(crate) alloc: Global,
-    pub(crate) reached: u8,
+    pub(crate) reached: Group,
     pub(crate) regions: Regions,
     pub(crate) structs: StructNames,
     pub(crate) variables: Variables,
     pub(crate) points: Points,
-}
-
-// The group of a line.
-fn group(line: &Line<'_>) -> u8
-    ensures { result ≡ specs.group (form_of line.now) }
-{
-    match line {
-        Line::Universal(_) => 1,
-        Line::Outlives(_, _) => 2,
-        Line::Region(_) => 3,
-        Line::Assert(_, _) => 4,
-        Line::Struct(_) => 5,
-        Line::Let(_, _) => 6,
-        Line::Blocks(_) => 7,
-        Line::Block(_) | Line::At(_) => 8,
-        Line::End => 9,
-    }
 }
 
 // No block is known.
@@ -94,7 +79,7 @@ impl Reader {
         let names = Names::new(alloc)?;
         Ok(Reader {
             alloc,
-            reached: 0,
+            reached: Group::Header,
             regions: Regions {
                 names,
                 universals: 1,
@@ -115,17 +100,31 @@ impl Reader {
         })
     }
 
+    // Whether a line of a group or of a later one is there.
+    fn has_reached(&self, group: Group) -> bool
+        ensures { result ≡ faults.has_reached (said_by self.now) group }
+    {
+        !self.reached.is_before(group)
+    }
+
+    // Whether the `blocks` line is there, and no `end` line.
+    fn is_in_body(&self) -> bool
+        ensures { result ≡ faults.is_in_body (said_by self.now) }
+    {
+        self.has_reached(Group::BlockCount) & !self.has_reached(Group::End)
+    }
+
     // Whether a line stands in order.
     fn may_follow(&self, line: &Line<'_>) -> bool
         ensures { result ≡ is_in_order (said_by self.now) (form_of line.now) }
     {
         match line {
-            Line::Blocks(_) => self.reached == 6,
-            Line::Block(_) | Line::End => {
-                7 <= self.reached && self.reached <= 8 && !self.points.owes
+            Line::Blocks(_) => {
+                self.has_reached(Group::Variables) & !self.has_reached(Group::BlockCount)
             }
-            Line::At(_) => self.reached == 8 && self.points.owes,
-            _ => self.reached <= group(line),
+            Line::Block(_) | Line::End => self.is_in_body() & !self.points.owes,
+            Line::At(_) => self.is_in_body() & self.points.owes,
+            _ => !group_of(line).is_before(self.reached),
         }
     }
 
@@ -205,9 +204,9 @@ impl Reader {
 
     /// Whether the last line that a text needs was read.
     pub fn has_ended(&self) -> bool
-        ensures { IsTrue result ↔ ((said_by self.now).reached ≡ 9) }
+        ensures { result ≡ faults.has_reached (said_by self.now) End }
     {
-        self.reached == 9
+        self.has_reached(Group::End)
     }
 
     /// The pairs of regions of which the first is known to outlive the second.

@@ -1,10 +1,12 @@
 //! Reading a whole MIR text.
 
-ghost use Rattle.std.specs.Prelude.{◌≡◌, ◌≢◌, ◌⊎◌, ◌<◌, ◌^◌, ℕ, List, [], length};
+ghost use Rattle.std.specs.Prelude.{◌≡◌, ◌≢◌, ◌⊎◌, ◌<◌, ◌^◌, ℕ, true, List, [], length};
 ghost use Rattle.std.specs.Prelude.{OnOk, IfOk, IfErr};
 ghost use Rattle.nll_text.specs.Lines.{lines_left};
 ghost use Rattle.nll_reading.specs.Text.{IsHeaded, IsRefusal};
 ghost use Rattle.nll_mir_text.specs.MirSaid.{said};
+ghost use Rattle.nll_mir_text.specs.MirFaults.{has_reached};
+ghost use Rattle.nll_mir_text.specs.declared.groups.Group.TheVariants.{End};
 ghost use Rattle.nll_mir_text.specs.MirText.{mir, IsMirFault};
 ghost use Rattle.nll_mir_text.specs.MirReading.{said_by, IsReady, HasRead, RefusesBody, Holds};
 ghost use Rattle.nll_mir_text.specs.MirReading.{AreShort};
@@ -42,7 +44,7 @@ fn read_lines(
     requires short { AreShort (lines_left body) }
     ensures read { OnOk result (HasRead version (lines_left body.entry) reader.new) }
     ensures ready { OnOk result (IsReady reader.new) }
-    ensures ended { OnOk result ((said_by reader.new).reached ≡ 9) }
+    ensures ended { OnOk result (has_reached (said_by reader.new) End ≡ true) }
     ensures fault { IfErr result (RefusesBody version (lines_left body.entry)) }
 {
     let mut tokens = Vec::new(alloc);

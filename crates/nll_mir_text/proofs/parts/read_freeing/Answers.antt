@@ -1,6 +1,8 @@
 use Rattle.std.proofs.Common.{ap, ◌∙◌}
 use Rattle.std.proofs.lemmas.Result.{err_from_is_err_and}
 use Rattle.nll_mir_text.specs.MirSaid.{Said}
+use Rattle.nll_mir_text.specs.declared.groups.Group.TheVariants as groups
+use Rattle.nll_mir_text.specs.MirFaults.{has_reached}
 use Rattle.nll_mir_text.proofs.SaidLemmas.{ended}
 use Rattle.nll_mir_text.proofs.VersionLemmas.{refused_in}
 use Rattle.nll_mir_text.proofs.parts.read_freeing.Goals as goal
@@ -24,7 +26,7 @@ returns-clause-ok c =
         body = first.body;
         headed = first.headed;
         fine = read.1;
-        ended = ended read.0 (ap (λ (s : Said). s.reached) read.2 ∙ c.in_ok-read_parts.ensures.ended);
+        ended = ended read.0 (ap (λ (s : Said). has_reached s groups.End) read.2 ∙ c.in_ok-read_parts.ensures.ended);
       },
       read.2,
     )

@@ -6,6 +6,8 @@ use Rattle.nll_reading.specs.Text.{IsFault, no_end}
 use Rattle.nll_reading.specs.declared.error.TextKind.TheVariants.{End}
 use Rattle.nll_mir_text.specs.MirSaid.{Said}
 use Rattle.nll_mir_text.specs.MirText.{mir}
+use Rattle.nll_mir_text.specs.declared.groups.Group.TheVariants as groups
+use Rattle.nll_mir_text.specs.MirFaults.{has_reached}
 use Rattle.nll_mir_text.proofs.SaidLemmas.{not_ended}
 use Rattle.nll_mir_text.proofs.TextLemmas.{amid_all, advances_none, advances_then}
 use Rattle.nll_mir_text.proofs.parts.read_parts.Goals as goal
@@ -41,7 +43,7 @@ returns-then-not-has_ended-clause-fault c = λ all amid text headed.
     let last : length (lines_of text) ≡ c.loop-left.number = omega (arith, ap length headed.cut.cut, done.3) in
     inr (subst (λ n. IsFault (mir c.args.version) text n End) last
     (no_end _ _ headed done.1
-    (not_ended c.args.version _ _ done.1 (λ h. false≢true (sym c.if-not-has_ended.true ∙ c.has_ended.ensures.1 (sym (ap (λ (s : Said). s.reached) done.2) ∙ h))))))
+    (not_ended _ (λ h. false≢true (sym c.if-not-has_ended.true ∙ (c.has_ended.ensures ∙ (sym (ap (λ (s : Said). has_reached s groups.End) done.2) ∙ h)))))))
 
 pub returns-clause-read : goal.returns-clause-read
 returns-clause-read c = λ all amid.

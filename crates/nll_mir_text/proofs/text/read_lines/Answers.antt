@@ -7,6 +7,8 @@ use Rattle.std.proofs.lemmas.Bool.{false≢true}
 use Rattle.nll_reading.specs.Text.{IsFault, no_end}
 use Rattle.nll_reading.specs.declared.error.TextKind.TheVariants.{End}
 use Rattle.nll_reading.proofs.ReadingLemmas.{body_refused}
+use Rattle.nll_mir_text.specs.declared.groups.Group.TheVariants as groups
+use Rattle.nll_mir_text.specs.MirFaults.{has_reached}
 use Rattle.nll_mir_text.specs.MirText.{mir}
 use Rattle.nll_mir_text.specs.MirReading.{AreShort}
 use Rattle.nll_mir_text.proofs.text.read_lines.Goals as goal
@@ -47,7 +49,7 @@ returns-then-not-has_ended-clause-fault c = λ text headed.
     let last : length (lines_of text) ≡ c.loop-rest.number = omega (arith, ap length headed.cut.cut, done.2) in
     inr (subst (λ n. IsFault (mir c.args.version) text n End) last
     (no_end _ _ headed done.0
-    (not_ended c.args.version _ _ done.0 (λ h. false≢true (sym c.if-not-has_ended.true ∙ c.has_ended.ensures.1 (sym (ap (λ (s : Said). s.reached) done.1) ∙ h))))))
+    (not_ended _ (λ h. false≢true (sym c.if-not-has_ended.true ∙ (c.has_ended.ensures ∙ (sym (ap (λ (s : Said). has_reached s groups.End) done.1) ∙ h)))))))
 
 pub returns-clause-read : goal.returns-clause-read
 returns-clause-read c =

@@ -1,12 +1,14 @@
 use Rattle.std.proofs.Common.{◌∷◌, [], length, map, ap, refl, sym, ◌∙◌, inr, arith, length-append}
-use Rattle.std.proofs.lemmas.Bool.{not-true, not-false, eq-eqb, leb-true}
+use Rattle.std.proofs.lemmas.Bool.{not-true, not-false, eq-eqb}
 use Rattle.std.proofs.lemmas.List.{length-map, map_push}
 use Rattle.nll_types.proofs.ShapingLemmas.{below_push}
 use Rattle.nll_types.specs.Shapes.{is_small, shape_of}
 use Rattle.nll_types.specs.Table.{shape_in}
 use Rattle.nll_types.specs.Views.{tree}
 use Rattle.nll_types.specs.declared.ty.Ty.{Ty}
+use Rattle.nll_mir_grammar.specs.MirForms.{variable}
 use Rattle.nll_mir_text.specs.MirReading.{said_by}
+use Rattle.nll_mir_text.proofs.GroupLemmas.{follows}
 use Rattle.nll_mir_text.proofs.VariableLemmas.{other_number, type_unfit, type_too_large, too_many_variables, variable_fine}
 use Rattle.nll_mir_text.proofs.reader.Reader.add_judged_variable.Goals as goal
 
@@ -63,7 +65,7 @@ returns-clause-taken c = λ t of.
           same = rw (c.in_ok-push-2.ensures.items, c.in_ok-push.ensures.items, map_push (shape_in table.shapes) numbers.items c.args.judged.shape, map_push (λ (t : Ty). shape_of (tree t)) types.items ty, r.shapes.same, j.shape, c.in_ok-ty.ensures) refl;
         };
         few_blocks = r.few_blocks;
-        no_start = λ h. r.no_start (omega (arith, leb-true _ _ of.order));
+        no_start = λ h. r.no_start (omega (arith, (follows (said_by c.args.self.now) (variable c.args.number t) of.order).0));
         starts = r.starts;
         few_points = r.few_points;
         edges = r.edges;

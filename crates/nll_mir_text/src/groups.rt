@@ -1,0 +1,67 @@
+//! The groups of lines, in the order in which they stand.
+
+ghost use Rattle.std.specs.Prelude.{◌≡◌};
+ghost use Rattle.nll_mir_grammar.specs.Lines.{form_of};
+ghost use Rattle.nll_mir_text.specs.MirSaid as specs;
+ghost use Rattle.nll_mir_text.specs.MirSteps as steps;
+
+use nll_mir_grammar::Line;
+
+/// A group of lines. That of the header stands in front of all others.
+#[derive(Clone, Copy)]
+pub enum Group {
+    Header,
+    Universals,
+    Outlives,
+    Regions,
+    Asserts,
+    Structs,
+    Variables,
+    BlockCount,
+    Blocks,
+    End,
+}
+
+impl Group {
+    // How many groups stand before it.
+    fn rank(self) -> u8
+        ensures { result ≡ steps.rank self }
+    {
+        match self {
+            Group::Header => 0,
+            Group::Universals => 1,
+            Group::Outlives => 2,
+            Group::Regions => 3,
+            Group::Asserts => 4,
+            Group::Structs => 5,
+            Group::Variables => 6,
+            Group::BlockCount => 7,
+            Group::Blocks => 8,
+            Group::End => 9,
+        }
+    }
+
+    /// Whether it stands before another group.
+    pub fn is_before(self, other: Group) -> bool
+        ensures { result ≡ specs.is_before self other }
+    {
+        self.rank() < other.rank()
+    }
+}
+
+/// The group of a line.
+pub fn group_of(line: &Line<'_>) -> Group
+    ensures { result ≡ specs.group (form_of line.now) }
+{
+    match line {
+        Line::Universal(_) => Group::Universals,
+        Line::Outlives(_, _) => Group::Outlives,
+        Line::Region(_) => Group::Regions,
+        Line::Assert(_, _) => Group::Asserts,
+        Line::Struct(_) => Group::Structs,
+        Line::Let(_, _) => Group::Variables,
+        Line::Blocks(_) => Group::BlockCount,
+        Line::Block(_) | Line::At(_) => Group::Blocks,
+        Line::End => Group::End,
+    }
+}
