@@ -18,6 +18,6 @@ pub use bit_set::BitSet;
 pub use element::Element;
 pub use element_set::ElementSet;
 pub use elements::Elements;
-pub use error::Memory;
+pub use error::{Memory, OutOfMemory};
 pub use run::Run;
 pub use run_set::RunSet;
