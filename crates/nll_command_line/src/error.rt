@@ -1,6 +1,6 @@
 //! Why words are no command line.
 
-use std::alloc::{AllocError, AllocFailed};
+use nll_sets::OutOfMemory;
 use thiserror::Error;
 
 /// Why a command line is not taken.
@@ -17,24 +17,13 @@ pub enum LineError {
     Memory,
 }
 
-impl From<AllocError> for LineError {
+impl<E: OutOfMemory> From<E> for LineError {
     ghost use Rattle.std.specs.Prelude.{◌≡◌};
     ghost use Rattle.nll_command_line.specs.declared.error.LineError.TheVariants.{Memory as memory};
 
     ghost from_gives = { λ _ error. error ≡ memory };
 
-    fn from(_refused: AllocError) -> LineError {
-        LineError::Memory
-    }
-}
-
-impl<T: Drop> From<AllocFailed<T>> for LineError {
-    ghost use Rattle.std.specs.Prelude.{◌≡◌};
-    ghost use Rattle.nll_command_line.specs.declared.error.LineError.TheVariants.{Memory as memory};
-
-    ghost from_gives = { λ _ error. error ≡ memory };
-
-    fn from(_refused: AllocFailed<T>) -> LineError {
+    fn from(_: E) -> LineError {
         LineError::Memory
     }
 }

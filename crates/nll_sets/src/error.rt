@@ -12,6 +12,16 @@ use thiserror::Error;
 #[error("a growth of memory was refused")]
 pub struct Memory(());
 
+/// An error that tells nothing but that a growth of memory was refused: one of `std`'s two, or
+/// `Memory`. Each enum of errors takes any of them by one conversion.
+pub trait OutOfMemory: Drop {}
+
+impl OutOfMemory for AllocError {}
+
+impl<T: Drop> OutOfMemory for AllocFailed<T> {}
+
+impl OutOfMemory for Memory {}
+
 impl From<AllocError> for Memory {
     fn from(_: AllocError) -> Memory {
         Memory(())

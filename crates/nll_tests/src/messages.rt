@@ -44,10 +44,7 @@ pub fn write_memory(out: &mut Transcript) {
     out.show("|", &BuildError::from(AllocError));
     out.show("|", &BuildError::from(AllocFailed { value: 1u8 }));
     out.show("|", &BuildError::from(memory));
-    out.show("|", &LexError::from(AllocError));
     out.show("|", &LexError::from(AllocFailed { value: 1u8 }));
-    out.show("|", &ScanError::from(AllocError));
-    out.show("|", &ScanError::from(AllocFailed { value: 1u8 }));
     out.show("|", &CutError::from(AllocError));
     out.show("|", &CutError::from(AllocFailed { value: 1u8 }));
     out.show("|", &CutError::from(memory));
@@ -66,8 +63,7 @@ const ERRORS: &[Row] = &[
     (
         "memory",
         Asked::Memory,
-        "Memory(())|Memory(())|Memory|Memory|Memory|Memory|\
-         Memory|Memory|Memory|Memory|Memory|Memory",
+        "Memory(())|Memory(())|Memory|Memory|Memory|Memory|Memory|Memory|Memory",
     ),
 ];
 

@@ -2,9 +2,8 @@
 
 ghost use Rattle.std.specs.Prelude.{◌≡◌};
 ghost use Rattle.nll_text.specs.declared.error.LexError.TheVariants as lexing;
-ghost use Rattle.nll_text.specs.declared.error.ScanError.TheVariants as scanning;
 
-use std::alloc::{AllocError, AllocFailed};
+use std::alloc::AllocFailed;
 use thiserror::Error;
 
 /// Why a line could not be read as tokens.
@@ -33,34 +32,10 @@ pub enum ScanError {
     Memory,
 }
 
-impl From<AllocError> for LexError {
-    ghost from_gives = { λ _ e. e ≡ lexing.Memory };
-
-    fn from(_error: AllocError) -> LexError {
-        LexError::Memory
-    }
-}
-
 impl<T: Drop> From<AllocFailed<T>> for LexError {
     ghost from_gives = { λ _ e. e ≡ lexing.Memory };
 
     fn from(_error: AllocFailed<T>) -> LexError {
         LexError::Memory
-    }
-}
-
-impl From<AllocError> for ScanError {
-    ghost from_gives = { λ _ e. e ≡ scanning.Memory };
-
-    fn from(_error: AllocError) -> ScanError {
-        ScanError::Memory
-    }
-}
-
-impl<T: Drop> From<AllocFailed<T>> for ScanError {
-    ghost from_gives = { λ _ e. e ≡ scanning.Memory };
-
-    fn from(_error: AllocFailed<T>) -> ScanError {
-        ScanError::Memory
     }
 }
