@@ -363,7 +363,7 @@ fn push_growths(log: &mut Vec<Growth>, region: RegionId, first: u32, count: u32,
 }
 
 // Makes room for a growth more at the end of a list, of which there are many and which only grow:
-// for an eighth of the list at once.
+// for a quarter of the list at once.
 fn make_room(list: &mut Vec<Growth>) -> Result<(), Memory>
     ensures items { list.new.items ≡ list.old.items }
     ensures room { OnOk result (vec_len list.new + 1 ≤ vec_capacity list.new) }
@@ -371,8 +371,8 @@ fn make_room(list: &mut Vec<Growth>) -> Result<(), Memory>
     if list.len() < list.capacity() {
         return Ok(());
     }
-    let eighth = list.len() / 8;
-    list.reserve_exact(eighth.max(4))?;
+    let quarter = list.len() / 4;
+    list.reserve_exact(quarter.max(4))?;
     Ok(())
 }
 
