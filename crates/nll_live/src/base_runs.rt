@@ -3,7 +3,7 @@
 
 ghost use Rattle.std.specs.Prelude.{◌≡◌, ◌↔◌, ◌-◌, ◌^◌, ◌<◌, ◌≤◌, ℕ, [], length};
 ghost use Rattle.std.specs.Prelude.{AllPairs, Contains, IfOk, OnOk};
-ghost use Rattle.std.specs.List.Sorted.{IsPermutation, IsSorted};
+ghost use Rattle.std.specs.List.Sorted.{IsSorted};
 ghost use Rattle.nll_problem.specs.Problem.{IsEarlier};
 ghost use Rattle.nll_sets.specs.Runs.{IsInRuns, last_of};
 ghost use Rattle.nll_problem.specs.BaseRuns.{IsInBaseRuns};
@@ -55,7 +55,7 @@ pub(crate) fn pairs_of(
         → Contains v.items (r, p) ↔ IsInBaseRuns base_runs.old.items r p) }
     ensures ascending { IfOk result (λ v. AllPairs IsEarlier v.items) }
 {
-    sort(base_runs);
+    base_runs.sort_unstable();
     let mut pairs = Vec::new(alloc);
     match push_pairs(&mut pairs, base_runs.as_slice()) {
         Ok(()) => Ok(pairs),
@@ -63,16 +63,6 @@ pub(crate) fn pairs_of(
             drop(pairs);
             Err(memory)
         }
-    }
-}
-
-// Sorts runs; where they ascend already it is one pass.
-fn sort(base_runs: &mut Vec<BaseRun>)
-    ensures permutation { IsPermutation base_runs.old.items base_runs.new.items }
-    ensures sorted { IsSorted base_run_cmp base_runs.new.items }
-{
-    if !base_runs.is_sorted() {
-        base_runs.sort_unstable();
     }
 }
 
