@@ -1,4 +1,4 @@
-use Rattle.std.proofs.Common.{ℕ, false, Contains, sym, subst, ◌∙◌}
+use Rattle.std.proofs.Common.{ℕ, Contains, sym, subst, ◌∙◌}
 use Rattle.std.proofs.lemmas.Bool.{false≢true}
 use Rattle.nll_problem.specs.declared.at.At.TheVariants.{Point}
 use Rattle.nll_core.proofs.PlaceLemmas.{point_in}

@@ -1,7 +1,3 @@
-use Rattle.std.proofs.Common.{ℕ, ◌<◌, Contains, subst, sym}
-use Rattle.nll_problem.specs.At.{at_rank}
-use Rattle.nll_problem.specs.declared.at.At.{At as places}
-use Rattle.nll_core.specs.Frontiers.{behind}
 use Rattle.nll_core.proofs.PlaceLemmas.{none_before_all, ascend_pushed}
 use Rattle.nll_core.proofs.places.Places.push.Goals as goal
 
