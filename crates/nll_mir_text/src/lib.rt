@@ -1,6 +1,6 @@
 //! The reader of MIR texts, of versions 1 and 2.
-//! Read `tables`, `resolution`, `own_names`, `fields`, `reader`, `head`, `placing`, `header`, `text`,
-//! `parts`, `mir`, then `laws`; the definitions are in specs/.
+//! Read `tables`, `resolution`, `own_names`, `fields`, `reader`, `head`, `placing`, `header`,
+//! `text`, `parts`, `mir`, then `laws`; the definitions are in specs/.
 #![tactic(auto)]
 
 mod fields;
