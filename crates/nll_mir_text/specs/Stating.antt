@@ -130,8 +130,8 @@ pub record IsOfType (shapes : List Node) (t : Resolved) (j : JudgedType) : Type 
   pub within : j.shape < length shapes
   pub shape : shape_in shapes j.shape ≡ shape_of (tree_of t)
 
--- It tells of the types whether the names in each have the arguments that they take, and the numbers
--- of their shapes.
+-- It tells of the types whether the names in each have the arguments that they take, and the
+-- numbers of their shapes.
 pub record AreOfTypes (shapes : List Node) (ts : List Resolved) (j : ShapedTypes) : Type 0 where
   pub fit : j.fit ≡ list_all (λ t. t.fits) ts
   pub within : AreBelow (length shapes) j.shapes.items

@@ -1,5 +1,5 @@
--- A resolved type as the code keeps it: a row of nodes over numbers, in which parts come before what
--- they are parts of, and the type itself comes last.
+-- A resolved type as the code keeps it: a row of nodes over numbers, in which parts come before
+-- what they are parts of, and the type itself comes last.
 -- Source: project's choice.
 use Rattle.std.specs.Prelude.{◌≡◌, ℕ, ◌-◌, ◌<◌, ◌^◌, Bool, true, List, [], ◌∷◌, ◌++◌, All, length}
 use Rattle.std.specs.Prelude.{map, slice_index_or}

@@ -1,5 +1,5 @@
--- What is told of types node by node: whether the names in each are known, and whether they have the
--- arguments that they take; and the shapes of types.
+-- What is told of types node by node: whether the names in each are known, and whether they have
+-- the arguments that they take; and the shapes of types.
 -- Source: project's choice. Only private contracts cite this file.
 use Rattle.std.specs.Prelude.{◌≡◌, ℕ, ◌<◌, Bool, true, false, List, [], ◌∷◌, ◌++◌, length}
 use Rattle.std.specs.Prelude.{All, map, slice_index, slice_index_or}
