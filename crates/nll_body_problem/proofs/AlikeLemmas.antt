@@ -1,7 +1,6 @@
 -- Statements that are alike ask the same.
-use Rattle.std.proofs.Common.{◌≡◌, ℕ, Bool, List, [], ◌∷◌, Option, Some, None, take, map, inl, inr, refl, sym, ap, ◌∙◌, subst, ⊎_elim}
-use Rattle.std.specs.Prelude.{slice_get, option_map, option_and_then}
-use Rattle.std.proofs.lemmas.Option.{slice_get-map}
+use Rattle.std.proofs.Common.{◌≡◌, ℕ, Bool, List, [], ◌∷◌, ◌++◌, Contains, Option, Some, take, map, inl, inr, refl, sym, ap, ◌∙◌, subst, ⊎_elim}
+use Rattle.std.specs.Prelude.{slice_get, option_and_then}
 use Rattle.nll_types.specs.Types.{TypeTree}
 use Rattle.nll_types.specs.Structs.{Struct}
 use Rattle.nll_types.specs.Places.{PlacePath, path_of, type_of, behind_all}
@@ -10,11 +9,12 @@ use Rattle.nll_types.specs.Views.{tree}
 use Rattle.nll_types.specs.declared.operand.Operand.{Operand as Written}
 use Rattle.nll_types.specs.declared.ty.Ty.{Ty}
 use Rattle.nll_types.specs.declared.place.Projection.{Projection}
-use Rattle.nll_statements.specs.Statements.{assign, borrow, make, call, map_statement}
+use Rattle.nll_statements.specs.Statements.{Statement, assign, borrow, make, call, map_statement}
+use Rattle.nll_statements.specs.TypePairs.{reference_to, parts_of_type, beside_parts, type_pairs}
 use Rattle.nll_statements.specs.Kept.{made_of, call_of}
 use Rattle.nll_statements.specs.declared.statement.Make.{Make}
 use Rattle.nll_statements.specs.declared.statement.Call.{Call}
-use Rattle.nll_rules.specs.Asking.{Asks}
+use Rattle.nll_rules.specs.Asking.{AsksPair, Asks}
 use Rattle.nll_rules.specs.Reborrows.{RestsOn, GoesThrough, prefix}
 use Rattle.nll_body_problem.specs.Known.{AreKinds, AreAlike, AreOfOneType, AreLikeOperands, AreLikeArguments, AskTheSame}
 
@@ -44,46 +44,51 @@ module _ (kinds : List ℕ) (structs : List Struct) (variables : List TypeTree) 
   rests_on : (p q : PlacePath) (a : ℕ) → AreAlike kinds p q → RestsOn structs variables p a → RestsOn structs variables q a
   rests_on p q a h w = (w.0, w.1, goes_through p q w.0 a w.1 h w.2, λ k b o less g. w.3 k b o less (goes_through q p k b o (turned kinds p q h) g))
 
-  -- ---- lists
-
-  -- where two lists are one but for what f tells, what stands at a place of one has its like in the other
-  like_at : {A B : Type 0} (f : A → B) (xs ys : List A) (k : ℕ) (x : A) → map f xs ≡ map f ys → slice_get xs k ≡ Some x → (y : A) × (slice_get ys k ≡ Some y) × (f y ≡ f x)
-  like_at {A = A} {B = B} f xs ys k x same at =
-      found (slice_get ys k) refl (sym (slice_get-map f ys k) ∙ (ap (λ (zs : List B). slice_get zs k) (sym same) ∙ (slice_get-map f xs k ∙ ap (option_map f) at)))
-    where
-      found : (o : Option A) → slice_get ys k ≡ o → option_map f o ≡ Some (f x) → (y : A) × (slice_get ys k ≡ Some y) × (f y ≡ f x)
-      found None e d = absurd cc
-      found (Some y) e d = (y, e, cc)
-
   -- ---- what one asks the other asks
 
+  abbrev met : Option TypeTree → Option TypeTree → Option TypeTree × Option TypeTree
+  met t u = (t, u)
+
+  -- where the same types meet in two statements, and the pairs of one's own are the other's, it asks what the other asks
+  same_pairs : (i j : Statement ℕ TypeTree) (x : ℕ × ℕ) → type_pairs structs variables i ≡ type_pairs structs variables j → (AsksPair structs variables i x → AsksPair structs variables j x)
+      → Asks structs variables i x → Asks structs variables j x
+  same_pairs i j x same own = ⊎_elim
+      (λ w. inl (w.0, w.1, subst (λ (pairs : List (Option TypeTree × Option TypeTree)). Contains pairs (Some w.0, Some w.1)) same w.2, w.3))
+      (λ h. inr (own h))
+
   assign_on : (p q : PlacePath) (a b : Operand) (x : ℕ × ℕ) → AreAlike kinds p q → AreOfOneType kinds a b → Asks structs variables (assign p a) x → Asks structs variables (assign q b) x
-  assign_on p q a b x h o = ⊎_elim (λ w. inl (w.0, w.1, (sym (o structs variables known) ∙ w.2.0, sym (one_type p q h) ∙ w.2.1), w.3)) (λ f. absurd f)
+  assign_on p q a b x h o = same_pairs (assign p a) (assign q b) x
+      (ap (λ (t : Option TypeTree). met t (type_of structs variables p) ∷ []) (o structs variables known)
+      ∙ ap (λ (u : Option TypeTree). met (operand_type structs variables b) u ∷ []) (one_type p q h))
+      (λ f. f)
 
   borrow_on : (p q : PlacePath) (r : ℕ) (m : Bool) (s t : PlacePath) (x : ℕ × ℕ) → AreAlike kinds p q → AreAlike kinds s t → Asks structs variables (borrow p r m s) x → Asks structs variables (borrow q r m t) x
-  borrow_on p q r m s t x h d = ⊎_elim
-      (λ w. (let i = w.2 in inl (w.0, w.1, (i.0, sym (one_type s t d) ∙ i.1, i.2, sym (one_type p q h) ∙ i.3), w.3)))
-      (λ w. inr (rests_on s t x.0 d w.0, w.1))
+  borrow_on p q r m s t x h d = same_pairs (borrow p r m s) (borrow q r m t) x
+      (ap (λ (o : Option TypeTree). met (reference_to r m o) (type_of structs variables p) ∷ []) (one_type s t d)
+      ∙ ap (λ (u : Option TypeTree). met (reference_to r m (type_of structs variables t)) u ∷ []) (one_type p q h))
+      (λ w. (rests_on s t x.0 d w.0, w.1))
 
   make_on : (p q : PlacePath) (made : TypeTree) (ops others : List Operand) (x : ℕ × ℕ) → AreAlike kinds p q → map (operand_type structs variables) ops ≡ map (operand_type structs variables) others
       → Asks structs variables (make p made ops) x → Asks structs variables (make q made others) x
-  make_on p q made ops others x h same = ⊎_elim
-      (λ w. ⊎_elim
-      (λ k. (let y = like_at (operand_type structs variables) ops others k.0 k.1 same k.2 in inl (w.0, w.1, inl (k.0, y.0, y.1, y.2 ∙ k.3, k.4), w.3)))
-      (λ k. inl (w.0, w.1, inr (k.0, sym (one_type p q h) ∙ k.1), w.3))
-      w.2)
-      (λ f. absurd f)
+  make_on p q made ops others x h same = same_pairs (make p made ops) (make q made others) x
+      (ap (λ (os : List (Option TypeTree)). beside_parts os (parts_of_type structs made) ++ met (Some made) (type_of structs variables p) ∷ []) same
+      ∙ ap (λ (u : Option TypeTree). beside_parts (map (operand_type structs variables) others) (parts_of_type structs made) ++ met (Some made) u ∷ []) (one_type p q h))
+      (λ f. f)
 
   call_on : (p q : PlacePath) (args others : List (Operand × TypeTree)) (result : TypeTree) (wheres : List (ℕ × ℕ)) (b c : ℕ) (u v : Option ℕ) (x : ℕ × ℕ) → AreAlike kinds p q
       → map {B = Option TypeTree × TypeTree} (λ a. (operand_type structs variables a.0, a.1)) args ≡ map {B = Option TypeTree × TypeTree} (λ a. (operand_type structs variables a.0, a.1)) others
       → Asks structs variables (call p args result wheres b u) x → Asks structs variables (call q others result wheres c v) x
-  call_on p q args others result wheres b c u v x h same = ⊎_elim
-      (λ w. ⊎_elim
-      (λ k. (let y = like_at {B = Option TypeTree × TypeTree} (λ a. (operand_type structs variables a.0, a.1)) args others k.0 (k.1, w.1) same k.2 in
-      inl (w.0, w.1, inl (k.0, y.0.0, y.1 ∙ ap (λ (ty : TypeTree). Some (y.0.0, ty)) (ap (λ (z : Option TypeTree × TypeTree). z.1) y.2), ap (λ (z : Option TypeTree × TypeTree). z.0) y.2 ∙ k.3), w.3)))
-      (λ k. inl (w.0, w.1, inr (k.0, sym (one_type p q h) ∙ k.1), w.3))
-      w.2)
-      inr
+  call_on p q args others result wheres b c u v x h same = same_pairs (call p args result wheres b u) (call q others result wheres c v) x
+      (ap (λ (ps : List (Option TypeTree × Option TypeTree)). ps ++ met (Some result) (type_of structs variables p) ∷ [])
+      (sym (inputs args) ∙ (ap (map {B = Option TypeTree × Option TypeTree} (λ (a : Option TypeTree × TypeTree). (a.0, Some a.1))) same ∙ inputs others))
+      ∙ ap (λ (t : Option TypeTree). map {B = Option TypeTree × Option TypeTree} (λ a. (operand_type structs variables a.0, Some a.1)) others ++ met (Some result) t ∷ []) (one_type p q h))
+      (λ w. w)
+    where
+      inputs : (as' : List (Operand × TypeTree))
+          → map {B = Option TypeTree × Option TypeTree} (λ (a : Option TypeTree × TypeTree). (a.0, Some a.1)) (map {B = Option TypeTree × TypeTree} (λ a. (operand_type structs variables a.0, a.1)) as')
+          ≡ map {B = Option TypeTree × Option TypeTree} (λ a. (operand_type structs variables a.0, Some a.1)) as'
+      inputs [] = refl
+      inputs (a ∷ as') = ap (λ (ps : List (Option TypeTree × Option TypeTree)). met (operand_type structs variables a.0) (Some a.1) ∷ ps) (inputs as')
 
 -- ---- statements
 

@@ -18,7 +18,8 @@ use Rattle.nll_body.proofs.RangeLemmas.{region_within, part_good}
 use Rattle.nll_rules.specs.Positions.{Turn, own, target, part, region_argument, type_argument, input, output, HasRegionAt, times, sign_of}
 use Rattle.nll_rules.specs.Subtyping.{IsAsked, SubtypeAsks}
 use Rattle.nll_rules.specs.Reborrows.{RestsOn, prefix}
-use Rattle.nll_rules.specs.Asking.{AsksSubtype, AsksPair, Asks}
+use Rattle.nll_statements.proofs.TypePairLemmas.{Meet, pairs_meet}
+use Rattle.nll_rules.specs.Asking.{AsksPair, Asks}
 
 -- ---- lists
 
@@ -103,8 +104,8 @@ module _ (body : BodyText) (sound : IsSound body) where
   operand (copied p) t e = place p t e
   operand (moved p) t e = place p t e
 
-  -- the types of which a statement asks that one be a subtype of the other keep to what is declared
-  subtypes : (i : Statement ℕ TypeTree) (p : ℕ) → StandsAt body p i → (t u : TypeTree) → AsksSubtype body.structs body.variables i t u → IsGood t × IsGood u
+  -- the types that meet in a statement keep to what is declared
+  subtypes : (i : Statement ℕ TypeTree) (p : ℕ) → StandsAt body p i → (t u : TypeTree) → Meet body.structs body.variables i t u → IsGood t × IsGood u
   subtypes (assign q op) p at t u h = (operand op t h.0, place q u h.1)
   subtypes (borrow q r m b) p at t u h =
       let region : r < length body.names = sound.written_regions p r (borrow q r m b) at (first r []) in
@@ -126,7 +127,7 @@ module _ (body : BodyText) (sound : IsSound body) where
   subtypes (dead x) p at t u h = absurd h
   subtypes nop p at t u h = absurd h
   subtypes (goto b) p at t u h = absurd h
-  subtypes (switch op bs) p at t u h = absurd h
+  subtypes (switch op bs) p at t u h = (operand op t h.0, subst IsGood (sym h.1) tt)
   subtypes (drop x b unwind) p at t u h = absurd h
   subtypes return p at t u h = absurd h
   subtypes stop p at t u h = absurd h
@@ -167,6 +168,6 @@ module _ (body : BodyText) (sound : IsSound body) where
   -- what stands at a point asks pairs of regions of the body
   pub asks_below : (p : ℕ) (i : Statement ℕ TypeTree) → StandsAt body p i → (x : ℕ × ℕ) → Asks body.structs body.variables i x → (x.0 < length body.names) × (x.1 < length body.names)
   asks_below p i at x h = ⊎_elim
-      (λ w. (let good = subtypes i p at w.0 w.1 w.2 in subtype_below w.0 w.1 good.0 good.1 x w.3))
+      (λ w. (let good = subtypes i p at w.0 w.1 ((pairs_meet body.structs body.variables i w.0 w.1).0 w.2) in subtype_below w.0 w.1 good.0 good.1 x w.3))
       (λ w. pairs i p at x w)
       h

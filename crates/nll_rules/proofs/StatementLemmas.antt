@@ -2,15 +2,18 @@
 use Rattle.std.proofs.Common.{◌≡◌, ℕ, ◌<◌, ◌≤◌, Bool, List, [], ◌∷◌, ◌++◌, length, map, refl, sym, ap, ◌∙◌, subst, arith, ⊎_elim, inl, inr, ◌↔◌, ◌⊎◌, Contains, Option, Some, None}
 use Rattle.std.specs.Prelude.{slice_get, option_map}
 use Rattle.std.proofs.lemmas.List.Elements.{Contains-push, Contains-push_cases, Contains-append_left, Contains-append_right, Contains-append_cases}
-use Rattle.nll_types.specs.Types.{TypeTree, reference}
+use Rattle.nll_types.specs.Types.{TypeTree, int, reference}
 use Rattle.nll_types.specs.Structs.{Struct}
 use Rattle.nll_types.specs.Places.{PlacePath, type_of, behind}
 use Rattle.nll_types.specs.Operands.{Operand, operand_type}
 use Rattle.nll_types.specs.declared.place.Projection.TheVariants.{Field}
-use Rattle.nll_statements.specs.Statements.{assign, borrow, make, call}
+use Rattle.nll_statements.specs.Statements.{Statement, assign, borrow, make, switch, call}
+use Rattle.nll_statements.specs.TypePairs.{type_pairs}
+use Rattle.nll_statements.proofs.TypePairLemmas.{Meet, pairs_meet}
+use Rattle.nll_rules.specs.Positions.{Turn, own, HasRegionAt}
 use Rattle.nll_rules.specs.Subtyping.{SubtypeAsks}
 use Rattle.nll_rules.specs.Reborrows.{RestsOn}
-use Rattle.nll_rules.specs.Asking.{Asks}
+use Rattle.nll_rules.specs.Asking.{AsksPair, Asks}
 use Rattle.nll_rules.specs.Pairs.{AddsPairs, AtOne, BothAsk, PartAsks, InputAsks, OneOutlives}
 use Rattle.nll_rules.proofs.PairLemmas.{adds_none, adds_same}
 use Rattle.nll_rules.proofs.SubtypeLemmas.{get_below}
@@ -18,9 +21,35 @@ use Rattle.nll_rules.proofs.SubtypeLemmas.{get_below}
 some_is : {X : Type 0} (a b : X) → Some a ≡ Some b → a ≡ b
 some_is a b e = cc
 
+-- ---- the types that meet, form by form
+
+-- it asks the pair by types that meet, or by itself
+abbrev AsksByForm : List Struct → List TypeTree → Statement ℕ TypeTree → ℕ × ℕ → Type 0
+AsksByForm structs variables i x = ((t u : TypeTree) × Meet structs variables i t u × SubtypeAsks structs t u x) ⊎ AsksPair structs variables i x
+
+asks_by_form : (structs : List Struct) (variables : List TypeTree) (i : Statement ℕ TypeTree) (x : ℕ × ℕ) → AsksByForm structs variables i x ↔ Asks structs variables i x
+asks_by_form structs variables i x = (
+  ⊎_elim (λ w. inl (w.0, w.1, (pairs_meet structs variables i w.0 w.1).1 w.2, w.3)) inr,
+  ⊎_elim (λ w. inl (w.0, w.1, (pairs_meet structs variables i w.0 w.1).0 w.2, w.3)) inr,
+)
+
+both_ways : {A B C : Type 0} → A ↔ B → B ↔ C → A ↔ C
+both_ways f g = (λ a. g.0 (f.0 a), λ c. f.1 (g.1 c))
+
+-- what no types meet in, and asks no pair by itself, asks nothing
+pub asks_nothing : (structs : List Struct) (variables : List TypeTree) (i : Statement ℕ TypeTree) (x : ℕ × ℕ) → (AsksByForm structs variables i x → ⊥) → Asks structs variables i x → ⊥
+asks_nothing structs variables i x none h = none ((asks_by_form structs variables i x).1 h)
+
 pub asks_assign : (structs : List Struct) (variables : List TypeTree) (p : PlacePath) (op : Operand) (x : ℕ × ℕ)
     → BothAsk structs (operand_type structs variables op) (type_of structs variables p) x ↔ Asks structs variables (assign p op) x
-asks_assign structs variables p op x = (λ b. inl (b.0, b.1, (b.2, b.3), b.4), ⊎_elim (λ w. (w.0, w.1, w.2.0, w.2.1, w.3)) (λ h. absurd h))
+asks_assign structs variables p op x = both_ways
+    (λ b. inl (b.0, b.1, (b.2, b.3), b.4), ⊎_elim (λ w. (w.0, w.1, w.2.0, w.2.1, w.3)) (λ h. absurd h))
+    (asks_by_form structs variables (assign p op) x)
+
+no_region_in_int : (way : List Turn) (r : ℕ) → HasRegionAt int way r → ⊥
+no_region_in_int [] r h = h
+no_region_in_int (own ∷ way) r h = h
+no_region_in_int (turn ∷ way) r h = h
 
 inner_of : (r : ℕ) (m : Bool) (o : Option TypeTree) (t : TypeTree) → option_map (reference r m) o ≡ Some t → (inner : TypeTree) × (o ≡ Some inner) × (t ≡ reference r m inner)
 inner_of r m None t e = absurd cc
@@ -28,9 +57,9 @@ inner_of r m (Some inner) t e = (inner, refl, cc)
 
 pub asks_borrow : (structs : List Struct) (variables : List TypeTree) (p : PlacePath) (r : ℕ) (m : Bool) (q : PlacePath) (x : ℕ × ℕ)
     → (BothAsk structs (option_map (reference r m) (type_of structs variables q)) (type_of structs variables p) x ⊎ (RestsOn structs variables q x.0 × (x.1 ≡ r))) ↔ Asks structs variables (borrow p r m q) x
-asks_borrow structs variables p r m q x = (⊎_elim there inr, ⊎_elim back inr)
+asks_borrow structs variables p r m q x = both_ways (⊎_elim there inr, ⊎_elim back inr) (asks_by_form structs variables (borrow p r m q) x)
   where
-    there : BothAsk structs (option_map (reference r m) (type_of structs variables q)) (type_of structs variables p) x → Asks structs variables (borrow p r m q) x
+    there : BothAsk structs (option_map (reference r m) (type_of structs variables q)) (type_of structs variables p) x → AsksByForm structs variables (borrow p r m q) x
     there b = (let i = inner_of r m (type_of structs variables q) b.0 b.2 in inl (b.0, b.1, (i.0, i.1, i.2, b.3), b.4))
 
     back : ((t u : TypeTree) × ((inner : TypeTree) × (type_of structs variables q ≡ Some inner) × (t ≡ reference r m inner) × (type_of structs variables p ≡ Some u)) × SubtypeAsks structs t u x)
@@ -44,24 +73,29 @@ outlives_rests structs variables q regions r a b rests = adds_same _ _ a b (λ x
 
 pub asks_make : (structs : List Struct) (variables : List TypeTree) (p : PlacePath) (made : TypeTree) (ops : List Operand) (x : ℕ × ℕ)
     → (AtOne (PartAsks structs variables made ops) x ⊎ BothAsk structs (Some made) (type_of structs variables p) x) ↔ Asks structs variables (make p made ops) x
-asks_make structs variables p made ops x = (
+asks_make structs variables p made ops x = both_ways (
   ⊎_elim (λ w. (let k = w.1 in let b = k.2 in inl (b.0, b.1, inl (w.0, k.0, k.1, b.2, b.3), b.4))) (λ b. inl (b.0, b.1, inr (sym (some_is made b.0 b.2), b.3), b.4)),
   ⊎_elim (λ w. ⊎_elim (λ k. inl (k.0, (k.1, k.2, (w.0, w.1, k.3, k.4, w.3)))) (λ k. inr (w.0, w.1, ap Some (sym k.0), k.1, w.3)) w.2) (λ h. absurd h),
-)
+) (asks_by_form structs variables (make p made ops) x)
 
 pub asks_call : (structs : List Struct) (variables : List TypeTree) (p : PlacePath) (args : List (Operand × TypeTree)) (result : TypeTree) (wheres : List (ℕ × ℕ)) (b : ℕ) (unwind : Option ℕ) (x : ℕ × ℕ)
     → ((AtOne (InputAsks structs variables args) x ⊎ BothAsk structs (Some result) (type_of structs variables p) x) ⊎ Contains wheres x) ↔ Asks structs variables (call p args result wheres b unwind) x
-asks_call structs variables p args result wheres b unwind x = (
+asks_call structs variables p args result wheres b unwind x = both_ways (
   ⊎_elim (⊎_elim input (λ b. inl (b.0, b.1, inr (sym (some_is result b.0 b.2), b.3), b.4))) inr,
   ⊎_elim (λ w. inl (⊎_elim (λ k. inl (k.0, (k.1, w.1, k.2, (w.0, w.1, k.3, refl, w.3)))) (λ k. inr (w.0, w.1, ap Some (sym k.0), k.1, w.3)) w.2)) inr,
-)
+) (asks_by_form structs variables (call p args result wheres b unwind) x)
   where
-    input : AtOne (InputAsks structs variables args) x → Asks structs variables (call p args result wheres b unwind) x
+    input : AtOne (InputAsks structs variables args) x → AsksByForm structs variables (call p args result wheres b unwind) x
     input w =
         let k = w.1 in
         let c = k.3 in
         let e : k.1 ≡ c.1 = some_is k.1 c.1 c.3 in
         inl (c.0, c.1, inl (w.0, k.0, k.2 ∙ ap (λ (u : TypeTree). Some (k.0, u)) e, c.2), c.4)
+
+-- no region stands in an `int`, so what is switched on asks nothing
+pub asks_switch : (structs : List Struct) (variables : List TypeTree) (op : Operand) (bs : List ℕ) (x : ℕ × ℕ) → Asks structs variables (switch op bs) x → ⊥
+asks_switch structs variables op bs x = asks_nothing structs variables (switch op bs) x
+    (⊎_elim (λ w. (let b = w.3 in no_region_in_int b.0 b.2 (subst (λ (z : TypeTree). HasRegionAt z b.0 b.2) w.2.1 b.4))) (λ h. h))
 
 -- ---- places of operands
 

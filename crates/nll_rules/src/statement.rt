@@ -63,12 +63,13 @@ pub fn asks(
             ask_call(alloc, variables, call, asked)?;
             Ok(())
         }
+        // What is switched on meets an `int`, in which no region stands.
+        Statement::Switch(_, _) => Ok(()),
         Statement::Read(_)
         | Statement::Live(_)
         | Statement::Dead(_)
         | Statement::Nop
         | Statement::Goto(_)
-        | Statement::Switch(_, _)
         | Statement::Drop(_, _, _)
         | Statement::Return
         | Statement::Stop => Ok(()),

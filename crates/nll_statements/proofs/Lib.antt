@@ -1,3 +1,4 @@
 pub mod EdgeLemmas
 pub mod EffectLemmas
 pub mod MapLemmas
+pub mod TypePairLemmas

@@ -3,3 +3,4 @@ pub mod Effects
 pub mod Written
 pub mod Edges
 pub mod Kept
+pub mod TypePairs

@@ -11,7 +11,7 @@ use Rattle.nll_types.specs.Shapes.{is_small}
 use Rattle.nll_statements.specs.Statements.{call}
 use Rattle.nll_statements.specs.Effects.{place_in}
 use Rattle.nll_typing.specs.Typing.{agree, types_agree, types_are_small}
-use Rattle.nll_typing.proofs.JudgedLemmas.{call_order}
+use Rattle.nll_typing.proofs.JudgedLemmas.{call_order, last_agrees}
 
 -- the type behind those of the operands
 pub last_type : {X : Type 0} (h : X → TypeTree) (xs : List X) (t : TypeTree) → slice_get (map h xs ++ t ∷ []) (length xs) ≡ Some t
@@ -30,8 +30,11 @@ module _ {X : Type 0} (structs : List Struct) (types : List TypeTree) (op : X �
       → (list_all (λ x. agree (operand_type structs types (op x)) (Some (h x))) xs && agree (Some t) (type_of structs types p))
       ≡ types_agree structs types (call p (map (λ x. (op x, h x)) xs) t wheres b unwind)
   call_fits wheres b unwind =
+      let met : Operand × TypeTree → Option TypeTree × Option TypeTree = λ a. (operand_type structs types a.0, Some a.1) in
       ap (λ (z : Bool). z && agree (Some t) (type_of structs types p))
-      (sym (list_all-map (λ (a : Operand × TypeTree). agree (operand_type structs types a.0) (Some a.1)) (λ x. (op x, h x)) xs))
+      (sym (list_all-map (λ (a : Operand × TypeTree). agree (operand_type structs types a.0) (Some a.1)) (λ x. (op x, h x)) xs)
+      ∙ sym (list_all-map (λ (x : Option TypeTree × Option TypeTree). agree x.0 x.1) met (map (λ x. (op x, h x)) xs)))
+      ∙ last_agrees (map met (map (λ x. (op x, h x)) xs)) (Some t) (type_of structs types p)
 
   pub call_small : (wheres : List (ℕ × ℕ)) (b : ℕ) (unwind : Option ℕ)
       → ((list_all (small_prefixes structs types) (flat_map place_in (map op xs)) && list_all is_small (map h xs)) && (is_small t && small_prefixes structs types p))

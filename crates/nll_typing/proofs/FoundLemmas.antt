@@ -9,7 +9,7 @@ use Rattle.nll_types.specs.Shapes.{Shape, shape_of, is_small, is_small_shape}
 use Rattle.nll_types.specs.Table.{Extends, AreBelow, shape_in}
 use Rattle.nll_types.specs.declared.node.Node.{Node}
 use Rattle.nll_types.proofs.ShapeLemmas.{same_nodes}
-use Rattle.nll_typing.specs.Typing.{reference_to}
+use Rattle.nll_statements.specs.TypePairs.{reference_to}
 use Rattle.nll_typing.specs.Judging.{HaveShapes}
 use Rattle.nll_typing.specs.Found.{IsFound}
 use Rattle.nll_typing.specs.declared.finding.Found.{Found}

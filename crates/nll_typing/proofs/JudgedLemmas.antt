@@ -1,13 +1,15 @@
 -- What is judged of parts of a statement, put together.
-use Rattle.std.proofs.Common.{◌≡◌, ℕ, Bool, true, false, Option, Some, None, List, refl, sym, ap, ◌∙◌, ◌↔◌}
+use Rattle.std.proofs.Common.{◌≡◌, ℕ, Bool, true, false, Option, Some, None, List, [], ◌∷◌, ◌++◌, refl, sym, ap, ◌∙◌, ◌↔◌}
 use Rattle.std.specs.Prelude.{◌&&◌, IsTrue}
 use Rattle.std.specs.Bool.{beq}
+use Rattle.std.proofs.lemmas.List.Folds.{list_all-append}
 use Rattle.nll_types.specs.Types.{TypeTree, reference}
 use Rattle.nll_types.specs.Shapes.{Shape, shape_of, same_shape, reference_shape}
 use Rattle.nll_types.specs.Table.{shape_in}
 use Rattle.nll_types.specs.declared.node.Node.{Node}
 use Rattle.nll_types.proofs.SameShapeLemmas.{same_shape_decides}
-use Rattle.nll_typing.specs.Typing.{agree, reference_to}
+use Rattle.nll_statements.specs.TypePairs.{reference_to}
+use Rattle.nll_typing.specs.Typing.{agree, pairs_agree}
 use Rattle.nll_typing.specs.Judging.{IsJudged}
 use Rattle.nll_typing.specs.Found.{IsFound}
 use Rattle.nll_typing.specs.declared.judged.JudgedStatement.{JudgedStatement}
@@ -89,6 +91,19 @@ same_reference s t u true true same e w = (λ h. (let z = w.0 h in cc), λ h. w.
 same_reference s t u false false same e w = (λ h. (let z = w.0 h in cc), λ h. w.1 (let z = sym e in cc))
 same_reference s t u true false same e w = (λ h. absurd cc, λ h. absurd cc)
 same_reference s t u false true same e w = (λ h. absurd cc, λ h. absurd cc)
+
+-- ---- pairs of a statement
+
+-- one pair
+pub one_agrees : (t u : Option TypeTree) → agree t u ≡ (pairs_agree ((t, u) ∷ []) && true)
+one_agrees t u = sym (and_right_true (agree t u)) ∙ sym (and_right_true (agree t u && true))
+
+-- pairs, and that of what goes to the place that is written
+pub last_agrees : (pairs : List (Option TypeTree × Option TypeTree)) (t u : Option TypeTree) → (pairs_agree pairs && agree t u) ≡ (pairs_agree (pairs ++ (t, u) ∷ []) && true)
+last_agrees pairs t u =
+    ap (λ (z : Bool). pairs_agree pairs && z) (sym (and_right_true (agree t u)))
+    ∙ sym (list_all-append (λ (x : Option TypeTree × Option TypeTree). agree x.0 x.1) pairs ((t, u) ∷ []))
+    ∙ sym (and_right_true (pairs_agree (pairs ++ (t, u) ∷ [])))
 
 -- ---- a row of parts
 

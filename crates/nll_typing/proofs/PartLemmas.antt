@@ -17,10 +17,18 @@ use Rattle.nll_types.specs.declared.operand.Operand.{Operand as Written}
 use Rattle.nll_types.specs.declared.place.Projection.TheVariants.{Field}
 use Rattle.nll_types.proofs.ShapeLemmas.{behind_agrees}
 use Rattle.nll_statements.specs.Effects.{place_in}
-use Rattle.nll_typing.specs.Typing.{agree, all_agree, makes, operand_types, parts_of_type, are_small}
+use Rattle.nll_statements.specs.TypePairs.{beside, beside_parts, operand_types, parts_of_type}
+use Rattle.nll_typing.specs.Typing.{agree, pairs_agree, are_small}
 use Rattle.nll_typing.specs.Judging.{IsJudged}
 use Rattle.nll_typing.specs.declared.judged.JudgedStatement.{JudgedStatement}
 use Rattle.nll_typing.proofs.JudgedLemmas.{and_swap, IsSoFar, so_far_more, so_far_all, so_far_as}
+
+-- operands agree with the parts that stand beside them
+abbrev pub all_agree : List (Option TypeTree) → TypeTrees → Bool
+all_agree os ts = pairs_agree (beside os ts)
+
+abbrev pub makes : List (Option TypeTree) → Option TypeTrees → Bool
+makes os parts = pairs_agree (beside_parts os parts)
 
 count_put : (rs : List ℕ) (ts us : TypeTrees) → type_count (put_in_all rs ts us) ≡ type_count us
 count_put rs ts none = refl
@@ -39,7 +47,8 @@ parts_there structs (named s rs ts) n e =
 all_agree_count : (os : List (Option TypeTree)) (ts : TypeTrees) → all_agree os ts ≡ true → type_count ts ≡ length os
 all_agree_count [] none h = refl
 all_agree_count [] (more t ts) h = absurd (let e : false ≡ true = h in cc)
-all_agree_count (o ∷ os) none h = absurd (let e : false ≡ true = h in cc)
+all_agree_count (None ∷ os) none h = absurd (let e : false ≡ true = h in cc)
+all_agree_count (Some t ∷ os) none h = absurd (let e : false ≡ true = h in cc)
 all_agree_count (o ∷ os) (more t ts) h = (let e = all_agree_count os ts (and_parts (agree o (Some t)) (all_agree os ts) h).1 in omega arith)
 
 makes_count : (structs : List Struct) (t : TypeTree) (os : List (Option TypeTree)) → makes os (parts_of_type structs t) ≡ true → part_count structs t ≡ Some (length os)

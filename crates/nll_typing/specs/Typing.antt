@@ -1,18 +1,16 @@
 -- Which types a statement or terminator asks to be equal when regions are forgotten, and how large
 -- its types may be.
--- Source: RFC 2094, "Subtyping" and "Reborrow constraints" (the types that are related); the table
+-- Source: RFC 2094, "Subtyping" and "Reborrow constraints" (the types that are related); the rest
 -- is project's choice, and docs/FORMATS.md says the same in words.
-use Rattle.std.specs.Prelude.{ℕ, Bool, true, false, ◌&&◌, List, [], ◌∷◌, ◌++◌, map}
-use Rattle.std.specs.Prelude.{Option, Some, None, is_some}
+use Rattle.std.specs.Prelude.{ℕ, Bool, true, false, ◌&&◌, List, ◌++◌, Option, Some, None, is_some}
 use Rattle.std.specs.List.{list_all}
-use Rattle.nll_types.specs.Types.{TypeTree, TypeTrees, int, reference, tuple, named, none, more}
-use Rattle.nll_types.specs.Structs.{Struct, struct_at, put_in_all}
+use Rattle.nll_types.specs.Types.{TypeTree, TypeTrees, none, more}
+use Rattle.nll_types.specs.Structs.{Struct}
 use Rattle.nll_types.specs.Places.{type_of, small_prefixes}
-use Rattle.nll_types.specs.Operands.{Operand, operand_type}
 use Rattle.nll_types.specs.Shapes.{same_shape, is_small}
-use Rattle.nll_statements.specs.Statements.{Statement, assign, borrow, make, read, switch, call}
-use Rattle.nll_statements.specs.Statements.{types_written}
+use Rattle.nll_statements.specs.Statements.{Statement, make, read, types_written}
 use Rattle.nll_statements.specs.Effects.{target_of, sources_of}
+use Rattle.nll_statements.specs.TypePairs.{parts_of_type, type_pairs}
 
 -- ---- types that agree
 
@@ -21,48 +19,19 @@ abbrev pub agree : Option TypeTree → Option TypeTree → Bool
 agree (Some t) (Some u) = same_shape t u
 agree _ _ = false
 
--- the types of the parts of a tuple, or of the fields of a struct with its arguments put in
-abbrev pub parts_of_type : List Struct → TypeTree → Option TypeTrees
-parts_of_type structs (tuple ts) = Some ts
-parts_of_type structs (named n rs ts) = Some (put_in_all rs ts (struct_at structs n).fields)
-parts_of_type structs _ = None
+-- each pair agrees
+abbrev pub pairs_agree : List (Option TypeTree × Option TypeTree) → Bool
+pairs_agree pairs = list_all (λ x. agree x.0 x.1) pairs
 
--- there is one operand for each type, and they agree
-abbrev pub all_agree : List (Option TypeTree) → TypeTrees → Bool
-all_agree [] none = true
-all_agree (o ∷ os) (more t ts) = agree o (Some t) && all_agree os ts
-all_agree _ _ = false
+-- a place that is read, and of which nothing goes anywhere, has a type
+abbrev pub is_read_typed : List Struct → List TypeTree → Statement ℕ TypeTree → Bool
+is_read_typed structs variables (read p) = is_some (type_of structs variables p)
+is_read_typed structs variables _ = true
 
--- the type has parts, and they agree with the operands
-abbrev pub makes : List (Option TypeTree) → Option TypeTrees → Bool
-makes os None = false
-makes os (Some ts) = all_agree os ts
-
--- the type of a reference to a place of this type, where it has one
-abbrev pub reference_to : ℕ → Bool → Option TypeTree → Option TypeTree
-reference_to r m None = None
-reference_to r m (Some t) = Some (reference r m t)
-
--- the types of operands over variables of these types
-abbrev pub operand_types : List Struct → List TypeTree → List Operand → List (Option TypeTree)
-operand_types structs variables ops = map (operand_type structs variables) ops
-
--- Each place has a type, and the types that are to be equal when regions are forgotten are.
+-- Each place has a type, and the types that meet are equal when regions are forgotten.
 abbrev pub types_agree : List Struct → List TypeTree → Statement ℕ TypeTree → Bool
-types_agree structs variables (assign p op) =
-    agree (operand_type structs variables op) (type_of structs variables p)
-types_agree structs variables (borrow p r m q) =
-    agree (reference_to r m (type_of structs variables q)) (type_of structs variables p)
-types_agree structs variables (make p t ops) =
-    makes (operand_types structs variables ops) (parts_of_type structs t)
-    && agree (Some t) (type_of structs variables p)
-types_agree structs variables (read p) = is_some (type_of structs variables p)
-types_agree structs variables (switch op bs) =
-    agree (operand_type structs variables op) (Some int)
-types_agree structs variables (call p args t wheres b unwind) =
-    list_all (λ a. agree (operand_type structs variables a.0) (Some a.1)) args
-    && agree (Some t) (type_of structs variables p)
-types_agree structs variables _ = true
+types_agree structs variables i =
+    pairs_agree (type_pairs structs variables i) && is_read_typed structs variables i
 
 -- ---- types that are small
 

@@ -5,10 +5,10 @@ ghost use Rattle.std.specs.Prelude.{IfSome, IsTrue};
 ghost use Rattle.nll_types.specs.Shapes.{reference_shape};
 ghost use Rattle.nll_types.specs.Table.{shape_in};
 ghost use Rattle.nll_types.specs.Types.{TypeTree};
+ghost use Rattle.nll_statements.specs.TypePairs.{reference_to};
 ghost use Rattle.nll_typing.specs.Found.{IsFound};
 ghost use Rattle.nll_typing.specs.Judging.{IsJudged};
 ghost use Rattle.nll_typing.specs.Typing as spec;
-ghost use Rattle.nll_typing.specs.Typing.{reference_to};
 
 use crate::finding::Found;
 use nll_types::{Node, Shapes};

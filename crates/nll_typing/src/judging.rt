@@ -13,9 +13,10 @@ ghost use Rattle.nll_types.specs.Types.{TypeTree, int};
 ghost use Rattle.nll_statements.specs.Effects.{place_in};
 ghost use Rattle.nll_statements.specs.Kept.{statement_of};
 ghost use Rattle.nll_statements.specs.Statements.{map_statement, types_written, make, call};
+ghost use Rattle.nll_statements.specs.TypePairs.{reference_to};
 ghost use Rattle.nll_typing.specs.Judging.{HaveShapes, IsJudged};
 ghost use Rattle.nll_typing.specs.Typing as spec;
-ghost use Rattle.nll_typing.specs.Typing.{types_agree, types_are_small, reference_to};
+ghost use Rattle.nll_typing.specs.Typing.{types_agree, types_are_small};
 
 use crate::finding::{operand_found, place_found, shape_found};
 use crate::judged::{JudgedStatement, agree, both, fitting, refers, unfit};

@@ -11,9 +11,10 @@ ghost use Rattle.nll_types.specs.Table.{Extends, AreBelow, shape_in};
 ghost use Rattle.nll_types.specs.Types.{TypeTree};
 ghost use Rattle.nll_types.specs.declared.place.Projection.TheVariants.{Field as field};
 ghost use Rattle.nll_statements.specs.Effects.{place_in};
+ghost use Rattle.nll_statements.specs.TypePairs.{beside_parts, operand_types, parts_of_type};
 ghost use Rattle.nll_typing.specs.Judging.{HaveShapes, IsJudged};
 ghost use Rattle.nll_typing.specs.Typing as spec;
-ghost use Rattle.nll_typing.specs.Typing.{makes, operand_types, parts_of_type, parts_are_small};
+ghost use Rattle.nll_typing.specs.Typing.{pairs_agree, parts_are_small};
 
 use crate::finding::{operand_found, shape_found};
 use crate::judged::{JudgedStatement, agree, both, fitting, unfit};
@@ -104,8 +105,9 @@ pub(crate) fn judge_parts(
         → HaveShapes table.old.shapes variables.now types
         → shape_in table.old.shapes shape ≡ shape_of t
         → IsJudged
-        (makes (operand_types (structs_of table.old.structs) types (map operand_of operands.now))
-        (parts_of_type (structs_of table.old.structs) t))
+        (pairs_agree (beside_parts
+        (operand_types (structs_of table.old.structs) types (map operand_of operands.now))
+        (parts_of_type (structs_of table.old.structs) t)))
         (list_all (small_prefixes (structs_of table.old.structs) types)
         (flat_map place_in (map operand_of operands.now))
         && parts_are_small (parts_of_type (structs_of table.old.structs) t)) j) }

@@ -7,8 +7,8 @@ use Rattle.nll_types.specs.Views.{tree}
 use Rattle.nll_statements.specs.Statements.{call}
 use Rattle.nll_rules.specs.Asking.{Asks}
 use Rattle.nll_rules.specs.Pairs.{AddsPairs}
-use Rattle.nll_rules.proofs.PairLemmas.{adds_same}
-use Rattle.nll_rules.proofs.StatementLemmas.{asks_assign, arguments_seen, pairs_seen}
+use Rattle.nll_rules.proofs.PairLemmas.{adds_none, adds_same}
+use Rattle.nll_rules.proofs.StatementLemmas.{asks_assign, asks_switch, arguments_seen, pairs_seen}
 use Rattle.nll_rules.proofs.statement.asks.Goals as goal
 
 pub returns-in_ok-ask_assign-in-Assign : goal.returns-in_ok-ask_assign-in-Assign
@@ -28,3 +28,7 @@ returns-in_ok-ask_call-in-Call c =
     (arguments_seen operand_of tree called.arguments.items)
     (subst (λ (ws : List (ℕ × ℕ)). AddsPairs (Asks structs types (call (path_of called.place) (map {B = Operand × TypeTree} (λ a. (operand_of a.0, tree a.1)) called.arguments.items) (tree called.result) ws called.target called.unwind)) old new)
     (pairs_seen called.wheres.items) told))
+
+pub returns-in-Switch : goal.returns-in-Switch
+returns-in-Switch c =
+    rw c.in-Switch.is (adds_none _ _ (asks_switch (structs_of c.args.variables.now.structs.now) (map tree c.args.variables.now.types.now) (operand_of c.in-Switch.field-0) c.in-Switch.field-1.items))

@@ -1,15 +1,16 @@
-use Rattle.std.proofs.Common.{◌≡◌, ℕ, List, [], ◌∷◌, map, refl, subst}
+use Rattle.std.proofs.Common.{◌≡◌, ℕ, List, [], ◌∷◌, map, refl, subst, Some}
 use Rattle.std.specs.List.{list_all}
 use Rattle.nll_types.specs.Declarations.{structs_of}
-use Rattle.nll_types.specs.Operands.{Operand, operand_of}
-use Rattle.nll_types.specs.Places.{path_of, small_prefixes}
-use Rattle.nll_types.specs.Types.{TypeTree}
+use Rattle.nll_types.specs.Operands.{Operand, operand_of, operand_type}
+use Rattle.nll_types.specs.Places.{path_of, type_of, small_prefixes}
+use Rattle.nll_types.specs.Types.{TypeTree, int}
 use Rattle.nll_statements.specs.Effects.{place_in}
 use Rattle.nll_statements.specs.Statements.{call}
+use Rattle.nll_statements.specs.TypePairs.{reference_to}
 use Rattle.nll_typing.specs.Judging.{IsJudged}
 use Rattle.nll_typing.specs.Typing.{types_agree, types_are_small}
 use Rattle.nll_typing.proofs.CallLemmas.{arguments_mapped, written_mapped}
-use Rattle.nll_typing.proofs.JudgedLemmas.{assign_order, borrow_order, return_order, switch_order, judged_as}
+use Rattle.nll_typing.proofs.JudgedLemmas.{assign_order, borrow_order, return_order, switch_order, judged_as, one_agrees}
 use Rattle.nll_typing.proofs.FoundLemmas.{shape_at}
 use Rattle.std.proofs.lemmas.Result.{IfOk-weaker}
 use Rattle.nll_typing.proofs.judging.judge_statement.Goals as goal
@@ -18,7 +19,8 @@ pub returns-in-Borrow-clause-judged : goal.returns-in-Borrow-clause-judged
 returns-in-Borrow-clause-judged g c =
     let structs = structs_of c.args.table.now.structs in
     rw c.in-Borrow.is (IfOk-weaker c.judge_borrow.result _ _ (λ j told. λ types f h e w.
-    judged_as refl (borrow_order (small_prefixes structs types (path_of c.in-Borrow.borrowed)) (small_prefixes structs types (path_of c.in-Borrow.place)))
+    let agrees = one_agrees (reference_to (f c.in-Borrow.field-1) c.in-Borrow.mutable (type_of structs types (path_of c.in-Borrow.borrowed))) (type_of structs types (path_of c.in-Borrow.place)) in
+    judged_as agrees (borrow_order (small_prefixes structs types (path_of c.in-Borrow.borrowed)) (small_prefixes structs types (path_of c.in-Borrow.place)))
     (told types (f c.in-Borrow.field-1) e)) c.judge_borrow.ensures.judged)
 
 pub returns-in-Call-clause-judged : goal.returns-in-Call-clause-judged
@@ -46,7 +48,8 @@ pub returns-in-Assign-clause-judged : goal.returns-in-Assign-clause-judged
 returns-in-Assign-clause-judged g c =
     let structs = structs_of c.args.table.now.structs in
     rw c.in-Assign.is (IfOk-weaker c.judge_assign.result _ _ (λ j told. λ types f h e w.
-    judged_as refl (assign_order (list_all (small_prefixes structs types) (place_in (operand_of c.in-Assign.operand))) (small_prefixes structs types (path_of c.in-Assign.place)))
+    let agrees = one_agrees (operand_type structs types (operand_of c.in-Assign.operand)) (type_of structs types (path_of c.in-Assign.place)) in
+    judged_as agrees (assign_order (list_all (small_prefixes structs types) (place_in (operand_of c.in-Assign.operand))) (small_prefixes structs types (path_of c.in-Assign.place)))
     (told types e)) c.judge_assign.ensures.judged)
 
 pub returns-in-Assign-clause-structs : goal.returns-in-Assign-clause-structs
@@ -112,7 +115,10 @@ returns-in-Read-clause-judged g c =
 
 pub returns-in-Switch-clause-judged : goal.returns-in-Switch-clause-judged
 returns-in-Switch-clause-judged g c =
-    rw c.in-Switch.is (IfOk-weaker c.judge_switch.result _ _ (λ j told. λ types f h e w. judged_as refl (switch_order _) (told types e)) c.judge_switch.ensures.judged)
+    let structs = structs_of c.args.table.now.structs in
+    rw c.in-Switch.is (IfOk-weaker c.judge_switch.result _ _ (λ j told. λ types f h e w.
+    judged_as (one_agrees (operand_type structs types (operand_of c.in-Switch.operand)) (Some int)) (switch_order (list_all (small_prefixes structs types) (place_in (operand_of c.in-Switch.operand)))) (told types e))
+    c.judge_switch.ensures.judged)
 
 pub returns-in-Make-clause-judged : goal.returns-in-Make-clause-judged
 returns-in-Make-clause-judged g c =

@@ -7,10 +7,11 @@ use Rattle.nll_types.specs.Places.{small_prefixes}
 use Rattle.nll_types.specs.Types.{TypeTrees}
 use Rattle.nll_statements.specs.Effects.{place_in}
 use Rattle.nll_types.proofs.ShapingLemmas.{extends_then}
-use Rattle.nll_typing.specs.Typing.{makes, operand_types, parts_are_small}
+use Rattle.nll_statements.specs.TypePairs.{operand_types}
+use Rattle.nll_typing.specs.Typing.{parts_are_small}
 use Rattle.nll_typing.proofs.FoundLemmas.{below_later, shapes_later, shape_later}
 use Rattle.nll_typing.proofs.JudgedLemmas.{judged_as}
-use Rattle.nll_typing.proofs.PartLemmas.{makes_none, parts_there, parts_counted, part_behind, parts_more, parts_all, row_next}
+use Rattle.nll_typing.proofs.PartLemmas.{makes, makes_none, parts_there, parts_counted, part_behind, parts_more, parts_all, row_next}
 use Rattle.nll_typing.proofs.parts.judge_parts.Goals as goal
 
 pub returns-then-not-has_parts-clause-judged : goal.returns-then-not-has_parts-clause-judged

@@ -8,10 +8,11 @@ use Rattle.nll_types.specs.Shapes.{shape_of}
 use Rattle.nll_types.specs.Table.{Extends, shape_in}
 use Rattle.nll_types.specs.Types.{TypeTree, TypeTrees}
 use Rattle.nll_statements.specs.Effects.{place_in}
+use Rattle.nll_statements.specs.TypePairs.{operand_types, parts_of_type}
 use Rattle.nll_typing.specs.Judging.{HaveShapes}
-use Rattle.nll_typing.specs.Typing.{all_agree, operand_types, parts_of_type, are_small}
+use Rattle.nll_typing.specs.Typing.{are_small}
 use Rattle.nll_typing.proofs.JudgedLemmas.{IsSoFar}
-use Rattle.nll_typing.proofs.PartLemmas.{row_after}
+use Rattle.nll_typing.proofs.PartLemmas.{all_agree, row_after}
 use Rattle.nll_typing.proofs.parts.judge_parts.Given as goal
 
 abbrev pub invariant-loop-place : goal.invariant-loop-place
