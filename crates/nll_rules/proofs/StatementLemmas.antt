@@ -8,7 +8,6 @@ use Rattle.nll_types.specs.Places.{PlacePath, type_of, behind}
 use Rattle.nll_types.specs.Operands.{Operand, operand_type}
 use Rattle.nll_types.specs.declared.place.Projection.TheVariants.{Field}
 use Rattle.nll_statements.specs.Statements.{Statement, assign, borrow, make, switch, call}
-use Rattle.nll_statements.specs.TypePairs.{type_pairs}
 use Rattle.nll_statements.proofs.TypePairLemmas.{Meet, pairs_meet}
 use Rattle.nll_rules.specs.Positions.{Turn, own, HasRegionAt}
 use Rattle.nll_rules.specs.Subtyping.{SubtypeAsks}
