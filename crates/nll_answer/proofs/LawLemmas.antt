@@ -3,9 +3,9 @@ use Rattle.std.proofs.Common.{◌≡◌, ◌≢◌, ◌↔◌, ℕ, List, inl, i
 use Rattle.std.specs.Prelude.{codes}
 use Rattle.nll_problem.specs.Problem.{Problem, SameProblem}
 use Rattle.nll_problem.proofs.SameLemmas.{same_set_back, same_set_chain}
-use Rattle.nll_reading.specs.Labels.{Labels}
-use Rattle.nll_reading.specs.Text.{IsHeader}
-use Rattle.nll_reading.specs.declared.error.TextKind.{TextKind}
+use Rattle.nll_format.specs.Labels.{Labels}
+use Rattle.nll_format.specs.Text.{IsHeader}
+use Rattle.nll_format.specs.declared.error.TextKind.{TextKind}
 use Rattle.nll_facts.specs.FactsText.{facts, Means as IsFactsOf}
 use Rattle.nll_facts.specs.declared.version.Version.{Version}
 use Rattle.nll_facts.proofs.LawLemmas as facts_laws

@@ -4,11 +4,11 @@ use Rattle.std.specs.Prelude.{IsOkAnd}
 use Rattle.std.proofs.lemmas.Bool.{false≢true}
 use Rattle.nll_problem.specs.Problem.{Problem}
 use Rattle.nll_text.specs.Lines.{lines_of}
-use Rattle.nll_reading.specs.Labels.{Labels}
-use Rattle.nll_reading.specs.Text.{IsRefusal}
-use Rattle.nll_reading.specs.declared.error.TextError.{TextError}
-use Rattle.nll_reading.specs.declared.error.TextKind.{TextKind}
-use Rattle.nll_reading.specs.declared.error.TextKind.TheVariants as kind
+use Rattle.nll_format.specs.Labels.{Labels}
+use Rattle.nll_format.specs.Text.{IsRefusal}
+use Rattle.nll_format.specs.declared.error.TextError.{TextError}
+use Rattle.nll_format.specs.declared.error.TextKind.{TextKind}
+use Rattle.nll_format.specs.declared.error.TextKind.TheVariants as kind
 use Rattle.nll_facts.specs.FactsText.{IsFactsFault}
 use Rattle.nll_body.specs.Bodies.{BodyText, labels_of}
 use Rattle.nll_mir_text.specs.MirText.{IsMirHeader, IsMirFault, Means as IsBodyOf}

@@ -12,7 +12,7 @@ use Rattle.nll_sets.specs.declared.run.Run.{Run}
 use Rattle.nll_core.specs.Values.{set_of, IsHeld}
 use Rattle.nll_problem.specs.Problem.{Problem, IsSound, end_of}
 use Rattle.nll_problem.specs.Faults.{AreFaults}
-use Rattle.nll_reading.specs.Labels.{Labels}
+use Rattle.nll_format.specs.Labels.{Labels}
 use Rattle.nll_answer.specs.Report.{IsListed, IsValuesReport, value_lines}
 
 cons_cases : (x : ℕ) (xs : List ℕ) (y : ℕ) → Contains (x ∷ xs) y → (x ≡ y) ⊎ Contains xs y

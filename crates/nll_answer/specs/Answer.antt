@@ -4,7 +4,7 @@ use Rattle.std.specs.Prelude.{◌≡◌, ℕ, List, [], ◌∷◌}
 use Rattle.nll_problem.specs.Problem.{Problem}
 use Rattle.nll_problem.specs.Solution.{Least}
 use Rattle.nll_problem.specs.Faults.{AreFaults}
-use Rattle.nll_reading.specs.Labels.{Labels}
+use Rattle.nll_format.specs.Labels.{Labels}
 use Rattle.nll_answer.specs.Report.{IsValuesReport, faults_report}
 use Rattle.nll_answer.specs.declared.answers.Command.{Command}
 use Rattle.nll_answer.specs.declared.answers.Command.TheVariants.{Values, Check}

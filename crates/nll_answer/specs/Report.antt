@@ -5,9 +5,9 @@ use Rattle.std.specs.Prelude.{AllPairs, slice_index_or, if◌then◌else◌}
 use Rattle.std.specs.List.{flat_map, range_with_len}
 use Rattle.std.specs.Fmt.{decimal}
 use Rattle.nll_problem.specs.Problem.{Problem}
-use Rattle.nll_reading.specs.Labels.{Labels, point_name}
-use Rattle.nll_reading.specs.declared.labels.PointName.{PointName}
-use Rattle.nll_reading.specs.declared.labels.PointName.TheVariants.{Number, Block}
+use Rattle.nll_format.specs.Labels.{Labels, point_name}
+use Rattle.nll_format.specs.declared.labels.PointName.{PointName}
+use Rattle.nll_format.specs.declared.labels.PointName.TheVariants.{Number, Block}
 
 -- a region is written as its name behind a `'` (39)
 abbrev pub region_text : Labels → ℕ → List ℕ

@@ -6,10 +6,10 @@ use Rattle.std.specs.Prelude.{◌≡◌, ◌⊎◌, ℕ, List, ◌∷◌}
 use Rattle.nll_problem.specs.Problem.{Problem}
 use Rattle.nll_problem.specs.declared.error.Kind.TheVariants.{Constraints}
 use Rattle.nll_text.specs.Lines.{lines_of}
-use Rattle.nll_reading.specs.Labels.{Labels}
-use Rattle.nll_reading.specs.declared.error.TextError.{TextError}
-use Rattle.nll_reading.specs.declared.error.TextKind.{TextKind}
-use Rattle.nll_reading.specs.declared.error.TextKind.TheVariants as kind
+use Rattle.nll_format.specs.Labels.{Labels}
+use Rattle.nll_format.specs.declared.error.TextError.{TextError}
+use Rattle.nll_format.specs.declared.error.TextKind.{TextKind}
+use Rattle.nll_format.specs.declared.error.TextKind.TheVariants as kind
 use Rattle.nll_facts.specs.FactsText.{IsFactsFault, Means as IsFactsOf}
 use Rattle.nll_body.specs.Bodies.{BodyText, labels_of}
 use Rattle.nll_mir_text.specs.MirText.{IsMirHeader, IsMirFault, Means as IsBodyOf}

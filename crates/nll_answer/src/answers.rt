@@ -11,11 +11,11 @@ ghost use Rattle.nll_answer.specs.Texts.{IsAnswerError};
 
 use crate::error::AnswerError;
 use crate::faults_report::faults_text;
-use crate::meanings::{meaning, read_meaning};
+use crate::meant_problem::{meaning, read_meaning};
 use crate::values_report::region_lines;
 use nll_core::{Memory, Problem, RegionId, faults, solve};
 use nll_facts::Facts;
-use nll_reading::Labels;
+use nll_format::Labels;
 use std::alloc::Global;
 
 /// What is asked of a text.

@@ -2,7 +2,7 @@
 
 use nll_body_problem::RuleError;
 use nll_core::Memory;
-use nll_reading::{TextError, TextKind};
+use nll_format::{TextError, TextKind};
 use nll_run::RunError;
 use thiserror::Error;
 

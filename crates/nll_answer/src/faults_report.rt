@@ -4,7 +4,7 @@ ghost use Rattle.std.specs.Prelude.{◌≡◌, ◌<◌, ◌++◌, length, All, I
 ghost use Rattle.nll_answer.specs.Report.{fault_line, faults_report};
 
 use nll_core::{Memory, RegionId};
-use nll_reading::Labels;
+use nll_format::Labels;
 use std::alloc::{AllocError, Global};
 use std::fmt::Write;
 

@@ -2,8 +2,8 @@
 
 ghost use Rattle.std.specs.Prelude.{◌≡◌, ◌≢◌, ℕ, List};
 ghost use Rattle.nll_problem.specs.Problem.{Problem, SameProblem};
-ghost use Rattle.nll_reading.specs.Labels.{Labels};
-ghost use Rattle.nll_reading.specs.declared.error.TextKind.{TextKind};
+ghost use Rattle.nll_format.specs.Labels.{Labels};
+ghost use Rattle.nll_format.specs.declared.error.TextKind.{TextKind};
 ghost use Rattle.nll_answer.specs.Texts.{IsAnswerError, IsMeaning, IsTextFault};
 ghost use Rattle.nll_answer.specs.declared.error.AnswerError.{AnswerError};
 

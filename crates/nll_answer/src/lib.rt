@@ -1,14 +1,14 @@
 //! The answer to a facts text or a MIR text: its problem's least values or their faults, as the
 //! bytes of a report.
 //!
-//! Read `answers` first, then `meanings`, `values_report` and `faults_report`.
+//! Read `answers` first, then `meant_problem`, `values_report` and `faults_report`.
 #![tactic(auto)]
 
 mod answers;
 mod error;
 mod faults_report;
 mod laws;
-mod meanings;
+mod meant_problem;
 mod run_answers;
 mod values_report;
 
@@ -16,6 +16,6 @@ pub use answers::{Command, answer, answer_of, answer_text};
 pub use error::AnswerError;
 pub use faults_report::faults_text;
 pub use laws::{no_text_has_both, one_text_fault, one_text_meaning};
-pub use meanings::{meaning, read_meaning};
+pub use meant_problem::{meaning, read_meaning};
 pub use run_answers::answer_run;
 pub use values_report::values_text;

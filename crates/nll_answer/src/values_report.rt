@@ -11,7 +11,7 @@ ghost use Rattle.nll_answer.specs.Report.{end_text, value_lines};
 
 use itoa::write_digits;
 use nll_core::{Element, Memory, Problem, RegionId, Run, Values};
-use nll_reading::{Labels, PointName};
+use nll_format::{Labels, PointName};
 use std::alloc::Global;
 
 /// Prints the report of values: a line for each region.

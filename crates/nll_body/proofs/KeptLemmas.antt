@@ -4,7 +4,7 @@ use Rattle.std.specs.Prelude.{option_map}
 use Rattle.std.proofs.lemmas.List.{length-map}
 use Rattle.std.proofs.lemmas.Option.{get_or_from_slice_get, slice_get_within, slice_get_read, slice_get-map}
 use Rattle.nll_problem.specs.Graph.{Graph}
-use Rattle.nll_reading.specs.Labels.{Labels, blocks}
+use Rattle.nll_format.specs.Labels.{Labels, blocks}
 use Rattle.nll_types.specs.Declarations.{structs_of}
 use Rattle.nll_types.specs.Types.{TypeTree}
 use Rattle.nll_types.specs.Structs.{IsWellFormed}

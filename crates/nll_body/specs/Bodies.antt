@@ -3,7 +3,7 @@
 use Rattle.std.specs.Prelude.{◌≡◌, ◌⊎◌, ◌↔◌, ℕ, ◌+◌, false, List, length, Contains}
 use Rattle.std.specs.Prelude.{Some, slice_get}
 use Rattle.nll_problem.specs.Graph.{Graph, IsNext, IsReturn}
-use Rattle.nll_reading.specs.Labels.{Labels, blocks}
+use Rattle.nll_format.specs.Labels.{Labels, blocks}
 use Rattle.nll_types.specs.Types.{TypeTree}
 use Rattle.nll_types.specs.Structs.{Struct}
 use Rattle.nll_statements.specs.Statements.{Statement, is_terminator, return}

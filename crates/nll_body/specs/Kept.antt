@@ -2,7 +2,7 @@
 -- Source: project's choice. Private contracts alone cite this file.
 use Rattle.std.specs.Prelude.{◌≡◌, ℕ, List, [], map}
 use Rattle.nll_problem.specs.Graph.{Graph}
-use Rattle.nll_reading.specs.Labels.{Labels, Points, numbers, blocks}
+use Rattle.nll_format.specs.Labels.{Labels, Points, numbers, blocks}
 use Rattle.nll_types.specs.Declarations.{structs_of}
 use Rattle.nll_types.specs.Views.{tree}
 use Rattle.nll_types.specs.declared.structs.Declaration.{Declaration}

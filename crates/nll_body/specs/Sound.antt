@@ -3,7 +3,7 @@
 use Rattle.std.specs.Prelude.{◌<◌, ◌≤◌, ℕ, length, All, Contains}
 use Rattle.nll_problem.specs.Limits.{most_points, most_edges, most_universals, most_regions}
 use Rattle.nll_problem.specs.Limits.{most_variables}
-use Rattle.nll_reading.specs.Labels.{AreFirstPoints}
+use Rattle.nll_format.specs.Labels.{AreFirstPoints}
 use Rattle.nll_types.specs.Types.{TypeTree}
 use Rattle.nll_types.specs.Structs.{AreInOrder, IsWellFormed}
 use Rattle.nll_statements.specs.Statements.{Statement, types_written}

@@ -1,7 +1,7 @@
 //! What a reader gathers for a body.
 
 use crate::statement::Stmt;
-use nll_reading::Names;
+use nll_format::Names;
 use nll_types::{Structs, Ty};
 
 /// The parts of a body.

@@ -1,6 +1,6 @@
 //! A body that copies a large type without regions again and again: a copy asks nothing, and isn't
 //! to go through the type.
-use super::telling::constraints_told;
+use super::problem_text::constraints_told;
 use std::alloc::{AllocError, Global};
 
 // How many parts the large type has beside its first.

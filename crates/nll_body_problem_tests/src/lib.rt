@@ -1,7 +1,7 @@
 //! Tests of the problems of bodies, by public calls alone. Expected values are found by hand from
 //! the definitions.
 //!
-//! Reading order: `telling`, `problems`, `limits`, `copies`, `repeats`.
+//! Reading order: `problem_text`, `problems`, `limits`, `copies`, `repeats`.
 #![tactic(auto)]
 
 #[cfg(test)]
@@ -9,8 +9,8 @@ mod copies;
 #[cfg(test)]
 mod limits;
 #[cfg(test)]
+mod problem_text;
+#[cfg(test)]
 mod problems;
 #[cfg(test)]
 mod repeats;
-#[cfg(test)]
-mod telling;

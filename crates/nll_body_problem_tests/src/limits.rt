@@ -1,7 +1,7 @@
 //! Bodies with as many constraints as a problem may have, and with more.
 ghost use Rattle.std.specs.Prelude.{◌≤◌};
 
-use super::telling::constraints_told;
+use super::problem_text::constraints_told;
 use std::alloc::{AllocError, Global};
 
 // How many references there are in a tuple of 4,095 nodes.

@@ -1,5 +1,5 @@
 //! The problems of worked texts, and of texts that ask for something in each way.
-use super::telling::problem_told;
+use super::problem_text::problem_told;
 use nll_body_problem::one_problem;
 use nll_worked_texts::{
     ASSERTED, CALLED, DROPPED, FUNCTIONS, MOVED, REBORROW, RETURNED, TAKERS, TWO_BORROWS,

@@ -2,7 +2,7 @@
 //! of them, between variables of two types: were what each line asks worked out anew, the test
 //! would take more time than it has.
 
-use super::telling::constraints_told;
+use super::problem_text::constraints_told;
 use std::alloc::{AllocError, Global};
 
 // How many references the field has beside its first.

@@ -6,7 +6,7 @@ ghost use Rattle.nll_core.specs.Values.{IsHeld, IsShaped};
 ghost use Rattle.nll_problem.specs.Faults.{IsFault, AreFaults};
 ghost use Rattle.nll_core.specs.Outliving.{AreOutlived, HasNoForeignEnd, FindsUpTo};
 
-use crate::outliving::outlived_by;
+use crate::known_outlives::outlived_by;
 use crate::values::Values;
 use nll_problem::{Problem, RegionId};
 use nll_sets::{BitSet, Element, ElementSet, Memory};

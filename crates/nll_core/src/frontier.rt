@@ -10,8 +10,8 @@ ghost use Rattle.nll_core.specs.Frontiers.{IsIdle, first_frontier};
 ghost use Rattle.nll_problem.specs.At.{IsAmong, at_rank};
 ghost use Rattle.nll_problem.specs.declared.at.At.{At as places};
 
+use crate::continuation::{is_idle, resume};
 use crate::places::Places;
-use crate::resuming::{is_idle, resume};
 use crate::steps::Steps;
 use nll_problem::At;
 use nll_sets::{Memory, Run, RunSet};

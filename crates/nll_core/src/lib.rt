@@ -1,37 +1,37 @@
 //! The least solution of a problem of location-aware regions, and its faults.
 //! The problem is that of `nll_problem`, the sets are those of `nll_sets`; both are found here too.
 //!
-//! Reading order: `values`, `bases`, `lines` (with `line_ends`, `jumps`), `stretches`, `filling`,
-//! `walk`, `pairs`, `inclusion`, `meeting`, `order`, `solver`; `points`, `starts`, `returns`,
-//! `landings`, `steps`, `places`, `resuming`, `frontier`; `search`, `reachability`, `outliving`,
-//! `fault_check`. The definitions are in specs/.
+//! Reading order: `values`, `bases`, `lines` (with `line_ends`, `jumps`), `stretches`, `tail_copy`,
+//! `walk`, `pairs`, `inclusion`, `satisfaction`, `order`, `solver`; `points`, `starts`, `returns`,
+//! `landings`, `steps`, `places`, `continuation`, `frontier`; `search`, `reachability`,
+//! `known_outlives`, `fault_check`. The definitions are in specs/.
 #![tactic(auto)]
 
 mod bases;
+mod continuation;
 mod fault_check;
-mod filling;
 mod frontier;
 mod inclusion;
 mod jumps;
+mod known_outlives;
 mod landing;
 mod landings;
 mod line_ends;
 mod lines;
-mod meeting;
 mod order;
-mod outliving;
 mod pairs;
 mod places;
 mod points;
 mod reachability;
 mod region_elements;
-mod resuming;
 mod returns;
+mod satisfaction;
 mod search;
 mod solver;
 mod starts;
 mod steps;
 mod stretches;
+mod tail_copy;
 mod values;
 mod walk;
 

@@ -17,9 +17,9 @@ ghost use Rattle.nll_core.specs.Worklist.{Visits};
 
 use crate::bases::base_values;
 use crate::lines::Lines;
-use crate::meeting::meet;
 use crate::order::order_of;
 use crate::pairs::pair_end;
+use crate::satisfaction::meet;
 use crate::values::Values;
 use crate::walk::Walk;
 use nll_problem::{ConstraintIndex, Problem, RegionId};

@@ -12,9 +12,9 @@ ghost use Rattle.nll_core.specs.Walking.{AreAskedOf, AreAtPoints, IsLedFrom, Are
 ghost use Rattle.nll_core.specs.Walking.{NoneEverywhere, NoneInside, constraint_at, point_of};
 ghost use Rattle.nll_sets.specs.Runs.{first_of, last_of, IsRunFrom, IsWithin, MakeUp};
 
-use crate::filling::fill_from;
 use crate::lines::Lines;
 use crate::stretches::{enter, spread};
+use crate::tail_copy::fill_from;
 use nll_problem::{At, Constraint};
 use nll_sets::{ElementSet, Memory, Run, RunSet};
 use std::alloc::Global;

@@ -5,14 +5,14 @@ use Rattle.std.specs.List.{AllByRecursion}
 use Rattle.std.specs.Str.Parse.{digits_value}
 use Rattle.std.proofs.lemmas.Bool.{lt-ltb, le-ltb}
 use Rattle.nll_text.specs.Tokens.{Token, word}
-use Rattle.nll_reading.specs.Parts.{IsSmall, Spells, one_number, token_of}
-use Rattle.nll_reading.specs.Text.{IsFault}
-use Rattle.nll_reading.specs.declared.error.TextKind.{TextKind}
-use Rattle.nll_reading.specs.declared.error.TextKind.TheVariants.{Range, End}
-use Rattle.nll_reading.proofs.ListingLemmas as listing
-use Rattle.nll_reading.proofs.PartLemmas as parts
-use Rattle.nll_reading.proofs.PartLemmas.{printed}
-use Rattle.nll_reading.proofs.TextLaws as laws
+use Rattle.nll_format.specs.Parts.{IsSmall, Spells, one_number, token_of}
+use Rattle.nll_format.specs.Text.{IsFault}
+use Rattle.nll_format.specs.declared.error.TextKind.{TextKind}
+use Rattle.nll_format.specs.declared.error.TextKind.TheVariants.{Range, End}
+use Rattle.nll_format.proofs.ListingLemmas as listing
+use Rattle.nll_format.proofs.PartLemmas as parts
+use Rattle.nll_format.proofs.PartLemmas.{printed}
+use Rattle.nll_format.proofs.TextLaws as laws
 use Rattle.nll_cut_text.specs.CutText.{cut, owners, owner_fault, Means}
 
 -- a number above 65,535 has a fault, the others have none

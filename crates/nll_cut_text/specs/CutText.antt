@@ -1,11 +1,11 @@
 -- Cut files as a format, and what a cut file means: the owner of region 0, of region 1, and so on.
 -- Source: project's choice; docs/FORMATS.md says the same in words.
 use Rattle.std.specs.Prelude.{ℕ, nat_lt, List, codes, Option, None, Some, if◌then◌else◌}
-use Rattle.nll_reading.specs.Parts.{one_number}
-use Rattle.nll_reading.specs.Text.{Format, IsText}
-use Rattle.nll_reading.specs.Listing.{Listing, format_of}
-use Rattle.nll_reading.specs.declared.error.TextKind.{TextKind}
-use Rattle.nll_reading.specs.declared.error.TextKind.TheVariants.{Range}
+use Rattle.nll_format.specs.Parts.{one_number}
+use Rattle.nll_format.specs.Text.{Format, IsText}
+use Rattle.nll_format.specs.Listing.{Listing, format_of}
+use Rattle.nll_format.specs.declared.error.TextKind.{TextKind}
+use Rattle.nll_format.specs.declared.error.TextKind.TheVariants.{Range}
 
 -- a number above 65,535 is no owner's, whatever the number of owners is
 abbrev pub owner_fault : ℕ → Option TextKind

@@ -1,12 +1,12 @@
 //! Reading a whole cut file.
 
 ghost use Rattle.std.specs.Prelude.{IfOk, IfErr, [], codes, refl};
-ghost use Rattle.nll_reading.specs.Parts.{number as number_part};
-ghost use Rattle.nll_reading.specs.Text.{IsFault, IsRefusal};
+ghost use Rattle.nll_format.specs.Parts.{number as number_part};
+ghost use Rattle.nll_format.specs.Text.{IsFault, IsRefusal};
 ghost use Rattle.nll_cut_text.specs.CutText.{cut, owners, Means};
 
+use nll_format::{TextError, TextKind, number};
 use nll_list_text::{ListFormat, read_list};
-use nll_reading::{TextError, TextKind, number};
 use std::alloc::Global;
 
 /// Reads a cut file, version 1: the owner of each region, in region order.

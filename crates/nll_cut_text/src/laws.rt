@@ -1,8 +1,8 @@
 //! Laws of the definitions, which hold of all texts.
 
 ghost use Rattle.std.specs.Prelude.{◌≡◌, ◌≢◌, ◌⊎◌, ℕ, List};
-ghost use Rattle.nll_reading.specs.Text.{IsFault};
-ghost use Rattle.nll_reading.specs.declared.error.TextKind.{TextKind};
+ghost use Rattle.nll_format.specs.Text.{IsFault};
+ghost use Rattle.nll_format.specs.declared.error.TextKind.{TextKind};
 ghost use Rattle.nll_cut_text.specs.CutText.{cut, Means};
 
 /// States that a text has at most one fault.

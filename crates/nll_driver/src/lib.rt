@@ -1,20 +1,20 @@
 //! Owners that one thread drives over mailboxes of any kind, in any order of turns.
 //!
-//! Reading order: `turn`, `stop`, `channel`, `steps`, `starting`, `settling`, `network`, `driving`.
+//! Reading order: `turn`, `stop`, `channel`, `steps`, `start`, `settlement`, `network`, `driver`.
 //! The definitions are in specs/: `Network` first, then `Turns`.
 #![tactic(auto)]
 
 mod channel;
-mod driving;
+mod driver;
 mod network;
-mod settling;
-mod starting;
+mod settlement;
+mod start;
 mod steps;
 mod stop;
 mod turn;
 
 pub use channel::Channel;
-pub use driving::drive_by_turns;
+pub use driver::drive_by_turns;
 pub use network::{Network, Settled};
 pub use stop::Stop;
 pub use turn::Turn;

@@ -12,8 +12,8 @@ ghost use Rattle.nll_driver.specs.declared.stop.Stop.TheVariants.{Wrong};
 ghost use Rattle.nll_driver.specs.declared.turn.Turn.TheVariants.{Load, Post, Take};
 
 use crate::channel::Channel;
-use crate::settling::{end_all, settle_all};
-use crate::starting::{channels_of, owners_of};
+use crate::settlement::{end_all, settle_all};
+use crate::start::{channels_of, owners_of};
 use crate::steps::{load, post_all};
 use crate::stop::Stop;
 use crate::turn::Turn;

@@ -7,8 +7,8 @@ use Rattle.nll_text.specs.Lines.{is_skipped}
 use Rattle.nll_text.specs.Tokens.{word, IsMadeOf}
 use Rattle.nll_text.specs.Lexing.{BeginsWith, BeginsNotWith}
 use Rattle.nll_text.proofs.Utf8Lemmas.{IsUtf8-word}
-use Rattle.nll_reading.specs.Parts.{Name, Part, keyword, number, region, token_of, Spells, one_number, two_numbers, one_region, two_regions, region_number}
-use Rattle.nll_reading.proofs.PartLemmas.{spells_rest, none_first, other_word, spelled_utf8, spelled_kept}
+use Rattle.nll_format.specs.Parts.{Name, Part, keyword, number, region, token_of, Spells, one_number, two_numbers, one_region, two_regions, region_number}
+use Rattle.nll_format.proofs.PartLemmas.{spells_rest, none_first, other_word, spelled_utf8, spelled_kept}
 use Rattle.nll_facts.specs.FactsForms.{Form, points, universal, outlives, further, next, return, base, constraint, end, parts, one_place, two_regions_place, HasForm}
 use Rattle.nll_facts.specs.FactsReading.{IsText, HasTexts}
 use Rattle.nll_problem.specs.declared.at.At.{At}

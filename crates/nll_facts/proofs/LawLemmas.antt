@@ -3,11 +3,11 @@ use Rattle.std.proofs.Common.{◌⊎◌, inl, inr, ⊎_elim, ◌≡◌, ℕ, tru
 use Rattle.std.proofs.lemmas.Bool.{cases_Bool, cases_eq, false≢true}
 use Rattle.nll_problem.specs.Problem.{Problem, SameProblem}
 use Rattle.nll_problem.proofs.SameLemmas.{same_problem, same_problem_back, same_problem_chain}
-use Rattle.nll_reading.specs.Labels.{Labels, numbers}
-use Rattle.nll_reading.specs.Text.{IsText, IsFault, IsHeaded, IsHeader, too_long, header_not_utf8, no_header, at_line, no_end}
+use Rattle.nll_format.specs.Labels.{Labels, numbers}
+use Rattle.nll_format.specs.Text.{IsText, IsFault, IsHeaded, IsHeader, too_long, header_not_utf8, no_header, at_line, no_end}
 use Rattle.std.specs.Str.{IsUtf8}
-use Rattle.nll_reading.specs.declared.error.TextKind.{TextKind}
-use Rattle.nll_reading.proofs.TextLaws as laws
+use Rattle.nll_format.specs.declared.error.TextKind.{TextKind}
+use Rattle.nll_format.proofs.TextLaws as laws
 use Rattle.nll_facts.specs.FactsForms.{Form, end}
 use Rattle.nll_facts.specs.FactsVersions.{HasFormIn, is_of_version}
 use Rattle.nll_facts.specs.FactsSaid.{reached, names_said, problem_said}

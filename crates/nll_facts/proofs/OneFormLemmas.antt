@@ -12,10 +12,10 @@ use Rattle.nll_text.specs.Tokens.{Token, word, region}
 use Rattle.nll_text.proofs.NumberLemmas.{no_digits}
 use Rattle.nll_problem.specs.declared.at.At.{At}
 use Rattle.nll_problem.specs.declared.at.At.TheVariants.{All, Point}
-use Rattle.nll_reading.specs.Parts.{Name, IsSmall, token_of}
-use Rattle.nll_reading.specs.Text.{HasAtMost}
-use Rattle.nll_reading.proofs.PartLemmas as lemmas
-use Rattle.nll_reading.proofs.PartLemmas.{printed}
+use Rattle.nll_format.specs.Parts.{Name, IsSmall, token_of}
+use Rattle.nll_format.specs.Text.{HasAtMost}
+use Rattle.nll_format.proofs.PartLemmas as lemmas
+use Rattle.nll_format.proofs.PartLemmas.{printed}
 use Rattle.nll_facts.specs.FactsForms.{Form, points, universal, outlives, further, next, return, base, constraint, end, HasForm, parts, most_tokens}
 use Rattle.nll_facts.specs.FactsText.{facts}
 use Rattle.nll_facts.specs.declared.version.Version.{Version}

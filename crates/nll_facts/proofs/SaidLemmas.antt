@@ -13,13 +13,13 @@ use Rattle.nll_problem.specs.Building.{AddsFact, same_pair, same_constraint}
 use Rattle.nll_problem.specs.declared.constraint.Constraint.{Constraint}
 use Rattle.nll_problem.proofs.SameLemmas.{same_problem}
 use Rattle.nll_problem.proofs.FactLemmas.{pair_found, constraint_found, adds_pair, adds_constraint}
-use Rattle.nll_reading.specs.Names.{number_of}
-use Rattle.nll_reading.specs.Parts.{Name}
+use Rattle.nll_format.specs.Names.{number_of}
+use Rattle.nll_format.specs.Parts.{Name}
 use Rattle.nll_facts.specs.FactsForms.{Form, points, universal, outlives, further, next, return, base, constraint, end}
 use Rattle.nll_facts.specs.FactsSaid.{Said, said, is_universal, first_fault, is_in_order, group, reached, points_in, universal_in, further_in, outlives_in, edge_in, return_in, base_in, constraint_in, first_or_zero, universals_said, names_said, problem_said}
 use Rattle.nll_facts.specs.FactsReading.{bare, Adds, SameSaid}
-use Rattle.nll_reading.specs.declared.error.TextKind.{TextKind}
-use Rattle.nll_reading.specs.declared.error.TextKind.TheVariants.{Syntax, Unknown}
+use Rattle.nll_format.specs.declared.error.TextKind.{TextKind}
+use Rattle.nll_format.specs.declared.error.TextKind.TheVariants.{Syntax, Unknown}
 
 -- ---- the same is said
 

@@ -5,13 +5,13 @@ use Rattle.std.specs.Str.{IsUtf8}
 use Rattle.std.proofs.lemmas.Bool.{false≢true}
 use Rattle.nll_problem.specs.Limits.{most_bytes}
 use Rattle.nll_problem.specs.declared.error.Kind.TheVariants.{Text}
-use Rattle.nll_reading.specs.Text.{IsHeaded, IsHeader, IsHeaderFault, IsCut, IsFault, IsFaulty, IsRefusal, no_form}
-use Rattle.nll_reading.specs.Text as texts
+use Rattle.nll_format.specs.Text.{IsHeaded, IsHeader, IsHeaderFault, IsCut, IsFault, IsFaulty, IsRefusal, no_form}
+use Rattle.nll_format.specs.Text as texts
 use Rattle.nll_text.specs.Lines.{is_skipped}
-use Rattle.nll_reading.specs.declared.error.TextError.{TextError}
-use Rattle.nll_reading.specs.declared.error.TextKind.{TextKind}
-use Rattle.nll_reading.specs.declared.error.TextKind.TheVariants.{Limit, Syntax}
-use Rattle.nll_reading.proofs.ReadingLemmas.{header_refused}
+use Rattle.nll_format.specs.declared.error.TextError.{TextError}
+use Rattle.nll_format.specs.declared.error.TextKind.{TextKind}
+use Rattle.nll_format.specs.declared.error.TextKind.TheVariants.{Limit, Syntax}
+use Rattle.nll_format.proofs.ReadingLemmas.{header_refused}
 use Rattle.nll_facts.specs.FactsForms.{Form, HasForm}
 use Rattle.nll_facts.specs.FactsVersions.{HasFormIn, is_of_version}
 use Rattle.nll_facts.specs.declared.version.Version.{Version}

@@ -3,7 +3,7 @@
 use Rattle.std.specs.Prelude.{ℕ, List, [], ◌∷◌, codes}
 use Rattle.nll_problem.specs.declared.at.At.{At}
 use Rattle.nll_problem.specs.declared.at.At.TheVariants.{All, Point}
-use Rattle.nll_reading.specs.Parts.{Name, Part, keyword, number, region, Spells}
+use Rattle.nll_format.specs.Parts.{Name, Part, keyword, number, region, Spells}
 
 -- A line that isn't skipped, by its form.
 pub data Form : Type 0 where

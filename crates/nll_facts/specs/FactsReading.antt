@@ -9,10 +9,10 @@ use Rattle.nll_problem.specs.Graph.{Graph}
 use Rattle.nll_problem.specs.Problem.{Problem, SameProblem}
 use Rattle.nll_problem.specs.Building.{AddsFact, bare_problem}
 use Rattle.nll_problem.specs.GraphBuilding.{bare_graph}
-use Rattle.nll_reading.specs.Names.{number_of}
-use Rattle.nll_reading.specs.Parts.{Part, keyword, number, region}
-use Rattle.nll_reading.specs.declared.error.TextKind.{TextKind}
-use Rattle.nll_reading.specs.declared.error.TextKind.TheVariants.{Memory}
+use Rattle.nll_format.specs.Names.{number_of}
+use Rattle.nll_format.specs.Parts.{Part, keyword, number, region}
+use Rattle.nll_format.specs.declared.error.TextKind.{TextKind}
+use Rattle.nll_format.specs.declared.error.TextKind.TheVariants.{Memory}
 use Rattle.nll_facts.specs.FactsForms.{Form, points, universal, outlives, further, next, return}
 use Rattle.nll_facts.specs.FactsForms.{base, constraint, end, parts}
 use Rattle.nll_facts.specs.FactsSaid.{Said, said, group, is_in_order, first_fault}

@@ -14,14 +14,14 @@ use Rattle.nll_problem.specs.Limits.{most_points, most_edges, most_universals, m
 use Rattle.nll_problem.specs.Limits.{most_constraints}
 use Rattle.nll_problem.specs.declared.error.Kind.TheVariants.{Points, Edges, Universals, Regions}
 use Rattle.nll_problem.specs.declared.error.Kind.TheVariants.{Constraints}
-use Rattle.nll_reading.specs.Names.{number_of}
-use Rattle.nll_reading.specs.Parts.{Name}
-use Rattle.nll_reading.specs.Kinds.{kinds}
+use Rattle.nll_format.specs.Names.{number_of}
+use Rattle.nll_format.specs.Parts.{Name}
+use Rattle.nll_format.specs.Kinds.{kinds}
 use Rattle.nll_facts.specs.FactsForms.{Form, points, universal, outlives, further, next}
 use Rattle.nll_facts.specs.FactsForms.{return, base, constraint, end}
-use Rattle.nll_reading.specs.declared.error.TextKind.{TextKind}
-use Rattle.nll_reading.specs.declared.error.TextKind.TheVariants.{Syntax, Unknown, Duplicate, Range}
-use Rattle.nll_reading.specs.declared.error.TextKind.TheVariants.{Limit}
+use Rattle.nll_format.specs.declared.error.TextKind.{TextKind}
+use Rattle.nll_format.specs.declared.error.TextKind.TheVariants.{Syntax, Unknown, Duplicate, Range}
+use Rattle.nll_format.specs.declared.error.TextKind.TheVariants.{Limit}
 
 -- ---- what one line says
 

@@ -2,9 +2,9 @@
 -- Source: project's choice; docs/FORMATS.md says the same in words.
 use Rattle.std.specs.Prelude.{◌≡◌, ℕ, List, codes, Contains}
 use Rattle.nll_problem.specs.Problem.{Problem, SameProblem}
-use Rattle.nll_reading.specs.Labels.{Labels, numbers}
-use Rattle.nll_reading.specs.Text.{Format, IsText, IsHeaded, IsFault}
-use Rattle.nll_reading.specs.declared.error.TextKind.{TextKind}
+use Rattle.nll_format.specs.Labels.{Labels, numbers}
+use Rattle.nll_format.specs.Text.{Format, IsText, IsHeaded, IsFault}
+use Rattle.nll_format.specs.declared.error.TextKind.{TextKind}
 use Rattle.nll_facts.specs.FactsForms.{Form, end}
 use Rattle.nll_facts.specs.FactsVersions.{HasFormIn, version_codes}
 use Rattle.nll_facts.specs.FactsSaid.{Said, said, first_fault, names_said, problem_said}

@@ -2,15 +2,15 @@
 
 ghost use Rattle.std.specs.Prelude.{◌<◌, ◌^◌, ℕ, List, length, IfOk, IfErr};
 ghost use Rattle.nll_text.specs.Lines.{lines_left};
-ghost use Rattle.nll_reading.specs.Lines.{AreShort, RefusesBody};
-ghost use Rattle.nll_reading.specs.Text.{IsHeaded, IsRefusal};
+ghost use Rattle.nll_format.specs.Lines.{AreShort, RefusesBody};
+ghost use Rattle.nll_format.specs.Text.{IsHeaded, IsRefusal};
 ghost use Rattle.nll_facts.specs.FactsText.{facts, IsFactsFault, Means};
 
 use crate::header::check_header;
 use crate::reader::Reader;
 use crate::version::Version;
+use nll_format::{Labels, MAX_TEXT, TextError, TextKind, read_lines};
 use nll_problem::{Kind, Problem};
-use nll_reading::{Labels, MAX_TEXT, TextError, TextKind, read_lines};
 use nll_text::next_line;
 use std::alloc::Global;
 

@@ -2,12 +2,12 @@
 
 ghost use Rattle.std.specs.Prelude.{IfOk, IfErr, MatchOption};
 ghost use Rattle.std.specs.Str.{IsUtf8};
-ghost use Rattle.nll_reading.specs.Text.{IsHeader, IsHeaderFault};
+ghost use Rattle.nll_format.specs.Text.{IsHeader, IsHeaderFault};
 ghost use Rattle.nll_facts.specs.FactsText.{facts};
 ghost use Rattle.nll_facts.specs.declared.version.Version.{Version as versions};
 
 use crate::version::Version;
-use nll_reading::{TextError, TextKind};
+use nll_format::{TextError, TextKind};
 use nll_text::is_header;
 use std::str;
 

@@ -2,12 +2,12 @@
 
 ghost use Rattle.std.specs.Prelude.{◌≡◌, ◌⊎◌, ℕ, List};
 ghost use Rattle.nll_problem.specs.Problem.{Problem, SameProblem};
-ghost use Rattle.nll_reading.specs.Labels.{Labels};
-ghost use Rattle.nll_reading.specs.Text.{HasAtMost};
+ghost use Rattle.nll_format.specs.Labels.{Labels};
+ghost use Rattle.nll_format.specs.Text.{HasAtMost};
 ghost use Rattle.nll_facts.specs.FactsForms.{most_tokens};
 ghost use Rattle.nll_facts.specs.declared.version.Version.{Version};
 ghost use Rattle.nll_facts.specs.FactsText.{facts, IsFactsFault, Means};
-ghost use Rattle.nll_reading.specs.declared.error.TextKind.{TextKind};
+ghost use Rattle.nll_format.specs.declared.error.TextKind.{TextKind};
 
 /// States that a text has at most one fault.
 pub fn facts_one_fault()

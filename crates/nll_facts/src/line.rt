@@ -6,11 +6,11 @@ ghost use Rattle.nll_text.specs.Tokens as lex;
 ghost use Rattle.nll_facts.specs.FactsForms as forms;
 ghost use Rattle.nll_facts.specs.FactsForms.{parts};
 ghost use Rattle.nll_facts.specs.FactsLines.{view};
-ghost use Rattle.nll_reading.specs.Parts as shapes;
-ghost use Rattle.nll_reading.specs.Parts.{Reads, Spells};
+ghost use Rattle.nll_format.specs.Parts as shapes;
+ghost use Rattle.nll_format.specs.Parts.{Reads, Spells};
 
+use nll_format::{nothing, number, region, region_number, two_numbers, two_regions};
 use nll_problem::At;
-use nll_reading::{nothing, number, region, region_number, two_numbers, two_regions};
 use nll_text::{after_word, first_region};
 
 /// A line, with its names where they lie in the text.

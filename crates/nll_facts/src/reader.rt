@@ -14,14 +14,14 @@ ghost use Rattle.nll_facts.specs.FactsSaid.{first_fault, is_declared, is_in_orde
 ghost use Rattle.nll_facts.specs.FactsReading.{said_by, IsKept, IsReady, HasTexts, SameSaid};
 ghost use Rattle.nll_facts.specs.FactsReading.{IsDue, IsTaken, IsRefused};
 ghost use Rattle.nll_facts.specs.FactsText.{facts};
-ghost use Rattle.nll_reading.specs.Names.{number_of};
+ghost use Rattle.nll_format.specs.Names.{number_of};
 
 use crate::line::{Line, line_of};
 use crate::version::{Version, is_of_version};
+use nll_format::{LineReader, Names, TextKind, pass_over};
 use nll_problem::{
     At, Constraint, Kind, MAX_POINTS, MAX_UNIVERSALS, Problem, ProblemBuilder, RegionId,
 };
-use nll_reading::{LineReader, Names, TextKind, pass_over};
 use std::alloc::Global;
 
 /// What the lines read so far say.

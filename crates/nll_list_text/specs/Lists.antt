@@ -1,9 +1,9 @@
 -- What a reader of a text that lists items makes of a line.
--- Source: project's choice. What a listing is stands in nll_reading (`Listing`).
+-- Source: project's choice. What a listing is stands in nll_format (`Listing`).
 use Rattle.std.specs.Prelude.{◌≡◌, ℕ, List, ◌∷◌, Option, None, Some, Result, Ok, Err}
-use Rattle.nll_reading.specs.Listing.{Listing}
-use Rattle.nll_reading.specs.Parts.{Part, Spells}
-use Rattle.nll_reading.specs.declared.error.TextKind.{TextKind}
+use Rattle.nll_format.specs.Listing.{Listing}
+use Rattle.nll_format.specs.Parts.{Part, Spells}
+use Rattle.nll_format.specs.declared.error.TextKind.{TextKind}
 
 -- The answer to a line is the item of an entry without a fault, which the line spells; or what is
 -- wrong with an entry that it spells; or none, where it spells no entry.

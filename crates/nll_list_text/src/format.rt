@@ -1,10 +1,10 @@
 //! What a text lists that has one item a line.
 
 ghost use Rattle.std.specs.Prelude.{◌≡◌};
-ghost use Rattle.nll_reading.specs.Listing.{Listing};
+ghost use Rattle.nll_format.specs.Listing.{Listing};
 ghost use Rattle.nll_list_text.specs.Lists.{HasSomePart, IsItemOf};
 
-use nll_reading::TextKind;
+use nll_format::TextKind;
 
 /// A kind of texts that list items, one a line behind the header.
 pub trait ListFormat {

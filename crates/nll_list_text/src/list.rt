@@ -2,12 +2,12 @@
 
 ghost use Rattle.std.specs.Prelude.{◌≡◌, ◌<◌, ◌^◌, [], length, map, IfOk, IfErr};
 ghost use Rattle.nll_text.specs.Lines.{lines_left};
-ghost use Rattle.nll_reading.specs.Lines.{AreShort, RefusesBody};
-ghost use Rattle.nll_reading.specs.Listing.{format_of};
-ghost use Rattle.nll_reading.specs.Text.{IsFault, IsRefusal, IsText, Says};
+ghost use Rattle.nll_format.specs.Lines.{AreShort, RefusesBody};
+ghost use Rattle.nll_format.specs.Listing.{format_of};
+ghost use Rattle.nll_format.specs.Text.{IsFault, IsRefusal, IsText, Says};
 
 use crate::format::ListFormat;
-use nll_reading::{LineReader, TextError, TextKind, open_text, pass_over, read_lines};
+use nll_format::{LineReader, TextError, TextKind, open_text, pass_over, read_lines};
 use std::alloc::Global;
 
 /// Reads a text of a format: its items, in the order of their lines.

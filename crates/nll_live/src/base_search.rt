@@ -12,8 +12,8 @@ ghost use Rattle.nll_problem.specs.BaseRuns.{IsInBaseRuns};
 ghost use Rattle.nll_live.specs.BaseRuns.{Gains};
 
 use crate::base_runs::push_all;
-use crate::gathering::{drops_by_variable, uses_by_variable};
 use crate::live_points::find_set;
+use crate::points_by_variable::{drops_by_variable, uses_by_variable};
 use crate::search::Room;
 use crate::ways::{Ways, ways_of};
 use nll_body::Body;

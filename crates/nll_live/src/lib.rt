@@ -1,18 +1,18 @@
 //! Liveness: where the value of a variable may still be used or dropped, and the base elements of
 //! regions that come of it. It knows no text.
 //!
-//! Reading order: `live_sets`, `live_points`, `base_elements`, `base_search`; `ways`, `gathering`,
-//! `chains`, `lows`, `search`, `base_runs`. The definitions are in specs/.
+//! Reading order: `live_sets`, `live_points`, `base_elements`, `base_search`; `ways`,
+//! `points_by_variable`, `chains`, `lows`, `search`, `base_runs`. The definitions are in specs/.
 #![tactic(auto)]
 
 mod base_elements;
 mod base_runs;
 mod base_search;
 mod chains;
-mod gathering;
 mod live_points;
 mod live_sets;
 mod lows;
+mod points_by_variable;
 mod search;
 mod ways;
 

@@ -11,8 +11,8 @@ ghost use Rattle.nll_live.specs.LiveSets.{AreLiveSets, AreSetsOf};
 ghost use Rattle.nll_live.specs.Lows.{AreWays};
 ghost use Rattle.nll_live.specs.Marks.{IsCovered};
 
-use crate::gathering::{drops_by_variable, uses_by_variable};
 use crate::live_sets::LiveSets;
+use crate::points_by_variable::{drops_by_variable, uses_by_variable};
 use crate::search::{Room, search_back};
 use crate::ways::{Ways, ways_of};
 use nll_body::Body;

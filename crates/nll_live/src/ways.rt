@@ -5,7 +5,7 @@ ghost use Rattle.nll_body.specs.Bodies.{IsGraphOf};
 ghost use Rattle.nll_live.specs.Lows.{AreWays};
 
 use crate::chains::chain_starts;
-use crate::gathering::definitions_by_variable;
+use crate::points_by_variable::definitions_by_variable;
 use nll_body::Body;
 use nll_problem::Predecessors;
 use nll_sets::Memory;

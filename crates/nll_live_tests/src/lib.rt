@@ -1,7 +1,7 @@
 //! Tests of liveness, by its public calls alone. Expected values are found by hand from the
 //! definitions. The plain program, `live_by_rounds`, has a contract of the words of `liveness`.
 //!
-//! Reading order: `live_rounds`, `living`, then each module of tests.
+//! Reading order: `live_rounds`, `live_text`, then each module of tests.
 #![tactic(auto)]
 
 mod live_rounds;
@@ -9,8 +9,8 @@ mod live_rounds;
 pub use live_rounds::live_by_rounds;
 
 #[cfg(test)]
-mod liveness;
+mod live_text;
 #[cfg(test)]
-mod living;
+mod liveness;
 #[cfg(test)]
 mod random_bodies;

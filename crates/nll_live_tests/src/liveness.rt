@@ -1,5 +1,5 @@
 //! Where the variables of worked texts are live, and the base elements that regions get of it.
-use super::living::live_by_both;
+use super::live_text::live_by_both;
 use nll_worked_texts::{CALLED, DROPPED, MOVED, REBORROW, RETURNED, TWO_BORROWS, text_of};
 use std::alloc::Global;
 use std::process::Abort;

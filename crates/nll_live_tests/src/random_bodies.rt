@@ -1,7 +1,7 @@
 //! Random small bodies: both programs find the same variables live, and the same base elements.
 ghost use Rattle.std.specs.Prelude.{◌<◌};
 
-use super::living::live_by_both;
+use super::live_text::live_by_both;
 use std::alloc::{AllocError, Global};
 use std::process::Abort;
 

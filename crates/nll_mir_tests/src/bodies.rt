@@ -1,5 +1,5 @@
 //! Bodies of worked texts: regions, points, edges, and what is used, defined and dropped.
-use super::reading::{Asked, compare_lines};
+use super::body_text::{Asked, compare_lines};
 use nll_worked_texts::{ASSERTED, CALLED, DROPPED, MOVED, REBORROW, RETURNED, TWO_BORROWS};
 
 // Texts, and the bodies that they mean.

@@ -1,21 +1,23 @@
 //! Tests of the reader of MIR texts and of the bodies that it makes, by their public calls alone.
 //! Expected values are found by hand from the rules of the format and from the definitions.
 //!
-//! Reading order: `reading`, `bodies`, then each further module.
+//! Reading order: `body_text`, `bodies`, then each further module.
 #![tactic(auto)]
 
 #[cfg(test)]
 mod bodies;
 #[cfg(test)]
-mod comparing;
+mod body_text;
+#[cfg(test)]
+mod comparison;
 #[cfg(test)]
 mod limits;
 #[cfg(test)]
-mod reading;
+mod pieces;
 #[cfg(test)]
 mod refused;
 #[cfg(test)]
-mod repeating;
+mod repetitions;
 #[cfg(test)]
 mod rows;
 #[cfg(test)]
@@ -24,5 +26,3 @@ mod sizes;
 mod statements;
 #[cfg(test)]
 mod types;
-#[cfg(test)]
-mod writing;

@@ -1,8 +1,8 @@
 //! Texts at the limits of the format, and past them.
-use super::comparing::compare;
-use super::reading::{Asked, read, read_size_in_parts};
-use super::repeating::{Repeated, Row, compare_each, repeated, write_often};
-use super::writing::write_piece;
+use super::body_text::{Asked, read, read_size_in_parts};
+use super::comparison::compare;
+use super::pieces::write_piece;
+use super::repetitions::{Repeated, Row, compare_each, repeated, write_often};
 use std::alloc::Global;
 use std::process::Abort;
 

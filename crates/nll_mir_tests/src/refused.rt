@@ -1,6 +1,6 @@
 //! MIR texts with a fault: the line, and the first kind of fault that it has.
-use super::comparing::compare;
-use super::reading::{Asked, read};
+use super::body_text::{Asked, read};
+use super::comparison::compare;
 use super::rows::{Table, compare_tables};
 use nll_mir_text::is_mir_header;
 use std::process::Abort;

@@ -1,7 +1,7 @@
 //! Tables of texts and of what is told of them: in each row a text, ` ~ `, and what is told. An
 //! empty row, or one that begins with `//`, says nothing.
-use super::reading::{Asked, compare_lines};
-use super::writing::write_piece;
+use super::body_text::{Asked, compare_lines};
+use super::pieces::write_piece;
 use std::alloc::Global;
 use std::process::Abort;
 

@@ -1,8 +1,8 @@
 //! Types at the limit of their nodes and past it, however they are written.
-use super::comparing::compare;
-use super::reading::{Asked, read};
-use super::repeating::{Repeated, Row, compare_each, compare_repeated};
-use super::writing::{write_number, write_piece};
+use super::body_text::{Asked, read};
+use super::comparison::compare;
+use super::pieces::{write_number, write_piece};
+use super::repetitions::{Repeated, Row, compare_each, compare_repeated};
 use std::alloc::Global;
 use std::process::Abort;
 

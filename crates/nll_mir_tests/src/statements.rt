@@ -1,6 +1,6 @@
 //! Statements and terminators of bodies: what each form uses, defines and drops, where it goes on,
 //! which variables are written in it, and how many edges leave its point.
-use super::reading::Asked;
+use super::body_text::Asked;
 use super::rows::{Table, compare_tables};
 
 // The lines in front of the first point of a body, and what is told in front of that point.

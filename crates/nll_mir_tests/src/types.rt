@@ -5,8 +5,8 @@ ghost use Rattle.nll_types.specs.Structs.{IsWellFormed};
 ghost use Rattle.nll_types.specs.Types.{TypeTree};
 ghost use Rattle.nll_types.specs.Views.{tree};
 
-use super::reading::{Asked, compare_lines};
-use super::writing::{write_number, write_piece};
+use super::body_text::{Asked, compare_lines};
+use super::pieces::{write_number, write_piece};
 use nll_body::Body;
 use nll_problem::RegionId;
 use nll_sets::Memory;

@@ -6,7 +6,7 @@ use Rattle.std.specs.Borrow.{Bor}
 use Rattle.std.specs.Global.{Vec}
 use Rattle.std.proofs.lemmas.List.{append-nil, map_push}
 use Rattle.std.proofs.lemmas.List.Folds.{list_all-append}
-use Rattle.nll_reading.specs.Names.{number_of}
+use Rattle.nll_format.specs.Names.{number_of}
 use Rattle.nll_types.specs.Types.{TypeTree}
 use Rattle.nll_types.specs.Places.{PlacePath, path_of}
 use Rattle.nll_types.specs.Operands.{Operand}
@@ -19,8 +19,8 @@ use Rattle.nll_type_grammar.specs.declared.type_text.TypeNode.{TypeNode}
 use Rattle.nll_statements.specs.Statements.{Statement, map_statement, types_written}
 use Rattle.nll_statements.specs.Kept.{arguments_of, call_of}
 use Rattle.nll_statements.specs.declared.statement.Call.{Call}
-use Rattle.nll_naming.specs.Naming.{Scope, is_among, is_known, has_arguments, meant}
-use Rattle.nll_naming.specs.Resolution.{Resolved, IsResolved, tree_of}
+use Rattle.nll_resolve.specs.Naming.{Scope, is_among, is_known, has_arguments, meant}
+use Rattle.nll_resolve.specs.Resolution.{Resolved, IsResolved, tree_of}
 use Rattle.nll_mir_text.specs.Stating.{bound_numbers, is_bound, argument_kept, argument_in, argument_resolved, as_resolved, has_names, AreAmid, AreOfArguments, IsOfStatement}
 
 and_true : (b : Bool) → (b && true) ≡ b

@@ -16,7 +16,7 @@ use Rattle.nll_mir_grammar.specs.Lines.{parameter_of}
 use Rattle.nll_mir_grammar.specs.MirForms.{WrittenParameter}
 use Rattle.nll_mir_grammar.specs.Tuples.{IsTuple, parts}
 use Rattle.nll_mir_grammar.specs.declared.line.StructText.{StructText}
-use Rattle.nll_naming.specs.Naming.{Scope, all_meant, meant}
+use Rattle.nll_resolve.specs.Naming.{Scope, all_meant, meant}
 use Rattle.nll_mir_text.specs.declared.groups.Group.TheVariants.{Structs}
 use Rattle.nll_mir_text.specs.MirSaid.{Said, field_scope, is_region, regions_in, types_in}
 use Rattle.nll_mir_text.specs.MirSteps.{says, declared}

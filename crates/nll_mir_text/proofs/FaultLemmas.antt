@@ -3,8 +3,8 @@ use Rattle.std.proofs.Common.{◌≡◌, Bool, true, false, cond, List, [], ◌�
 use Rattle.std.specs.Prelude.{find}
 use Rattle.std.specs.List.{AllByRecursion}
 use Rattle.nll_problem.specs.declared.error.Kind.TheVariants.{Points, Edges, Universals, Regions, Variables, Structs}
-use Rattle.nll_reading.specs.Kinds.{kinds}
-use Rattle.nll_reading.specs.declared.error.TextKind.TheVariants.{Syntax, Unknown, Duplicate, Range, Shape, TypeSize, Limit}
+use Rattle.nll_format.specs.Kinds.{kinds}
+use Rattle.nll_format.specs.declared.error.TextKind.TheVariants.{Syntax, Unknown, Duplicate, Range, Shape, TypeSize, Limit}
 use Rattle.nll_mir_grammar.specs.MirForms.{Form}
 use Rattle.nll_mir_text.specs.MirSaid.{Said}
 use Rattle.nll_mir_text.specs.MirFaults.{has_fault, first_fault}

@@ -1,8 +1,8 @@
 -- A MIR text has one meaning at most, one fault at most, and never both or neither.
 use Rattle.std.proofs.Common.{◌≡◌, ℕ, List, refl, sym, ap, ◌∙◌, subst}
-use Rattle.nll_reading.specs.Text.{IsFault, IsText, IsHeaded}
-use Rattle.nll_reading.specs.declared.error.TextKind.{TextKind}
-use Rattle.nll_reading.proofs.TextLaws as laws
+use Rattle.nll_format.specs.Text.{IsFault, IsText, IsHeaded}
+use Rattle.nll_format.specs.declared.error.TextKind.{TextKind}
+use Rattle.nll_format.proofs.TextLaws as laws
 use Rattle.nll_mir_grammar.specs.MirForms.{Form}
 use Rattle.nll_mir_grammar.specs.declared.version.Version.{Version}
 use Rattle.nll_mir_grammar.specs.declared.version.Version.TheVariants.{First, Second}

@@ -8,9 +8,9 @@ use Rattle.nll_text.specs.Lines.{lines_of, without_last_feed, is_skipped}
 use Rattle.nll_text.proofs.DecisionLemmas.{utf8_or_not}
 use Rattle.nll_problem.specs.Limits.{most_bytes}
 use Rattle.nll_problem.specs.declared.error.Kind.TheVariants.{Text}
-use Rattle.nll_reading.specs.Text.{Fits, skipped, of_form, IsFaulty, not_utf8, no_form, at_form, Says, IsCut, IsHeaded, IsText, IsFault, too_long, header_not_utf8, no_header, at_line, no_end}
-use Rattle.nll_reading.specs.declared.error.TextKind.{TextKind}
-use Rattle.nll_reading.specs.declared.error.TextKind.TheVariants.{NotUtf8, Header, Syntax, Limit, End}
+use Rattle.nll_format.specs.Text.{Fits, skipped, of_form, IsFaulty, not_utf8, no_form, at_form, Says, IsCut, IsHeaded, IsText, IsFault, too_long, header_not_utf8, no_header, at_line, no_end}
+use Rattle.nll_format.specs.declared.error.TextKind.{TextKind}
+use Rattle.nll_format.specs.declared.error.TextKind.TheVariants.{NotUtf8, Header, Syntax, Limit, End}
 use Rattle.nll_mir_grammar.specs.MirForms.{Form}
 use Rattle.nll_mir_grammar.specs.Versions.{HasFormIn}
 use Rattle.nll_mir_grammar.specs.declared.version.Version.{Version}

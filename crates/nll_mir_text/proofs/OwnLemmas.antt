@@ -7,8 +7,8 @@ use Rattle.std.proofs.lemmas.Bool.{cases_lt, cases_Bool, lt-ltb, le-ltb, ltb-fal
 use Rattle.std.proofs.lemmas.List.{append-nil, length-append, map_push}
 use Rattle.std.proofs.lemmas.List.Elements.{filter_map-append}
 use Rattle.std.proofs.lemmas.Slice.Eq.{bytes_eq-Decides}
-use Rattle.nll_reading.specs.Names.{number_of}
-use Rattle.nll_reading.proofs.NameLemmas.{number_of_within}
+use Rattle.nll_format.specs.Names.{number_of}
+use Rattle.nll_format.proofs.NameLemmas.{number_of_within}
 use Rattle.nll_types.specs.declared.parameter.Parameter.{Parameter}
 use Rattle.nll_type_grammar.specs.WrittenTypes.{Name, WrittenType, WrittenTypes, Arguments, no_argument, region_argument, type_argument}
 use Rattle.nll_type_grammar.specs.WrittenTypes as written
@@ -16,7 +16,7 @@ use Rattle.nll_mir_grammar.specs.MirForms.{WrittenParameter, region_parameter, t
 use Rattle.nll_mir_grammar.specs.Lines.{parameter_of}
 use Rattle.nll_mir_grammar.specs.declared.line.ParameterText.{ParameterText}
 use Rattle.nll_mir_grammar.specs.declared.line.ParameterText.TheVariants as parameters
-use Rattle.nll_naming.specs.Naming.{Scope, is_among, is_known, are_known, arguments_are_known}
+use Rattle.nll_resolve.specs.Naming.{Scope, is_among, is_known, are_known, arguments_are_known}
 use Rattle.nll_mir_text.specs.MirSaid.{Said, field_scope, region_in, type_in, regions_in, types_in}
 use Rattle.nll_mir_text.specs.MirFaults.{has_repeats}
 use Rattle.nll_mir_text.specs.MirReading.{IsNamed}

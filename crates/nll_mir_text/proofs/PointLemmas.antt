@@ -7,9 +7,9 @@ use Rattle.std.proofs.lemmas.List.{length-map}
 use Rattle.std.proofs.lemmas.List.Sums.{fold_push}
 use Rattle.nll_problem.specs.Limits.{most_points, most_edges}
 use Rattle.nll_problem.specs.declared.error.Kind.TheVariants.{Points, Edges}
-use Rattle.nll_reading.specs.Names.{number_of}
-use Rattle.nll_reading.specs.declared.error.TextKind.{TextKind}
-use Rattle.nll_reading.specs.declared.error.TextKind.TheVariants.{Syntax, Unknown, Range, Shape, TypeSize, Limit}
+use Rattle.nll_format.specs.Names.{number_of}
+use Rattle.nll_format.specs.declared.error.TextKind.{TextKind}
+use Rattle.nll_format.specs.declared.error.TextKind.TheVariants.{Syntax, Unknown, Range, Shape, TypeSize, Limit}
 use Rattle.nll_types.specs.Types.{TypeTree}
 use Rattle.nll_types.specs.Declarations.{structs_of}
 use Rattle.nll_types.specs.Views.{tree}
@@ -22,16 +22,16 @@ use Rattle.nll_statements.specs.Edges.{edges_from, edge_count}
 use Rattle.nll_statements.specs.Kept.{statement_of}
 use Rattle.nll_statements.specs.declared.statement.Statement.{Statement as Kept}
 use Rattle.nll_statements.proofs.MapLemmas.{same_terminator, same_targets, same_edges, same_variables}
-use Rattle.nll_naming.specs.Naming.{Scope, is_among, is_known, has_arguments, meant}
-use Rattle.nll_naming.specs.Resolution.{Resolved, tree_of}
-use Rattle.nll_typing.specs.Typing.{types_agree, types_are_small}
-use Rattle.nll_typing.specs.Judging.{IsJudged}
-use Rattle.nll_typing.specs.declared.judged.JudgedStatement.{JudgedStatement}
+use Rattle.nll_resolve.specs.Naming.{Scope, is_among, is_known, has_arguments, meant}
+use Rattle.nll_resolve.specs.Resolution.{Resolved, tree_of}
+use Rattle.nll_type_check.specs.Typing.{types_agree, types_are_small}
+use Rattle.nll_type_check.specs.Judging.{IsJudged}
+use Rattle.nll_type_check.specs.declared.judged.JudgedStatement.{JudgedStatement}
 use Rattle.nll_mir_grammar.specs.MirForms.{at_point}
 use Rattle.nll_mir_text.specs.declared.tables.Regions.{Regions}
 use Rattle.nll_mir_text.specs.declared.tables.StructNames.{StructNames}
 use Rattle.nll_mir_text.specs.declared.tables.Variables.{Variables}
-use Rattle.nll_mir_text.specs.declared.stating.JudgedPoint.{JudgedPoint}
+use Rattle.nll_mir_text.specs.declared.next_point.JudgedPoint.{JudgedPoint}
 use Rattle.nll_mir_text.specs.declared.groups.Group.TheVariants.{Blocks}
 use Rattle.nll_mir_text.specs.MirSaid.{Said, statement_meant, body_scope}
 use Rattle.nll_mir_text.specs.MirSteps.{says}

@@ -3,7 +3,7 @@ use Rattle.std.proofs.Common.{◌≡◌, ℕ, ◌+◌, ◌<◌, Bool, true, fals
 use Rattle.std.specs.Prelude.{◌&&◌, MatchOption}
 use Rattle.std.specs.Borrow.{Bor}
 use Rattle.std.proofs.lemmas.List.{map_more}
-use Rattle.nll_reading.specs.Names.{number_of}
+use Rattle.nll_format.specs.Names.{number_of}
 use Rattle.nll_types.specs.declared.place.Place.{Place}
 use Rattle.nll_type_grammar.specs.TypeTexts.{written}
 use Rattle.nll_type_grammar.specs.declared.type_text.TypeNode.{TypeNode}
@@ -12,8 +12,8 @@ use Rattle.nll_statements.specs.declared.statement.Make.{Make}
 use Rattle.nll_statements.specs.declared.statement.Statement.{Statement as Kept}
 use Rattle.nll_statements.specs.declared.statement.Statement.TheVariants as kept
 use Rattle.nll_statements.specs.Statements.{map_statement}
-use Rattle.nll_naming.specs.Naming.{Scope, is_among, is_known}
-use Rattle.nll_naming.specs.Resolution.{Resolved, IsResolved}
+use Rattle.nll_resolve.specs.Naming.{Scope, is_among, is_known}
+use Rattle.nll_resolve.specs.Resolution.{Resolved, IsResolved}
 use Rattle.nll_mir_text.specs.Stating.{as_written, has_names, IsOfStatement}
 
 -- the images of the items so far behind others, with that of one item more

@@ -8,14 +8,14 @@ use Rattle.std.proofs.lemmas.List.{append-nil, length-map, map_push}
 use Rattle.std.proofs.lemmas.List.Elements.{filter_map-append}
 use Rattle.indexmap.specs.IndexSet.{insert_all, insert_key}
 use Rattle.nll_problem.specs.Building.{same_pair}
-use Rattle.nll_reading.specs.Names.{number_of}
-use Rattle.nll_reading.specs.Text.{Fits, skipped, of_form, Says}
-use Rattle.nll_reading.specs.declared.error.TextKind.TheVariants.{Syntax}
+use Rattle.nll_format.specs.Names.{number_of}
+use Rattle.nll_format.specs.Text.{Fits, skipped, of_form, Says}
+use Rattle.nll_format.specs.declared.error.TextKind.TheVariants.{Syntax}
 use Rattle.nll_types.specs.Types.{TypeTree}
 use Rattle.nll_types.specs.Structs.{Struct}
 use Rattle.nll_type_grammar.specs.WrittenTypes.{Name, WrittenType, WrittenTypes}
 use Rattle.nll_statements.specs.Statements.{Statement, is_terminator}
-use Rattle.nll_naming.specs.Naming.{Scope, meant}
+use Rattle.nll_resolve.specs.Naming.{Scope, meant}
 use Rattle.nll_mir_grammar.specs.MirForms.{Form, WrittenParameter, universal, outlives, further, assert_line, struct_line, variable, blocks, block, at_point, end}
 use Rattle.nll_mir_grammar.specs.declared.version.Version.{Version}
 use Rattle.nll_mir_text.specs.declared.groups.Group.{Group}

@@ -7,7 +7,7 @@ use Rattle.std.proofs.lemmas.Bool.{and_parts, not-true, not-false, leb-false, lt
 use Rattle.std.proofs.lemmas.List.Elements.{All-cons, All-push, All-weaker, All-nil, All-contains}
 use Rattle.std.proofs.lemmas.List.Sums.{sum_by_push}
 use Rattle.nll_problem.specs.Building.{same_pair}
-use Rattle.nll_reading.specs.Names.{number_of}
+use Rattle.nll_format.specs.Names.{number_of}
 use Rattle.nll_problem.specs.Limits.{most_points, most_edges, most_universals, most_regions, most_variables}
 use Rattle.nll_types.specs.Types.{TypeTree}
 use Rattle.nll_types.specs.Structs.{Struct, AreInOrder, IsWellFormed}
@@ -17,15 +17,15 @@ use Rattle.nll_statements.specs.Effects.{targets}
 use Rattle.nll_statements.specs.Written.{regions_written, variables_written}
 use Rattle.nll_statements.proofs.MapLemmas.{regions_mapped, types_mapped}
 use Rattle.nll_mir_grammar.specs.MirForms.{Form, WrittenParameter, universal, outlives, further, assert_line, struct_line, variable, blocks, block, at_point, end}
-use Rattle.nll_naming.specs.Naming.{meant, is_among, has_arguments, have_arguments, is_known, are_known}
-use Rattle.nll_reading.specs.Text.{Says, IsText}
+use Rattle.nll_resolve.specs.Naming.{meant, is_among, has_arguments, have_arguments, is_known, are_known}
+use Rattle.nll_format.specs.Text.{Says, IsText}
 use Rattle.nll_body.specs.Edges.{edges_from, edge_count}
 use Rattle.nll_body.specs.Sound.{IsSound}
 use Rattle.nll_body.proofs.PointLemmas.{same_targets, same_end}
 use Rattle.nll_mir_text.specs.MirSaid.{Said, said, statement_meant, body_scope, field_scope, is_region}
 use Rattle.nll_mir_text.specs.MirSteps.{says, nothing_said, declared, rank}
 use Rattle.nll_mir_text.specs.MirFaults.{is_universal, first_fault, has_targets, shapes_fit, knows, are_declared, is_in_body}
-use Rattle.nll_typing.specs.Typing.{types_agree}
+use Rattle.nll_type_check.specs.Typing.{types_agree}
 use Rattle.nll_mir_text.specs.MirReading.{AreKinds}
 use Rattle.nll_mir_grammar.specs.declared.version.Version.{Version}
 use Rattle.nll_mir_text.specs.MirText.{mir, body_said}

@@ -18,10 +18,10 @@ use Rattle.nll_statements.specs.Effects.{place_in, operands_of}
 use Rattle.nll_statements.specs.Kept.{arguments_of}
 use Rattle.nll_types.proofs.ShapingLemmas.{below_push}
 use Rattle.nll_type_grammar.specs.WrittenTypes.{Name}
-use Rattle.nll_naming.specs.Naming.{is_among}
-use Rattle.nll_naming.specs.Resolution.{Resolved, tree_of}
-use Rattle.nll_typing.specs.Judging.{HaveShapes}
-use Rattle.nll_typing.proofs.FoundLemmas.{below_later, shapes_later}
+use Rattle.nll_resolve.specs.Naming.{is_among}
+use Rattle.nll_resolve.specs.Resolution.{Resolved, tree_of}
+use Rattle.nll_type_check.specs.Judging.{HaveShapes}
+use Rattle.nll_type_check.proofs.FoundLemmas.{below_later, shapes_later}
 use Rattle.nll_mir_text.specs.declared.shapes.ShapedTypes.{ShapedTypes}
 use Rattle.nll_mir_text.specs.MirReading.{AreShapes}
 use Rattle.nll_mir_text.specs.Stating.{is_bound, operand_within, argument_within, AreOfTypes, AddsTypes}

@@ -6,13 +6,13 @@ use Rattle.std.proofs.lemmas.Bool.{cases_lt, not-false, leb-false, le-leb, lt-le
 use Rattle.std.proofs.lemmas.List.{get_or_append_left, get_or_at, length-map, take-append-le}
 use Rattle.std.proofs.Math.Seq.{take-length}
 use Rattle.nll_problem.specs.Limits.{most_structs}
-use Rattle.nll_reading.specs.declared.error.TextKind.TheVariants.{Unknown, Duplicate, Shape, TypeSize, Limit}
+use Rattle.nll_format.specs.declared.error.TextKind.TheVariants.{Unknown, Duplicate, Shape, TypeSize, Limit}
 use Rattle.nll_problem.specs.declared.error.Kind.TheVariants.{Structs}
-use Rattle.nll_typing.specs.Typing.{are_small}
+use Rattle.nll_type_check.specs.Typing.{are_small}
 use Rattle.nll_types.specs.Structs.{Struct, no_struct, HasGoodFields, AreWellFormed, AreInOrder}
 use Rattle.nll_type_grammar.specs.WrittenTypes.{Name, WrittenTypes}
 use Rattle.nll_mir_grammar.specs.MirForms.{WrittenParameter, region_parameter, type_parameter, struct_line}
-use Rattle.nll_naming.specs.Naming.{is_among, are_known, have_arguments, all_meant}
+use Rattle.nll_resolve.specs.Naming.{is_among, are_known, have_arguments, all_meant}
 use Rattle.nll_mir_text.specs.MirSaid.{Said, field_scope, is_region, regions_in, types_in}
 use Rattle.nll_mir_text.specs.MirSteps.{declared}
 use Rattle.nll_mir_text.specs.MirFaults.{has_repeats, redeclares, is_in_order, first_fault}

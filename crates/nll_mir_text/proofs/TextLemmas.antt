@@ -6,9 +6,9 @@ use Rattle.nll_text.specs.Tokens.{Token, word, region, arrow, sign, IsMadeOf, Is
 use Rattle.nll_text.specs.Scan.{IsTokenLine}
 use Rattle.nll_mir_grammar.specs.MirForms.{Form, IsSpelled, HasForm}
 use Rattle.nll_mir_grammar.specs.Versions.{IsSpelledIn, HasFormIn}
-use Rattle.nll_reading.specs.Text.{HasFault, IsFaulty, Says}
-use Rattle.nll_reading.specs.declared.error.TextKind.{TextKind}
-use Rattle.nll_reading.proofs.ReadingLemmas as lemmas
+use Rattle.nll_format.specs.Text.{HasFault, IsFaulty, Says}
+use Rattle.nll_format.specs.declared.error.TextKind.{TextKind}
+use Rattle.nll_format.proofs.ReadingLemmas as lemmas
 use Rattle.nll_mir_text.specs.MirSaid.{Said, said}
 use Rattle.nll_mir_text.specs.MirReading.{Adds, ReadsLine, IsAmid, Advances, AreShort, IsReady}
 use Rattle.nll_mir_text.specs.declared.reader.Reader.{Reader}

@@ -6,10 +6,10 @@ use Rattle.nll_text.specs.Tokens.{Token}
 use Rattle.nll_text.proofs.TokenLemmas.{one_token_list_lem}
 use Rattle.nll_problem.specs.Limits.{most_bytes}
 use Rattle.nll_problem.specs.declared.error.Kind.TheVariants.{Text}
-use Rattle.nll_reading.specs.Text.{IsHeaded, IsHeader, IsHeaderFault, IsCut, IsFault, IsRefusal, too_long}
-use Rattle.nll_reading.specs.declared.error.TextError.{TextError}
-use Rattle.nll_reading.specs.declared.error.TextKind.TheVariants.{Limit}
-use Rattle.nll_reading.proofs.ReadingLemmas.{header_refused}
+use Rattle.nll_format.specs.Text.{IsHeaded, IsHeader, IsHeaderFault, IsCut, IsFault, IsRefusal, too_long}
+use Rattle.nll_format.specs.declared.error.TextError.{TextError}
+use Rattle.nll_format.specs.declared.error.TextKind.TheVariants.{Limit}
+use Rattle.nll_format.proofs.ReadingLemmas.{header_refused}
 use Rattle.nll_mir_grammar.specs.MirForms.{Form, IsSpelled, HasForm}
 use Rattle.nll_mir_grammar.specs.Versions.{HasFormIn}
 use Rattle.nll_mir_grammar.specs.declared.version.Version.{Version}

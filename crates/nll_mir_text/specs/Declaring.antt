@@ -6,8 +6,8 @@ use Rattle.nll_mir_grammar.specs.MirForms.{WrittenParameter}
 use Rattle.nll_types.specs.declared.parameter.Parameter.{Parameter}
 use Rattle.nll_mir_grammar.specs.declared.line.ParameterText.{ParameterText}
 use Rattle.nll_mir_grammar.specs.declared.line.ParameterText.TheVariants as parameters
-use Rattle.nll_naming.specs.Naming.{Scope, is_among, are_known, have_arguments, all_meant}
-use Rattle.nll_typing.specs.Typing.{are_small}
+use Rattle.nll_resolve.specs.Naming.{Scope, is_among, are_known, have_arguments, all_meant}
+use Rattle.nll_type_check.specs.Typing.{are_small}
 use Rattle.nll_mir_text.specs.MirSaid.{regions_in, types_in}
 use Rattle.nll_mir_text.specs.MirFaults.{has_repeats}
 use Rattle.nll_mir_text.specs.declared.tables.StructNames.{StructNames}

@@ -7,23 +7,23 @@ use Rattle.nll_problem.specs.Limits.{most_points, most_edges, most_universals, m
 use Rattle.nll_problem.specs.Limits.{most_variables, most_structs}
 use Rattle.nll_problem.specs.declared.error.Kind.TheVariants.{Points, Edges, Universals, Regions}
 use Rattle.nll_problem.specs.declared.error.Kind.TheVariants.{Variables, Structs}
-use Rattle.nll_reading.specs.Names.{number_of}
-use Rattle.nll_reading.specs.Kinds.{kinds}
-use Rattle.nll_reading.specs.declared.error.TextKind.{TextKind}
-use Rattle.nll_reading.specs.declared.error.TextKind.TheVariants.{Syntax, Unknown, Duplicate, Range}
-use Rattle.nll_reading.specs.declared.error.TextKind.TheVariants.{Shape, TypeSize, Limit}
+use Rattle.nll_format.specs.Names.{number_of}
+use Rattle.nll_format.specs.Kinds.{kinds}
+use Rattle.nll_format.specs.declared.error.TextKind.{TextKind}
+use Rattle.nll_format.specs.declared.error.TextKind.TheVariants.{Syntax, Unknown, Duplicate, Range}
+use Rattle.nll_format.specs.declared.error.TextKind.TheVariants.{Shape, TypeSize, Limit}
 use Rattle.nll_types.specs.Shapes.{is_small}
 use Rattle.nll_type_grammar.specs.WrittenTypes.{Name, WrittenType}
 use Rattle.nll_statements.specs.Statements.{Statement, types_written}
 use Rattle.nll_statements.specs.Effects.{targets}
 use Rattle.nll_statements.specs.Written.{regions_written, variables_written}
 use Rattle.nll_statements.specs.Edges.{edges_from, edge_count}
-use Rattle.nll_typing.specs.Typing.{types_agree, types_are_small, are_small}
+use Rattle.nll_type_check.specs.Typing.{types_agree, types_are_small, are_small}
 use Rattle.nll_mir_grammar.specs.MirForms.{WrittenParameter}
 use Rattle.nll_mir_grammar.specs.MirForms.{Form, universal, outlives, further, assert_line}
 use Rattle.nll_mir_grammar.specs.MirForms.{struct_line, variable, blocks, block, at_point, end}
-use Rattle.nll_naming.specs.Naming.{is_among, is_known, are_known, has_arguments}
-use Rattle.nll_naming.specs.Naming.{have_arguments, meant, all_meant}
+use Rattle.nll_resolve.specs.Naming.{is_among, is_known, are_known, has_arguments}
+use Rattle.nll_resolve.specs.Naming.{have_arguments, meant, all_meant}
 use Rattle.nll_mir_text.specs.MirSaid.{Said, body_scope, field_scope, group, is_before}
 use Rattle.nll_mir_text.specs.MirSaid.{statement_meant}
 use Rattle.nll_mir_text.specs.declared.groups.Group.{Group}

@@ -19,17 +19,17 @@ use Rattle.nll_statements.specs.Edges.{edges_from, edge_count}
 use Rattle.nll_statements.specs.Kept.{statement_of}
 use Rattle.nll_statements.specs.declared.statement.Statement.{Statement as Kept}
 use Rattle.nll_text.specs.Lines.{lines_of}
-use Rattle.nll_reading.specs.Reading as reading
-use Rattle.nll_reading.specs.Text.{Says, IsText, IsFault, IsHeaded, IsRefusal}
-use Rattle.nll_reading.specs.declared.error.TextError.{TextError}
-use Rattle.nll_reading.specs.declared.error.TextKind.{TextKind}
-use Rattle.nll_reading.specs.declared.error.TextKind.TheVariants.{Memory}
+use Rattle.nll_format.specs.Reading as reading
+use Rattle.nll_format.specs.Text.{Says, IsText, IsFault, IsHeaded, IsRefusal}
+use Rattle.nll_format.specs.declared.error.TextError.{TextError}
+use Rattle.nll_format.specs.declared.error.TextKind.{TextKind}
+use Rattle.nll_format.specs.declared.error.TextKind.TheVariants.{Memory}
 use Rattle.nll_mir_grammar.specs.MirForms.{Form, universal, further, struct_line, at_point}
 use Rattle.nll_mir_grammar.specs.MirForms.{WrittenParameter, region_parameter, type_parameter}
 pub use Rattle.nll_mir_grammar.specs.Lines.{struct_form}
 use Rattle.nll_mir_grammar.specs.declared.version.Version.{Version}
 use Rattle.nll_type_grammar.specs.WrittenTypes.{Name, WrittenType}
-use Rattle.nll_naming.specs.Naming.{Scope}
+use Rattle.nll_resolve.specs.Naming.{Scope}
 use Rattle.nll_mir_text.specs.declared.tables.Regions.{Regions}
 use Rattle.nll_mir_text.specs.declared.tables.StructNames.{StructNames}
 use Rattle.nll_mir_text.specs.MirSaid.{Said, said, group}

@@ -6,7 +6,7 @@ use Rattle.std.specs.Prelude.{◌++◌, length, map, codes, get_or, Option, Some
 use Rattle.std.specs.List.{filter_map, last_or, position_or_len}
 use Rattle.indexmap.specs.IndexSet.{insert_all}
 use Rattle.nll_problem.specs.Building.{same_pair}
-use Rattle.nll_reading.specs.Names.{number_of}
+use Rattle.nll_format.specs.Names.{number_of}
 use Rattle.nll_types.specs.Types.{TypeTree}
 use Rattle.nll_types.specs.Structs.{Struct}
 use Rattle.nll_types.specs.declared.parameter.Parameter.{Parameter}
@@ -15,7 +15,7 @@ use Rattle.nll_statements.specs.Statements.{Statement, is_terminator, map_statem
 use Rattle.nll_mir_grammar.specs.MirForms.{WrittenParameter, region_parameter, type_parameter}
 use Rattle.nll_mir_grammar.specs.MirForms.{Form, universal, outlives, further, assert_line}
 use Rattle.nll_mir_grammar.specs.MirForms.{struct_line, variable, blocks, block, at_point, end}
-use Rattle.nll_naming.specs.Naming.{Scope, meant, all_meant}
+use Rattle.nll_resolve.specs.Naming.{Scope, meant, all_meant}
 use Rattle.nll_mir_text.specs.declared.groups.Group.{Group}
 use Rattle.nll_mir_text.specs.declared.groups.Group.TheVariants.{Header, Universals, Outlives}
 use Rattle.nll_mir_text.specs.declared.groups.Group.TheVariants.{Regions, Asserts, Structs}

@@ -9,7 +9,7 @@ use Rattle.nll_statements.specs.Statements.{is_terminator}
 use Rattle.nll_mir_grammar.specs.MirForms.{WrittenParameter}
 use Rattle.nll_mir_grammar.specs.MirForms.{Form, universal, outlives, further, assert_line}
 use Rattle.nll_mir_grammar.specs.MirForms.{struct_line, variable, blocks, block, at_point, end}
-use Rattle.nll_naming.specs.Naming.{meant}
+use Rattle.nll_resolve.specs.Naming.{meant}
 use Rattle.nll_mir_text.specs.declared.groups.Group.{Group}
 use Rattle.nll_mir_text.specs.declared.groups.Group.TheVariants.{Header, Universals, Outlives}
 use Rattle.nll_mir_text.specs.declared.groups.Group.TheVariants.{Regions, Asserts, Structs}

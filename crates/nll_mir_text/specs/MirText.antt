@@ -2,12 +2,12 @@
 -- Source: project's choice; docs/FORMATS.md says the same in words.
 use Rattle.std.specs.Prelude.{◌≡◌, ◌≤◌, ℕ, true, List, codes, Contains, All, length}
 use Rattle.nll_problem.specs.Limits.{most_structs}
-use Rattle.nll_reading.specs.Text.{Format, IsText, IsHeaded, IsHeader, IsFault}
-use Rattle.nll_reading.specs.declared.error.TextKind.{TextKind}
+use Rattle.nll_format.specs.Text.{Format, IsText, IsHeaded, IsHeader, IsFault}
+use Rattle.nll_format.specs.declared.error.TextKind.{TextKind}
 use Rattle.nll_types.specs.Types.{TypeTree}
 use Rattle.nll_types.specs.Shapes.{is_small}
 use Rattle.nll_statements.specs.Statements.{Statement}
-use Rattle.nll_typing.specs.Typing.{types_agree, types_are_small, are_small}
+use Rattle.nll_type_check.specs.Typing.{types_agree, types_are_small, are_small}
 use Rattle.nll_mir_grammar.specs.MirForms.{Form, end}
 use Rattle.nll_mir_grammar.specs.Versions.{HasFormIn, version_codes}
 use Rattle.nll_mir_grammar.specs.declared.version.Version.{Version}

@@ -5,7 +5,7 @@ use Rattle.nll_type_grammar.specs.WrittenTypes.{Name, WrittenType}
 use Rattle.nll_statements.specs.Statements.{Statement}
 use Rattle.nll_statements.specs.Kept.{statement_of}
 use Rattle.nll_statements.specs.declared.statement.Statement.{Statement as Kept}
-use Rattle.nll_naming.specs.Resolution.{Resolved, IsResolved}
+use Rattle.nll_resolve.specs.Resolution.{Resolved, IsResolved}
 use Rattle.nll_mir_grammar.specs.MirForms.{at_point, variable}
 use Rattle.nll_mir_text.specs.MirFaults.{is_in_order}
 use Rattle.nll_mir_text.specs.MirReading.{said_by, scope_in}

@@ -4,7 +4,7 @@ use Rattle.std.specs.Prelude.{◌≡◌, ℕ, ◌<◌, Bool, true, false, ◌&&�
 use Rattle.std.specs.Prelude.{nat_lt}
 use Rattle.std.specs.List.{list_all}
 use Rattle.std.specs.Borrow.{Bor}
-use Rattle.nll_reading.specs.Names.{number_of}
+use Rattle.nll_format.specs.Names.{number_of}
 use Rattle.nll_types.specs.Types.{TypeTree}
 use Rattle.nll_types.specs.Operands.{Operand, operand_of}
 use Rattle.nll_types.specs.Shapes.{is_small, shape_of}
@@ -22,16 +22,16 @@ use Rattle.nll_statements.specs.Effects.{place_in}
 use Rattle.nll_statements.specs.Written.{regions_written}
 use Rattle.nll_statements.specs.Kept.{statement_of}
 use Rattle.nll_statements.specs.declared.statement.Statement.{Statement as Kept}
-use Rattle.nll_naming.specs.Naming.{Scope, is_among, is_known, has_arguments, meant}
-use Rattle.nll_naming.specs.Resolution.{Resolved, tree_of}
-use Rattle.nll_typing.specs.Typing.{types_are_small}
-use Rattle.nll_typing.specs.Judging.{HaveShapes}
+use Rattle.nll_resolve.specs.Naming.{Scope, is_among, is_known, has_arguments, meant}
+use Rattle.nll_resolve.specs.Resolution.{Resolved, tree_of}
+use Rattle.nll_type_check.specs.Typing.{types_are_small}
+use Rattle.nll_type_check.specs.Judging.{HaveShapes}
 use Rattle.nll_mir_text.specs.declared.tables.Regions.{Regions}
 use Rattle.nll_mir_text.specs.declared.tables.StructNames.{StructNames}
 use Rattle.nll_mir_text.specs.declared.tables.Variables.{Variables}
 use Rattle.nll_mir_text.specs.declared.judged_type.JudgedType.{JudgedType}
 use Rattle.nll_mir_text.specs.declared.shapes.ShapedTypes.{ShapedTypes}
-use Rattle.nll_mir_text.specs.declared.stating.JudgedPoint.{JudgedPoint}
+use Rattle.nll_mir_text.specs.declared.next_point.JudgedPoint.{JudgedPoint}
 use Rattle.nll_mir_text.specs.declared.groups.Group.TheVariants.{Header}
 pub use Rattle.nll_mir_text.specs.MirSaid.{meant_in}
 use Rattle.nll_mir_text.specs.MirSaid.{Said, statement_meant}

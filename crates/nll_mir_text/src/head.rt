@@ -2,9 +2,9 @@
 
 ghost use Rattle.std.specs.Prelude.{◌≡◌, map, Some, None, true, false};
 ghost use Rattle.std.specs.Prelude.{IfOk, IfErr, OnOk, OnErr};
-ghost use Rattle.nll_naming.specs.Naming.{is_among};
-ghost use Rattle.nll_naming.specs.Resolution.{IsResolved};
-ghost use Rattle.nll_reading.specs.Names.{number_of};
+ghost use Rattle.nll_resolve.specs.Naming.{is_among};
+ghost use Rattle.nll_resolve.specs.Resolution.{IsResolved};
+ghost use Rattle.nll_format.specs.Names.{number_of};
 ghost use Rattle.nll_type_grammar.specs.TypeTexts.{written};
 ghost use Rattle.nll_type_grammar.specs.WrittenTypes.{WrittenType};
 ghost use Rattle.nll_mir_grammar.specs.MirForms as forms;
@@ -26,10 +26,10 @@ use crate::own_names::{OwnNames, gather_names, redeclares};
 use crate::parameters::kinds;
 use crate::reader::Reader;
 use crate::resolution::resolve_type;
+use nll_format::TextKind;
 use nll_mir_grammar::StructText;
-use nll_naming::ResolvedType;
 use nll_problem::{Kind, MAX_POINTS, MAX_REGIONS, MAX_UNIVERSALS};
-use nll_reading::TextKind;
+use nll_resolve::ResolvedType;
 use nll_sets::Memory;
 use nll_type_grammar::TypeText;
 

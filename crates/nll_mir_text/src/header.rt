@@ -2,12 +2,12 @@
 
 ghost use Rattle.std.specs.Prelude.{◌↔◌, IfOk, IfErr, IsTrue, MatchOption};
 ghost use Rattle.std.specs.Str.{IsUtf8};
-ghost use Rattle.nll_reading.specs.Text.{IsHeader, IsHeaderFault};
+ghost use Rattle.nll_format.specs.Text.{IsHeader, IsHeaderFault};
 ghost use Rattle.nll_mir_grammar.specs.declared.version.Version.{Version as versions};
 ghost use Rattle.nll_mir_text.specs.MirText.{mir, IsMirHeader};
 
+use nll_format::{TextError, TextKind};
 use nll_mir_grammar::Version;
-use nll_reading::{TextError, TextKind};
 use nll_text::is_header;
 use std::str;
 

@@ -4,7 +4,7 @@ ghost use Rattle.std.specs.Prelude.{◌≡◌, IfOk};
 ghost use Rattle.nll_types.specs.Table.{Extends};
 ghost use Rattle.nll_mir_text.specs.Stating.{IsOfType};
 
-use nll_naming::ResolvedType;
+use nll_resolve::ResolvedType;
 use nll_sets::Memory;
 use nll_types::TypeTable;
 use std::alloc::Global;

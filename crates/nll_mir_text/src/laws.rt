@@ -1,7 +1,7 @@
 //! Laws of the definitions, which hold of all texts.
 
 ghost use Rattle.std.specs.Prelude.{◌≡◌, ℕ, List};
-ghost use Rattle.nll_reading.specs.declared.error.TextKind.{TextKind};
+ghost use Rattle.nll_format.specs.declared.error.TextKind.{TextKind};
 ghost use Rattle.nll_body.specs.Bodies.{BodyText};
 ghost use Rattle.nll_body.specs.Sound.{IsSound};
 ghost use Rattle.nll_mir_text.specs.MirText.{Means, IsMirFault, IsWellTyped};

@@ -1,8 +1,9 @@
 //! The reader of MIR texts, of versions 1 and 2.
-//! Read `tables`, `groups`, `resolution`, `own_names`, `fields`, `reader`, `head`, `placing`,
+//! Read `tables`, `groups`, `resolution`, `own_names`, `fields`, `reader`, `head`, `blocks`,
 //! `header`, `text`, `parts`, `mir`, then `laws`; the definitions are in specs/.
 #![tactic(auto)]
 
+mod blocks;
 mod fields;
 mod groups;
 mod head;
@@ -10,17 +11,16 @@ mod header;
 mod judged_type;
 mod laws;
 mod limits;
-mod meaning;
+mod meant_statement;
 mod mir;
+mod next_point;
 mod own_names;
 mod parameters;
 mod parts;
-mod placing;
 mod ranges;
 mod reader;
 mod resolution;
 mod shapes;
-mod stating;
 mod tables;
 mod text;
 

@@ -1,7 +1,7 @@
 //! The body that a MIR text means.
 
 ghost use Rattle.std.specs.Prelude.{◌≡◌, IfOk, IfErr};
-ghost use Rattle.nll_reading.specs.Text.{IsRefusal};
+ghost use Rattle.nll_format.specs.Text.{IsRefusal};
 ghost use Rattle.nll_body.specs.Sound.{IsSound};
 ghost use Rattle.nll_mir_text.specs.MirReading.{said_by, IsReady};
 ghost use Rattle.nll_mir_text.specs.MirText.{body_said, Means, IsMirFault};
@@ -10,7 +10,7 @@ use crate::parts::read_text_parts;
 use crate::reader::Reader;
 use crate::text::read_text;
 use nll_body::Body;
-use nll_reading::{TextError, TextKind};
+use nll_format::{TextError, TextKind};
 use nll_sets::Memory;
 use std::alloc::Global;
 

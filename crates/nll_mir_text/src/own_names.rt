@@ -7,14 +7,14 @@ ghost use Rattle.std.specs.Str.{IsUtf8};
 ghost use Rattle.nll_mir_grammar.specs.Lines.{parameter_of};
 ghost use Rattle.nll_mir_grammar.specs.MirForms.{WrittenParameter};
 ghost use Rattle.nll_mir_grammar.specs.MirForms as forms;
-ghost use Rattle.nll_naming.specs.Naming.{is_among};
+ghost use Rattle.nll_resolve.specs.Naming.{is_among};
 ghost use Rattle.nll_types.specs.declared.parameter.Parameter.{Parameter as marks};
 ghost use Rattle.nll_mir_text.specs.MirFaults.{has_repeats};
 ghost use Rattle.nll_mir_text.specs.MirReading.{IsNamed};
 ghost use Rattle.nll_mir_text.specs.Declaring.{AreOwn, region_names, type_names, takes_name};
 
+use nll_format::Names;
 use nll_mir_grammar::ParameterText;
-use nll_reading::Names;
 use nll_sets::Memory;
 use std::alloc::Global;
 

@@ -4,7 +4,7 @@ ghost use Rattle.std.specs.Prelude.{◌≡◌, ◌+◌, ◌<◌, ◌≤◌, ◌^
 ghost use Rattle.std.specs.Prelude.{true, OnOk, IfOk, IfErr};
 ghost use Rattle.nll_problem.specs.Limits.{most_bytes};
 ghost use Rattle.nll_text.specs.Lines.{lines_left, lines_of};
-ghost use Rattle.nll_reading.specs.Text.{IsRefusal};
+ghost use Rattle.nll_format.specs.Text.{IsRefusal};
 ghost use Rattle.nll_mir_text.specs.MirSaid.{said};
 ghost use Rattle.nll_mir_text.specs.MirFaults.{has_reached};
 ghost use Rattle.nll_mir_text.specs.declared.groups.Group.TheVariants.{End};
@@ -15,9 +15,9 @@ ghost use Rattle.nll_mir_text.specs.MirReading.{IsReady, IsUnderWay, HasRead, Ho
 use crate::header::check_header;
 use crate::reader::Reader;
 use crate::text::refusal;
+use nll_format::{MAX_TEXT, TextError, TextKind};
 use nll_mir_grammar::Version;
 use nll_problem::Kind;
-use nll_reading::{MAX_TEXT, TextError, TextKind};
 use nll_sets::Memory;
 use nll_text::{Token, next_line};
 use std::alloc::Global;

@@ -8,8 +8,8 @@ ghost use Rattle.nll_statements.specs.Kept.{statement_of};
 ghost use Rattle.nll_statements.specs.Written.{variables_written};
 ghost use Rattle.nll_mir_text.specs.Stating.{argument_within, operand_within};
 
-use nll_naming::ResolvedType;
 use nll_problem::RegionId;
+use nll_resolve::ResolvedType;
 use nll_statements::{Call, Make, Statement};
 use nll_types::Operand;
 

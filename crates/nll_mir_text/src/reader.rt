@@ -12,15 +12,15 @@ ghost use Rattle.nll_mir_text.specs.MirReading.{said_by, IsReady, HasTexts, HasF
 ghost use Rattle.nll_mir_text.specs.MirReading.{IsDue, IsTaken, IsRefused, ReadsLine};
 ghost use Rattle.nll_body.specs.Parts.{body_of};
 ghost use Rattle.nll_mir_text.specs.MirText.{body_said, mir};
-ghost use Rattle.nll_reading.specs.Text.{IsFaulty};
+ghost use Rattle.nll_format.specs.Text.{IsFaulty};
 ghost use Rattle.nll_mir_text.specs.declared.groups.Group.TheVariants.{End};
 
 use crate::groups::{Group, group_of};
 use crate::tables::{Points, Regions, StructNames, Variables};
 use indexmap::IndexSet;
 use nll_body::BodyParts;
+use nll_format::{Names, TextKind};
 use nll_mir_grammar::{Line, Version, line_of};
-use nll_reading::{Names, TextKind};
 use nll_sets::Memory;
 use nll_text::{ScanError, Scanned, Token, scan_line};
 use nll_types::{Structs, Ty, TypeTable};

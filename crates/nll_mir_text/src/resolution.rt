@@ -4,20 +4,20 @@ ghost use Rattle.std.specs.Prelude.{◌≡◌, ◌⊎◌, ◌≤◌, ◌++◌, l
 ghost use Rattle.std.specs.Prelude.{IfOk, IfSome, MatchOption, Ok};
 ghost use Rattle.std.specs.List.{list_all};
 ghost use Rattle.nll_problem.specs.Limits.{most_regions};
-ghost use Rattle.nll_reading.specs.Names.{number_of};
+ghost use Rattle.nll_format.specs.Names.{number_of};
 ghost use Rattle.nll_type_grammar.specs.TypeTexts.{written};
 ghost use Rattle.nll_statements.specs.Kept.{call_of, statement_of};
 ghost use Rattle.nll_statements.specs.Statements.{map_statement};
-ghost use Rattle.nll_naming.specs.Naming.{is_among, is_known};
-ghost use Rattle.nll_naming.specs.Resolution.{IsResolved};
+ghost use Rattle.nll_resolve.specs.Naming.{is_among, is_known};
+ghost use Rattle.nll_resolve.specs.Resolution.{IsResolved};
 ghost use Rattle.nll_mir_text.specs.MirReading.{scope_in};
 ghost use Rattle.nll_mir_text.specs.Stating.{as_written, has_names, is_bound, bound_numbers};
 ghost use Rattle.nll_mir_text.specs.Stating.{AreOfArguments, IsOfStatement};
 
 use crate::tables::{Regions, StructNames};
-use nll_naming::{ResolvedType, Scope, resolve};
+use nll_format::Names;
 use nll_problem::RegionId;
-use nll_reading::Names;
+use nll_resolve::{ResolvedType, Scope, resolve};
 use nll_sets::Memory;
 use nll_statements::{Call, Make, Statement};
 use nll_type_grammar::TypeText;

@@ -6,8 +6,8 @@ ghost use Rattle.nll_statements.specs.Kept.{call_of, statement_of};
 ghost use Rattle.nll_statements.specs.Statements.{types_written};
 ghost use Rattle.nll_mir_text.specs.Stating.{AreOfTypes, AddsTypes};
 
-use nll_naming::ResolvedType;
 use nll_problem::RegionId;
+use nll_resolve::ResolvedType;
 use nll_sets::Memory;
 use nll_statements::{Call, Statement};
 use nll_types::{Operand, TypeTable};

@@ -2,11 +2,11 @@
 
 ghost use Rattle.std.specs.Prelude.{◌≡◌, ◌++◌, ◌∷◌, [], false, map, OnOk};
 ghost use Rattle.std.specs.Str.{IsUtf8};
-ghost use Rattle.nll_naming.specs.Naming.{is_among};
+ghost use Rattle.nll_resolve.specs.Naming.{is_among};
 
 use indexmap::IndexSet;
+use nll_format::Names;
 use nll_problem::RegionId;
-use nll_reading::Names;
 use nll_sets::Memory;
 use nll_statements::Statement;
 use nll_types::{Ty, TypeTable};

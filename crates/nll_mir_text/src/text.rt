@@ -3,7 +3,7 @@
 ghost use Rattle.std.specs.Prelude.{◌≡◌, ◌≢◌, ◌⊎◌, ◌<◌, ◌^◌, ℕ, true, List, [], length};
 ghost use Rattle.std.specs.Prelude.{OnOk, IfOk, IfErr};
 ghost use Rattle.nll_text.specs.Lines.{lines_left};
-ghost use Rattle.nll_reading.specs.Text.{IsHeaded, IsRefusal};
+ghost use Rattle.nll_format.specs.Text.{IsHeaded, IsRefusal};
 ghost use Rattle.nll_mir_text.specs.MirSaid.{said};
 ghost use Rattle.nll_mir_text.specs.MirFaults.{has_reached};
 ghost use Rattle.nll_mir_text.specs.declared.groups.Group.TheVariants.{End};
@@ -13,9 +13,9 @@ ghost use Rattle.nll_mir_text.specs.MirReading.{AreShort};
 
 use crate::header::check_header;
 use crate::reader::Reader;
+use nll_format::{MAX_TEXT, TextError, TextKind};
 use nll_mir_grammar::Version;
 use nll_problem::Kind;
-use nll_reading::{MAX_TEXT, TextError, TextKind};
 use nll_text::next_line;
 use std::alloc::Global;
 

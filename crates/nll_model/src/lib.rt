@@ -1,17 +1,17 @@
 //! The model of a run: owners, the boxes between them and the balance, one event after another.
 //!
-//! Reading order: `laws`, `error`, `outcome`, `lane`, `seat`, `state`, `starting`,
-//! `world`, `replaying`. The definitions are in specs/: `State` first, then `Events`, `Soundness`,
-//! `Replaying`.
+//! Reading order: `laws`, `error`, `outcome`, `lane`, `seat`, `state`, `start`,
+//! `world`, `schedule_replay`. The definitions are in specs/: `State` first, then `Events`,
+//! `Soundness`, `Replaying`.
 #![tactic(auto)]
 
 mod error;
 mod lane;
 mod laws;
 mod outcome;
-mod replaying;
+mod schedule_replay;
 mod seat;
-mod starting;
+mod start;
 mod state;
 mod world;
 
@@ -19,6 +19,6 @@ pub use error::ModelError;
 pub use lane::Lane;
 pub use laws::{orderly_states_have_low_ranks, sound_states_are_lawful, steps_are_lawful};
 pub use outcome::{Replay, Step};
-pub use replaying::replay;
+pub use schedule_replay::replay;
 pub use seat::{Item, Seat};
 pub use world::World;

@@ -13,7 +13,7 @@ ghost use Rattle.nll_model.specs.declared.error.ModelError.TheVariants.{NotNow, 
 use crate::error::ModelError;
 use crate::outcome::Step;
 use crate::seat::Seat;
-use crate::starting::first_seats;
+use crate::start::first_seats;
 use crate::state::State;
 use nll_core::Values;
 use nll_cut::Cut;

@@ -1,7 +1,7 @@
 //! Tests of the model of a run, by its public calls alone. Expected values are found by hand from
 //! the definitions.
 //!
-//! Reading order: `failure`, `telling`, then `schedules` and `states`.
+//! Reading order: `failure`, `world_text`, then `schedules` and `states`.
 #![tactic(auto)]
 
 #[cfg(test)]
@@ -11,4 +11,4 @@ mod schedules;
 #[cfg(test)]
 mod states;
 #[cfg(test)]
-mod telling;
+mod world_text;

@@ -1,6 +1,6 @@
 //! Schedules come to answers, balances and values that were found by hand.
 use super::failure::Failure;
-use super::telling::{compare, replayed};
+use super::world_text::{compare, replayed};
 use nll_event::Event::{self, Clear, Leave, Load, Owe, Push, Take};
 use nll_worked_problems::{BY_TURNS, EVERYWHERE, REACHED, Written};
 use std::alloc::Global;

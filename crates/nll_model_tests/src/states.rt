@@ -1,5 +1,5 @@
 //! The states of a world, as it is read, are those that were found by hand.
-use super::telling::{compare, stepped};
+use super::world_text::{compare, stepped};
 use nll_event::Event::{self, Clear, Leave, Load, Owe, Push, Take};
 use nll_worked_problems::BY_TURNS;
 

@@ -19,7 +19,7 @@ ghost use Rattle.nll_owner.specs.Outboxes.{AreQueued, AreAllQueued};
 ghost use Rattle.nll_owner.specs.declared.error.OwnerError.TheVariants.{Broken};
 
 use crate::error::OwnerError;
-use crate::following::Following;
+use crate::follow_up::Following;
 use crate::knowledge::Knowledge;
 use crate::outboxes::Outboxes;
 use crate::slots::Slots;

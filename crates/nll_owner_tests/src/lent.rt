@@ -3,8 +3,8 @@
 ghost use Rattle.std.specs.Prelude.{◌≡◌, length};
 ghost use Rattle.nll_owner.specs.Tables.{AreTables};
 
-use super::driving::{write_counts, write_values};
 use super::failure::Failure;
+use super::owner_text::{write_counts, write_values};
 use super::turns::{ROWS, compare};
 use nll_core::Problem;
 use nll_cut::Cut;

@@ -1,17 +1,17 @@
 //! Tests of owners, by their public calls alone. Expected values are found by hand from the
 //! definitions.
 //!
-//! Reading order: `failure`, `driving`, then each module of tests.
+//! Reading order: `failure`, `owner_text`, then each module of tests.
 #![tactic(auto)]
 
-#[cfg(test)]
-mod driving;
 #[cfg(test)]
 mod failure;
 #[cfg(test)]
 mod lent;
 #[cfg(test)]
 mod memory;
+#[cfg(test)]
+mod owner_text;
 #[cfg(test)]
 mod random;
 #[cfg(test)]

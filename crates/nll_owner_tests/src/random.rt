@@ -2,8 +2,8 @@
 //! `solve` gives.
 ghost use Rattle.std.specs.Prelude.{◌≡◌, ◌<◌, ◌≤◌, length};
 
-use super::driving::driven_over;
 use super::failure::Failure;
+use super::owner_text::driven_over;
 use nll_core::{At, BuildError, Constraint, Problem, ProblemBuilder, RegionId, Values, solve};
 use nll_cut::Cut;
 use nll_driver::Turn::{self, Load, Post, Take};

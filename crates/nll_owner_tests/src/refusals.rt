@@ -1,5 +1,5 @@
 //! What an owner answers to growths of the highest ranks.
-use super::driving::answers_at_the_last_rank;
+use super::owner_text::answers_at_the_last_rank;
 use nll_worked_problems::BY_TURNS;
 
 #[test]

@@ -1,6 +1,6 @@
 //! Owners that are driven by all orders of turns that are named here come to the same values.
-use super::driving::{answers_of, driven, logs_of};
 use super::failure::Failure;
+use super::owner_text::{answers_of, driven, logs_of};
 use nll_driver::Stop;
 use nll_driver::Turn::{self, Load, Post, Take};
 use nll_mail::QueueMail;

@@ -17,7 +17,7 @@ mod error;
 mod graph;
 mod graph_builder;
 mod limits;
-mod merging;
+mod merged_runs;
 mod outlives;
 mod predecessors;
 mod problem;
@@ -25,7 +25,7 @@ mod region;
 mod rows;
 mod rows_builder;
 mod searchable_rows;
-mod turning;
+mod transpose;
 
 pub use at::At;
 pub use base_run::BaseRun;

@@ -1,7 +1,7 @@
 //! Answers to texts, as text.
-use super::reading::write_fault;
+use super::notes::{count, say, say_bytes, show};
+use super::problem_text::write_fault;
 use super::rows::{ALONE, Asked, compare_rows, compare_same};
-use super::saying::{count, say, say_bytes, show};
 use nll_report::{AnswerError, Command, answer, answer_text};
 use std::alloc::Global;
 use std::process::Abort;

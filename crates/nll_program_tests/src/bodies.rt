@@ -1,9 +1,9 @@
 //! The program over MIR texts.
-use super::comparing::compare;
+use super::comparison::compare;
 use super::limits::{repeat, say_each};
+use super::notes::say;
 use super::program::run_on;
 use super::rows::{ALONE, Asked, compare_row, compare_rows};
-use super::saying::say;
 use nll_worked_texts::{
     ASSERTED, CALLED, DROPPED, FUNCTIONS, MOVED, REBORROW, RETURNED, TAKERS, TWO_BORROWS,
 };

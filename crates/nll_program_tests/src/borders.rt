@@ -1,8 +1,8 @@
 //! Texts that are cut off, changed, or at a limit of their format, by the whole program.
 use super::limits::repeat;
+use super::notes::{count, say};
 use super::pieces::{Piece, compare_run, text_of};
 use super::rows::{Asked, compare_rows};
-use super::saying::{count, say};
 use std::process::Abort;
 use std::sync::Wait;
 use std::thread::Threads;

@@ -1,11 +1,11 @@
 //! Names of regions and of points.
 use super::answers::write_report;
-use super::comparing::compare;
-use super::saying::{count, say, show};
+use super::comparison::compare;
+use super::notes::{count, say, show};
 use nll_core::{Problem, ProblemBuilder, RegionId};
 use nll_facts::Facts;
+use nll_format::{Labels, Names};
 use nll_mir_text::read_mir;
-use nll_reading::{Labels, Names};
 use nll_report::{Command, answer_of};
 use std::alloc::{AllocError, Global};
 use std::process::Abort;

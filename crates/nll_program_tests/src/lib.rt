@@ -4,8 +4,8 @@
 //! The program is also run over a text and streams of which all is known (`known`), and its
 //! contract says then what they hold.
 //!
-//! Reading order: `known`, `rows`, `saying`, `comparing`, `reading`, `answers`, `fakes`, `program`,
-//! then each further module of tests.
+//! Reading order: `known`, `rows`, `notes`, `comparison`, `problem_text`, `answers`, `fakes`,
+//! `program`, then each further module of tests.
 #![tactic(auto)]
 
 mod known;
@@ -21,9 +21,11 @@ mod bodies;
 #[cfg(test)]
 mod borders;
 #[cfg(test)]
-mod comparing;
+mod comparison;
 #[cfg(test)]
 mod everywhere;
+#[cfg(test)]
+mod failed_writes;
 #[cfg(test)]
 mod fakes;
 #[cfg(test)]
@@ -35,28 +37,26 @@ mod large;
 #[cfg(test)]
 mod limits;
 #[cfg(test)]
-mod meanings;
-#[cfg(test)]
 mod messages;
+#[cfg(test)]
+mod notes;
 #[cfg(test)]
 mod owners;
 #[cfg(test)]
 mod pieces;
 #[cfg(test)]
-mod program;
+mod problem_text;
 #[cfg(test)]
-mod reading;
+mod program;
 #[cfg(test)]
 mod refusals;
 #[cfg(test)]
 mod replays;
 #[cfg(test)]
-mod rows;
+mod right_texts;
 #[cfg(test)]
-mod saying;
+mod rows;
 #[cfg(test)]
 mod values;
 #[cfg(test)]
 mod words;
-#[cfg(test)]
-mod writing;

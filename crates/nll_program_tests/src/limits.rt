@@ -1,8 +1,8 @@
 //! Texts at the limits of the format, and past them.
 use super::answers::answer_to;
-use super::comparing::compare;
-use super::saying::{count, say};
-use nll_reading::MAX_TEXT;
+use super::comparison::compare;
+use super::notes::{count, say};
+use nll_format::MAX_TEXT;
 use nll_report::Command;
 use std::alloc::Global;
 use std::process::Abort;

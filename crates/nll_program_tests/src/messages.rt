@@ -1,8 +1,8 @@
 //! The lines of the refusals, those among them that no facts text brings about.
-use super::comparing::compare;
-use super::saying::{count, print, say, say_bytes, show};
+use super::comparison::compare;
+use super::notes::{count, print, say, say_bytes, show};
 use nll_core::{BuildError, Kind};
-use nll_reading::{TextError, TextKind};
+use nll_format::{TextError, TextKind};
 use nll_report::{AnswerError, LineError, Refusal, RuleError, RunError, USAGE, Unread};
 use std::alloc::{AllocError, AllocFailed, Global};
 use std::fmt::Display;

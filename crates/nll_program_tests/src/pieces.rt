@@ -1,8 +1,8 @@
 //! Texts whose pieces stand often, each time with another number, and what the program does with
 //! them.
-use super::comparing::compare;
+use super::comparison::compare;
+use super::notes::{count, say};
 use super::program::run_at_desk;
-use super::saying::{count, say};
 use std::alloc::Global;
 use std::process::Abort;
 use std::sync::Wait;

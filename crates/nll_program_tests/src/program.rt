@@ -1,10 +1,10 @@
 //! The program over texts and writers of the tests.
-use super::comparing::compare;
+use super::comparison::compare;
 use super::fakes::{Desk, Fault, Faulty, Shelf, words_of};
 use super::known::{Sheet, on_pages};
+use super::notes::{count, print, say, say_bytes};
 use super::page::Page;
 use super::rows::{ALONE, Asked, compare_row, compare_rows, compare_same};
-use super::saying::{count, print, say, say_bytes};
 use nll_report::{Disk, Texts, Unread, drive};
 use std::alloc::Global;
 use std::process::Abort;

@@ -1,7 +1,7 @@
 //! Replays of schedules, and what is told where there is none.
+use super::notes::say;
 use super::program::NEVER;
 use super::rows::{ALONE, Around, Asked, compare_row, compare_rows, compare_same, compare_within};
-use super::saying::say;
 use nll_worked_texts::TWO_BORROWS;
 use std::process::Abort;
 use std::sync::Wait;

@@ -1,9 +1,9 @@
 //! Tables of texts and of what is told of them: in each row a text, ` ~ `, and what is told. An
 //! empty row, or one that begins with `//`, says nothing.
 use super::answers::{answer_handed, answer_to};
-use super::comparing::compare;
+use super::comparison::compare;
+use super::problem_text::said;
 use super::program::{FaultAt, help_told, run, run_at_desk, run_on};
-use super::reading::said;
 use super::words::line_told;
 use nll_report::Command;
 use std::process::Abort;

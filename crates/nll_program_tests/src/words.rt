@@ -1,8 +1,8 @@
 //! Which words are a line, which ask for help, and which are refused.
-use super::comparing::compare;
+use super::comparison::compare;
 use super::fakes::words_of;
+use super::notes::{count, say, show};
 use super::rows::{ALONE, Asked, compare_rows, compare_same};
-use super::saying::{count, say, show};
 use clap::{Arg, ArgAction, Command};
 use nll_report::{Line, LineError, line};
 use std::alloc::Global;

@@ -7,7 +7,7 @@ use Rattle.nll_problem.specs.Solution.{Least}
 use Rattle.nll_core.specs.Values.{IsHeld}
 use Rattle.nll_cut.specs.Partition.{Cut}
 use Rattle.nll_event.specs.declared.event.Event.{Event}
-use Rattle.nll_reading.specs.Labels.{Labels}
+use Rattle.nll_format.specs.Labels.{Labels}
 use Rattle.nll_answer.specs.Report.{IsValuesReport}
 use Rattle.nll_answer.proofs.ReportLemmas.{lines_more, report_carries}
 use Rattle.nll_replay.specs.ReplayReport.{IsReplayReport}

@@ -11,7 +11,7 @@ use Rattle.nll_event.specs.declared.event.Event.{Event}
 use Rattle.nll_model.specs.declared.outcome.Step.{Step}
 use Rattle.nll_model.specs.declared.outcome.Step.TheVariants.{Done, Quiet, Open}
 use Rattle.nll_model.specs.Replaying.{IsReplay}
-use Rattle.nll_reading.specs.Labels.{Labels}
+use Rattle.nll_format.specs.Labels.{Labels}
 use Rattle.nll_answer.specs.Report.{IsValuesReport}
 
 -- the words for what an event answers; there is no answer where it wasn't possible

@@ -6,7 +6,7 @@ ghost use Rattle.nll_problem.specs.Solution.{Least};
 ghost use Rattle.nll_core.specs.Values.{IsHeld};
 ghost use Rattle.nll_cut.specs.Partition.{Cut};
 ghost use Rattle.nll_event.specs.declared.event.Event.{Event};
-ghost use Rattle.nll_reading.specs.Labels.{Labels};
+ghost use Rattle.nll_format.specs.Labels.{Labels};
 ghost use Rattle.nll_answer.specs.Report.{IsValuesReport};
 ghost use Rattle.nll_replay.specs.ReplayReport.{IsReplayReport};
 

@@ -14,9 +14,9 @@ use nll_answer::values_text;
 use nll_core::Values;
 use nll_cut::Cut;
 use nll_event::Event;
+use nll_format::Labels;
 use nll_model::{ModelError, Replay, Step, replay};
 use nll_problem::Problem;
-use nll_reading::Labels;
 use nll_sets::Memory;
 use std::alloc::Global;
 

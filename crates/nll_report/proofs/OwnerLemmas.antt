@@ -6,11 +6,11 @@ use Rattle.std.proofs.lemmas.Bool.{true≢false, eqb-true, lt-ltb, le-leb, and_f
 use Rattle.std.proofs.lemmas.Option.{none-some}
 use Rattle.nll_problem.specs.Limits.{most_owners}
 use Rattle.nll_problem.specs.Problem.{Problem}
-use Rattle.nll_reading.specs.Labels.{Labels}
-use Rattle.nll_reading.specs.Text.{Format, IsFault, IsRefusal}
-use Rattle.nll_reading.specs.declared.error.TextError.{TextError}
-use Rattle.nll_reading.specs.declared.error.TextKind.{TextKind}
-use Rattle.nll_reading.specs.declared.error.TextKind.TheVariants as kind
+use Rattle.nll_format.specs.Labels.{Labels}
+use Rattle.nll_format.specs.Text.{Format, IsFault, IsRefusal}
+use Rattle.nll_format.specs.declared.error.TextError.{TextError}
+use Rattle.nll_format.specs.declared.error.TextKind.{TextKind}
+use Rattle.nll_format.specs.declared.error.TextKind.TheVariants as kind
 use Rattle.nll_cut.specs.Partition.{Answers, Cut, cut_of, list_error, may_be_count, owners_error, stranger_error}
 use Rattle.nll_cut.specs.declared.error.CutError.{CutError}
 use Rattle.nll_cut.specs.declared.error.CutError.TheVariants as due

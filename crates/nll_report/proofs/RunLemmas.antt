@@ -3,8 +3,8 @@ use Rattle.std.proofs.Common.{◌≡◌, ◌⊎◌, ◌∙◌, ℕ, List, [], �
 use Rattle.std.proofs.lemmas.Bool.{true≢false}
 use Rattle.std.proofs.lemmas.List.{length-append}
 use Rattle.std.specs.Io.KnownBytes.{Appends}
-use Rattle.nll_reading.specs.declared.error.TextKind.{TextKind}
-use Rattle.nll_reading.specs.declared.error.TextKind.TheVariants as kind
+use Rattle.nll_format.specs.declared.error.TextKind.{TextKind}
+use Rattle.nll_format.specs.declared.error.TextKind.TheVariants as kind
 use Rattle.nll_body_problem.specs.declared.error.RuleError.TheVariants as rule
 use Rattle.nll_answer.specs.Texts.{IsTextFault, IsAnswerError}
 use Rattle.nll_answer.specs.declared.error.AnswerError.{AnswerError}

@@ -2,8 +2,8 @@
 -- Source: project's choice.
 use Rattle.std.specs.Prelude.{◌≡◌, ℕ, ◌/◌, ◌%◌, List, Option, None, Some, string_bytes}
 use Rattle.nll_problem.specs.Problem.{Problem}
-use Rattle.nll_reading.specs.Labels.{Labels}
-use Rattle.nll_reading.specs.Text.{IsFault}
+use Rattle.nll_format.specs.Labels.{Labels}
+use Rattle.nll_format.specs.Text.{IsFault}
 use Rattle.nll_cut.specs.Partition.{Cut, Deals, IsBlockSize, cut_of, list_error}
 use Rattle.nll_cut.specs.declared.error.CutError.{CutError}
 use Rattle.nll_cut.specs.declared.error.CutError.TheVariants as due

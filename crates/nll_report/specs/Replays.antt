@@ -2,8 +2,8 @@
 -- Source: project's choice.
 use Rattle.std.specs.Prelude.{◌≡◌, ◌⊎◌, ℕ, List, Option, string_bytes}
 use Rattle.nll_problem.specs.Problem.{Problem}
-use Rattle.nll_reading.specs.Labels.{Labels}
-use Rattle.nll_reading.specs.Text.{IsFault}
+use Rattle.nll_format.specs.Labels.{Labels}
+use Rattle.nll_format.specs.Text.{IsFault}
 use Rattle.nll_cut.specs.Partition.{Cut}
 use Rattle.nll_event.specs.declared.event.Event.{Event}
 use Rattle.nll_schedule_text.specs.ScheduleText.{schedule, Means}

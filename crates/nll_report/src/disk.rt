@@ -6,7 +6,7 @@ ghost use Rattle.nll_report.specs.Texts.{holds_anything, lacks_anything};
 
 use crate::error::Unread;
 use crate::program::Texts;
-use nll_reading::MAX_TEXT;
+use nll_format::MAX_TEXT;
 use std::alloc::Global;
 use std::fs::OpenFile;
 use std::io::{ErrorKind, Read};

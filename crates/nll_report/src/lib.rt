@@ -1,20 +1,21 @@
 //! The program over a text's answer: its files, its streams, its refusals and its status.
 //!
-//! Read `program` first (what is done with the words), then `owners`, `replaying`, `reading`,
-//! `sink`, `writing`, `messages`, `disk` and `words`. The words are read in `nll_command_line`, a
-//! text is answered in `nll_answer`, and the report of a replay is made in `nll_replay`.
+//! Read `program` first (what is done with the words), then `owners`, `schedule_replay`,
+//! `file_text`, `sink`, `report_output`, `messages`, `disk` and `words`. The words are read in
+//! `nll_command_line`, a text is answered in `nll_answer`, and the report of a replay is made in
+//! `nll_replay`.
 #![tactic(auto)]
 
 mod disk;
 mod error;
+mod file_text;
 mod messages;
 mod owners;
 mod program;
-mod reading;
-mod replaying;
+mod report_output;
+mod schedule_replay;
 mod sink;
 mod words;
-mod writing;
 
 pub use disk::Disk;
 pub use error::{Unread, Unwritten};
@@ -27,5 +28,5 @@ pub use nll_body_problem::RuleError;
 pub use nll_command_line::{Deal, Line, LineError, MailKind, Task, line};
 pub use nll_run::RunError;
 pub use program::{Texts, drive, run_in_process};
+pub use report_output::put;
 pub use sink::Sink;
-pub use writing::put;

@@ -15,7 +15,7 @@ use itoa::Buffer;
 use nll_answer::AnswerError;
 use nll_body_problem::RuleError;
 use nll_core::Kind;
-use nll_reading::{TextError, TextKind};
+use nll_format::{TextError, TextKind};
 use nll_run::RunError;
 use std::alloc::AllocError;
 use std::error::Error;

@@ -12,17 +12,17 @@ ghost use Rattle.nll_report.specs.Owners.{IsWorkRefused, count_of, deal_of, mail
 ghost use Rattle.nll_report.specs.Refusal.{IsCutRefusal, cut_refusal_at};
 ghost use Rattle.nll_report.specs.Run.{IsFileAnswer, IsFileRefused};
 
+use crate::file_text::{facts_of, without_text};
 use crate::messages::Refusal;
 use crate::program::Texts;
-use crate::reading::{facts_of, without_text};
 use nll_answer::{AnswerError, Command, answer_run};
 use nll_command_line::{Deal, MailKind};
 use nll_cut::{Cut, CutError};
 use nll_cut_text::read_cut;
 use nll_facts::Facts;
+use nll_format::{TextError, TextKind};
 use nll_ledger::WordLedger;
 use nll_mail::{Mail, QueueMail, RingMail};
-use nll_reading::{TextError, TextKind};
 use nll_worker::NoGate;
 use std::alloc::Global;
 use std::sync::Wait;

@@ -14,10 +14,10 @@ ghost use Rattle.nll_report.specs.Texts.{holds_anything, lacks_anything};
 
 use crate::disk::Disk;
 use crate::error::Unread;
+use crate::file_text::without_text;
 use crate::messages::Refusal;
 use crate::owners::{answered_by_owners, owners_asked};
-use crate::reading::without_text;
-use crate::replaying::replayed;
+use crate::schedule_replay::replayed;
 use crate::sink::Sink;
 use crate::words::words_of;
 use nll_answer::{Command, answer_text};

@@ -6,7 +6,7 @@ ghost use Rattle.std.specs.List.{flat_map};
 ghost use Rattle.nll_report.specs.Sink.{IsCut, LeavesRoom, MayRefuse};
 
 use crate::error::Unwritten;
-use crate::writing::put;
+use crate::report_output::put;
 use std::io::Write;
 
 /// What a stream of bytes goes to. Each `std::io::Write` is one.

@@ -8,8 +8,8 @@ ghost use Rattle.nll_types.specs.Types.{reference};
 ghost use Rattle.nll_types.specs.Views.{tree};
 ghost use Rattle.nll_rules.specs.Pairs.{AddsPairs, BothAsk};
 
-use crate::asking::{subtyping, subtyping_of_reference};
 use crate::reference::ReferenceType;
+use crate::subtypes::{subtyping, subtyping_of_reference};
 use crate::variables::Variables;
 use crate::written::written_type;
 use nll_problem::RegionId;

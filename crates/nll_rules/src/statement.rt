@@ -8,10 +8,10 @@ ghost use Rattle.nll_statements.specs.Statements.{map_statement};
 ghost use Rattle.nll_rules.specs.Asking.{Asks};
 ghost use Rattle.nll_rules.specs.Pairs.{AddsPairs};
 
-use crate::assigning::ask_assign;
-use crate::borrowing::ask_borrow;
-use crate::calling::ask_call;
-use crate::making::ask_make;
+use crate::aggregate::ask_make;
+use crate::assignment::ask_assign;
+use crate::borrows::ask_borrow;
+use crate::call::ask_call;
 use crate::reference::Borrow;
 use crate::variables::Variables;
 use nll_problem::RegionId;

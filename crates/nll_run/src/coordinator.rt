@@ -14,11 +14,11 @@ ghost use Rattle.nll_run.specs.Table.{AreNewEnds, IsTable};
 ghost use Rattle.nll_run.specs.declared.error.RunError.TheVariants.{Thread};
 
 use crate::error::RunError;
-use crate::filling::values_of;
+use crate::log_values::values_of;
 use crate::mailboxes::{make_columns, make_rows, make_workers};
 use crate::outcome::Outcome;
 use crate::parts::{Parts, reason_of, take_apart};
-use crate::settling::settle_all;
+use crate::settlement::settle_all;
 use nll_cut::Cut;
 use nll_ledger::Ledger;
 use nll_mail::Mail;

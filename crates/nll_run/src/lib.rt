@@ -1,17 +1,17 @@
 //! Runs: the owners of a cut, each in a thread of its own, until nothing is left to do anywhere.
 //!
-//! Read `coordinator` first, then `mailboxes`, `settling`, `parts` and `filling`. What a worker
-//! does, and how workers are started and joined, is in `nll_worker`. The definitions are in specs/:
-//! `Outcome` has what a run answers.
+//! Read `coordinator` first, then `mailboxes`, `settlement`, `parts` and `log_values`. What a
+//! worker does, and how workers are started and joined, is in `nll_worker`. The definitions are in
+//! specs/: `Outcome` has what a run answers.
 #![tactic(auto)]
 
 mod coordinator;
 mod error;
-mod filling;
+mod log_values;
 mod mailboxes;
 mod outcome;
 mod parts;
-mod settling;
+mod settlement;
 
 pub use coordinator::{run, run_with};
 pub use error::RunError;

@@ -1,16 +1,16 @@
 //! Tests of runs in threads, by their public calls alone. Expected values are found by hand from
 //! the definitions.
 //!
-//! Reading order: `deals`, `failure`, `telling`, `watching`, then each module of tests with what
+//! Reading order: `deals`, `failure`, `run_text`, `watches`, then each module of tests with what
 //! it watches by.
 #![tactic(auto)]
 
 #[cfg(test)]
-mod answering;
-#[cfg(test)]
 mod deals;
 #[cfg(test)]
 mod failure;
+#[cfg(test)]
+mod joint_answer;
 #[cfg(test)]
 mod meeting;
 #[cfg(test)]
@@ -18,14 +18,14 @@ mod notes;
 #[cfg(test)]
 mod refusals;
 #[cfg(test)]
-mod refusing;
-#[cfg(test)]
-mod retrying;
+mod repeated_runs;
 #[cfg(test)]
 mod rows;
 #[cfg(test)]
-mod telling;
+mod run_text;
 #[cfg(test)]
 mod threads;
 #[cfg(test)]
-mod watching;
+mod unstarted_workers;
+#[cfg(test)]
+mod watches;

@@ -1,5 +1,5 @@
 //! Two owners that meet.
-use super::watching::{Step, Watch};
+use super::watches::{Step, Watch};
 use nll_worker::Gate;
 use std::sync::atomic::{AtomicBool, AtomicU64, Ordering};
 use std::thread;

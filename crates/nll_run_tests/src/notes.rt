@@ -1,5 +1,5 @@
 //! Notes of what two owners do in their turns.
-use super::watching::{Step, Watch};
+use super::watches::{Step, Watch};
 use nll_worker::Gate;
 use std::alloc::{AllocError, Global};
 use std::sync::atomic::{AtomicBool, AtomicU64, Ordering};

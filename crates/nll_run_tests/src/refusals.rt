@@ -1,5 +1,5 @@
 //! A permit that refuses starts, and counts what a run does then.
-use super::watching::{Step, Watch};
+use super::watches::{Step, Watch};
 use nll_run::RunError;
 use nll_worker::Permit;
 use std::alloc::AllocError;

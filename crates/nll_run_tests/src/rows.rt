@@ -1,6 +1,6 @@
 //! Runs of worked problems come to values and counts that were found by hand.
 use super::deals::Deal;
-use super::telling::{compare, filled, told};
+use super::run_text::{compare, filled, told};
 use nll_ledger::{Ledger, LockLedger, WordLedger};
 use nll_mail::{QueueMail, RingMail};
 use nll_worked_problems::{

@@ -8,14 +8,14 @@ use Rattle.std.specs.Str.Parse.{digits_value}
 use Rattle.nll_event.specs.declared.event.Event.{Event}
 use Rattle.nll_event.specs.declared.event.Event.TheVariants.{Load, Take, Owe, Clear, Push, Leave}
 use Rattle.nll_text.specs.Tokens.{Token, word}
-use Rattle.nll_reading.specs.Parts.{IsSmall, Spells, token_of}
-use Rattle.nll_reading.specs.Text.{IsFault}
-use Rattle.nll_reading.specs.declared.error.TextKind.{TextKind}
-use Rattle.nll_reading.specs.declared.error.TextKind.TheVariants.{Range, End}
-use Rattle.nll_reading.proofs.ListingLemmas as listing
-use Rattle.nll_reading.proofs.PartLemmas as lemmas
-use Rattle.nll_reading.proofs.PartLemmas.{printed}
-use Rattle.nll_reading.proofs.TextLaws as laws
+use Rattle.nll_format.specs.Parts.{IsSmall, Spells, token_of}
+use Rattle.nll_format.specs.Text.{IsFault}
+use Rattle.nll_format.specs.declared.error.TextKind.{TextKind}
+use Rattle.nll_format.specs.declared.error.TextKind.TheVariants.{Range, End}
+use Rattle.nll_format.proofs.ListingLemmas as listing
+use Rattle.nll_format.proofs.PartLemmas as lemmas
+use Rattle.nll_format.proofs.PartLemmas.{printed}
+use Rattle.nll_format.proofs.TextLaws as laws
 use Rattle.nll_schedule_text.specs.ScheduleText.{schedule, events, event_fault, names_owners, parts, Means}
 
 -- the event of the word and one number

@@ -5,8 +5,8 @@ use Rattle.nll_event.specs.declared.event.Event.{Event}
 use Rattle.nll_event.specs.declared.event.Event.TheVariants.{Load, Take, Owe, Clear, Push, Leave}
 use Rattle.nll_text.specs.Tokens.{word}
 use Rattle.nll_text.specs.Lexing.{BeginsWith, BeginsNotWith}
-use Rattle.nll_reading.specs.Parts.{Spells, one_number, two_numbers}
-use Rattle.nll_reading.proofs.PartLemmas.{spells_rest, none_first, other_word}
+use Rattle.nll_format.specs.Parts.{Spells, one_number, two_numbers}
+use Rattle.nll_format.proofs.PartLemmas.{spells_rest, none_first, other_word}
 use Rattle.nll_schedule_text.specs.ScheduleText.{parts}
 
 -- ---- what stands behind the first word of a line

@@ -3,7 +3,7 @@
 use Rattle.std.specs.Prelude.{◌≡◌, List, [], ◌∷◌, codes, refl}
 use Rattle.nll_event.specs.declared.event.Event.{Event}
 use Rattle.nll_event.specs.declared.event.Event.TheVariants.{Load, Take, Owe, Clear, Push, Leave}
-use Rattle.nll_reading.specs.Parts.{Part, keyword, number}
+use Rattle.nll_format.specs.Parts.{Part, keyword, number}
 use Rattle.nll_schedule_text.specs.ScheduleText.{parts}
 use Rattle.nll_schedule_text.specs.declared.line.Line.{Line}
 use Rattle.nll_schedule_text.specs.declared.line.Line.TheVariants as lines

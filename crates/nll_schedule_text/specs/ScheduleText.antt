@@ -4,11 +4,11 @@ use Rattle.std.specs.Prelude.{ℕ, Bool, nat_lt, ◌&&◌, List, [], ◌∷◌, 
 use Rattle.std.specs.Prelude.{if◌then◌else◌}
 use Rattle.nll_event.specs.declared.event.Event.{Event}
 use Rattle.nll_event.specs.declared.event.Event.TheVariants.{Load, Take, Owe, Clear, Push, Leave}
-use Rattle.nll_reading.specs.Parts.{Part, keyword, number}
-use Rattle.nll_reading.specs.Text.{Format, IsText}
-use Rattle.nll_reading.specs.Listing.{Listing, format_of}
-use Rattle.nll_reading.specs.declared.error.TextKind.{TextKind}
-use Rattle.nll_reading.specs.declared.error.TextKind.TheVariants.{Range}
+use Rattle.nll_format.specs.Parts.{Part, keyword, number}
+use Rattle.nll_format.specs.Text.{Format, IsText}
+use Rattle.nll_format.specs.Listing.{Listing, format_of}
+use Rattle.nll_format.specs.declared.error.TextKind.{TextKind}
+use Rattle.nll_format.specs.declared.error.TextKind.TheVariants.{Range}
 
 -- the parts of the line of an event
 abbrev pub parts : Event → List Part

@@ -2,8 +2,8 @@
 
 ghost use Rattle.std.specs.Prelude.{◌≡◌, ◌≢◌, ◌⊎◌, ℕ, List};
 ghost use Rattle.nll_event.specs.declared.event.Event.{Event};
-ghost use Rattle.nll_reading.specs.Text.{IsFault};
-ghost use Rattle.nll_reading.specs.declared.error.TextKind.{TextKind};
+ghost use Rattle.nll_format.specs.Text.{IsFault};
+ghost use Rattle.nll_format.specs.declared.error.TextKind.{TextKind};
 ghost use Rattle.nll_schedule_text.specs.ScheduleText.{schedule, Means};
 
 /// States that a text has at most one fault.

@@ -1,10 +1,10 @@
 //! The lines of a schedule.
 
-ghost use Rattle.nll_reading.specs.Parts.{Reads};
+ghost use Rattle.nll_format.specs.Parts.{Reads};
 ghost use Rattle.nll_schedule_text.specs.ScheduleLines.{view};
 ghost use Rattle.nll_schedule_text.specs.ScheduleText.{parts};
 
-use nll_reading::{number, two_numbers};
+use nll_format::{number, two_numbers};
 use nll_text::after_word;
 
 /// A line, with its numbers as they are written.

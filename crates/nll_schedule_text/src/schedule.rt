@@ -2,14 +2,14 @@
 
 ghost use Rattle.std.specs.Prelude.{◌≡◌, IfOk, IfErr, MatchResult, None, Some, true, false};
 ghost use Rattle.std.specs.Prelude.{nat_lt};
-ghost use Rattle.nll_reading.specs.Text.{IsFault, IsRefusal};
+ghost use Rattle.nll_format.specs.Text.{IsFault, IsRefusal};
 ghost use Rattle.nll_schedule_text.specs.ScheduleLines.{first_part, view};
 ghost use Rattle.nll_schedule_text.specs.ScheduleText.{event_fault, events, schedule, Means};
 
 use crate::line::{Line, line_of};
 use nll_event::Event;
+use nll_format::{TextError, TextKind};
 use nll_list_text::{ListFormat, read_list};
-use nll_reading::{TextError, TextKind};
 use std::alloc::Global;
 
 /// Reads a schedule of so many owners, version 1: its events, in order.

@@ -1,5 +1,5 @@
 //! Calls of a problem's builder, what they answer, and what the problems that they make tell.
-use super::telling::{OfProblem, tell};
+use super::problem_text::{OfProblem, tell};
 use super::transcript::Transcript;
 use nll_core::{At, BuildError, Constraint, ProblemBuilder, RegionId};
 use nll_problem::BaseRun;

@@ -3,9 +3,9 @@
 use super::calls::Call;
 use super::calls::Call::{Holds, Next, Region, Ret};
 use super::cuts::Deal::{Blocks, Listed, Round};
+use super::problem_text::OfProblem::ReadersAmong;
 use super::rows::Asked::{Cut, CutFile, Made};
 use super::rows::{Row, compare_rows};
-use super::telling::OfProblem::ReadersAmong;
 use super::transcript::Transcript;
 use nll_core::RegionId;
 use nll_cut::CutError;

@@ -1,8 +1,8 @@
 //! Graphs: what their builder answers, and what they, their copies and their continuations tell.
 use super::calls::Call;
 use super::calls::Call::{Next, Ret};
+use super::problem_text::{OfProblem, tell, write_graph};
 use super::rows::{Asked, Row, compare_rows};
-use super::telling::{OfProblem, tell, write_graph};
 use super::transcript::Transcript;
 use nll_core::{BuildError, Graph, ProblemBuilder};
 use nll_problem::GraphBuilder;

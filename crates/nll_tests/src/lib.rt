@@ -2,8 +2,8 @@
 //! Expected values are found by hand from the definitions. The plain solver, `rounds`, is a second
 //! body of `solve`'s contract.
 //!
-//! Reading order: `rounds`, `transcript`, `telling`, `calls`, `making`, `typing`, `rows`, then each
-//! module of tests.
+//! Reading order: `rounds`, `transcript`, `problem_text`, `calls`, `type_data`, `type_text`,
+//! `rows`, then each module of tests.
 #![tactic(auto)]
 
 mod rounds;
@@ -11,7 +11,7 @@ mod rounds;
 pub use rounds::solve_by_rounds;
 
 #[cfg(test)]
-mod building;
+mod builder_calls;
 #[cfg(test)]
 mod calls;
 #[cfg(test)]
@@ -23,13 +23,11 @@ mod graphs;
 #[cfg(test)]
 mod lines;
 #[cfg(test)]
-mod making;
-#[cfg(test)]
 mod messages;
 #[cfg(test)]
 mod mir_lines;
 #[cfg(test)]
-mod naming;
+mod problem_text;
 #[cfg(test)]
 mod rows;
 #[cfg(test)]
@@ -37,16 +35,18 @@ mod schedules;
 #[cfg(test)]
 mod sets;
 #[cfg(test)]
-mod solving;
-#[cfg(test)]
-mod telling;
+mod solutions;
 #[cfg(test)]
 mod tokens;
 #[cfg(test)]
 mod transcript;
 #[cfg(test)]
-mod types;
+mod type_data;
 #[cfg(test)]
-mod typing;
+mod type_names;
+#[cfg(test)]
+mod type_text;
+#[cfg(test)]
+mod types;
 #[cfg(test)]
 mod written_types;

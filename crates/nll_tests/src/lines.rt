@@ -2,7 +2,7 @@
 use super::rows::Asked::Line;
 use super::rows::{Row, compare_lines, compare_rows};
 use super::transcript::Transcript;
-use super::{mir_lines, naming, tokens, written_types};
+use super::{mir_lines, tokens, type_names, written_types};
 use nll_text::{Token, is_header, next_line, number_of, tokens_of};
 use nll_type_grammar::is_capital;
 
@@ -64,7 +64,7 @@ fn write_told(out: &mut Transcript, asked: OfLine, tokens: &[Token<'_>]) {
     match asked {
         OfLine::Type => written_types::write_front(out, tokens),
         OfLine::Function => written_types::write_function_flag(out, tokens),
-        OfLine::Names => naming::write_names(out, tokens),
+        OfLine::Names => type_names::write_names(out, tokens),
         OfLine::First => mir_lines::write_version_flag(out, tokens),
         OfLine::Form => mir_lines::write_form(out, tokens, false),
         _ => mir_lines::write_form(out, tokens, true),

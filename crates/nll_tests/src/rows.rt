@@ -1,18 +1,18 @@
 //! What tests ask, and tables of what is told. In each row of a table stand what is looked at, what
 //! is asked, and what is told.
-use super::building::write_new;
+use super::builder_calls::write_new;
 use super::calls::{Call, Calls, write_behind, write_problem, write_random};
 use super::cuts::{Deal, write_cut, write_cut_file};
 use super::frontiers::{write_frontier, write_frontier_everywhere, write_frontier_to_end};
 use super::graphs::{Then, write_graph_then};
 use super::lines::{OfLine, write_line};
 use super::messages::{write_memory, write_messages};
+use super::problem_text::OfProblem;
 use super::schedules::write_schedule;
 use super::sets::{write_last_bit, write_runs, write_sets, write_within};
-use super::telling::OfProblem;
 use super::tokens::write_scanned;
 use super::transcript::Transcript;
-use super::typing::{OfType, write_typed};
+use super::type_text::{OfType, write_typed};
 use std::alloc::Global;
 use std::process::Abort;
 

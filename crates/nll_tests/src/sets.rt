@@ -1,8 +1,8 @@
 //! Sets of elements, through the bound of the sets and directly.
 ghost use Rattle.std.specs.Prelude.{◌≡◌, length};
 
+use super::problem_text::write_elements;
 use super::rows::{Asked, Row, compare_rows};
-use super::telling::write_elements;
 use super::transcript::Transcript;
 use nll_core::{BitSet, Element, ElementSet, Elements, Run, RunSet, is_seen_within};
 

@@ -1,8 +1,8 @@
 //! Types, structs, shapes and places: what each call gives for worked declarations.
-use super::making::Step::{Int, Named, Reference, Tuple};
 use super::rows::Asked::Type;
 use super::rows::{Row, compare_rows};
-use super::typing::OfType::{Deep, Doubling, Field, Place};
+use super::type_data::Step::{Int, Named, Reference, Tuple};
+use super::type_text::OfType::{Deep, Doubling, Field, Place};
 use nll_types::Projection;
 
 const DEREF: Projection = Projection::Deref;

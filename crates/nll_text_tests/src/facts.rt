@@ -2,9 +2,9 @@
 use super::line::Line;
 use super::regions::Regions;
 use super::slow::{Said, write_counts};
-use super::spelling::is;
+use super::tokens::is;
+use nll_format::TextKind::{Limit, Range, Syntax};
 use nll_problem::Kind;
-use nll_reading::TextKind::{Limit, Range, Syntax};
 use std::alloc::Global;
 
 /// What the lines of a facts text say, as far as it matters to later lines.

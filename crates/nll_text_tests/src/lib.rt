@@ -1,7 +1,7 @@
 //! Tests of the readers of texts of all formats, beside slow readers that were written after the
 //! definitions alone.
 //!
-//! Reading order: `spelling`, `line`, `slow`; `lists`, `regions`, `facts`; `shapes`, `types`,
+//! Reading order: `tokens`, `line`, `slow`; `lists`, `regions`, `facts`; `shapes`, `types`,
 //! `mir`, `points`; `quick`, `hostile`.
 #![tactic(auto)]
 
@@ -26,6 +26,6 @@ mod shapes;
 #[cfg(test)]
 mod slow;
 #[cfg(test)]
-mod spelling;
+mod tokens;
 #[cfg(test)]
 mod types;

@@ -1,10 +1,10 @@
 //! A line that is read from its first token to its last, and the kind of fault that is told of it.
-use super::spelling::{Bytes, is, is_capital, is_region, is_word, number_of, put_tokens};
-use nll_problem::Kind;
-use nll_reading::TextKind;
-use nll_reading::TextKind::{
+use super::tokens::{Bytes, is, is_capital, is_region, is_word, number_of, put_tokens};
+use nll_format::TextKind;
+use nll_format::TextKind::{
     Duplicate, End, Header, Limit, NotUtf8, Range, Shape, Syntax, TypeSize, Unknown,
 };
+use nll_problem::Kind;
 use std::alloc::Global;
 
 // The kinds of fault that a line of a short text can have, the first to be told in front.

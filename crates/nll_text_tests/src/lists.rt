@@ -1,8 +1,8 @@
 //! Cut files and schedules: texts that list something, one a line.
 use super::line::Line;
 use super::slow::Said;
-use super::spelling::is;
-use nll_reading::TextKind::{Range, Syntax};
+use super::tokens::is;
+use nll_format::TextKind::{Range, Syntax};
 use std::alloc::Global;
 
 /// The owners that the lines of a cut file name.

@@ -4,10 +4,10 @@ use super::points::read_point;
 use super::regions::Regions;
 use super::shapes::{Struct, Tokens, copy, is_large, part_at, parts_of, put_all};
 use super::slow::{Said, write_counts};
-use super::spelling::{Bytes, is, is_among, is_region};
+use super::tokens::{Bytes, is, is_among, is_region};
 use super::types::{read_fields, read_type};
+use nll_format::TextKind::{Duplicate, Limit, Range, Syntax, TypeSize, Unknown};
 use nll_problem::Kind;
-use nll_reading::TextKind::{Duplicate, Limit, Range, Syntax, TypeSize, Unknown};
 use std::alloc::Global;
 
 /// What the lines of a MIR text say, as far as it matters to later lines.

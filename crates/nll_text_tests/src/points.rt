@@ -4,9 +4,9 @@ use super::mir::Mir;
 use super::shapes::{
     Tokens, are_same, as_tuple, int, is_large, part, part_at, parts_of, pointed_to, reference,
 };
-use super::spelling::{Bytes, is};
+use super::tokens::{Bytes, is};
 use super::types::read_type;
-use nll_reading::TextKind::{Shape, Syntax, TypeSize};
+use nll_format::TextKind::{Shape, Syntax, TypeSize};
 use std::alloc::Global;
 
 // ---- places and operands

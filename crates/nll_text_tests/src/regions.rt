@@ -1,7 +1,7 @@
 //! The regions that a text declares, which bodies and problems have in common.
 use super::line::Line;
-use super::spelling::{Bytes, is_among};
-use nll_reading::TextKind::{Duplicate, Unknown};
+use super::tokens::{Bytes, is_among};
+use nll_format::TextKind::{Duplicate, Unknown};
 use std::alloc::Global;
 
 /// The regions in their order, `'static` first, and how many of them are universal.

@@ -1,6 +1,6 @@
 //! Shapes: types with their regions forgotten, each as the tokens that it is written with, and `'`
 //! in place of each region. Where a type lacks, its shape is no token.
-use super::spelling::{Bytes, is, is_region, is_word};
+use super::tokens::{Bytes, is, is_region, is_word};
 use std::alloc::Global;
 
 /// The tokens of a shape.

@@ -1,7 +1,7 @@
 //! The slow readers: what a text of a format says, or its one fault, as text.
 use super::line::Line;
-use super::spelling::{Bytes, is_header, is_skipped, is_utf8, put_lines};
-use nll_reading::TextKind::{self, End, Header, NotUtf8};
+use super::tokens::{Bytes, is_header, is_skipped, is_utf8, put_lines};
+use nll_format::TextKind::{self, End, Header, NotUtf8};
 use std::alloc::Global;
 
 // The versions that a format may have.

@@ -3,8 +3,8 @@
 use super::line::Line;
 use super::mir::Mir;
 use super::shapes::{Tokens, copy, is_large, is_taken};
-use super::spelling::{Bytes, is, is_among, is_capital, is_region};
-use nll_reading::TextKind::{Shape, Syntax, TypeSize, Unknown};
+use super::tokens::{Bytes, is, is_among, is_capital, is_region};
+use nll_format::TextKind::{Shape, Syntax, TypeSize, Unknown};
 
 // More parts within parts than a type of a short text has.
 const DEEPEST: u32 = 10_000;

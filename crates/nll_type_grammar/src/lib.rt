@@ -5,10 +5,10 @@ mod fronts;
 mod functions;
 mod laws;
 mod opens;
-mod reading;
+mod type_reader;
 mod type_text;
 
 pub use fronts::is_capital;
 pub use laws::{a_type_has_tokens, one_type_at_most};
-pub use reading::type_at;
+pub use type_reader::type_at;
 pub use type_text::{Argument, TypeNode, TypeText};

@@ -1,10 +1,10 @@
 //! Types with regions, the structs that they name, and places. It knows no text and no points.
 #![tactic(auto)]
 
-mod collecting;
-mod copying;
-mod declaring;
-mod dropping;
+mod copies;
+mod drop_regions;
+mod drop_search;
+mod drop_sources;
 mod laws;
 mod limits;
 mod memo;
@@ -12,18 +12,18 @@ mod node;
 mod operand;
 mod parameter;
 mod place;
-mod placing;
-mod projecting;
-mod putting;
+mod place_types;
+mod projections;
 mod shapes;
-mod shaping;
 mod source;
 mod structs;
+mod substitution;
 mod ty;
+mod type_shapes;
 mod type_table;
 mod well_formed;
 
-pub use copying::copy;
+pub use copies::copy;
 pub use laws::{
     arguments_of_types_and_shapes_agree, projections_of_types_and_shapes_agree,
     same_shape_means_equal_shapes, types_are_as_large_as_shapes, types_of_places_are_well_formed,
@@ -33,10 +33,10 @@ pub use node::Node;
 pub use operand::Operand;
 pub use parameter::{Parameter, Sign};
 pub use place::{Place, Projection};
-pub use placing::{field_type, place_type};
-pub use putting::put_in;
+pub use place_types::{field_type, place_type};
 pub use shapes::Shapes;
 pub use structs::{Declaration, Structs};
+pub use substitution::put_in;
 pub use ty::Ty;
 pub use type_table::TypeTable;
 pub use well_formed::{has_good_fields, is_well_formed};

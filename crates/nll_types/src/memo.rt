@@ -11,7 +11,7 @@ ghost use Rattle.nll_types.specs.declared.place.Projection.TheVariants.{Field as
 ghost use Rattle.nll_types.specs.contracts.memo.FieldUsePartialEq.TheImpl as derived;
 
 use crate::node::Node;
-use crate::projecting::part;
+use crate::projections::part;
 use crate::shapes::Shapes;
 use crate::structs::Structs;
 use indexmap::IndexMap;

@@ -8,7 +8,7 @@ ghost use Rattle.nll_types.specs.Types.{type_at, type_count};
 ghost use Rattle.nll_types.specs.Views.{tree};
 ghost use Rattle.nll_types.specs.Sources.{AreSourcesOf};
 
-use crate::declaring::sources_of;
+use crate::drop_sources::sources_of;
 use crate::parameter::Parameter;
 use crate::source::Source;
 use crate::ty::Ty;

@@ -15,11 +15,11 @@ ghost use Rattle.nll_types.specs.declared.place.Projection.TheVariants.{Field as
 use crate::memo::{FieldUse, part_once};
 use crate::node::Node;
 use crate::place::Projection;
-use crate::projecting::target;
+use crate::projections::target;
 use crate::shapes::Shapes;
-use crate::shaping::shape;
 use crate::structs::{Declaration, Structs};
 use crate::ty::Ty;
+use crate::type_shapes::shape;
 use indexmap::IndexMap;
 use nll_sets::Memory;
 use std::alloc::Global;

@@ -7,8 +7,8 @@ use Rattle.nll_owner.specs.Owner.{Owner, IsSound, IsDone, received_from, with_gr
 use Rattle.nll_cut.specs.Partition.{Cut}
 use Rattle.nll_problem.specs.Problem.{Problem}
 use Rattle.nll_mail.specs.declared.growth.Growth.{Growth}
-use Rattle.nll_worker.specs.declared.receiving.Heard.{Heard}
-use Rattle.nll_worker.specs.declared.receiving.Heard.TheVariants.{Nothing, Growths, Stray, Memory}
+use Rattle.nll_worker.specs.declared.inbox.Heard.{Heard}
+use Rattle.nll_worker.specs.declared.inbox.Heard.TheVariants.{Nothing, Growths, Stray, Memory}
 use Rattle.nll_worker.specs.declared.tally.Tally.{Tally}
 use Rattle.nll_worker.specs.Sums.{sum_to}
 use Rattle.nll_worker.specs.Hearing.{IsGivenUp}

@@ -4,8 +4,8 @@ use Rattle.std.specs.Prelude.{◌≡◌, ℕ, ◌<◌, List, ◌++◌, length, C
 use Rattle.nll_mail.specs.declared.growth.Growth.{Growth}
 use Rattle.nll_owner.specs.Logs.{IsPrefix}
 use Rattle.nll_owner.specs.Owner.{Owner, IsSound, IsDone, Passes, with_growths, GotBeginning}
-use Rattle.nll_worker.specs.declared.receiving.Heard.{Heard}
-use Rattle.nll_worker.specs.declared.receiving.Heard.TheVariants.{Nothing, Growths, Stray, Memory}
+use Rattle.nll_worker.specs.declared.inbox.Heard.{Heard}
+use Rattle.nll_worker.specs.declared.inbox.Heard.TheVariants.{Nothing, Growths, Stray, Memory}
 
 -- what an owner keeps that was refused to receive growths of owner j: it is sound, its log is
 -- longer at most, and it received a beginning of the growths: none of them, some or all

@@ -8,8 +8,8 @@ use Rattle.nll_worker.specs.Finishing.{HasStray}
 use Rattle.nll_worker.specs.Sums.{sum_to}
 use Rattle.nll_worker.specs.Tallies.{IsCounted, due_of}
 use Rattle.nll_worker.specs.declared.tally.Tally.{Tally}
-use Rattle.nll_worker.specs.declared.receiving.Heard.{Heard}
-use Rattle.nll_worker.specs.declared.receiving.Heard.TheVariants.{Nothing, Growths, Stray, Memory}
+use Rattle.nll_worker.specs.declared.inbox.Heard.{Heard}
+use Rattle.nll_worker.specs.declared.inbox.Heard.TheVariants.{Nothing, Growths, Stray, Memory}
 
 -- Just that was posted to each owner which was given out to it.
 pub record HasPosted (o : Owner) (posts : List (List Growth)) : Type 0 where

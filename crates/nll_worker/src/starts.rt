@@ -12,8 +12,8 @@ ghost use Rattle.nll_worker.specs.declared.ending.Ending.TheVariants.{Forbidden,
 
 use crate::ending::Ending;
 use crate::gate::Gate;
+use crate::work_loop::halt;
 use crate::worker::{Back, Finished, Given, Worker, work};
-use crate::working::halt;
 use nll_cut::Cut;
 use nll_ledger::Ledger;
 use nll_mail::Mail;

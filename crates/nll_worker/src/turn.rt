@@ -13,7 +13,7 @@ ghost use Rattle.nll_worker.specs.declared.tally.Tally.{Tally as TheTally};
 ghost use Rattle.nll_worker.specs.Turning.{IsAtRest, ComesTo};
 
 use crate::gate::Gate;
-use crate::receiving::{Heard, hear_from};
+use crate::inbox::{Heard, hear_from};
 use crate::tally::{Tally, count_new};
 use nll_ledger::Ledger;
 use nll_mail::{Growth, Mail};

@@ -7,7 +7,7 @@ ghost use Rattle.nll_worker.specs.Finishing.{IsGiven, IsEnded, WasStarted};
 use crate::ending::Ending;
 use crate::gate::Gate;
 use crate::outbox::Outbox;
-use crate::working::begin;
+use crate::work_loop::begin;
 use nll_cut::Cut;
 use nll_ledger::Ledger;
 use nll_mail::{Growth, Mail};

@@ -1,5 +1,5 @@
 use Rattle.std.proofs.Common.{ℕ, List, ap, sym, ◌∙◌}
-use Rattle.nll_reading.specs.Labels.{numbers}
+use Rattle.nll_format.specs.Labels.{numbers}
 use Rattle.nll_text.specs.Lines.{lines_left}
 use Rattle.nll_problem.proofs.SameLemmas.{same_problem_chain}
 use Rattle.nll_facts.proofs.SaidLemmas.{same_itself}

@@ -2,8 +2,8 @@ use Rattle.std.proofs.Common.{length, ap, inr, arith}
 use Rattle.std.proofs.lemmas.Result.{err_from_is_err_and, IfOk-weaker, IfErr-weaker}
 use Rattle.nll_text.specs.Lines.{lines_left}
 use Rattle.nll_text.proofs.LineLemmas.{length-lines_of-le}
-use Rattle.nll_reading.specs.Text.{IsCut, IsHeaded}
-use Rattle.nll_reading.proofs.LinesLemmas.{body_short}
+use Rattle.nll_format.specs.Text.{IsCut, IsHeaded}
+use Rattle.nll_format.proofs.LinesLemmas.{body_short}
 use Rattle.nll_facts.specs.FactsText.{facts}
 use Rattle.nll_facts.proofs.VersionLemmas.{too_long, refused_in, refused_at_header}
 use Rattle.nll_facts.proofs.facts.read_facts.Goals as goal

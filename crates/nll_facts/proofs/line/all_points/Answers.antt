@@ -1,5 +1,5 @@
-use Rattle.nll_reading.specs.Parts.{keyword}
-use Rattle.nll_reading.proofs.PartLemmas.{spells_more}
+use Rattle.nll_format.specs.Parts.{keyword}
+use Rattle.nll_format.proofs.PartLemmas.{spells_more}
 use Rattle.nll_facts.proofs.FormLemmas.{behind_all, no_place}
 use Rattle.nll_facts.proofs.line.all_points.Goals as goal
 

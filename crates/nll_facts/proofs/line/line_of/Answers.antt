@@ -1,5 +1,5 @@
-use Rattle.nll_reading.specs.Parts.{keyword}
-use Rattle.nll_reading.proofs.PartLemmas.{spells_more}
+use Rattle.nll_format.specs.Parts.{keyword}
+use Rattle.nll_format.proofs.PartLemmas.{spells_more}
 use Rattle.nll_facts.proofs.FormLemmas.{behind_base, behind_next, behind_constraint, behind_return}
 use Rattle.nll_facts.proofs.line.line_of.Goals as goal
 

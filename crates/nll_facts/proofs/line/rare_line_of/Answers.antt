@@ -1,5 +1,5 @@
-use Rattle.nll_reading.specs.Parts.{keyword}
-use Rattle.nll_reading.proofs.PartLemmas.{spells_more}
+use Rattle.nll_format.specs.Parts.{keyword}
+use Rattle.nll_format.proofs.PartLemmas.{spells_more}
 use Rattle.nll_facts.proofs.FormLemmas.{behind_region, behind_outlives, behind_universal, behind_points, behind_end, no_form_at}
 use Rattle.nll_facts.proofs.line.rare_line_of.Goals as goal
 

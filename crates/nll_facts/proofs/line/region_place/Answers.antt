@@ -1,5 +1,5 @@
-use Rattle.nll_reading.specs.Parts as parts
-use Rattle.nll_reading.proofs.PartLemmas.{no_region_first, spells_more, spells_rest}
+use Rattle.nll_format.specs.Parts as parts
+use Rattle.nll_format.proofs.PartLemmas.{no_region_first, spells_more, spells_rest}
 use Rattle.nll_facts.proofs.line.region_place.Goals as goal
 
 pub returns-in_err-name : goal.returns-in_err-name

@@ -1,7 +1,7 @@
 use Rattle.std.proofs.Common.{[], subst}
 use Rattle.nll_text.specs.Lines.{lines_left}
-use Rattle.nll_reading.specs.Listing.{format_of}
-use Rattle.nll_reading.specs.Text.{Says}
+use Rattle.nll_format.specs.Listing.{format_of}
+use Rattle.nll_format.specs.Text.{Says}
 use Rattle.nll_list_text.proofs.list.read_body.Goals as goal
 
 pub returns-clause-ok : goal.returns-clause-ok

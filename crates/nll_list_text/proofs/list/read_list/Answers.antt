@@ -1,8 +1,8 @@
 use Rattle.std.proofs.lemmas.Result.{err_from_is_err_and, IfOk-weaker, IfErr-weaker}
 use Rattle.nll_text.specs.Lines.{lines_left}
-use Rattle.nll_reading.specs.Listing.{format_of}
-use Rattle.nll_reading.proofs.LinesLemmas.{body_short}
-use Rattle.nll_reading.proofs.ReadingLemmas.{unopened_refused}
+use Rattle.nll_format.specs.Listing.{format_of}
+use Rattle.nll_format.proofs.LinesLemmas.{body_short}
+use Rattle.nll_format.proofs.ReadingLemmas.{unopened_refused}
 use Rattle.nll_list_text.proofs.list.read_list.Goals as goal
 
 pub returns-in_err-body-clause-fault : goal.returns-in_err-body-clause-fault

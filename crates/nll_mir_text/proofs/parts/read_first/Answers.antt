@@ -2,7 +2,7 @@ use Rattle.std.proofs.Common.{List, ℕ, [], ◌∷◌, length, ap, subst, ◌�
 use Rattle.std.proofs.lemmas.Result.{err_from_is_err_and}
 use Rattle.nll_text.specs.Lines.{lines_left, lines_of}
 use Rattle.nll_text.proofs.LineLemmas.{length-lines_of-le}
-use Rattle.nll_reading.specs.Text.{IsCut, IsHeaded}
+use Rattle.nll_format.specs.Text.{IsCut, IsHeaded}
 use Rattle.nll_problem.specs.Limits.{most_bytes}
 use Rattle.nll_mir_text.specs.MirText.{mir}
 use Rattle.nll_mir_text.specs.MirReading.{AreShort}

@@ -1,5 +1,5 @@
 use Rattle.std.proofs.Common.{length, ap, subst, arith, inl, inr, ⊎_elim}
-use Rattle.nll_reading.proofs.ReadingLemmas.{body_refused}
+use Rattle.nll_format.proofs.ReadingLemmas.{body_refused}
 use Rattle.nll_mir_text.proofs.TextLemmas.{amid_more, amid_fault}
 use Rattle.nll_mir_text.specs.MirReading.{AreShort}
 use Rattle.nll_mir_text.specs.MirText.{mir}

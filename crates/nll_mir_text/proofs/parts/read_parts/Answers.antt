@@ -2,8 +2,8 @@ use Rattle.std.proofs.Common.{◌≡◌, length, ap, sym, ◌∙◌, subst, inr,
 use Rattle.std.proofs.lemmas.Bool.{false≢true}
 use Rattle.std.proofs.lemmas.Result.{err_from_is_err_and}
 use Rattle.nll_text.specs.Lines.{lines_of}
-use Rattle.nll_reading.specs.Text.{IsFault, no_end}
-use Rattle.nll_reading.specs.declared.error.TextKind.TheVariants.{End}
+use Rattle.nll_format.specs.Text.{IsFault, no_end}
+use Rattle.nll_format.specs.declared.error.TextKind.TheVariants.{End}
 use Rattle.nll_mir_text.specs.MirSaid.{Said}
 use Rattle.nll_mir_text.specs.MirText.{mir}
 use Rattle.nll_mir_text.specs.declared.groups.Group.TheVariants as groups

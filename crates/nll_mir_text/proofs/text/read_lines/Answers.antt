@@ -4,9 +4,9 @@ use Rattle.nll_mir_text.proofs.TextLemmas.{read_none, read_more, read_fault, rea
 use Rattle.nll_mir_text.proofs.SaidLemmas.{not_ended}
 use Rattle.nll_mir_text.specs.MirSaid.{Said}
 use Rattle.std.proofs.lemmas.Bool.{false≢true}
-use Rattle.nll_reading.specs.Text.{IsFault, no_end}
-use Rattle.nll_reading.specs.declared.error.TextKind.TheVariants.{End}
-use Rattle.nll_reading.proofs.ReadingLemmas.{body_refused}
+use Rattle.nll_format.specs.Text.{IsFault, no_end}
+use Rattle.nll_format.specs.declared.error.TextKind.TheVariants.{End}
+use Rattle.nll_format.proofs.ReadingLemmas.{body_refused}
 use Rattle.nll_mir_text.specs.declared.groups.Group.TheVariants as groups
 use Rattle.nll_mir_text.specs.MirFaults.{has_reached}
 use Rattle.nll_mir_text.specs.MirText.{mir}

@@ -1,5 +1,5 @@
-use Rattle.nll_reading.specs.Parts.{keyword}
-use Rattle.nll_reading.proofs.PartLemmas.{spells_more}
+use Rattle.nll_format.specs.Parts.{keyword}
+use Rattle.nll_format.proofs.PartLemmas.{spells_more}
 use Rattle.nll_schedule_text.proofs.LineLemmas.{behind_take, behind_push, behind_owe, behind_clear, behind_load, behind_leave, no_event_at}
 use Rattle.nll_schedule_text.proofs.line.line_of.Goals as goal
 

@@ -1,9 +1,9 @@
 use Rattle.std.proofs.Common.{refl, inl, inr, sym, ◌∙◌, ⊎_elim}
 use Rattle.std.proofs.lemmas.Result.{err_from_is_err_and, on_ok_weaker, IfErr-weaker}
-use Rattle.nll_reading.specs.Text.{of_form, at_form}
-use Rattle.nll_reading.specs.Reading.{skips, reads}
-use Rattle.nll_reading.proofs.LinesLemmas.{takes_in, turns_down}
-use Rattle.nll_reading.proofs.ListingLemmas.{passes, formless}
+use Rattle.nll_format.specs.Text.{of_form, at_form}
+use Rattle.nll_format.specs.Reading.{skips, reads}
+use Rattle.nll_format.proofs.LinesLemmas.{takes_in, turns_down}
+use Rattle.nll_format.proofs.ListingLemmas.{passes, formless}
 use Rattle.nll_facts.specs.FactsReading.{Adds, SameSaid}
 use Rattle.nll_facts.specs.FactsText.{facts}
 use Rattle.nll_facts.proofs.FormLemmas.{form_utf8, form_kept, texts_in}

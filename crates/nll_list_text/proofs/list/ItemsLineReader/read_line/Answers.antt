@@ -1,9 +1,9 @@
 use Rattle.std.proofs.Common.{[], ◌∷◌, inr, refl}
 use Rattle.std.proofs.lemmas.List.{map-append}
 use Rattle.std.proofs.lemmas.Result.{err_from_is_err_and, on_ok_weaker, IfErr-weaker}
-use Rattle.nll_reading.specs.Listing.{format_of}
-use Rattle.nll_reading.specs.Reading.{skips}
-use Rattle.nll_reading.proofs.ListingLemmas.{passes, formless, entry_read, entry_faulty, entries_taken, entries_refused}
+use Rattle.nll_format.specs.Listing.{format_of}
+use Rattle.nll_format.specs.Reading.{skips}
+use Rattle.nll_format.proofs.ListingLemmas.{passes, formless, entry_read, entry_faulty, entries_taken, entries_refused}
 use Rattle.nll_list_text.proofs.list.ItemsLineReader.read_line.Goals as goal
 
 pub returns-in_err-item-clause-refused : goal.returns-in_err-item-clause-refused

@@ -4,8 +4,8 @@ use Rattle.nll_type_grammar.specs.TypeTexts.{written}
 use Rattle.nll_mir_grammar.specs.Lines.{parameter_of}
 use Rattle.nll_mir_grammar.specs.Tuples.{parts}
 use Rattle.std.proofs.lemmas.List.{length-map}
-use Rattle.nll_naming.specs.Naming.{Scope, are_known, have_arguments, all_meant}
-use Rattle.nll_typing.specs.Typing.{are_small}
+use Rattle.nll_resolve.specs.Naming.{Scope, are_known, have_arguments, all_meant}
+use Rattle.nll_type_check.specs.Typing.{are_small}
 use Rattle.nll_types.specs.Declarations as kept
 use Rattle.nll_mir_text.specs.MirFaults.{redeclares}
 use Rattle.nll_mir_text.specs.MirSaid.{field_scope}

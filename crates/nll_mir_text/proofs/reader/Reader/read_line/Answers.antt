@@ -1,8 +1,8 @@
 use Rattle.std.proofs.Common.{ap, refl, inl, inr, ⊎_elim}
 use Rattle.std.proofs.lemmas.Result.{on_ok_weaker, IfErr-weaker}
 use Rattle.nll_text.specs.Tokens.{views}
-use Rattle.nll_reading.specs.Text.{skipped, of_form, not_utf8, no_form, at_form}
-use Rattle.nll_reading.specs.Reading.{skips, reads}
+use Rattle.nll_format.specs.Text.{skipped, of_form, not_utf8, no_form, at_form}
+use Rattle.nll_format.specs.Reading.{skips, reads}
 use Rattle.nll_mir_text.proofs.FormLemmas.{texts_in, few_parameters_in}
 use Rattle.nll_mir_text.proofs.TextLemmas.{no_form_from, form_from, no_form_within}
 use Rattle.nll_mir_text.proofs.reader.Reader.read_line.Goals as goal

@@ -1,0 +1,67 @@
+-- How lines of a text behind its header are read, one after another.
+-- Source: project's choice. What a reader holds is given as a relation to the forms of the lines
+-- that it has read.
+use Rattle.std.specs.Prelude.{◌≡◌, ◌⊎◌, ℕ, ◌+◌, ◌≤◌, List, [], ◌++◌, length}
+use Rattle.std.specs.List.{AllByRecursion}
+use Rattle.nll_problem.specs.Limits.{most_bytes}
+use Rattle.nll_format.specs.Text.{Format, Fits, IsFaulty, Says, IsHeaded, IsFault, IsRefusal}
+use Rattle.nll_format.specs.declared.error.TextError.{TextError}
+use Rattle.nll_format.specs.declared.error.TextKind.{TextKind}
+use Rattle.nll_format.specs.declared.error.TextKind.TheVariants.{Memory}
+
+-- no line is longer than a text may be
+abbrev pub AreShort : List (List ℕ) → Type 0
+AreShort lines = AllByRecursion (λ line. length line ≤ most_bytes) lines
+
+-- ---- one line
+
+-- behind lines of the forms that were held the line has no fault, and with what it adds the forms
+-- are held now
+abbrev pub TakesIn : (format : Format) → (List format.Form → Type 0)
+    → (List format.Form → Type 0) → List ℕ → Type 0
+TakesIn format Old New line =
+    (forms : List format.Form) → Old forms
+    → (added : List format.Form) × Fits format (format.said forms) line added
+    × New (forms ++ added)
+
+-- memory was refused, or behind lines of the forms that were held this is the line's first kind of
+-- fault
+abbrev pub TurnsDown : (format : Format) → (List format.Form → Type 0) → List ℕ → TextKind → Type 0
+TurnsDown format Old line kind =
+    (forms : List format.Form) → Old forms
+    → (kind ≡ Memory) ⊎ IsFaulty format (format.said forms) line kind
+
+-- ---- all lines
+
+-- Of all lines those that are left are not read yet. The others have no fault and are of these
+-- forms; with the header they are so many.
+pub record IsAmid (format : Format) (all left : List (List ℕ)) (forms : List format.Form)
+    (number : ℕ) : Type 0 where
+  pub front : List (List ℕ)
+  pub cut : all ≡ front ++ left
+  pub place : number ≡ 1 + length front
+  pub fine : Says format [] front forms
+
+-- the same of forms that are held
+abbrev pub IsAmidWith : (format : Format) → (List format.Form → Type 0) → List (List ℕ)
+    → List (List ℕ) → ℕ → Type 0
+IsAmidWith format Held all left number =
+    (forms : List format.Form) × IsAmid format all left forms number × Held forms
+
+-- of all lines these were left, and now only those are
+abbrev pub Advances : (format : Format) → (List format.Form → Type 0)
+    → (List format.Form → Type 0) → List (List ℕ) → List (List ℕ) → ℕ → ℕ → Type 0
+Advances format Old New these those before number =
+    (all : List (List ℕ)) → IsAmidWith format Old all these before
+    → IsAmidWith format New all those number
+
+-- the error refuses each text of the format that has these lines behind its header
+abbrev pub RefusesBody : Format → List (List ℕ) → TextError → Type 0
+RefusesBody format body error =
+    (text : List ℕ) → IsHeaded format text body → IsRefusal (IsFault format text) error
+
+-- the same of all lines of which these are left
+abbrev pub RefusesLeft : (format : Format) → (List format.Form → Type 0) → List (List ℕ) → ℕ
+    → TextError → Type 0
+RefusesLeft format Old these before error =
+    (all : List (List ℕ)) → IsAmidWith format Old all these before → RefusesBody format all error

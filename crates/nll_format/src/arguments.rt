@@ -1,0 +1,61 @@
+//! What follows the first word of a line: regions, and then numbers.
+
+ghost use Rattle.nll_format.specs.Parts as shapes;
+ghost use Rattle.nll_format.specs.Parts.{Reads};
+
+use nll_text::{first_number, first_region, is_gap};
+
+/// Nothing.
+pub fn nothing(rest: &[u8]) -> Option<()>
+    ensures { Reads shapes.nothing (λ n. n) rest.now result }
+{
+    if !is_gap(rest) {
+        return None;
+    }
+    Some(())
+}
+
+/// One number.
+pub fn number(rest: &[u8]) -> Option<u32>
+    ensures { Reads shapes.one_number (λ n. n) rest.now result }
+{
+    let (point, rest) = first_number(rest)?;
+    nothing(rest)?;
+    Some(point)
+}
+
+/// Two numbers.
+pub fn two_numbers(rest: &[u8]) -> Option<(u32, u32)>
+    ensures { Reads shapes.two_numbers (λ n. n) rest.now result }
+{
+    let (first, rest) = first_number(rest)?;
+    let second = number(rest)?;
+    Some((first, second))
+}
+
+/// One region's name.
+pub fn region(rest: &[u8]) -> Option<&[u8]>
+    ensures { Reads shapes.one_region (λ x. x.now) rest.now result }
+{
+    let (name, rest) = first_region(rest)?;
+    nothing(rest)?;
+    Some(name)
+}
+
+/// Two regions' names.
+pub fn two_regions(rest: &[u8]) -> Option<(&[u8], &[u8])>
+    ensures { Reads shapes.two_regions (λ n. (n.0.now, n.1.now)) rest.now result }
+{
+    let (first, rest) = first_region(rest)?;
+    let second = region(rest)?;
+    Some((first, second))
+}
+
+/// A region's name and a number.
+pub fn region_number(rest: &[u8]) -> Option<(&[u8], u32)>
+    ensures { Reads shapes.region_number (λ n. (n.0.now, n.1)) rest.now result }
+{
+    let (name, rest) = first_region(rest)?;
+    let point = number(rest)?;
+    Some((name, point))
+}

@@ -1,0 +1,135 @@
+//! Reading the lines of a text behind its header, one after another.
+
+ghost use Rattle.std.specs.Prelude.{◌≡◌, ◌+◌, ◌<◌, ◌≤◌, ◌^◌, ℕ, [], List, None, length};
+ghost use Rattle.std.specs.Prelude.{OnOk, IfOk, IfErr};
+ghost use Rattle.nll_text.specs.Lines.{lines_left, lines_of};
+ghost use Rattle.nll_format.specs.Text.{Says};
+ghost use Rattle.nll_format.specs.Lines.{Advances, AreShort, IsAmidWith, RefusesBody, RefusesLeft};
+
+use crate::error::{TextError, TextKind};
+use crate::line_reader::LineReader;
+use nll_text::next_line;
+
+/// Takes in the lines behind the header, to the end.
+///
+/// # Errors
+/// The first faulty line, and of that line the first kind in the order of `TextKind`; or `End` at
+/// the last line; or `Memory` at line 0.
+pub fn read_lines<'a, F, R: LineReader<'a, F>>(
+    reader: &mut R,
+    format: &F,
+    body: Option<&'a [u8]>,
+    room: &mut R::Room,
+) -> Result<(), TextError>
+    requires ready { R.ready reader.old }
+    requires nothing { R.holds format.now [] reader.old }
+    requires long { length (lines_left body) < 2 ^ 32 }
+    requires short { AreShort (lines_left body) }
+    ensures ready { OnOk result (R.ready reader.new) }
+    ensures read { OnOk result ((forms : List (R.format_of format.now).Form)
+        × Says (R.format_of format.now) [] (lines_left body.entry) forms
+        × (R.format_of format.now).HasEnded forms × R.holds format.now forms reader.new) }
+    ensures fault { IfErr result (RefusesBody (R.format_of format.now) (lines_left body.entry)) }
+{
+    let Some(text) = body else {
+        return check_end(reader, format, 1);
+    };
+    let mut number = 1;
+    let _nothing = read_until(reader, format, text, 0, room, &mut number)?;
+    check_end(reader, format, number)
+}
+
+/// Takes in a line, and more until fewer than so many bytes are left: what is left. The number is
+/// that of the last line that was taken in.
+///
+/// # Errors
+/// The first faulty line, and of that line the first kind in the order of `TextKind`; or `Memory`
+/// at line 0.
+pub fn read_until<'a, F, R: LineReader<'a, F>>(
+    reader: &mut R,
+    format: &F,
+    text: &'a [u8],
+    least: usize,
+    room: &mut R::Room,
+    number: &mut u64,
+) -> Result<Option<&'a [u8]>, TextError>
+    requires ready { R.ready reader.old }
+    requires long { number.old + length (lines_of text.now) ≤ 2 ^ 32 }
+    requires short { AreShort (lines_of text.now) }
+    ensures ready { OnOk result (R.ready reader.new) }
+    ensures short { IfOk result (λ rest. AreShort (lines_left rest)) }
+    ensures counted { IfOk result (λ rest.
+        number.new + length (lines_left rest) ≡ number.old + length (lines_of text.now)) }
+    ensures fewer { IfOk result (λ rest. length (lines_left rest) < length (lines_of text.now)) }
+    ensures all { least ≡ 0 → IfOk result (λ rest. rest ≡ None) }
+    ensures read { IfOk result (λ rest. Advances (R.format_of format.now)
+        (λ forms. R.holds format.now forms reader.old)
+        (λ forms. R.holds format.now forms reader.new)
+        (lines_of text.now) (lines_left rest) number.old number.new) }
+    ensures fault { IfErr result (RefusesLeft (R.format_of format.now)
+        (λ forms. R.holds format.now forms reader.old) (lines_of text.now) number.old) }
+{
+    let mut rest = read_next(reader, format, text, room, number)?;
+    while let Some(text) = rest {
+        if text.len() < least {
+            return Ok(rest);
+        }
+        rest = read_next(reader, format, text, room, number)?;
+    }
+    Ok(None)
+}
+
+// Takes in the next line: the text behind it. The number is that of the line before it.
+fn read_next<'a, F, R: LineReader<'a, F>>(
+    reader: &mut R,
+    format: &F,
+    text: &'a [u8],
+    room: &mut R::Room,
+    number: &mut u64,
+) -> Result<Option<&'a [u8]>, TextError>
+    requires ready { R.ready reader.old }
+    requires long { number.old + length (lines_of text.now) ≤ 2 ^ 32 }
+    requires short { AreShort (lines_of text.now) }
+    ensures ready { OnOk result (R.ready reader.new) }
+    ensures short { IfOk result (λ rest. AreShort (lines_left rest)) }
+    ensures one { IfOk result (λ rest.
+        length (lines_of text.now) ≡ length (lines_left rest) + 1) }
+    ensures counted { OnOk result (number.new ≡ number.old + 1) }
+    ensures read { IfOk result (λ rest. Advances (R.format_of format.now)
+        (λ forms. R.holds format.now forms reader.old)
+        (λ forms. R.holds format.now forms reader.new)
+        (lines_of text.now) (lines_left rest) number.old number.new) }
+    ensures fault { IfErr result (RefusesLeft (R.format_of format.now)
+        (λ forms. R.holds format.now forms reader.old) (lines_of text.now) number.old) }
+{
+    let (line, rest) = next_line(text);
+    *number += 1;
+    match reader.read_line(format, line, room) {
+        Ok(()) => Ok(rest),
+        Err(kind) => Err(TextError::at(*number, kind)),
+    }
+}
+
+/// Refuses a text that stops behind the line of this number, unless it may stop there.
+///
+/// # Errors
+/// `End` at the line.
+pub fn check_end<'a, F, R: LineReader<'a, F>>(
+    reader: &R,
+    format: &F,
+    number: u64,
+) -> Result<(), TextError>
+    ensures ok { OnOk result ((lines : List (List ℕ)) (forms : List (R.format_of format.now).Form)
+        → Says (R.format_of format.now) [] lines forms → R.holds format.now forms reader.now
+        → (R.format_of format.now).HasEnded forms) }
+    ensures fault { IfErr result (RefusesLeft (R.format_of format.now)
+        (λ forms. R.holds format.now forms reader.now) [] number) }
+{
+    if !reader.has_ended(format) {
+        return Err(TextError {
+            line: number,
+            kind: TextKind::End,
+        });
+    }
+    Ok(())
+}

@@ -1,5 +1,0 @@
-use Rattle.std.proofs.Common.{◌≡◌, [], map, replicate}
-use Rattle.nll_live.proofs.gathering.empty_lists.Given as goal
-
-abbrev pub invariant-loop : goal.invariant-loop
-invariant-loop l = map (λ list. list.items) l.lists.items ≡ replicate l.counter []

@@ -1,0 +1,136 @@
+//! How an owner follows up what it has, until nothing is left to do.
+
+ghost use Rattle.std.specs.Prelude.{◌≡◌, ◌<◌, ℕ, Contains, length, map};
+ghost use Rattle.std.specs.Prelude.{IfOk, OnOk};
+ghost use Rattle.nll_problem.specs.Problem.{SameSet};
+ghost use Rattle.nll_mail.specs.declared.growth.Growth.{Growth};
+ghost use Rattle.nll_owner.specs.Logs.{IsTold};
+ghost use Rattle.nll_owner.specs.Owner.{IsSound, Has, first_owner};
+ghost use Rattle.nll_owner.specs.Keeping.{Grows, IsClosed, held_regions};
+ghost use Rattle.nll_owner.specs.Following.{IsFollowing, HasFollowed, Nothing, following_of};
+
+use crate::knowledge::Knowledge;
+use crate::link::Link;
+use crate::link_table::links_of;
+use crate::region_runs::RegionRuns;
+use crate::rows::follow_runs;
+use crate::slots::Slots;
+use nll_core::Steps;
+use nll_cut::Cut;
+use nll_mail::Growth;
+use nll_problem::{ConstraintIndex, Problem};
+use nll_sets::{Memory, Run};
+use std::alloc::Global;
+use std::marker::Model;
+
+/// What an owner has followed up. After a refused call nothing is known of it.
+#[derive(Drop)]
+pub struct Following {
+    // By the slot of the region that they read.
+    rows: Vec<Vec<Link>>,
+    // How far in the log.
+    place: usize,
+    // What was followed up last, and what the last link has found. They're kept so that their
+    // memory is taken once.
+    runs: RegionRuns,
+    found: Vec<Run>,
+}
+
+impl Model for Following {
+    ghost use Rattle.std.specs.Prelude.{map};
+    ghost use Rattle.nll_owner.specs.Following as spec;
+    ghost use Rattle.nll_owner.specs.Following.{following_of};
+
+    ghost Value = { spec.Following };
+
+    ghost view = { λ f.
+        following_of (map (λ row. row.items) f.rows.items) f.place };
+}
+
+impl Following {
+    /// What an owner has followed up that has done nothing yet.
+    pub fn new(
+        alloc: Global,
+        problem: &Problem,
+        cut: &Cut,
+        index: &ConstraintIndex,
+        slots: &Slots,
+        me: u16,
+    ) -> Result<Following, Memory>
+        requires cut { length cut.now.list ≡ problem.now.regions }
+        requires index { SameSet index.now problem.now.constraints }
+        requires slots { slots.now ≡ held_regions (first_owner problem.now cut.now me) }
+        ensures { IfOk result
+            (λ f. IsFollowing Nothing (first_owner problem.now cut.now me) f) }
+    {
+        let rows = links_of(alloc, problem, cut, index, slots, me)?;
+        Ok(Following {
+            rows,
+            place: 0,
+            runs: RegionRuns::new(alloc),
+            found: Vec::new(alloc),
+        })
+    }
+
+    /// Follows up growths of other owners that the owner has received, all together: each link that
+    /// reads a region of theirs is looked at once.
+    ///
+    /// # Cost
+    /// A sort of the runs that they tell, and what each run newly reaches by each link (not
+    /// proved).
+    pub fn follow_all(
+        &mut self,
+        knowledge: &mut Knowledge,
+        steps: &Steps,
+        growths: &[Growth],
+    ) -> Result<(), Memory>
+        requires sound { IsSound knowledge.old }
+        requires steps { steps.now ≡ knowledge.old.problem.graph }
+        requires regions { (g : Growth) → Contains growths.now g
+            → g.region < knowledge.old.problem.regions }
+        requires has { (r e : ℕ) → IsTold growths.now r e → Has knowledge.old r e }
+        requires following { IsFollowing (IsTold growths.now) knowledge.old self.old }
+        ensures grows { Grows knowledge.old knowledge.new }
+        ensures following { OnOk result (IsFollowing Nothing knowledge.new self.new) }
+    {
+        self.runs.gather(growths)?;
+        follow_runs(
+            &mut self.rows,
+            knowledge,
+            steps,
+            self.runs.as_slice(),
+            self.place,
+            &mut self.found,
+        )
+    }
+
+    /// Follows up the log to its end: all that it tells behind a place together, then all that came
+    /// of that, and so on. Nothing is left to do then.
+    ///
+    /// # Cost
+    /// Each time a sort of the runs that the log tells, and what each run newly reaches by each
+    /// link (not proved).
+    pub fn settle(&mut self, knowledge: &mut Knowledge, steps: &Steps) -> Result<(), Memory>
+        requires sound { IsSound knowledge.old }
+        requires steps { steps.now ≡ knowledge.old.problem.graph }
+        requires following { IsFollowing Nothing knowledge.old self.old }
+        ensures grows { Grows knowledge.old knowledge.new }
+        ensures followed { OnOk result (HasFollowed knowledge.new self.new) }
+        ensures closed { OnOk result (IsClosed knowledge.new) }
+    {
+        while self.place < knowledge.entries().len() {
+            let end = knowledge.entries().len();
+            self.runs.gather(&knowledge.entries()[self.place..])?;
+            self.place = end;
+            follow_runs(
+                &mut self.rows,
+                knowledge,
+                steps,
+                self.runs.as_slice(),
+                end,
+                &mut self.found,
+            )?;
+        }
+        Ok(())
+    }
+}

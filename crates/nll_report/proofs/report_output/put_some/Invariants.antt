@@ -1,0 +1,6 @@
+-- An interrupted write appends nothing.
+use Rattle.std.specs.Io.KnownBytes.{Keeps}
+use Rattle.nll_report.proofs.report_output.put_some.Given as goal
+
+abbrev pub invariant-loop : goal.invariant-loop
+invariant-loop g l = Keeps (g.W.Write.contents l.initial.out) (g.W.Write.contents l.out)

@@ -1,0 +1,132 @@
+//! What the names of written types mean.
+use super::lines::OfLine;
+use super::rows::compare_text;
+use super::transcript::Transcript;
+use super::type_text::write_type;
+use nll_format::Names;
+use nll_resolve::{ResolvedType, Scope, resolve};
+use nll_text::Token;
+use nll_type_grammar::{TypeText, type_at};
+use nll_types::TypeTable;
+
+// A table of names.
+fn names_of(out: &mut Transcript, words: &[&str]) -> Names {
+    let mut names = Names::empty(out.alloc);
+    for word in words {
+        if names.number_of(word.as_bytes()).is_none() {
+            out.note(names.add(out.alloc, word.as_bytes()));
+        }
+    }
+    names
+}
+
+// Writes how many nodes a type has.
+fn write_size(out: &mut Transcript, ty: &ResolvedType) {
+    let mut table = TypeTable::new(out.alloc);
+    if let Ok(shape) = ty.shape(out.alloc, &mut table) {
+        out.size("", table.shapes().size(shape));
+        out.say(": ");
+    }
+    drop(table);
+}
+
+// Writes whether the names in a type have the arguments that they take, how many nodes the type
+// has, and what it is.
+fn write_resolved(out: &mut Transcript, resolved: &ResolvedType) {
+    out.flag("true ", resolved.fits(), " ");
+    write_size(out, resolved);
+    if let Ok(ty) = resolved.ty(out.alloc) {
+        write_type(out, &ty);
+        drop(ty);
+    }
+}
+
+// Writes whether the names in a type are known, and, where they are, what the type is.
+fn write_told(out: &mut Transcript, scope: &Scope<'_>, text: &TypeText<'_>) {
+    if scope.regions.len() <= 100 {
+        match resolve(out.alloc, scope, text) {
+            Ok(Some(resolved)) => {
+                write_resolved(out, &resolved);
+                drop(resolved);
+            }
+            Ok(None) => out.say("false"),
+            Err(_) => out.say("refused"),
+        }
+    }
+}
+
+// Writes what is told of the type in front of tokens, where there is one.
+fn write_front(out: &mut Transcript, scope: &Scope<'_>, tokens: &[Token<'_>]) {
+    match type_at(out.alloc, tokens) {
+        Ok(Some((text, _))) => {
+            write_told(out, scope, &text);
+            drop(text);
+        }
+        Ok(None) => out.say("none"),
+        Err(_) => out.say("refused"),
+    }
+}
+
+// The kinds of arguments that the structs of the tests take.
+fn kinds(out: &mut Transcript) -> Vec<Vec<bool>> {
+    let mut kinds = Vec::new(out.alloc);
+    for taken in KINDS {
+        if let Ok(taken) = Vec::from_slice(out.alloc, taken) {
+            out.note(kinds.push(taken));
+        }
+    }
+    kinds
+}
+
+/// Writes what is told of the type in front of tokens, where there is one, and what it means.
+pub fn write_names(out: &mut Transcript, tokens: &[Token<'_>]) {
+    let regions = names_of(out, &["static", "a", "b"]);
+    let parameters = names_of(out, &["T"]);
+    let structs = names_of(out, &["W", "V", "U", "T"]);
+    let kinds = kinds(out);
+    let scope = Scope {
+        regions: &regions,
+        parameters: &parameters,
+        structs: &structs,
+        kinds: kinds.as_slice(),
+    };
+    write_front(out, &scope, tokens);
+    drop(kinds);
+    drop(regions);
+    drop(parameters);
+    drop(structs);
+}
+
+// Which arguments of the structs W, V, U and T are regions.
+const KINDS: &[&[bool]] = &[&[true], &[true, false], &[], &[true]];
+
+// Types; whether the names in each are known, and, where they are, whether they have the arguments
+// that they take, how many nodes the type has, and what it means.
+const TYPES: &str = "
+int ~ true true 1: int
+&'a mut int ~ true true 2: &1 mut int
+&'static int ~ true true 2: &0 int
+&'c int ~ false
+&'a X ~ false
+T ~ true true 1: P0
+T<'a> ~ true false 1: P0
+W<'b> ~ true true 1: S0< 2 >
+W<'c> ~ false
+W ~ true false 1: S0< >
+W<int> ~ true false 2: S0< int >
+W<'a, 'b> ~ true false 1: S0< 1 2 >
+V<'b, T> ~ true true 2: S1< 2 P0 >
+V<T, 'b> ~ true false 2: S1< 2 P0 >
+V<'a, W<'c>> ~ false
+V<'a, W> ~ true false 2: S1< 1 S0< > >
+U<'a> ~ true false 1: S2< 1 >
+() ~ true true 1: ( )
+(W<'a>, &'b U) ~ true true 4: ( S0< 1 > &2 S2< > )
+(X, W) ~ false
+";
+
+// Names are resolved, and mean what they stand for.
+#[test]
+fn names_have_meanings(rt: HostRuntime) {
+    compare_text(&rt, rt.alloc(), OfLine::Names, TYPES);
+}

@@ -1,0 +1,40 @@
+use Rattle.std.proofs.Common.{map, Some, ◌∙◌}
+use Rattle.std.specs.List.{list_all, flat_map}
+use Rattle.nll_types.specs.Declarations.{structs_of}
+use Rattle.nll_types.specs.Operands.{operand_of}
+use Rattle.nll_types.specs.Places.{path_of, type_of, small_prefixes}
+use Rattle.nll_types.specs.Shapes.{is_small}
+use Rattle.nll_statements.specs.Effects.{place_in}
+use Rattle.nll_types.proofs.ShapingLemmas.{extends_then}
+use Rattle.nll_statements.specs.TypePairs.{beside_parts, operand_types, parts_of_type}
+use Rattle.nll_type_check.specs.Typing.{parts_are_small}
+use Rattle.nll_type_check.proofs.FoundLemmas.{below_later, shapes_later, shape_later}
+use Rattle.nll_type_check.proofs.JudgedLemmas.{both_judged, judged_as, make_order, last_agrees}
+use Rattle.nll_type_check.proofs.statement_judgement.judge_make.Goals as goal
+
+pub returns-clause-judged : goal.returns-clause-judged
+returns-clause-judged c = λ types t h e.
+    let parts = c.in_ok-parts.ensures.judged types t h e in
+    let result = (rw c.judge_parts.ensures.structs at c.in_ok-result.ensures.judged) types t (shapes_later _ _ _ types c.judge_parts.ensures.extends c.requires.variables h) (shape_later _ _ _ t c.judge_parts.ensures.extends c.requires.shape e) in
+    let structs = structs_of c.args.table.now.structs in
+    let places = list_all (small_prefixes structs types) (flat_map place_in (map operand_of c.args.operands.now)) in
+    let pairs = beside_parts (operand_types structs types (map operand_of c.args.operands.now)) (parts_of_type structs t) in
+    judged_as (last_agrees pairs (Some t) (type_of structs types (path_of c.args.place.now))) (make_order places (parts_are_small (parts_of_type structs t)) (is_small t) (small_prefixes structs types (path_of c.args.place.now))) (both_judged _ _ _ _ _ _ _ parts result c.both.ensures.fits c.both.ensures.small)
+
+pub returns-clause-structs : goal.returns-clause-structs
+returns-clause-structs c = c.judge_result.ensures.structs ∙ c.judge_parts.ensures.structs
+
+pub returns-clause-extends : goal.returns-clause-extends
+returns-clause-extends c = extends_then _ _ _ c.judge_parts.ensures.extends c.judge_result.ensures.extends
+
+pub returns-in_err-result-clause-structs : goal.returns-in_err-result-clause-structs
+returns-in_err-result-clause-structs c = c.judge_result.ensures.structs ∙ c.judge_parts.ensures.structs
+
+pub returns-in_err-result-clause-extends : goal.returns-in_err-result-clause-extends
+returns-in_err-result-clause-extends c = extends_then _ _ _ c.judge_parts.ensures.extends c.judge_result.ensures.extends
+
+pub judge_result-requires-clause-variables : goal.judge_result-requires-clause-variables
+judge_result-requires-clause-variables c = below_later _ _ _ c.judge_parts.ensures.extends c.requires.variables
+
+pub judge_parts-requires-clause-variables : goal.judge_parts-requires-clause-variables
+judge_parts-requires-clause-variables c = c.requires.variables

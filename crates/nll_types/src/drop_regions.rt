@@ -1,0 +1,110 @@
+//! The regions of a type that liveness asks for.
+
+ghost use Rattle.std.specs.Prelude.{◌≡◌, ◌≢◌, ◌⊎◌, ◌↔◌, ◌++◌, ◌∷◌, [], ℕ, List, IsTrue, IfOk};
+ghost use Rattle.std.specs.Prelude.{OnOk, Contains, AllPairs};
+ghost use Rattle.nll_types.specs.Types.{HasRegion};
+ghost use Rattle.nll_types.specs.Structs.{IsWellFormed};
+ghost use Rattle.nll_types.specs.Views.{tree};
+ghost use Rattle.nll_types.specs.DropRegions.{IsDropRegion};
+ghost use Rattle.nll_types.specs.Declarations.{structs_of};
+ghost use Rattle.nll_types.specs.Sources.{IsWanted};
+ghost use Rattle.nll_types.specs.Collecting.{regions_among};
+
+use crate::drop_search::collect;
+use crate::source::Source;
+use crate::structs::Structs;
+use crate::ty::Ty;
+use indexmap::IndexSet;
+use nll_problem::RegionId;
+use nll_sets::Memory;
+use std::alloc::Global;
+
+// Keeps the source, where it is a region.
+fn keep_region(source: &Source, found: &mut Vec<RegionId>) -> Result<(), Memory>
+    ensures { OnOk result (found.new.items ≡ found.old.items ++ regions_among (source.now ∷ [])) }
+{
+    match source {
+        Source::Region(region) => {
+            found.push(*region)?;
+            Ok(())
+        }
+        _ => Ok(()),
+    }
+}
+
+// The regions among sources.
+fn regions_of(alloc: Global, sources: &[Source]) -> Result<Vec<RegionId>, Memory>
+    ensures { IfOk result (λ v. v.items ≡ regions_among sources.now) }
+{
+    let mut found = Vec::new(alloc);
+    for source in sources {
+        keep_region(source, &mut found)?;
+    }
+    Ok(found)
+}
+
+// Regions of a type, by way of its sources: there are none yet.
+fn find_by(
+    alloc: Global,
+    structs: &Structs,
+    ty: &Ty,
+    written: bool,
+    dropped: bool,
+    sources: &mut IndexSet<Source>,
+) -> Result<Vec<RegionId>, Memory>
+    requires good { (regions : ℕ) × IsWellFormed (structs_of structs.now) regions 0 (tree ty.now) }
+    requires empty { sources.old.keys ≡ [] }
+    ensures each { IfOk result (λ v. (r : ℕ) → Contains v.items r
+        ↔ IsWanted (structs_of structs.now) (IsTrue written) (IsTrue dropped) (tree ty.now) r) }
+    ensures once { IfOk result (λ v. AllPairs (λ q r. q ≢ r) v.items) }
+{
+    collect(structs, ty, written, dropped, sources)?;
+    regions_of(alloc, sources.as_slice())
+}
+
+// Regions of a type: those that are written in it, its drop regions, or both.
+fn find(
+    alloc: Global,
+    structs: &Structs,
+    ty: &Ty,
+    written: bool,
+    dropped: bool,
+) -> Result<Vec<RegionId>, Memory>
+    requires { (regions : ℕ) × IsWellFormed (structs_of structs.now) regions 0 (tree ty.now) }
+    ensures each { IfOk result (λ v. (r : ℕ) → Contains v.items r
+        ↔ IsWanted (structs_of structs.now) (IsTrue written) (IsTrue dropped) (tree ty.now) r) }
+    ensures once { IfOk result (λ v. AllPairs (λ q r. q ≢ r) v.items) }
+{
+    let mut sources = IndexSet::new(alloc);
+    let found = find_by(alloc, structs, ty, written, dropped, &mut sources);
+    drop(sources);
+    found
+}
+
+impl Structs {
+    /// The regions that are written in the type of a variable, each once.
+    ///
+    /// # Cost
+    /// Linear in the written type (not proved).
+    pub fn regions(&self, alloc: Global, ty: &Ty) -> Result<Vec<RegionId>, Memory>
+        requires { (regions : ℕ) × IsWellFormed (structs_of self.now) regions 0 (tree ty.now) }
+        ensures each { IfOk result (λ v. (r : ℕ) → Contains v.items r ↔ HasRegion (tree ty.now) r) }
+        ensures once { IfOk result (λ v. AllPairs (λ q r. q ≢ r) v.items) }
+    {
+        find(alloc, self, ty, true, false)
+    }
+
+    /// The drop regions of the type of a variable, each once.
+    ///
+    /// # Cost
+    /// Linear in the written type and the sources of the structs that are written in it, and never
+    /// in the types behind fields (not proved).
+    pub fn drop_regions(&self, alloc: Global, ty: &Ty) -> Result<Vec<RegionId>, Memory>
+        requires { (regions : ℕ) × IsWellFormed (structs_of self.now) regions 0 (tree ty.now) }
+        ensures each { IfOk result (λ v. (r : ℕ) → Contains v.items r
+            ↔ IsDropRegion (structs_of self.now) (tree ty.now) r) }
+        ensures once { IfOk result (λ v. AllPairs (λ q r. q ≢ r) v.items) }
+    {
+        find(alloc, self, ty, false, true)
+    }
+}

@@ -1,0 +1,101 @@
+//! Where the drop regions of a struct come from, by its declaration.
+
+ghost use Rattle.std.specs.Prelude.{◌≡◌, ◌<◌, ◌-◌, ◌^◌, ◌↔◌, ◌++◌, ◌∷◌, ◌⊎◌, [], List, IsTrue};
+ghost use Rattle.std.specs.Prelude.{OnOk, IfOk, length, true};
+ghost use Rattle.nll_types.specs.DropRegions.{IsKept};
+ghost use Rattle.nll_types.specs.Structs.{Struct, HasGoodFields};
+ghost use Rattle.nll_types.specs.Declarations.{declared, structs_of};
+ghost use Rattle.nll_types.specs.Sources.{AddsSources, AreSourcesOf};
+ghost use Rattle.nll_types.specs.Collecting.{IsKeptRegion, IsInKept};
+
+use crate::drop_search::collect_parts;
+use crate::parameter::Parameter;
+use crate::source::{Source, add_where};
+use crate::structs::{Declaration, Structs};
+use indexmap::IndexSet;
+use nll_problem::RegionId;
+use nll_sets::Memory;
+use std::alloc::Global;
+
+// Whether the struct's own drop needs the argument for the parameter at the place.
+fn is_kept(parameters: &[Parameter], place: usize) -> bool
+    requires { place < length parameters.now }
+    ensures { IsTrue result ↔ IsKept parameters.now place }
+{
+    !parameters[place].may_dangle
+}
+
+// Adds the region parameters that aren't marked.
+fn collect_kept_regions(parameters: &[Parameter], out: &mut IndexSet<Source>) -> Result<(), Memory>
+    requires { length parameters.now < 2 ^ 32 - 1 }
+    ensures { OnOk result ((all : List Struct) → AddsSources all
+        (IsKeptRegion parameters.now) out.old.keys out.new.keys) }
+{
+    for place in 0..parameters.len() {
+        let kept = is_kept(parameters, place);
+        add_where(kept, out, Source::Region(RegionId(place as u32 + 1)))?;
+    }
+    Ok(())
+}
+
+// Adds what is written in the arguments for the type parameters that aren't marked.
+fn collect_kept_types(parameters: &[Parameter], out: &mut IndexSet<Source>) -> Result<(), Memory>
+    ensures { OnOk result ((all : List Struct) → AddsSources all
+        (IsInKept parameters.now) out.old.keys out.new.keys) }
+{
+    for place in 0..parameters.len() {
+        let kept = is_kept(parameters, place);
+        add_where(kept, out, Source::AnyOf(place))?;
+    }
+    Ok(())
+}
+
+// Adds what the struct's own drop needs.
+fn collect_own(declaration: &Declaration, out: &mut IndexSet<Source>) -> Result<(), Memory>
+    requires { length declaration.now.regions.items < 2 ^ 32 - 1 }
+    ensures { OnOk result ((all : List Struct) → AddsSources all
+        (λ rs ts r. (declaration.now.has_drop ≡ true)
+        × (IsKeptRegion declaration.now.regions.items rs ts r
+        ⊎ IsInKept declaration.now.types.items rs ts r))
+        out.old.keys out.new.keys) }
+{
+    if !declaration.has_drop {
+        return Ok(());
+    }
+    collect_kept_regions(declaration.regions.as_slice(), out)?;
+    collect_kept_types(declaration.types.as_slice(), out)
+}
+
+// Adds where the drop regions of the struct come from: its own drop, and its fields.
+fn collect_declaration(
+    structs: &Structs,
+    declaration: &Declaration,
+    out: &mut IndexSet<Source>,
+) -> Result<(), Memory>
+    requires fields { HasGoodFields (structs_of structs.now) (declared declaration.now) }
+    requires few { length declaration.now.regions.items < 2 ^ 32 - 1 }
+    requires empty { out.old.keys ≡ [] }
+    ensures { OnOk result (AreSourcesOf (structs_of structs.now ++ declared declaration.now ∷ [])
+        (length structs.now) out.new.keys) }
+{
+    collect_own(declaration, out)?;
+    collect_parts(structs, declaration.fields.as_slice(), false, true, out)
+}
+
+/// Where the drop regions of the next struct come from.
+pub(crate) fn sources_of(
+    alloc: Global,
+    structs: &Structs,
+    declaration: &Declaration,
+) -> Result<IndexSet<Source>, Memory>
+    requires fields { HasGoodFields (structs_of structs.now) (declared declaration.now) }
+    requires few { length declaration.now.regions.items < 2 ^ 32 - 1 }
+    ensures { IfOk result (λ s. AreSourcesOf
+        (structs_of structs.now ++ declared declaration.now ∷ []) (length structs.now) s.keys) }
+{
+    let mut out = IndexSet::new(alloc);
+    match collect_declaration(structs, declaration, &mut out) {
+        Ok(()) => Ok(out),
+        Err(memory) => Err(memory),
+    }
+}

@@ -1,0 +1,110 @@
+//! Arguments put in for the parameters of a struct.
+
+ghost use Rattle.std.specs.Prelude.{◌≡◌, IfOk, IsOkAnd, map};
+ghost use Rattle.nll_types.specs.Structs as spec;
+ghost use Rattle.nll_types.specs.Types.{named};
+ghost use Rattle.nll_types.specs.Views.{tree, trees};
+
+use crate::copies::{copy, function, reference, tuple};
+use crate::ty::Ty;
+use nll_problem::RegionId;
+use nll_sets::Memory;
+use std::alloc::Global;
+
+// What a region of a field's type becomes.
+pub(crate) fn region_in(regions: &[RegionId], region: RegionId) -> RegionId
+    ensures { result ≡ spec.region_in regions.now region }
+{
+    if region.0 == 0 {
+        return RegionId(0);
+    }
+    let place = (region.0 - 1) as usize;
+    if place < regions.len() {
+        regions[place]
+    } else {
+        RegionId(0)
+    }
+}
+
+// What the regions of a field's type become.
+fn regions_in(alloc: Global, regions: &[RegionId], of: &[RegionId]) -> Result<Vec<RegionId>, Memory>
+    ensures { IfOk result (λ v. v.items ≡ map (spec.region_in regions.now) of.now) }
+{
+    let mut put = Vec::with_capacity(alloc, of.len())?;
+    for region in of {
+        put.push_reserved(region_in(regions, *region));
+    }
+    Ok(put)
+}
+
+// The argument for a parameter.
+fn argument(alloc: Global, types: &[Ty], number: usize) -> Result<Ty, Memory>
+    ensures { IfOk result (λ t. tree t ≡ spec.argument (trees types.now) number) }
+{
+    if number >= types.len() {
+        return Ok(Ty::Int);
+    }
+    copy(alloc, &types[number])
+}
+
+// A struct with what its region arguments become, and type arguments, where those were made.
+fn named_in(
+    alloc: Global,
+    number: usize,
+    own: &[RegionId],
+    regions: &[RegionId],
+    arguments: Result<Vec<Ty>, Memory>,
+) -> Result<Ty, Memory>
+    ensures { IfOk result (λ t. IsOkAnd arguments (λ v. tree t
+        ≡ named number (map (spec.region_in regions.now) own.now) (trees v.items))) }
+{
+    match arguments {
+        Ok(arguments) => Ok(Ty::Named(number, regions_in(alloc, regions, own)?, arguments)),
+        Err(memory) => Err(memory),
+    }
+}
+
+/// A field's type with the region arguments and the type arguments put in for the parameters.
+///
+/// # Cost
+/// Linear in the type that it makes.
+#[cycle(substitution)]
+pub fn put_in(alloc: Global, ty: &Ty, regions: &[RegionId], types: &[Ty]) -> Result<Ty, Memory>
+    ensures { IfOk result (λ t. tree t ≡ spec.put_in regions.now (trees types.now) (tree ty.now)) }
+{
+    match ty {
+        Ty::Int => Ok(Ty::Int),
+        Ty::Parameter(number) => argument(alloc, types, *number),
+        Ty::Reference(region, mutable, target) => {
+            let target = put_in(alloc, target, regions, types);
+            reference(alloc, region_in(regions, *region), *mutable, target)
+        }
+        Ty::Tuple(parts) => tuple(put_in_all(alloc, parts.as_slice(), regions, types)),
+        Ty::Named(number, own, arguments) => {
+            let arguments = put_in_all(alloc, arguments.as_slice(), regions, types);
+            named_in(alloc, *number, own.as_slice(), regions, arguments)
+        }
+        Ty::Function(inputs, returned) => {
+            let inputs = put_in_all(alloc, inputs.as_slice(), regions, types);
+            function(alloc, inputs, put_in(alloc, returned, regions, types))
+        }
+    }
+}
+
+// The types with the arguments put in.
+#[cycle(substitution)]
+fn put_in_all(
+    alloc: Global,
+    parts: &[Ty],
+    regions: &[RegionId],
+    types: &[Ty],
+) -> Result<Vec<Ty>, Memory>
+    ensures { IfOk result (λ v. trees v.items
+        ≡ spec.put_in_all regions.now (trees types.now) (trees parts.now)) }
+{
+    let mut put = Vec::with_capacity(alloc, parts.len())?;
+    for part in parts {
+        put.push_reserved(put_in(alloc, part, regions, types)?);
+    }
+    Ok(put)
+}

@@ -1,9 +1,0 @@
-use Rattle.std.proofs.Common.{◌<◌, ◌∙◌, length, refl, arith}
-use Rattle.nll_typing.proofs.FoundLemmas.{return_small}
-use Rattle.nll_typing.proofs.JudgedLemmas.{judged_as}
-use Rattle.nll_typing.proofs.judging.judge_return.Goals as goal
-
-pub returns : goal.returns
-returns c = λ structs types h.
-    let some : 0 < length c.args.variables.now = grind arith in
-    judged_as refl (c.is_small.ensures ∙ return_small structs c.args.shapes.now c.args.variables.now types h some) c.fitting-2.ensures

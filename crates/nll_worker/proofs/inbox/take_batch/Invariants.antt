@@ -1,0 +1,20 @@
+use Rattle.std.proofs.Common.{◌≡◌, ◌≤◌, ◌++◌, ◌-◌, length, Contains, vec_len, vec_capacity}
+use Rattle.nll_problem.specs.Limits.{most_posts}
+use Rattle.nll_mail.specs.declared.growth.Growth.{Growth}
+use Rattle.nll_owner.specs.Owner.{Passes}
+use Rattle.nll_worker.proofs.inbox.take_batch.Given as goal
+
+-- What was taken stands in the list, and all of it can be its sender's.
+abbrev pub invariant-loop-receiver : goal.invariant-loop-receiver
+invariant-loop-receiver g l = record {
+  room : 4096 ≤ vec_capacity l.batch;
+  taken : g.M.Mail.received l.receiver ≡ g.M.Mail.received l.fn.receiver ++ l.batch.items;
+  passes : (h : Growth) → Contains l.batch.items h → Passes l.owner.problem l.owner.cut l.owner.me l.from h;
+  few : length (g.M.Mail.received l.fn.receiver) ≤ most_posts → length (g.M.Mail.received l.receiver) ≤ most_posts;
+  pair : (s : _) → g.M.Mail.pairs s l.fn.receiver → g.M.Mail.pairs s l.receiver;
+  closed : (s : _) → g.M.Mail.closes s l.fn.receiver → g.M.Mail.closes s l.receiver;
+  ends : g.M.Mail.ends l.receiver ≡ g.M.Mail.ends l.fn.receiver;
+}
+
+abbrev pub decreases-loop-receiver : goal.decreases-loop-receiver
+decreases-loop-receiver g l = 4096 - vec_len l.batch

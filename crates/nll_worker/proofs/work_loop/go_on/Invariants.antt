@@ -1,0 +1,17 @@
+use Rattle.std.proofs.Common.{◌≡◌, false, map}
+use Rattle.nll_owner.specs.Owner.{IsSound}
+use Rattle.nll_worker.specs.Mailboxes.{Alike, Stays, Keeps}
+use Rattle.nll_worker.specs.Finishing.{IsOwnerOf}
+use Rattle.nll_worker.specs.Turning.{ComesTo, HasPosted}
+use Rattle.nll_worker.proofs.work_loop.go_on.Given as goal
+
+abbrev pub invariant-loop : goal.invariant-loop
+invariant-loop g l =
+    (goal.iterator-loop g).can_next l.iterator' × (goal.iterator-loop g).is_finite l.iterator'
+    × IsOwnerOf l.fn.owner.problem l.fn.owner.cut l.me l.owner
+    × IsSound l.owner
+    × (g.L.Ledger.belongs l.book l.share × (g.L.Ledger.number l.share ≡ l.me) × (g.L.Ledger.called l.share ≡ false))
+    × ComesTo l.owner (map g.M.Mail.received l.receivers.items) (g.L.Ledger.owed l.share) (g.L.Ledger.cleared l.share) l.tally l.heard
+    × HasPosted l.owner (map g.M.Mail.sent l.senders.items)
+    × Alike (Stays g.M.Mail) l.fn.senders.items l.senders.items
+    × Alike (Keeps g.M.Mail) l.fn.receivers.items l.receivers.items

@@ -1,0 +1,149 @@
+//! What a worker posts. A mailbox that is full is tried again later.
+
+ghost use Rattle.std.specs.Prelude.{◌≡◌, ◌≢◌, ◌<◌, ◌≤◌, ℕ, List, length, map, take, slice_set};
+ghost use Rattle.std.specs.Prelude.{OnOk, false, vec_len};
+ghost use Rattle.nll_problem.specs.Limits.{most_owners};
+ghost use Rattle.nll_mail.specs.declared.growth.Growth.{Growth};
+ghost use Rattle.nll_owner.specs.Logs.{log_of};
+ghost use Rattle.nll_owner.specs.Owner.{IsSound, part_for, given_to};
+ghost use Rattle.nll_worker.specs.Mailboxes.{Alike, Stays};
+ghost use Rattle.nll_worker.specs.Tallies.{IsCounted};
+ghost use Rattle.nll_worker.specs.Turning.{HasPosted, HasGivenAll, GoesOn, ComesTo};
+
+use crate::inbox::Heard;
+use crate::tally::{Tally, unsent_count};
+use nll_mail::{Mail, PostError};
+use nll_owner::Owner;
+
+// Posts what isn't given out yet of the part of the log that another owner reads, as long as its
+// mailbox isn't full.
+fn post_part<M: Mail>(owner: &mut Owner<'_>, sender: &mut M::S, to: u16) -> Result<(), PostError>
+    requires sound { IsSound owner.old }
+    requires whole { owner.old.broken ≡ false }
+    requires to { to < owner.old.cut.owners }
+    requires sent { M.sent sender.old ≡ take (given_to owner.old to) (part_for owner.old to) }
+    ensures sent { M.sent sender.new ≡ take (given_to owner.new to) (part_for owner.old to) }
+    ensures all { M.is_bounded ≡ false
+        → OnOk result (given_to owner.new to ≡ length (part_for owner.old to)) }
+    ensures others { owner.new ≡ record owner.old { given = owner.new.given } }
+    ensures other_given { (j : ℕ) → j ≢ to → given_to owner.new j ≡ given_to owner.old j }
+    ensures pair { (r : M.R) → M.pairs sender.old r → M.pairs sender.new r }
+    ensures sound { IsSound owner.new }
+{
+    while let Some(growth) = owner.next_for(to) {
+        match M::post(sender, growth) {
+            Ok(()) => owner.outgoing(to),
+            Err(PostError::Full(_)) => return Ok(()),
+            Err(error) => return Err(error),
+        };
+    }
+    Ok(())
+}
+
+// The same for the sender that leads to this owner.
+fn post_to<M: Mail>(
+    owner: &mut Owner<'_>,
+    senders: &mut Vec<M::S>,
+    to: u16,
+) -> Result<(), PostError>
+    requires sound { IsSound owner.old }
+    requires whole { owner.old.broken ≡ false }
+    requires to { to < owner.old.cut.owners }
+    requires posts { HasPosted owner.old (map M.sent senders.old.items) }
+    ensures posts { HasPosted owner.new (map M.sent senders.new.items) }
+    ensures all { M.is_bounded ≡ false
+        → OnOk result (given_to owner.new to ≡ length (part_for owner.old to)) }
+    ensures others { owner.new ≡ record owner.old { given = owner.new.given } }
+    ensures other_given { (j : ℕ) → j ≢ to → given_to owner.new j ≡ given_to owner.old j }
+    ensures pairs { Alike (Stays M.Mail) senders.old.items senders.new.items }
+    ensures sound { IsSound owner.new }
+{
+    post_part::<M>(owner, &mut senders[to as usize], to)
+}
+
+// Posts what isn't given out yet, to all owners that read it and whose mailboxes aren't full.
+fn post_all<M: Mail>(
+    owner: &mut Owner<'_>,
+    senders: &mut Vec<M::S>,
+    owners: u16,
+) -> Result<(), PostError>
+    requires owners { owners ≡ owner.old.cut.owners }
+    requires sound { IsSound owner.old }
+    requires whole { owner.old.broken ≡ false }
+    requires posts { HasPosted owner.old (map M.sent senders.old.items) }
+    ensures posts { HasPosted owner.new (map M.sent senders.new.items) }
+    ensures all { M.is_bounded ≡ false → OnOk result (HasGivenAll owners owner.new) }
+    ensures others { owner.new ≡ record owner.old { given = owner.new.given } }
+    ensures pairs { Alike (Stays M.Mail) senders.old.items senders.new.items }
+    ensures sound { IsSound owner.new }
+{
+    for to in 0..owners {
+        post_to::<M>(owner, senders, to)?;
+    }
+    Ok(())
+}
+
+// Posts what waits, where something does, and counts what is left.
+fn post_waiting<M: Mail>(
+    owner: &mut Owner<'_>,
+    senders: &mut Vec<M::S>,
+    owners: u16,
+    tally: &mut Tally,
+) -> Result<(), PostError>
+    requires owners { owners ≡ owner.old.cut.owners }
+    requires few { owners ≤ most_owners }
+    requires sound { IsSound owner.old }
+    requires whole { owner.old.broken ≡ false }
+    requires posts { HasPosted owner.old (map M.sent senders.old.items) }
+    requires counted { IsCounted owner.old tally.old }
+    ensures posts { HasPosted owner.new (map M.sent senders.new.items) }
+    ensures counted { IsCounted owner.new tally.new }
+    ensures same { (tally.new.turns ≡ tally.old.turns)
+        × (tally.new.cleared ≡ tally.old.cleared) }
+    ensures all { M.is_bounded ≡ false → OnOk result (tally.new.waiting ≡ 0) }
+    ensures others { owner.new ≡ record owner.old { given = owner.new.given } }
+    ensures pairs { Alike (Stays M.Mail) senders.old.items senders.new.items }
+    ensures sound { IsSound owner.new }
+{
+    if tally.waiting == 0 {
+        return Ok(());
+    }
+    let posted = post_all::<M>(owner, senders, owners);
+    tally.waiting = unsent_count(owner, owners);
+    posted
+}
+
+/// Posts what waits, where the worker hasn't to end: what it heard, or why it has to end now.
+pub fn share_out<M: Mail>(
+    heard: Heard,
+    owner: &mut Owner<'_>,
+    senders: &mut Vec<M::S>,
+    owners: u16,
+    tally: &mut Tally,
+) -> Heard
+    requires owners { owners ≡ owner.old.cut.owners }
+    requires few { owners ≤ most_owners }
+    requires sound { IsSound owner.old }
+    requires came { (taken : List (List Growth)) × (owed : ℕ) × (cleared : ℕ)
+        × ComesTo owner.old taken owed cleared tally.old heard }
+    requires posts { HasPosted owner.old (map M.sent senders.old.items) }
+    ensures posts { HasPosted owner.new (map M.sent senders.new.items) }
+    ensures comes { (taken : List (List Growth)) (owed cleared : ℕ)
+        → ComesTo owner.old taken owed cleared tally.old heard
+        → ComesTo owner.new taken owed cleared tally.new result }
+    ensures all { M.is_bounded ≡ false → GoesOn result → tally.new.waiting ≡ 0 }
+    ensures others { owner.new ≡ record owner.old { given = owner.new.given } }
+    ensures pairs { Alike (Stays M.Mail) senders.old.items senders.new.items }
+    ensures sound { IsSound owner.new }
+{
+    match heard {
+        Heard::Stray => return heard,
+        Heard::Memory => return heard,
+        Heard::Growths => {}
+        Heard::Nothing => {}
+    }
+    match post_waiting::<M>(owner, senders, owners, tally) {
+        Ok(()) => heard,
+        Err(_) => Heard::Memory,
+    }
+}

@@ -1,0 +1,269 @@
+//! One worker, from its start until its share has left.
+
+ghost use Rattle.std.specs.Prelude.{◌≡◌, ◌<◌, ◌≤◌, length, map, true, false};
+ghost use Rattle.nll_problem.specs.Limits.{most_owners};
+ghost use Rattle.nll_ledger.specs.Leaving.{IfLeft, IfOpen, IfQuiet, IfStopped};
+ghost use Rattle.nll_owner.specs.Logs.{log_of};
+ghost use Rattle.nll_owner.specs.Owner.{IsSound, first_owner};
+ghost use Rattle.nll_owner.specs.Tables.{AreTables};
+ghost use Rattle.nll_worker.specs.Mailboxes.{Alike, AreAllEmpty, Stays, Keeps};
+ghost use Rattle.nll_worker.specs.Finishing.{Finishes, Leaves, WasMade, FinishedAs, IsFresh};
+ghost use Rattle.nll_worker.specs.Finishing.{WasStarted};
+ghost use Rattle.nll_worker.specs.Turning.{HasPosted, ComesTo};
+
+use crate::ending::Ending;
+use crate::gate::Gate;
+use crate::inbox::Heard;
+use crate::posts::share_out;
+use crate::tally::Tally;
+use crate::turn::{first_turn, rounds};
+use crossbeam_utils::Backoff;
+use nll_cut::Cut;
+use nll_ledger::{Leave, Ledger};
+use nll_mail::{Growth, Mail};
+use nll_owner::{Owner, Tables};
+use nll_problem::Problem;
+use std::alloc::Global;
+use std::sync::Wait;
+
+/// How many growths a worker receives, where it can, before it tries again to post into a full
+/// mailbox.
+const PATIENCE: u64 = 16;
+
+/// Sets the stop flag, and leaves.
+pub fn halt<L: Ledger>(book: &L::Book, share: L::Share) -> L::Left
+    requires { L.belongs book.now share }
+    ensures left { L.left_belongs book.now result × (L.left_number result ≡ L.number share) }
+    ensures stopped { L.left_quiet result ≡ false }
+{
+    let mut share = share;
+    L::stop(book, &mut share);
+    match L::leave(book, share) {
+        Leave::Stopped(left) => left,
+        Leave::Quiet(_) => unreachable!(),
+        Leave::Open(_) => unreachable!(),
+    }
+}
+
+// Leaves where the stop flag is found set; else the share comes back.
+fn heed_stop<L: Ledger>(book: &L::Book, share: L::Share) -> Leave<L::Left, L::Share>
+    requires { L.belongs book.now share }
+    ensures left { IfLeft result (λ left. L.left_belongs book.now left
+        × (L.left_number left ≡ L.number share)
+        × (L.left_owed left ≡ L.owed share) × (L.left_cleared left ≡ L.cleared share)
+        × (L.left_called left ≡ L.called share)) }
+    ensures quiet { IfQuiet result (λ _. ⊥) }
+    ensures stopped { IfStopped result (λ left. L.left_quiet left ≡ false) }
+    ensures back { IfOpen result (λ back. L.belongs book.now back
+        × (L.number back ≡ L.number share)
+        × (L.owed back ≡ L.owed share) × (L.cleared back ≡ L.cleared share)
+        × (L.called back ≡ L.called share)) }
+{
+    let mut share = share;
+    if !L::stopped(book, &mut share) {
+        return Leave::Open(share);
+    }
+    L::leave(book, share)
+}
+
+// Asks to leave, once the worker has waited for a while with nothing left to post. Where growths
+// wait for a place in a mailbox, it leaves only on a stop.
+fn ask_to_leave<L: Ledger>(
+    book: &L::Book,
+    share: L::Share,
+    waiting: u64,
+    backoff: &Backoff,
+) -> Leave<L::Left, L::Share>
+    requires { L.belongs book.now share }
+    ensures left { IfLeft result (λ left. L.left_belongs book.now left
+        × (L.left_number left ≡ L.number share)
+        × (L.left_owed left ≡ L.owed share) × (L.left_cleared left ≡ L.cleared share)
+        × (L.left_called left ≡ L.called share)) }
+    ensures quiet { IfQuiet result (λ left. (L.left_quiet left ≡ true) × (waiting ≡ 0)) }
+    ensures stopped { IfStopped result (λ left. L.left_quiet left ≡ false) }
+    ensures back { IfOpen result (λ back. L.belongs book.now back
+        × (L.number back ≡ L.number share)
+        × (L.owed back ≡ L.owed share) × (L.cleared back ≡ L.cleared share)
+        × (L.called back ≡ L.called share)) }
+{
+    if waiting > 0 {
+        heed_stop::<L>(book, share)
+    } else if backoff.is_completed() {
+        L::leave(book, share)
+    } else {
+        Leave::Open(share)
+    }
+}
+
+// Works until the share has left, where the first turn came to this: what is left of it, and how
+// this ended.
+fn go_on<M: Mail, L: Ledger, G: Gate, R: Wait>(
+    rt: &R,
+    gate: &G,
+    book: &L::Book,
+    share: L::Share,
+    owner: &mut Owner<'_>,
+    owners: u16,
+    tally: &mut Tally,
+    senders: &mut Vec<M::S>,
+    receivers: &mut Vec<M::R>,
+    me: u16,
+    batch: &mut Vec<Growth>,
+    heard: Heard,
+) -> (L::Left, Ending)
+    requires owners { owners ≡ owner.old.cut.owners }
+    requires me { owner.old.me ≡ me }
+    requires few { owners ≤ most_owners }
+    requires sound { IsSound owner.old }
+    requires book { L.belongs book.now share × (L.number share ≡ me) × (L.called share ≡ false) }
+    requires came { ComesTo owner.old (map M.received receivers.old.items)
+        (L.owed share) (L.cleared share) tally.old heard }
+    requires posts { HasPosted owner.old (map M.sent senders.old.items) }
+    ensures leaves { Leaves L.Ledger book.now me result.0 result.1 }
+    ensures started { WasStarted result.1 }
+    ensures finishes { Finishes owner.old.problem owner.old.cut me owner.new
+        (log_of (map M.sent senders.new.items)) (log_of (map M.received receivers.new.items))
+        (L.left_owed result.0) (L.left_cleared result.0) result.1 }
+    ensures pairs { Alike (Stays M.Mail) senders.old.items senders.new.items }
+    ensures keeps { Alike (Keeps M.Mail) receivers.old.items receivers.new.items }
+{
+    let mut share = share;
+    let mut heard = heard;
+    let backoff = Backoff::new();
+    for _ in rt.forever() {
+        heard = share_out::<M>(heard, owner, senders, owners, tally);
+        match heard {
+            Heard::Stray => return (halt::<L>(book, share), Ending::Stray),
+            Heard::Memory => return (halt::<L>(book, share), Ending::Memory),
+            Heard::Growths => backoff.reset(),
+            Heard::Nothing => backoff.snooze(),
+        }
+        match ask_to_leave::<L>(book, share, tally.waiting, &backoff) {
+            Leave::Quiet(left) => return (left, Ending::Quiet),
+            Leave::Stopped(left) => return (left, Ending::Stopped),
+            Leave::Open(back) => share = back,
+        }
+        let until = if tally.waiting > 0 {
+            tally.cleared.saturating_add(PATIENCE)
+        } else {
+            0
+        };
+        heard = rounds::<M, L, G>(
+            gate, book, &mut share, owner, owners, tally, receivers, me, batch, until,
+        );
+    }
+    unreachable!()
+}
+
+// Loads the owner and works until the share has left: what is left of it, and how this ended.
+fn work_on<M: Mail, L: Ledger, G: Gate, R: Wait>(
+    rt: &R,
+    alloc: Global,
+    problem: &Problem,
+    cut: &Cut,
+    gate: &G,
+    book: &L::Book,
+    share: L::Share,
+    owner: &mut Owner<'_>,
+    senders: &mut Vec<M::S>,
+    receivers: &mut Vec<M::R>,
+    me: u16,
+) -> (L::Left, Ending)
+    requires first { owner.old ≡ first_owner problem.now cut.now me }
+    requires few { cut.now.owners ≤ most_owners }
+    requires fresh { IsFresh L.Ledger book.now me share }
+    requires posts { AreAllEmpty cut.now.owners (map M.sent senders.old.items) }
+    requires taken { AreAllEmpty cut.now.owners (map M.received receivers.old.items) }
+    ensures leaves { Leaves L.Ledger book.now me result.0 result.1 }
+    ensures started { WasStarted result.1 }
+    ensures finishes { Finishes problem.now cut.now me owner.new
+        (log_of (map M.sent senders.new.items)) (log_of (map M.received receivers.new.items))
+        (L.left_owed result.0) (L.left_cleared result.0) result.1 }
+    ensures pairs { Alike (Stays M.Mail) senders.old.items senders.new.items }
+    ensures keeps { Alike (Keeps M.Mail) receivers.old.items receivers.new.items }
+{
+    let owners = cut.owners();
+    let mut share = share;
+    let mut tally = Tally {
+        grown: 0,
+        waiting: 0,
+        turns: 0,
+        cleared: 0,
+    };
+    let heard = first_turn::<L, G>(gate, book, &mut share, owner, owners, &mut tally, me);
+    let mut batch = Vec::new(alloc);
+    go_on::<M, L, G, R>(
+        rt, gate, book, share, owner, owners, &mut tally, senders, receivers, me, &mut batch, heard,
+    )
+}
+
+/// Makes the owner and works.
+pub fn begin<M: Mail, L: Ledger, G: Gate, R: Wait>(
+    rt: &R,
+    alloc: Global,
+    problem: &Problem,
+    cut: &Cut,
+    tables: &Tables,
+    gate: &G,
+    book: &L::Book,
+    share: L::Share,
+    senders: &mut Vec<M::S>,
+    receivers: &mut Vec<M::R>,
+    me: u16,
+) -> (L::Left, Ending, Vec<Growth>)
+    requires cut { length cut.now.list ≡ problem.now.regions }
+    requires tables { AreTables problem.now cut.now tables.now }
+    requires me { me < cut.now.owners }
+    requires few { cut.now.owners ≤ most_owners }
+    requires fresh { IsFresh L.Ledger book.now me share }
+    requires posts { AreAllEmpty cut.now.owners (map M.sent senders.old.items) }
+    requires taken { AreAllEmpty cut.now.owners (map M.received receivers.old.items) }
+    ensures leaves { Leaves L.Ledger book.now me result.0 result.1 }
+    ensures started { WasStarted result.1 }
+    ensures finishes { WasMade result.1 → FinishedAs problem.now cut.now me
+        (log_of (map M.sent senders.new.items)) (log_of (map M.received receivers.new.items))
+        (L.left_owed result.0) (L.left_cleared result.0) result.1 result.2.items }
+    ensures pairs { Alike (Stays M.Mail) senders.old.items senders.new.items }
+    ensures keeps { Alike (Keeps M.Mail) receivers.old.items receivers.new.items }
+{
+    match Owner::on(alloc, problem, cut, tables, me) {
+        Ok(owner) => with_owner::<M, L, G, R>(
+            rt, alloc, problem, cut, gate, book, share, owner, senders, receivers, me,
+        ),
+        Err(_) => (halt::<L>(book, share), Ending::NoOwner, Vec::new(alloc)),
+    }
+}
+
+// Works, and hands out the log.
+fn with_owner<M: Mail, L: Ledger, G: Gate, R: Wait>(
+    rt: &R,
+    alloc: Global,
+    problem: &Problem,
+    cut: &Cut,
+    gate: &G,
+    book: &L::Book,
+    share: L::Share,
+    owner: Owner<'_>,
+    senders: &mut Vec<M::S>,
+    receivers: &mut Vec<M::R>,
+    me: u16,
+) -> (L::Left, Ending, Vec<Growth>)
+    requires first { owner ≡ first_owner problem.now cut.now me }
+    requires few { cut.now.owners ≤ most_owners }
+    requires fresh { IsFresh L.Ledger book.now me share }
+    requires posts { AreAllEmpty cut.now.owners (map M.sent senders.old.items) }
+    requires taken { AreAllEmpty cut.now.owners (map M.received receivers.old.items) }
+    ensures leaves { Leaves L.Ledger book.now me result.0 result.1 }
+    ensures started { WasStarted result.1 }
+    ensures finishes { WasMade result.1 → FinishedAs problem.now cut.now me
+        (log_of (map M.sent senders.new.items)) (log_of (map M.received receivers.new.items))
+        (L.left_owed result.0) (L.left_cleared result.0) result.1 result.2.items }
+    ensures pairs { Alike (Stays M.Mail) senders.old.items senders.new.items }
+    ensures keeps { Alike (Keeps M.Mail) receivers.old.items receivers.new.items }
+{
+    let mut owner = owner;
+    let (left, ending) = work_on::<M, L, G, R>(
+        rt, alloc, problem, cut, gate, book, share, &mut owner, senders, receivers, me,
+    );
+    (left, ending, owner.into_log())
+}
